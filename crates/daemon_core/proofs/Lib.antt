@@ -1,0 +1,3 @@
+pub mod UntakenLemmas
+pub mod HubLemmas
+pub mod SameRun

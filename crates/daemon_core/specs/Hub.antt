@@ -1,0 +1,107 @@
+-- The connections and what they are answered, as a fold over events.
+use Rattle.std.specs.Prelude.{◌≡◌, ℕ, ◌≤◌, ◌⊎◌, ◌==◌, List, [], ◌∷◌, ◌++◌, length, flat_map, Option, Some, None, slice_get, slice_set}
+use Rattle.std.specs.List.{position, remove}
+use Rattle.rpc_msg.specs.declared.reply.Reply.{Reply}
+use Rattle.daemon_core.specs.declared.event.Event.{Event}
+use Rattle.daemon_core.specs.declared.event.Event.TheVariants.{Connect, Piece, Disconnect, Take}
+use Rattle.daemon_core.specs.declared.event.Outcome.{Outcome}
+use Rattle.daemon_core.specs.declared.event.Outcome.TheVariants.{Applied, Starved}
+use Rattle.daemon_core.specs.declared.event.Outputs.{Outputs}
+use Rattle.daemon_core.specs.declared.peer.Peer.{Peer}
+use Rattle.daemon_core.specs.Outputs.{quiet, starved, answered_to, bytes_sent}
+use Rattle.daemon_core.specs.Service.{IsAnswered}
+use Rattle.daemon_core.specs.Untaken.{AreRecords, untaken}
+use Rattle.daemon_core.specs.Link.{Link, fresh, with_taken, Receives}
+
+-- the connections, each with all that came on it
+pub record Hub : Type 0 where
+  pub links : List Link
+
+abbrev pub opening : Hub
+opening = record { links = [] }
+
+-- the place of the connection
+abbrev pub place_of : ℕ → List Link → Option ℕ
+place_of number links = position (λ (l : Link). l.number == number) links
+
+abbrev pub IsQuiet : Hub → Outputs → Hub → Type 0
+IsQuiet old out new = (new ≡ old) × (out ≡ quiet)
+
+-- a connection whose number is in use doesn't begin
+abbrev pub Connects : Option ℕ → Outcome → ℕ → Peer → Hub → Outputs → Hub → Type 0
+Connects (Some place) outcome number peer old out new = IsQuiet old out new
+Connects None Applied number peer old out new = (new ≡ record { links = old.links ++ fresh number peer ∷ [] }) × (out ≡ quiet)
+Connects None Starved number peer old out new = (new ≡ old) × (out ≡ starved)
+
+abbrev pub Disconnects : Option ℕ → Hub → Outputs → Hub → Type 0
+Disconnects None old out new = IsQuiet old out new
+Disconnects (Some place) old out new = (new ≡ record { links = remove old.links place }) × (out ≡ quiet)
+
+-- bytes come to the connection at the place
+pub record Brings (place : ℕ) (bytes : List ℕ) (old : Hub) (out : Outputs) (new : Hub) : Type 0 where
+  pub link : Link
+  pub there : slice_get old.links place ≡ Some link
+  pub link' : Link
+  pub receives : Receives link.receives link bytes out link'
+  pub rest : new ≡ record { links = slice_set old.links place link' }
+
+abbrev pub Pieces : Option ℕ → List ℕ → Hub → Outputs → Hub → Type 0
+Pieces None bytes old out new = IsQuiet old out new
+Pieces (Some place) bytes old out new = Brings place bytes old out new
+
+-- the record of all the bytes that is the i-th of those that were not taken is answered
+pub record Answers (place i : ℕ) (old : Hub) (out : Outputs) (new : Hub) : Type 0 where
+  pub link : Link
+  pub there : slice_get old.links place ≡ Some link
+  pub records : List (List ℕ)
+  pub are : AreRecords link.received records
+  pub bytes : List ℕ
+  pub is : slice_get (untaken records link.taken) i ≡ Some bytes
+  pub reply : Option Reply
+  pub answered : IsAnswered bytes reply
+  pub links : new ≡ record { links = slice_set old.links place (with_taken link i) }
+  pub outputs : out ≡ answered_to link.number reply
+
+-- there is no such record
+pub record HasNone (place i : ℕ) (old : Hub) (out : Outputs) (new : Hub) : Type 0 where
+  pub link : Link
+  pub there : slice_get old.links place ≡ Some link
+  pub records : List (List ℕ)
+  pub are : AreRecords link.received records
+  pub few : length (untaken records link.taken) ≤ i
+  pub quiet : IsQuiet old out new
+
+abbrev pub TakesAt : Option ℕ → ℕ → Hub → Outputs → Hub → Type 0
+TakesAt None i old out new = IsQuiet old out new
+TakesAt (Some place) i old out new = Answers place i old out new ⊎ HasNone place i old out new
+
+-- one event
+abbrev pub HubStep : Hub → Event → Outputs → Hub → Type 0
+HubStep old (Connect number peer) out new = Connects (place_of number old.links) out.outcome number peer old out new
+HubStep old (Piece number bytes) out new = Pieces (place_of number old.links) bytes.items old out new
+HubStep old (Disconnect number) out new = Disconnects (place_of number old.links) old out new
+HubStep old (Take number i) out new = TakesAt (place_of number old.links) i old out new
+
+-- all events, one after another
+abbrev pub Run : Hub → List Event → List Outputs → Hub → Type 0
+Run old [] [] new = new ≡ old
+Run old (event ∷ events) (out ∷ outs) new = (mid : Hub) × HubStep old event out mid × Run mid events outs new
+Run old [] (out ∷ outs) new = ⊥
+Run old (event ∷ events) [] new = ⊥
+
+-- the events met want of memory in the same way
+abbrev pub AreAlike : List Outputs → List Outputs → Type 0
+AreAlike [] [] = Unit {0}
+AreAlike (out ∷ outs) (other ∷ others) = (out.outcome ≡ other.outcome) × AreAlike outs others
+AreAlike [] (other ∷ others) = ⊥
+AreAlike (out ∷ outs) [] = ⊥
+
+-- all the bytes that are sent, in order
+abbrev pub all_bytes_sent : List Outputs → List ℕ
+all_bytes_sent outs = flat_map (λ (o : Outputs). bytes_sent o.sent) outs
+
+-- events and want of memory fix all outputs and the end
+abbrev pub HasOneRun : Type 0
+HasOneRun =
+    (old new end : Hub) (events : List Event) (outs others : List Outputs) → Run old events outs new → Run old events others end → AreAlike outs others
+    → (outs ≡ others) × (new ≡ end)

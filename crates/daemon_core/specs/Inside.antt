@@ -1,0 +1,27 @@
+-- What a `Connection` keeps.
+use Rattle.std.specs.Prelude.{◌≡◌, ℕ, ◌≤◌, Bool, true, false, List, [], ◌∷◌, length}
+use Rattle.record_mark.specs.Stream.{Splits}
+use Rattle.record_mark.specs.Assembled.{Assembled}
+use Rattle.daemon_core.specs.Untaken.{untaken, marked}
+use Rattle.daemon_core.specs.Link.{Link}
+use Rattle.daemon_core.specs.declared.connection.Connection.TheInside.{Inside}
+
+-- the flags after these were taken, each counted among those that were left
+abbrev pub flags_from : List Bool → List ℕ → List Bool
+flags_from flags [] = flags
+flags_from flags (i ∷ is) = flags_from (marked flags i) is
+
+abbrev pub link_of : Inside → Link
+link_of c = record { number = c.number; peer = c.peer; received = c.received.items; taken = flags_from [] c.takes.items; receives = c.receives }
+
+-- while bytes are received, the assembler took them all
+abbrev pub IsInStep : Bool → Assembled → List ℕ → List (List ℕ) → Type 0
+IsInStep true a received records = (a.received ≡ received) × (a.given ≡ records)
+IsInStep false a received records = Unit {0}
+
+pub record IsQueue (c : Inside) : Type 0 where
+  pub fault : Bool
+  pub splits : Splits c.received.items c.given.items fault
+  pub few : length (flags_from [] c.takes.items) ≤ length c.given.items
+  pub queue : c.queue.items ≡ untaken c.given.items (flags_from [] c.takes.items)
+  pub in_step : IsInStep c.receives c.assembler c.received.items c.given.items

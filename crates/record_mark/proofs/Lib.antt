@@ -1,0 +1,4 @@
+pub mod StreamLemmas
+pub mod KeptLemmas
+pub mod OneReading
+pub mod SentLemmas

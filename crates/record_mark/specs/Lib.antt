@@ -1,0 +1,5 @@
+pub mod Stream
+pub mod Assembled
+pub mod Inside
+pub mod Feeding
+pub mod Sent

@@ -1,0 +1,22 @@
+//! Record marking on a stream (RFC 5531, section 11): the records of all bytes received, however
+//! they were cut into pieces, and the mark of what is sent.
+#![tactic(auto)]
+
+mod assembler;
+mod law;
+mod progress;
+mod sent;
+
+
+
+pub use crate::assembler::{Assembler, MarkError};
+pub use crate::law::{one_reading, sent_is_one_record};
+pub use crate::sent::last_mark;
+
+use bytes::Bytes;
+
+/// The most bytes that a record may have.
+pub const MAX_RECORD: usize = 8192;
+
+/// Whole records, the oldest first. Each is shared: a clone of it copies no byte.
+pub type Records = Vec<Bytes>;
