@@ -75,6 +75,18 @@ abbrev pub TakesAt : Option ℕ → ℕ → Hub → Outputs → Hub → Type 0
 TakesAt None i old out new = IsQuiet old out new
 TakesAt (Some place) i old out new = Answers place i old out new ⊎ HasNone place i old out new
 
+-- so many records of the connection are whole and were not taken
+pub record HasWaiting (place : ℕ) (hub : Hub) (count : ℕ) : Type 0 where
+  pub link : Link
+  pub there : slice_get hub.links place ≡ Some link
+  pub records : List (List ℕ)
+  pub are : AreRecords link.received records
+  pub counted : count ≡ length (untaken records link.taken)
+
+abbrev pub Waits : Option ℕ → Hub → ℕ → Type 0
+Waits None hub count = count ≡ 0
+Waits (Some place) hub count = HasWaiting place hub count
+
 -- one event
 abbrev pub HubStep : Hub → Event → Outputs → Hub → Type 0
 HubStep old (Connect number peer) out new = Connects (place_of number old.links) out.outcome number peer old out new

@@ -94,6 +94,13 @@ impl Connection {
         }
     }
 
+    /// How many whole records there are that were not taken.
+    pub fn waiting(&self) -> usize
+        ensures { (records : List (List ℕ)) × AreRecords self.now.received records × (result ≡ length (untaken records self.now.taken)) }
+    {
+        self.queue.len()
+    }
+
     /// Takes the record of this place among those that were not taken.
     pub fn take(&mut self, index: usize) -> Option<Bytes>
         ensures some { IfSome result (λ r. (records : List (List ℕ)) × AreRecords self.old.received records

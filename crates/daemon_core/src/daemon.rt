@@ -2,7 +2,7 @@
 
 ghost use Rattle.std.specs.Prelude.{◌≡◌, IfOk, OnErr};
 ghost use Rattle.daemon_core.specs.Outputs.{answered_to, sent_to};
-ghost use Rattle.daemon_core.specs.Hub.{Hub, opening, place_of, Connects, Disconnects, Pieces, TakesAt, HubStep, Run};
+ghost use Rattle.daemon_core.specs.Hub.{Hub, opening, place_of, Connects, Disconnects, Pieces, TakesAt, Waits, HubStep, Run};
 
 use crate::connection::Connection;
 use crate::event::{Event, Outcome, Outputs, Sent, make_quiet, make_starved};
@@ -106,6 +106,16 @@ impl Daemon {
             return make_quiet();
         };
         answer_to(number, answer(record.as_slice()))
+    }
+
+    /// How many whole records of the connection there are that were not taken; none, if it isn't there.
+    pub fn waiting(&self, number: u64) -> usize
+        ensures { Waits (place_of number self.now.links) self.now result }
+    {
+        match find(&self.connections, number) {
+            None => 0,
+            Some(place) => self.connections[place].waiting(),
+        }
     }
 
     /// One event, and what comes of it.

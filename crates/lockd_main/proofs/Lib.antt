@@ -1,0 +1,2 @@
+pub mod WrittenLemmas
+pub mod PipeLemmas

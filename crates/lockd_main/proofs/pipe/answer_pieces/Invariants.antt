@@ -1,0 +1,9 @@
+use Rattle.std.proofs.Common.{ℕ, List, [], Option}
+use Rattle.daemon_core.specs.declared.peer.Peer.{Peer}
+use Rattle.lockd_main.specs.Pipe.{EndsAt}
+use Rattle.lockd_main.proofs.pipe.answer_pieces.Given as goal
+
+abbrev pub invariant-loop : goal.invariant-loop
+invariant-loop g l =
+    (pipe : Peer) (unread before : Option (List ℕ)) → EndsAt pipe unread (g.R.Read.remaining l.fn.reader) before (g.W.Write.contents l.fn.writer) [] l.fn.daemon
+    → EndsAt pipe unread (g.R.Read.remaining l.reader) before (g.W.Write.contents l.writer) [] l.daemon

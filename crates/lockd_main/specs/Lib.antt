@@ -1,0 +1,3 @@
+pub mod FaultOf
+pub mod Written
+pub mod Pipe

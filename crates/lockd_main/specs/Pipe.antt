@@ -1,0 +1,145 @@
+-- One stream from a reader to a writer, as a run of the daemon.
+use Rattle.std.specs.Prelude.{◌≡◌, ℕ, ◌≤◌, ◌⊎◌, List, [], ◌∷◌, ◌++◌, replicate, Option, Some, None, Result, Ok, Err}
+use Rattle.std.specs.List.{flat_map}
+use Rattle.std.specs.Option.{option_to_list}
+use Rattle.std.specs.Io.KnownBytes.{Appends, Consumes, IsAtEnd}
+use Rattle.daemon_core.specs.declared.event.Event.{Event}
+use Rattle.daemon_core.specs.declared.event.Event.TheVariants.{Connect, Piece, Disconnect, Take}
+use Rattle.daemon_core.specs.declared.event.Outputs.{Outputs}
+use Rattle.daemon_core.specs.declared.event.Refusal.{Refusal}
+use Rattle.daemon_core.specs.declared.peer.Peer.{Peer}
+use Rattle.daemon_core.specs.Hub.{Hub, opening, place_of, Waits, HubStep, Run, all_bytes_sent}
+use Rattle.lockd_main.specs.declared.fault.Fault.{Fault}
+use Rattle.lockd_main.specs.declared.fault.Fault.TheVariants.{Starved, RecordTooLong, ReadFault, WriteFault}
+use Rattle.lockd_main.specs.Written.{WroteFront}
+
+-- the event brings these bytes to the pipe's connection, which has the number 0
+abbrev pub IsPiece : Event → List ℕ → Type 0
+IsPiece (Piece number v) bytes = (number ≡ 0) × (v.items ≡ bytes)
+IsPiece (Connect number peer) bytes = ⊥
+IsPiece (Disconnect number) bytes = ⊥
+IsPiece (Take number i) bytes = ⊥
+
+-- the oldest record that was not taken is answered, so many times
+abbrev pub takes : ℕ → List Event
+takes count = replicate count (Take 0 0)
+
+-- a piece comes, and then some of the records that are whole are answered, in order
+pub record SomeTurn (old : Hub) (bytes : List ℕ) (outs : List Outputs) (new : Hub) : Type 0 where
+  pub piece : Event
+  pub is : IsPiece piece bytes
+  pub heard : Outputs
+  pub mid : Hub
+  pub hears : HubStep old piece heard mid
+  pub whole : ℕ
+  pub waits : Waits (place_of 0 mid.links) mid whole
+  pub count : ℕ
+  pub some : count ≤ whole
+  pub answers : List Outputs
+  pub run : Run mid (takes count) answers new
+  pub all : outs ≡ heard ∷ answers
+
+-- and all of them are
+pub record Turn (old : Hub) (bytes : List ℕ) (outs : List Outputs) (new : Hub) : Type 0 where
+  pub some : SomeTurn old bytes outs new
+  pub all : some.count ≡ some.whole
+
+abbrev pub Turns : Hub → List (List ℕ) → List Outputs → Hub → Type 0
+Turns old [] outs new = (new ≡ old) × (outs ≡ [])
+Turns old (piece ∷ pieces) outs new =
+    (mid : Hub) × (first : List Outputs) × (rest : List Outputs) × Turn old piece first mid × Turns mid pieces rest new × (outs ≡ first ++ rest)
+
+-- the pipe's connection begins, and then come these pieces
+pub record PipeRun (pipe : Peer) (pieces : List (List ℕ)) (outs : List Outputs) (end : Hub) : Type 0 where
+  pub begun : Hub
+  pub beginning : Outputs
+  pub connects : HubStep opening (Connect 0 pipe) beginning begun
+  pub rest : List Outputs
+  pub turns : Turns begun pieces rest end
+  pub all : outs ≡ beginning ∷ rest
+
+abbrev pub joined : List (List ℕ) → List ℕ
+joined pieces = flat_map (λ p. p) pieces
+
+-- what the events were refused
+abbrev pub refusals : List Outputs → List Refusal
+refusals outs = flat_map (λ (o : Outputs). option_to_list o.refusal) outs
+
+-- ---- the takes after a piece
+
+pub record AnswersAll (old new : Hub) (before after : Option (List ℕ)) : Type 0 where
+  pub whole : ℕ
+  pub waits : Waits (place_of 0 old.links) old whole
+  pub answers : List Outputs
+  pub run : Run old (takes whole) answers new
+  pub wrote : Appends before after (all_bytes_sent answers)
+
+-- a write failed: a front of what is sent so far was written
+pub record AnswersSome (old new : Hub) (before after : Option (List ℕ)) : Type 0 where
+  pub whole : ℕ
+  pub waits : Waits (place_of 0 old.links) old whole
+  pub count : ℕ
+  pub some : count ≤ whole
+  pub answers : List Outputs
+  pub run : Run old (takes count) answers new
+  pub wrote : WroteFront before after (all_bytes_sent answers)
+
+abbrev pub AnswersWaiting : Result (Unit {0}) Fault → Hub → Hub → Option (List ℕ) → Option (List ℕ) → Type 0
+AnswersWaiting (Ok done) old new before after = AnswersAll old new before after
+AnswersWaiting (Err fault) old new before after = (fault ≡ WriteFault) × AnswersSome old new before after
+
+-- ---- a piece and the takes after it
+
+-- all that is sent was written
+pub record WholeTurn (old new : Hub) (bytes : List ℕ) (before after : Option (List ℕ)) (met : List Refusal) : Type 0 where
+  pub outs : List Outputs
+  pub turn : Turn old bytes outs new
+  pub wrote : Appends before after (all_bytes_sent outs)
+  pub met_is : refusals outs ≡ met
+
+pub record BrokenTurn (old new : Hub) (bytes : List ℕ) (before after : Option (List ℕ)) : Type 0 where
+  pub outs : List Outputs
+  pub turn : SomeTurn old bytes outs new
+  pub wrote : WroteFront before after (all_bytes_sent outs)
+
+abbrev pub TurnEnds : Result (Unit {0}) Fault → Hub → Hub → List ℕ → Option (List ℕ) → Option (List ℕ) → Type 0
+TurnEnds (Ok done) old new bytes before after = WholeTurn old new bytes before after []
+TurnEnds (Err Starved) old new bytes before after = WholeTurn old new bytes before after (Refusal.Starved ∷ [])
+TurnEnds (Err RecordTooLong) old new bytes before after = WholeTurn old new bytes before after (Refusal.RecordTooLong ∷ [])
+TurnEnds (Err WriteFault) old new bytes before after = BrokenTurn old new bytes before after
+TurnEnds (Err ReadFault) old new bytes before after = ⊥
+
+-- ---- the whole loop
+
+-- what was read came as these pieces, all that is sent for them was written, and nothing else
+pub record EndsAt (pipe : Peer) (unread left before after : Option (List ℕ)) (met : List Refusal) (hub : Hub) : Type 0 where
+  pub pieces : List (List ℕ)
+  pub outs : List Outputs
+  pub run : PipeRun pipe pieces outs hub
+  pub read : Consumes unread left (joined pieces)
+  pub wrote : Appends before after (all_bytes_sent outs)
+  pub met_is : refusals outs ≡ met
+
+abbrev pub WholePipe : Peer → Option (List ℕ) → Option (List ℕ) → Option (List ℕ) → Option (List ℕ) → List Refusal → Type 0
+WholePipe pipe unread left before after met = (hub : Hub) × EndsAt pipe unread left before after met hub
+
+-- a write failed after the last piece: a front of what is sent was written
+pub record BrokenPipe (pipe : Peer) (unread left before after : Option (List ℕ)) : Type 0 where
+  pub pieces : List (List ℕ)
+  pub outs : List Outputs
+  pub mid : Hub
+  pub run : PipeRun pipe pieces outs mid
+  pub last : List ℕ
+  pub more : List Outputs
+  pub end : Hub
+  pub turn : SomeTurn mid last more end
+  pub read : Consumes unread left (joined pieces ++ last)
+  pub wrote : WroteFront before after (all_bytes_sent (outs ++ more))
+
+-- memory is wanted for a place of a piece before it is read, or by an event
+abbrev pub PipeEnds : Peer → Result (Unit {0}) Fault → Option (List ℕ) → Option (List ℕ) → Option (List ℕ) → Option (List ℕ) → Type 0
+PipeEnds pipe (Ok done) unread left before after = WholePipe pipe unread left before after [] × IsAtEnd left
+PipeEnds pipe (Err ReadFault) unread left before after = WholePipe pipe unread left before after []
+PipeEnds pipe (Err RecordTooLong) unread left before after = WholePipe pipe unread left before after (Refusal.RecordTooLong ∷ [])
+PipeEnds pipe (Err Starved) unread left before after = WholePipe pipe unread left before after [] ⊎ WholePipe pipe unread left before after (Refusal.Starved ∷ [])
+PipeEnds pipe (Err WriteFault) unread left before after = BrokenPipe pipe unread left before after

@@ -1,0 +1,36 @@
+//! What ends the program.
+
+ghost use Rattle.std.specs.Prelude.{◌≡◌};
+
+use daemon_core::Refusal;
+use thiserror::Error;
+
+/// What ends a loop before its input does. It is printed by number and name.
+#[derive(Clone, Copy, Debug, PartialEq, Eq, Error)]
+pub enum Fault {
+    /// A growth was refused.
+    #[error("1 Starved")]
+    Starved,
+    /// The stream has a record that would be longer than 8,192 bytes (RFC 5531, section 11).
+    #[error("10 RecordTooLong")]
+    RecordTooLong,
+    /// A read failed, or there were too many.
+    #[error("23 ReadFault")]
+    ReadFault,
+    /// A write failed.
+    #[error("24 WriteFault")]
+    WriteFault,
+}
+
+impl From<Refusal> for Fault {
+    ghost use Rattle.lockd_main.specs.FaultOf.{fault_of};
+
+    ghost from_gives = { λ r f. f ≡ fault_of r };
+
+    fn from(refusal: Refusal) -> Fault {
+        match refusal {
+            Refusal::Starved => Fault::Starved,
+            Refusal::RecordTooLong => Fault::RecordTooLong,
+        }
+    }
+}

@@ -1,0 +1,45 @@
+//! `lockd`: the lock manager and status monitor of an NFS server.
+#![tactic(auto)]
+
+mod fault;
+mod output;
+mod pipe;
+
+
+mod words;
+
+use crate::fault::Fault;
+use crate::pipe::pipe_loop;
+use crate::words::is_pipe;
+use std::io::{self, BufWriter};
+use std::process::ExitCode;
+
+/// The most reads of a reader loop.
+const MAX_READS: u64 = 1_000_000_000;
+
+/// The exit status of a command line that is refused.
+const REFUSED: u8 = 2;
+
+fn run_pipe(rt: &HostRuntime) -> Result<(), Fault> {
+    let alloc = rt.alloc();
+    let mut reader = rt.reader();
+    let mut writer = match BufWriter::new(alloc, io::writer(rt)) {
+        Ok(writer) => writer,
+        Err(_) => return Err(Fault::Starved),
+    };
+    pipe_loop(alloc, &mut reader, &mut writer, MAX_READS)
+}
+
+fn main(rt: HostRuntime) -> ExitCode {
+    if !is_pipe(&rt) {
+        let _ = eprintln!(rt; "usage: lockd pipe");
+        return ExitCode::from(REFUSED);
+    }
+    match run_pipe(&rt) {
+        Ok(()) => ExitCode::SUCCESS,
+        Err(fault) => {
+            let _ = eprintln!(rt; "lockd: {fault}");
+            ExitCode::FAILURE
+        }
+    }
+}
