@@ -8,8 +8,8 @@ mod law;
 
 mod peer;
 mod service;
-
-
+#[cfg(test)]
+mod tests;
 
 pub use crate::connection::Connection;
 pub use crate::daemon::Daemon;

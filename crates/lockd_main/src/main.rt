@@ -4,13 +4,14 @@
 mod fault;
 mod output;
 mod pipe;
-
-
+#[cfg(test)]
+mod tests;
 mod words;
 
 use crate::fault::Fault;
 use crate::pipe::pipe_loop;
 use crate::words::is_pipe;
+use std::env;
 use std::io::{self, BufWriter};
 use std::process::ExitCode;
 
@@ -19,6 +20,18 @@ const MAX_READS: u64 = 1_000_000_000;
 
 /// The exit status of a command line that is refused.
 const REFUSED: u8 = 2;
+
+/// The words behind the program's name.
+fn arguments(rt: &HostRuntime) -> io::Result<Vec<String>> {
+    let mut words = Vec::new(rt.alloc());
+    for word in env::args(rt)? {
+        words.push(word)?;
+    }
+    if !words.is_empty() {
+        words.remove(0);
+    }
+    Ok(words)
+}
 
 fn run_pipe(rt: &HostRuntime) -> Result<(), Fault> {
     let alloc = rt.alloc();
@@ -31,7 +44,11 @@ fn run_pipe(rt: &HostRuntime) -> Result<(), Fault> {
 }
 
 fn main(rt: HostRuntime) -> ExitCode {
-    if !is_pipe(&rt) {
+    let is_accepted = match arguments(&rt) {
+        Ok(words) => is_pipe(&words),
+        Err(_) => false,
+    };
+    if !is_accepted {
         let _ = eprintln!(rt; "usage: lockd pipe");
         return ExitCode::from(REFUSED);
     }

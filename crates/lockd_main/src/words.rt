@@ -1,17 +1,13 @@
 //! The command line.
 
-use std::env;
-use std::rt::Runtime;
+ghost use Rattle.std.specs.Prelude.{◌≡◌, [], ◌∷◌, ◌↔◌, IsTrue, map, string_bytes, codes};
 
 /// Whether the words behind the program's name are just `pipe`.
-pub(crate) fn is_pipe<R: Runtime>(rt: &R) -> bool {
-    let Ok(mut words) = env::args(rt) else {
-        return false;
-    };
-    let _program = words.next();
-    let is_pipe = match words.next() {
-        Some(word) => word.as_str() == "pipe",
-        None => false,
-    };
-    is_pipe && words.next().is_none()
+pub(crate) fn is_pipe(words: &[String]) -> bool
+    ensures { IsTrue result ↔ (map (λ w. string_bytes w) words.now ≡ codes "pipe" ∷ []) }
+{
+    match words {
+        [word] => word.as_str() == "pipe",
+        _ => false,
+    }
 }

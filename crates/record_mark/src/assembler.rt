@@ -8,13 +8,17 @@ use bytes::Bytes;
 use history::History;
 use std::alloc::{AllocError, Global};
 use std::marker::Model;
+use thiserror::Error;
 
 /// What `feed` answers where it can't go on.
-#[derive(Drop)]
+#[derive(Debug, Drop, Error)]
 pub enum MarkError {
-    /// Memory ran out. The piece was not taken.
+    /// A growth was refused. The piece was not taken.
+    #[error("1 Starved")]
     Starved,
-    /// A record is too long. These are the records that the piece ended before it.
+    /// A record would be longer than `MAX_RECORD`. These are the records that the piece ended before
+    /// it; from now on every piece is answered so, with none.
+    #[error("10 RecordTooLong")]
     RecordTooLong(Records),
 }
 
@@ -53,7 +57,7 @@ impl Model for Assembler {
 impl Assembler {
     ghost use Rattle.record_mark.specs.Feeding.{is_starved, records_in, is_too_long};
 
-    /// Takes no memory.
+    /// With no bytes. It takes no memory.
     pub fn new(alloc: Global) -> Assembler
         ensures new { result ≡ record { received = []; given = []; failed = false } }
         ensures split { IsSplit result }
@@ -67,7 +71,7 @@ impl Assembler {
         }
     }
 
-    /// Takes a piece of the stream, and gives the records that it ends.
+    /// Takes a piece of the stream, and gives the records that it ends (RFC 5531, section 11).
     pub fn feed(&mut self, piece: &[u8]) -> Result<Records, MarkError>
         // The records that were given are those of all bytes that were taken.
         ensures split { IsSplit self.new }

@@ -6,6 +6,8 @@ mod assembler;
 mod law;
 mod progress;
 mod sent;
+#[cfg(test)]
+mod tests;
 
 
 

@@ -1,0 +1,202 @@
+use crate::fault::Fault;
+use crate::pipe::pipe_loop;
+use std::alloc::Global;
+use std::io::{self, Error, ErrorKind, Read, Write};
+use std::test::*;
+
+const NULL: [u32; 10] = [1, 0, 2, 100021, 4, 0, 0, 0, 0, 0];
+
+/// The reply to `NULL`, mark first.
+const NULL_REPLY: [u32; 7] = [0x8000_0018, 1, 1, 0, 0, 0, 0];
+
+/// The bytes of these words.
+fn words(alloc: Global, words: &[u32]) -> Result<Vec<u8>, Fail> {
+    let mut bytes = Vec::new(alloc);
+    for word in words {
+        bytes.extend_from_slice(&word.to_be_bytes())?;
+    }
+    Ok(bytes)
+}
+
+/// A record of one fragment.
+fn record(alloc: Global, message: &[u32]) -> Result<Vec<u8>, Fail> {
+    let mut bytes = words(alloc, &[(1 << 31) + 4 * (message.len() % 1024) as u32])?;
+    bytes.extend_from_slice(&words(alloc, message)?)?;
+    Ok(bytes)
+}
+
+/// Gives its bytes by at most so many at once, and fails at one of its reads.
+#[derive(Drop)]
+struct Source<'a> {
+    rest: &'a [u8],
+    most: usize,
+    reads_left: usize,
+}
+
+impl<'a> Read for Source<'a> {
+    fn read(&mut self, buf: &mut [u8]) -> io::Result<usize> {
+        if self.reads_left == 0 {
+            return Err(Error::from(ErrorKind::Other));
+        }
+        self.reads_left -= 1;
+        let count = self.rest.len().min(self.most).min(buf.len());
+        buf[..count].copy_from_slice(&self.rest[..count]);
+        self.rest = &self.rest[count..];
+        Ok(count)
+    }
+}
+
+/// Holds so many bytes, and then fails.
+#[derive(Drop)]
+struct Sink {
+    held: Vec<u8>,
+    room: usize,
+}
+
+impl Write for Sink {
+    fn write(&mut self, buf: &[u8]) -> io::Result<usize> {
+        let count = buf.len().min(self.room.saturating_sub(self.held.len()));
+        if count == 0 {
+            return Err(Error::from(ErrorKind::Other));
+        }
+        match self.held.extend_from_slice(&buf[..count]) {
+            Ok(()) => Ok(count),
+            Err(_) => Err(Error::from(ErrorKind::OutOfMemory)),
+        }
+    }
+
+    fn flush(&mut self) -> io::Result<()> {
+        Ok(())
+    }
+}
+
+/// What is written for the bytes, read by so many at once.
+fn piped(alloc: Global, input: &[u8], most: usize) -> (Vec<u8>, Result<(), Fault>) {
+    let mut source = Source {
+        rest: input,
+        most,
+        reads_left: 1000,
+    };
+    let mut sink = Sink {
+        held: Vec::new(alloc),
+        room: 4096,
+    };
+    let ended = pipe_loop(alloc, &mut source, &mut sink, 1000);
+    (sink.held, ended)
+}
+
+#[test]
+fn null_and_pieces(rt: HostRuntime) -> Result<(), Fail> {
+    let alloc = rt.alloc();
+    let want = words(alloc, &NULL_REPLY)?;
+    let whole = record(alloc, &NULL)?;
+    // in fragments of 16, 0 and 24 bytes
+    let mut cut = words(alloc, &[16, 1, 0, 2, 100021, 0, 0x8000_0018])?;
+    cut.extend_from_slice(&words(alloc, &NULL[4..])?)?;
+    for (input, most) in [(&whole, 8192), (&whole, 1), (&cut, 8192), (&cut, 1)] {
+        let (written, ended) = piped(alloc, input, most);
+        assert_eq!(rt; &written[..], &want[..]);
+        assert_eq!(rt; ended, Ok(()));
+    }
+    Ok(())
+}
+
+#[test]
+fn empty_input_and_streams_cut_short(rt: HostRuntime) -> Result<(), Fail> {
+    let alloc = rt.alloc();
+    let whole = record(alloc, &NULL)?;
+    for len in 0..whole.len() {
+        let (written, ended) = piped(alloc, &whole[..len], 8192);
+        assert_eq!(rt; written.len(), 0, "of {len}");
+        assert_eq!(rt; ended, Ok(()), "of {len}");
+    }
+    Ok(())
+}
+
+#[test]
+fn record_too_long(rt: HostRuntime) -> Result<(), Fail> {
+    let alloc = rt.alloc();
+    let fault = words(alloc, &[0x8000_2001])?;
+    let mut input = Vec::from_slice(alloc, &fault)?;
+    input.extend_from_slice(&record(alloc, &NULL)?)?;
+    let (written, ended) = piped(alloc, &input, 8192);
+    assert_eq!(rt; written.len(), 0);
+    assert_eq!(rt; ended, Err(Fault::RecordTooLong));
+    let mut input = record(alloc, &NULL)?;
+    input.extend_from_slice(&fault)?;
+    for most in [1, 8192] {
+        let (written, ended) = piped(alloc, &input, most);
+        assert_eq!(rt; &written[..], &words(alloc, &NULL_REPLY)?[..]);
+        assert_eq!(rt; ended, Err(Fault::RecordTooLong));
+    }
+    // The longest record is answered: the bytes behind the arguments are not looked at.
+    let mut input = words(alloc, &[0x8000_2000])?;
+    input.extend_from_slice(&words(alloc, &NULL)?)?;
+    input.extend_from_slice(&[0; 8152])?;
+    let (written, ended) = piped(alloc, &input, 8192);
+    assert_eq!(rt; &written[..], &words(alloc, &NULL_REPLY)?[..]);
+    assert_eq!(rt; ended, Ok(()));
+    Ok(())
+}
+
+#[test]
+fn refused_headers(rt: HostRuntime) -> Result<(), Fail> {
+    let alloc = rt.alloc();
+    let sys = [1, 0, 2, 100021, 4, 0, 1, 24, 0, 1, 0x6100_0000, 0, 0, 0, 0, 0];
+    let bad_sys = [1, 0, 2, 100021, 4, 0, 1, 24, 0, 1, 0x6100_0000, 0, 0, 17, 0, 0];
+    let cases: [(&[u32], &[u32]); 7] = [
+        (&[1, 0, 3, 100021, 4, 0, 0, 0, 0, 0], &[0x8000_0018, 1, 1, 1, 0, 2, 2]),
+        (&[1, 0, 2, 100021, 2, 0, 0, 0, 0, 0], &[0x8000_0020, 1, 1, 0, 0, 0, 2, 4, 4]),
+        (&[1, 0, 2, 100021, 4, 16, 0, 0, 0, 0], &[0x8000_0018, 1, 1, 0, 0, 0, 3]),
+        (&[1, 0, 2, 100003, 4, 0, 0, 0, 0, 0], &[0x8000_0018, 1, 1, 0, 0, 0, 1]),
+        (&[1, 0, 2, 100021, 4, 0, 6, 0, 0, 0], &[0x8000_0014, 1, 1, 1, 1, 1]),
+        (&sys, &NULL_REPLY),
+        (&bad_sys, &[0x8000_0014, 1, 1, 1, 1, 1]),
+    ];
+    for (message, want) in cases {
+        let (written, ended) = piped(alloc, &record(alloc, message)?, 8192);
+        assert_eq!(rt; &written[..], &words(alloc, want)?[..]);
+        assert_eq!(rt; ended, Ok(()));
+    }
+    Ok(())
+}
+
+#[test]
+fn failing_ends(rt: HostRuntime) -> Result<(), Fail> {
+    let alloc = rt.alloc();
+    let mut input = record(alloc, &NULL)?;
+    input.extend_from_slice(&record(alloc, &NULL)?)?;
+    let reply = words(alloc, &NULL_REPLY)?;
+    let mut want = Vec::from_slice(alloc, &reply)?;
+    want.extend_from_slice(&reply)?;
+    // The reads give 11 bytes each: the fourth ends the first record, the eighth the second.
+    for reads in 0..9usize {
+        let mut source = Source { rest: &input, most: 11, reads_left: reads };
+        let mut sink = Sink { held: Vec::new(alloc), room: 4096 };
+        assert_eq!(rt; pipe_loop(alloc, &mut source, &mut sink, 1000), Err(Fault::ReadFault));
+        assert_eq!(rt; sink.held.len(), 28 * (reads / 4), "after {reads} reads");
+    }
+    for room in 0..want.len() {
+        let mut source = Source { rest: &input, most: 8192, reads_left: 1000 };
+        let mut sink = Sink { held: Vec::new(alloc), room };
+        assert_eq!(rt; pipe_loop(alloc, &mut source, &mut sink, 1000), Err(Fault::WriteFault));
+        assert_eq!(rt; &sink.held[..], &want[..room], "with {room}");
+    }
+    Ok(())
+}
+
+#[test]
+fn endless_zeros(rt: HostRuntime) -> Result<(), Fail> {
+    let alloc = rt.alloc();
+    let zeros = [0; 2000];
+    let mut source = Source { rest: &zeros, most: 1, reads_left: 2000 };
+    let mut sink = Sink { held: Vec::new(alloc), room: 4096 };
+    assert_eq!(rt; pipe_loop(alloc, &mut source, &mut sink, 1000), Err(Fault::ReadFault));
+    assert_eq!(rt; sink.held.len(), 0);
+    let mut names = String::new(alloc);
+    for fault in [Fault::Starved, Fault::RecordTooLong, Fault::ReadFault, Fault::WriteFault] {
+        names.push_str(fault.to_string(alloc)?.as_str())?;
+    }
+    assert_eq!(rt; names.as_str(), "1 Starved10 RecordTooLong23 ReadFault24 WriteFault");
+    Ok(())
+}
