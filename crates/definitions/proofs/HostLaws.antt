@@ -1,0 +1,143 @@
+-- Rows and watches stay in order, and shares stay single.
+use Rattle.std.proofs.Common.{◌≡◌, Bool, true, false, cond, ◌&&◌, ◌||◌, List, [], ◌∷◌, ◌++◌, refl, sym, ap, ◌∙◌, ℕ, ℤ, pos}
+use Rattle.std.proofs.lemmas.Bool.{true≢false}
+use Rattle.std.proofs.lemmas.Cmp.{then_total, on_total, nat_list_cmp_total, int_cmp_total}
+use Rattle.std.proofs.lemmas.Slice.Eq.{bytes_eq-Decides}
+use Rattle.std.specs.Cmp.{IsTotalOrder, both_ways}
+use Rattle.std.specs.declared.cmp.Ordering.{Ordering}
+use Rattle.definitions.specs.Bytes.{Bytes, same_bytes, is_any, without, IsBelowAll, IsAscending}
+use Rattle.definitions.specs.Hosts.{HostRow, Hosts, row_cmp, my_id_cmp, watch_cmp, has_row, full_quota, with_row, with_new_row, with_seen, with_epoch, is_watch, Begin, Monitor, Seen, Acked, Watched, Unwatched, AreInOrder, HostsLaw}
+use Rattle.definitions.specs.Shares.{Share, is_same_place, AreSingle, SharesLaw}
+use Rattle.definitions.proofs.Orders.{put_ascends}
+
+row_total : IsTotalOrder row_cmp
+row_total = on_total (λ r. r.name) nat_list_cmp_total
+
+my_id_total : IsTotalOrder my_id_cmp
+my_id_total = then_total (on_total (λ m. m.my_name) nat_list_cmp_total) (then_total (on_total (λ m. m.prog) int_cmp_total) (then_total (on_total (λ m. m.vers) int_cmp_total) (on_total (λ m. m.proc) int_cmp_total)))
+
+watch_total : IsTotalOrder watch_cmp
+watch_total = then_total (on_total (λ w. w.mon_name) nat_list_cmp_total) (on_total (λ w. w.my_id) my_id_total)
+
+module _ {X : Type 0} (cmp : X → X → Ordering) (p : X → Bool) where
+  below_without : (x : X) (xs : List X) → IsBelowAll cmp x xs → IsBelowAll cmp x (without p xs)
+  below_without x [] h = tt
+  below_without x (y ∷ ys) h = go (p y) (below_without x ys h.1)
+    where
+      go : (b : Bool) → IsBelowAll cmp x (without p ys) → IsBelowAll cmp x (cond b (without p ys) (y ∷ without p ys))
+      go true k = k
+      go false k = (h.0, k)
+
+  without_ascends : (xs : List X) → IsAscending cmp xs → IsAscending cmp (without p xs)
+  without_ascends [] h = tt
+  without_ascends (x ∷ xs) h = go (p x) (without_ascends xs h.1)
+    where
+      go : (b : Bool) → IsAscending cmp (without p xs) → IsAscending cmp (cond b (without p xs) (x ∷ without p xs))
+      go true k = k
+      go false k = (below_without x xs h.0, k)
+
+-- ---- rows
+
+seen_below : (x : HostRow) (name : Bytes) (seen : ℤ) (rows : List HostRow) → IsBelowAll row_cmp x rows → IsBelowAll row_cmp x (with_seen name seen rows)
+seen_below x name seen [] h = tt
+seen_below x name seen (r ∷ rows) h = go (same_bytes r.name name) (seen_below x name seen rows h.1)
+  where
+    go : (b : Bool) → IsBelowAll row_cmp x (with_seen name seen rows) → IsBelowAll row_cmp x (cond b (record r { seen = seen } ∷ rows) (r ∷ with_seen name seen rows))
+    go true k = h
+    go false k = (h.0, k)
+
+below_same : (x y : HostRow) (rows : List HostRow) → x.name ≡ y.name → IsBelowAll row_cmp x rows → IsBelowAll row_cmp y rows
+below_same x y [] e h = tt
+below_same x y (r ∷ rows) e h = (ap (λ n. row_cmp (record y { name = n }) r) (sym e) ∙ h.0, below_same x y rows e h.1)
+
+seen_ascends : (name : Bytes) (seen : ℤ) (rows : List HostRow) → IsAscending row_cmp rows → IsAscending row_cmp (with_seen name seen rows)
+seen_ascends name seen [] h = tt
+seen_ascends name seen (r ∷ rows) h = go (same_bytes r.name name) (seen_ascends name seen rows h.1)
+  where
+    go : (b : Bool) → IsAscending row_cmp (with_seen name seen rows) → IsAscending row_cmp (cond b (record r { seen = seen } ∷ rows) (r ∷ with_seen name seen rows))
+    go true k = (below_same r (record r { seen = seen }) rows refl h.0, h.1)
+    go false k = (seen_below r name seen rows h.0, k)
+
+epoch_below : (x : HostRow) (name : Bytes) (epoch : ℕ) (rows : List HostRow) → IsBelowAll row_cmp x rows → IsBelowAll row_cmp x (with_epoch name epoch rows)
+epoch_below x name epoch [] h = tt
+epoch_below x name epoch (r ∷ rows) h = go (same_bytes r.name name) (epoch_below x name epoch rows h.1)
+  where
+    go : (b : Bool) → IsBelowAll row_cmp x (with_epoch name epoch rows) → IsBelowAll row_cmp x (cond b (record r { epoch = epoch } ∷ rows) (r ∷ with_epoch name epoch rows))
+    go true k = h
+    go false k = (h.0, k)
+
+epoch_ascends : (name : Bytes) (epoch : ℕ) (rows : List HostRow) → IsAscending row_cmp rows → IsAscending row_cmp (with_epoch name epoch rows)
+epoch_ascends name epoch [] h = tt
+epoch_ascends name epoch (r ∷ rows) h = go (same_bytes r.name name) (epoch_ascends name epoch rows h.1)
+  where
+    go : (b : Bool) → IsAscending row_cmp (with_epoch name epoch rows) → IsAscending row_cmp (cond b (record r { epoch = epoch } ∷ rows) (r ∷ with_epoch name epoch rows))
+    go true k = (below_same r (record r { epoch = epoch }) rows refl h.0, h.1)
+    go false k = (epoch_below r name epoch rows h.0, k)
+
+new_ascends : (hosts : Hosts) (name : Bytes) (state : ℤ) → AreInOrder hosts → IsAscending row_cmp (with_new_row name state hosts)
+new_ascends hosts name state h = go (has_row hosts name)
+  where
+    go : (b : Bool) → IsAscending row_cmp (cond b hosts.rows (with_row name hosts.own state hosts.rows))
+    go true = h.rows
+    go false = put_ascends row_cmp row_total (record { name = name; epoch = hosts.own; seen = state; quota = full_quota }) hosts.rows h.rows
+
+pub hosts_law : HostsLaw
+hosts_law hosts Begin h = record { rows = h.rows; watches = h.watches }
+hosts_law hosts (Monitor name state) h = record { rows = new_ascends hosts name state h; watches = h.watches }
+hosts_law hosts (Seen name state) h = record { rows = seen_ascends name state hosts.rows h.rows; watches = h.watches }
+hosts_law hosts (Acked name epoch) h = record { rows = epoch_ascends name epoch hosts.rows h.rows; watches = h.watches }
+hosts_law hosts (Watched name my bytes) h = record {
+  rows = new_ascends hosts name (pos 0) h;
+  watches = put_ascends watch_cmp watch_total (record { mon_name = name; my_id = my; private_bytes = bytes }) hosts.watches h.watches;
+}
+hosts_law hosts (Unwatched name my) h = record { rows = h.rows; watches = without_ascends watch_cmp (is_watch name my) hosts.watches h.watches }
+
+-- ---- shares
+
+any_less : (p q : Share → Bool) (xs : List Share) → is_any p xs ≡ false → is_any p (without q xs) ≡ false
+any_less p q [] e = refl
+any_less p q (x ∷ xs) e = go (p x) refl e (any_less p q xs)
+  where
+    keep : (c : Bool) → p x ≡ false → is_any p (without q xs) ≡ false → is_any p (cond c (without q xs) (x ∷ without q xs)) ≡ false
+    keep true i k = k
+    keep false i k = ap (λ b. b || is_any p (without q xs)) i ∙ k
+
+    go : (b : Bool) → p x ≡ b → (b || is_any p xs) ≡ false → (is_any p xs ≡ false → is_any p (without q xs) ≡ false) → is_any p (cond (q x) (without q xs) (x ∷ without q xs)) ≡ false
+    go true i k more = absurd (true≢false k)
+    go false i k more = keep (q x) i (more k)
+
+single_without : (q : Share → Bool) (xs : List Share) → AreSingle xs → AreSingle (without q xs)
+single_without q [] h = tt
+single_without q (x ∷ xs) h = go (q x) (single_without q xs h.1)
+  where
+    go : (b : Bool) → AreSingle (without q xs) → AreSingle (cond b (without q xs) (x ∷ without q xs))
+    go true k = k
+    go false k = (any_less (is_same_place x) q xs h.0, k)
+
+bytes_back : (a b : Bytes) → same_bytes a b ≡ same_bytes b a
+bytes_back a b = both_ways (same_bytes a b) (same_bytes b a) (λ e. (bytes_eq-Decides b a).1 (sym ((bytes_eq-Decides a b).0 e))) (λ e. (bytes_eq-Decides a b).1 (sym ((bytes_eq-Decides b a).0 e)))
+
+place_back : (a b : Share) → is_same_place a b ≡ is_same_place b a
+place_back a b =
+    ap (λ t. t && same_bytes a.name b.name && same_bytes a.oh b.oh) (bytes_back a.file b.file)
+    ∙ ap (λ t. same_bytes b.file a.file && t && same_bytes a.oh b.oh) (bytes_back a.name b.name)
+    ∙ ap (λ t. same_bytes b.file a.file && same_bytes b.name a.name && t) (bytes_back a.oh b.oh)
+
+any_last : (s new : Share) (xs : List Share) → is_any (is_same_place s) xs ≡ false → is_same_place s new ≡ false → is_any (is_same_place s) (xs ++ new ∷ []) ≡ false
+any_last s new [] e f = ap (λ b. b || false) f
+any_last s new (x ∷ xs) e f = go (is_same_place s x) refl e (λ k. any_last s new xs k f)
+  where
+    go : (b : Bool) → is_same_place s x ≡ b → (b || is_any (is_same_place s) xs) ≡ false → (is_any (is_same_place s) xs ≡ false → is_any (is_same_place s) (xs ++ new ∷ []) ≡ false) → (is_same_place s x || is_any (is_same_place s) (xs ++ new ∷ [])) ≡ false
+    go true i k more = absurd (true≢false k)
+    go false i k more = ap (λ b. b || is_any (is_same_place s) (xs ++ new ∷ [])) i ∙ more k
+
+single_last : (new : Share) (xs : List Share) → AreSingle xs → AreSingle (without (is_same_place new) xs ++ new ∷ [])
+single_last new [] h = (refl, tt)
+single_last new (x ∷ xs) h = go (is_same_place new x) refl (single_last new xs h.1)
+  where
+    go : (b : Bool) → is_same_place new x ≡ b → AreSingle (without (is_same_place new) xs ++ new ∷ []) → AreSingle (cond b (without (is_same_place new) xs) (x ∷ without (is_same_place new) xs) ++ new ∷ [])
+    go true e k = k
+    go false e k = (any_last x new (without (is_same_place new) xs) (any_less (is_same_place x) (is_same_place new) xs h.0) (place_back x new ∙ e), k)
+
+pub shares_law : SharesLaw
+shares_law shares new name h = (single_last new shares h, single_without (is_same_place new) shares h, single_without (λ (s : Share). same_bytes s.name name) shares h)

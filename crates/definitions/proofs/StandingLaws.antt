@@ -1,0 +1,23 @@
+-- What stands over every step and every list of events, besides the table.
+use Rattle.std.proofs.Common.{List, [], ◌∷◌}
+use Rattle.definitions.specs.Shares.{SharesStand}
+use Rattle.definitions.specs.World.{Limits}
+use Rattle.definitions.specs.Step.{State, opening_state}
+use Rattle.definitions.specs.Replay.{Done, after, state_after}
+use Rattle.definitions.specs.Standing.{IsShareReclaim, ShareRunLaw, GraceSharesLaw}
+use Rattle.definitions.proofs.SideSteps.{step_sides}
+use Rattle.definitions.proofs.ShareLaws.{shares_stand, came_or_was}
+
+run_stands : (limits : Limits) (s : State) (done : List Done) → SharesStand s.world.shares → SharesStand (state_after limits s done).world.shares
+run_stands limits s [] h = h
+run_stands limits s (d ∷ done) h =
+    let m = step_sides limits s d.event d.doing d.store in
+    run_stands limits (after limits s d).state done (shares_stand (IsShareReclaim d.event) s.world.phase s.world.shares (after limits s d).state.world.shares m.shares h)
+
+pub share_run_law : ShareRunLaw
+share_run_law limits name hosts done = run_stands limits (opening_state name hosts) done (record { single = tt; coexist = λ a b h. absurd h })
+
+pub grace_shares_law : GraceSharesLaw
+grace_shares_law limits s event doing store g share h =
+    let m = step_sides limits s event doing store in
+    came_or_was (IsShareReclaim event) s.world.phase s.world.shares _ m.shares g share h

@@ -1,0 +1,61 @@
+-- The server's own calls over a step: what is there keeps its number and its order, and what comes is numbered on, one above the other.
+use Rattle.std.specs.Prelude.{◌≡◌, ◌⊎◌, ℕ, ◌+◌, ◌%◌, ◌^◌, Bool, true, false, List, [], ◌∷◌, ◌++◌}
+use Rattle.definitions.specs.Bytes.{Holds}
+use Rattle.definitions.specs.Hosts.{StoreAnswer, Yes}
+use Rattle.definitions.specs.Outgoing.{Letter, Outgoing, due_now, once_more}
+use Rattle.definitions.specs.Replies.{Asks}
+use Rattle.definitions.specs.Step.{State, Event, Take, Restart, Doing, is_restart, step}
+use Rattle.definitions.specs.World.{World, Limits, first_number}
+
+-- letters that become due one behind the other, from a number on
+abbrev pub numbered : ℕ → List Letter → List Outgoing
+numbered next [] = []
+numbered next (letter ∷ letters) = due_now next letter ∷ numbered ((next + 1) % 2 ^ 64) letters
+
+-- and the number behind theirs
+abbrev pub number_behind : ℕ → List Letter → ℕ
+number_behind next [] = next
+number_behind next (letter ∷ letters) = number_behind ((next + 1) % 2 ^ 64) letters
+
+-- the call is as it was, or it was due and has been sent
+abbrev pub IsSameCall : Outgoing → Outgoing → Type 0
+IsSameCall c d = (d ≡ c) ⊎ ((c.is_due ≡ true) × (d ≡ once_more c))
+
+-- some calls are gone, and the others stand in their order
+pub data AreLeft : List Outgoing → List Outgoing → Type 0 where
+  NoneLeft : AreLeft [] []
+  IsGone : {c : Outgoing} {before behind : List Outgoing} → AreLeft before behind → AreLeft (c ∷ before) behind
+  IsLeft : {c d : Outgoing} {before behind : List Outgoing} → IsSameCall c d → AreLeft before behind → AreLeft (c ∷ before) (d ∷ behind)
+
+-- no call is due again, or one that was sent and not due
+abbrev pub IsAgain : List Outgoing → List Outgoing → Type 0
+IsAgain calls again = (again ≡ []) ⊎ ((c : Outgoing) × Holds calls c × (c.is_due ≡ false) × (again ≡ record c { is_due = true } ∷ []))
+
+-- the world's calls are these, and then letters that became due from a number on
+pub record Continues (before : List Outgoing) (first : ℕ) (v : World) : Type 0 where
+  pub letters : List Letter
+  pub calls : v.calls ≡ before ++ numbered first letters
+  pub next : v.next ≡ number_behind first letters
+
+-- first the calls that are left, then one that is due again, then the new ones
+pub record GoesOn (w v : World) : Type 0 where
+  pub left : List Outgoing
+  pub again : List Outgoing
+  pub in_order : AreLeft w.calls left
+  pub renewed : IsAgain w.calls again
+  pub behind : Continues (left ++ again) w.next v
+
+-- the calls of before are gone, and numbers begin anew behind the own state
+abbrev pub BeginsAnew : World → Type 0
+BeginsAnew v = Continues [] (first_number v.hosts.own) v
+
+-- a restart that the store agreed to, and SM_SIMU_CRASH, which acts as one
+abbrev pub is_beginning : Event → StoreAnswer → Bool
+is_beginning Restart Yes = true
+is_beginning (Take peer asked (Asks xid call)) store = is_restart peer call store
+is_beginning _ _ = false
+
+-- so it is at every step: numbers rise by one, and due calls keep their order
+abbrev pub NumbersLaw : Type 0
+NumbersLaw =
+    (limits : Limits) (s : State) (event : Event) (doing : Doing) (store : StoreAnswer) → GoesOn s.world (step limits s event doing store).state.world ⊎ ((is_beginning event store ≡ true) × BeginsAnew (step limits s event doing store).state.world)

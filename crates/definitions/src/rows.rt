@@ -1,0 +1,10 @@
+//! The worked rows, by subject.
+pub mod answers;
+pub mod grace;
+pub mod hosts;
+pub mod limits;
+pub mod lines;
+pub mod locks;
+pub mod reclaims;
+pub mod repeats;
+pub mod waits;
