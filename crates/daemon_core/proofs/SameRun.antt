@@ -2,7 +2,6 @@
 use Rattle.std.proofs.Common.{◌≡◌, ℕ, zero, suc, ◌≤◌, inl, inr, Bool, true, false, List, [], ◌∷◌, length, Option, Some, None, slice_get, slice_set, refl, sym, ◌∙◌, ap, subst, arith}
 use Rattle.record_mark.specs.Stream.{Splits, HasOneReading}
 use Rattle.rpc_msg.specs.declared.header.Header.{Header}
-use Rattle.rpc_msg.specs.declared.header.HeaderError.{HeaderError}
 use Rattle.rpc_msg.specs.declared.reply.Reply.{Reply}
 use Rattle.rpc_msg.specs.Laws.{HasOneVerdict}
 use Rattle.daemon_core.specs.declared.event.Outcome.{Outcome}
@@ -15,7 +14,7 @@ use Rattle.daemon_core.specs.Service.{reply_to, reply_to_refused, IsAnswered}
 use Rattle.daemon_core.specs.Outputs.{marked_by, answered_to}
 use Rattle.daemon_core.specs.Untaken.{AreRecords, untaken}
 use Rattle.daemon_core.specs.Link.{Link, Hears, Receives, with_taken}
-use Rattle.daemon_core.specs.Hub.{Hub, place_of, IsQuiet, Connects, Disconnects, Pieces, Answers, HasNone, TakesAt, HubStep, Run, AreAlike, HasOneRun}
+use Rattle.daemon_core.specs.Hub.{Hub, place_of, IsQuiet, Connects, Disconnects, Pieces, Answers, HasNone, TakesAt, HubStep, Run, HasOneRun}
 
 abbrev Same : Outputs → Outputs → Hub → Hub → Type 0
 Same out out' new new' = (out ≡ out') × (new ≡ new')

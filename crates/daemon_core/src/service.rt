@@ -7,6 +7,7 @@ use rpc_msg::{AcceptError, Denial, Header, HeaderError, RPC_VERSION, Reply};
 
 /// The lock manager's program, and the version of it that is served (XNFS).
 const NLM_PROGRAM: u32 = 100021;
+
 const NLM_VERSION: u32 = 4;
 
 /// The procedure that does nothing and is always served (RFC 5531, section 12.1).

@@ -34,7 +34,9 @@ fn null(rt: HostRuntime) -> Result<(), Fail> {
     assert_eq!(rt; sent.to, 3);
     let mut frame = Frame::new();
     assert!(rt; sent.put(&mut frame).is_ok());
-    let want = [0u8, 0, 0, 1, 0, 0, 0, 1, 0, 0, 0, 0, 0, 0, 0, 0, 0, 0, 0, 0, 0, 0, 0, 0];
+    let want = [
+        0u8, 0, 0, 1, 0, 0, 0, 1, 0, 0, 0, 0, 0, 0, 0, 0, 0, 0, 0, 0, 0, 0, 0, 0,
+    ];
     assert_eq!(rt; frame.as_slice(), &want[..]);
     one_run();
     Ok(())
@@ -46,7 +48,14 @@ fn programs_versions_and_procedures(rt: HostRuntime) -> Result<(), Fail> {
     let failure = |error| Reply::AcceptFailure { xid: 1, error };
     let cases = [
         ([100021, 4, 0], Reply::Success { xid: 1 }),
-        ([100021, 2, 0], Reply::Mismatch { xid: 1, low: 4, high: 4 }),
+        (
+            [100021, 2, 0],
+            Reply::Mismatch {
+                xid: 1,
+                low: 4,
+                high: 4,
+            },
+        ),
         ([100021, 4, 16], failure(AcceptError::ProcUnavail)),
         ([100003, 4, 0], failure(AcceptError::ProgUnavail)),
         ([100024, 1, 0], failure(AcceptError::ProgUnavail)),
@@ -89,7 +98,13 @@ fn answers_in_the_order_of_the_takes(rt: HostRuntime) -> Result<(), Fail> {
     let outputs = daemon.run(events)?;
     let success = |to, xid| reply(to, Reply::Success { xid });
     assert_eq!(rt; outputs.len(), 15);
-    for (at, want) in [(9, success(1, 2)), (10, success(2, 3)), (11, success(1, 1)), (12, None), (14, None)] {
+    for (at, want) in [
+        (9, success(1, 2)),
+        (10, success(2, 3)),
+        (11, success(1, 1)),
+        (12, None),
+        (14, None),
+    ] {
         assert_eq!(rt; outputs.get(at).and_then(|o| o.sent), want, "at {at}");
     }
     Ok(())

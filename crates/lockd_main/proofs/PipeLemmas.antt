@@ -1,5 +1,5 @@
 -- Pieces, and the takes after them.
-use Rattle.std.proofs.Common.{◌≡◌, ℕ, zero, suc, ◌+◌, ◌≤◌, inl, inr, Bool, true, false, List, [], ◌∷◌, ◌++◌, flat_map, Option, Some, None, replicate, refl, sym, ◌∙◌, ap, subst, append_assoc, arith}
+use Rattle.std.proofs.Common.{◌≡◌, ℕ, zero, suc, ◌+◌, inl, inr, Bool, true, false, List, [], ◌∷◌, ◌++◌, Option, Some, None, refl, sym, ◌∙◌, ap, subst, append_assoc, arith}
 use Rattle.std.specs.Option.{option_to_list}
 use Rattle.std.specs.Prelude.{Err}
 use Rattle.std.specs.Io.KnownBytes.{Appends, Keeps, Consumes}
@@ -15,12 +15,12 @@ use Rattle.daemon_core.specs.declared.event.Sent.{Sent}
 use Rattle.daemon_core.specs.declared.peer.Peer.{Peer}
 use Rattle.daemon_core.specs.Outputs.{bytes_sent, marked_by}
 use Rattle.daemon_core.specs.Link.{Link, Hears, Receives}
-use Rattle.daemon_core.specs.Hub.{Hub, opening, place_of, Waits, Pieces, Connects, TakesAt, HubStep, Run, all_bytes_sent}
+use Rattle.daemon_core.specs.Hub.{Hub, opening, place_of, Pieces, Connects, TakesAt, HubStep, Run, all_bytes_sent}
 use Rattle.daemon_core.proofs.HubLemmas.{Run-more}
 use Rattle.lockd_main.specs.declared.fault.Fault.{Fault}
 use Rattle.lockd_main.specs.FaultOf.{fault_of}
 use Rattle.lockd_main.specs.Written.{WroteFront, FailsToRead}
-use Rattle.lockd_main.specs.Pipe.{IsPiece, takes, SomeTurn, Turn, Turns, PipeRun, joined, refusals, AnswersAll, AnswersSome, WholeTurn, BrokenTurn, TurnEnds, EndsAt, BrokenPipe, PipeEnds}
+use Rattle.lockd_main.specs.Pipe.{IsPiece, takes, Turn, Turns, PipeRun, joined, refusals, AnswersAll, AnswersSome, WholeTurn, BrokenTurn, TurnEnds, EndsAt, BrokenPipe, PipeEnds}
 use Rattle.lockd_main.proofs.WrittenLemmas.{Appends-nil, Appends-more, Appends-kept, WroteFront-whole, WroteFront-after, Consumes-nil, Consumes-more, Consumes-kept}
 
 pub takes-more : (count : ℕ) → takes (count + 1) ≡ takes count ++ Take 0 0 ∷ []
@@ -167,7 +167,7 @@ module _ (pipe : Peer) (unread left before after : Option (List ℕ)) (mid : Hub
     outs = so_far.outs;
     run = so_far.run;
     read = let P : List ℕ → Type 0 = λ x. Consumes unread later x in
-    subst P (append-nil (joined so_far.pieces)) (Consumes-more unread left later (joined so_far.pieces) [] so_far.read (let Q : List ℕ → Type 0 = λ x. Consumes left later x in subst Q e read));
+        subst P (append-nil (joined so_far.pieces)) (Consumes-more unread left later (joined so_far.pieces) [] so_far.read (let Q : List ℕ → Type 0 = λ x. Consumes left later x in subst Q e read));
     wrote = so_far.wrote;
     met_is = so_far.met_is;
   }

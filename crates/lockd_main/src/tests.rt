@@ -142,14 +142,63 @@ fn record_too_long(rt: HostRuntime) -> Result<(), Fail> {
 #[test]
 fn refused_headers(rt: HostRuntime) -> Result<(), Fail> {
     let alloc = rt.alloc();
-    let sys = [1, 0, 2, 100021, 4, 0, 1, 24, 0, 1, 0x6100_0000, 0, 0, 0, 0, 0];
-    let bad_sys = [1, 0, 2, 100021, 4, 0, 1, 24, 0, 1, 0x6100_0000, 0, 0, 17, 0, 0];
+    let sys = [
+        1,
+        0,
+        2,
+        100021,
+        4,
+        0,
+        1,
+        24,
+        0,
+        1,
+        0x6100_0000,
+        0,
+        0,
+        0,
+        0,
+        0,
+    ];
+    let bad_sys = [
+        1,
+        0,
+        2,
+        100021,
+        4,
+        0,
+        1,
+        24,
+        0,
+        1,
+        0x6100_0000,
+        0,
+        0,
+        17,
+        0,
+        0,
+    ];
     let cases: [(&[u32], &[u32]); 7] = [
-        (&[1, 0, 3, 100021, 4, 0, 0, 0, 0, 0], &[0x8000_0018, 1, 1, 1, 0, 2, 2]),
-        (&[1, 0, 2, 100021, 2, 0, 0, 0, 0, 0], &[0x8000_0020, 1, 1, 0, 0, 0, 2, 4, 4]),
-        (&[1, 0, 2, 100021, 4, 16, 0, 0, 0, 0], &[0x8000_0018, 1, 1, 0, 0, 0, 3]),
-        (&[1, 0, 2, 100003, 4, 0, 0, 0, 0, 0], &[0x8000_0018, 1, 1, 0, 0, 0, 1]),
-        (&[1, 0, 2, 100021, 4, 0, 6, 0, 0, 0], &[0x8000_0014, 1, 1, 1, 1, 1]),
+        (
+            &[1, 0, 3, 100021, 4, 0, 0, 0, 0, 0],
+            &[0x8000_0018, 1, 1, 1, 0, 2, 2],
+        ),
+        (
+            &[1, 0, 2, 100021, 2, 0, 0, 0, 0, 0],
+            &[0x8000_0020, 1, 1, 0, 0, 0, 2, 4, 4],
+        ),
+        (
+            &[1, 0, 2, 100021, 4, 16, 0, 0, 0, 0],
+            &[0x8000_0018, 1, 1, 0, 0, 0, 3],
+        ),
+        (
+            &[1, 0, 2, 100003, 4, 0, 0, 0, 0, 0],
+            &[0x8000_0018, 1, 1, 0, 0, 0, 1],
+        ),
+        (
+            &[1, 0, 2, 100021, 4, 0, 6, 0, 0, 0],
+            &[0x8000_0014, 1, 1, 1, 1, 1],
+        ),
         (&sys, &NULL_REPLY),
         (&bad_sys, &[0x8000_0014, 1, 1, 1, 1, 1]),
     ];
@@ -171,15 +220,35 @@ fn failing_ends(rt: HostRuntime) -> Result<(), Fail> {
     want.extend_from_slice(&reply)?;
     // The reads give 11 bytes each: the fourth ends the first record, the eighth the second.
     for reads in 0..9usize {
-        let mut source = Source { rest: &input, most: 11, reads_left: reads };
-        let mut sink = Sink { held: Vec::new(alloc), room: 4096 };
-        assert_eq!(rt; pipe_loop(alloc, &mut source, &mut sink, 1000), Err(Fault::ReadFault));
+        let mut source = Source {
+            rest: &input,
+            most: 11,
+            reads_left: reads,
+        };
+        let mut sink = Sink {
+            held: Vec::new(alloc),
+            room: 4096,
+        };
+        assert_eq!(rt;
+            pipe_loop(alloc, &mut source, &mut sink, 1000),
+            Err(Fault::ReadFault)
+        );
         assert_eq!(rt; sink.held.len(), 28 * (reads / 4), "after {reads} reads");
     }
     for room in 0..want.len() {
-        let mut source = Source { rest: &input, most: 8192, reads_left: 1000 };
-        let mut sink = Sink { held: Vec::new(alloc), room };
-        assert_eq!(rt; pipe_loop(alloc, &mut source, &mut sink, 1000), Err(Fault::WriteFault));
+        let mut source = Source {
+            rest: &input,
+            most: 8192,
+            reads_left: 1000,
+        };
+        let mut sink = Sink {
+            held: Vec::new(alloc),
+            room,
+        };
+        assert_eq!(rt;
+            pipe_loop(alloc, &mut source, &mut sink, 1000),
+            Err(Fault::WriteFault)
+        );
         assert_eq!(rt; &sink.held[..], &want[..room], "with {room}");
     }
     Ok(())
@@ -189,14 +258,32 @@ fn failing_ends(rt: HostRuntime) -> Result<(), Fail> {
 fn endless_zeros(rt: HostRuntime) -> Result<(), Fail> {
     let alloc = rt.alloc();
     let zeros = [0; 2000];
-    let mut source = Source { rest: &zeros, most: 1, reads_left: 2000 };
-    let mut sink = Sink { held: Vec::new(alloc), room: 4096 };
-    assert_eq!(rt; pipe_loop(alloc, &mut source, &mut sink, 1000), Err(Fault::ReadFault));
+    let mut source = Source {
+        rest: &zeros,
+        most: 1,
+        reads_left: 2000,
+    };
+    let mut sink = Sink {
+        held: Vec::new(alloc),
+        room: 4096,
+    };
+    assert_eq!(rt;
+        pipe_loop(alloc, &mut source, &mut sink, 1000),
+        Err(Fault::ReadFault)
+    );
     assert_eq!(rt; sink.held.len(), 0);
     let mut names = String::new(alloc);
-    for fault in [Fault::Starved, Fault::RecordTooLong, Fault::ReadFault, Fault::WriteFault] {
+    for fault in [
+        Fault::Starved,
+        Fault::RecordTooLong,
+        Fault::ReadFault,
+        Fault::WriteFault,
+    ] {
         names.push_str(fault.to_string(alloc)?.as_str())?;
     }
-    assert_eq!(rt; names.as_str(), "1 Starved10 RecordTooLong23 ReadFault24 WriteFault");
+    assert_eq!(rt;
+        names.as_str(),
+        "1 Starved10 RecordTooLong23 ReadFault24 WriteFault"
+    );
     Ok(())
 }

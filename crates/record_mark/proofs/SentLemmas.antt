@@ -1,10 +1,10 @@
 -- A message behind its mark.
-use Rattle.std.proofs.Common.{◌≡◌, ℕ, ◌+◌, ◌%◌, ◌^◌, ◌<◌, ◌≤◌, true, false, List, [], ◌∷◌, ◌++◌, length, refl, ap, ◌∙◌, inl, arith}
+use Rattle.std.proofs.Common.{◌≡◌, ℕ, ◌+◌, ◌%◌, ◌^◌, ◌≤◌, true, List, [], ◌∷◌, length, refl, ap, ◌∙◌, inl, arith}
 use Rattle.std.specs.Int.{w32, from_be_bytes}
 use Rattle.std.proofs.lemmas.Bool.{le-leb}
 use Rattle.std.proofs.lemmas.Nat.{from_be_bytes-to_be_bytes_4}
 use Rattle.record_mark.specs.declared.TheConstants.{MAX_RECORD}
-use Rattle.record_mark.specs.Stream.{is_last, size_of, IsFragment, Reads, Splits}
+use Rattle.record_mark.specs.Stream.{is_last, size_of, IsFragment, Reads}
 use Rattle.record_mark.specs.Sent.{mark_of_last, marked, IsOneRecordWhenSent}
 use Rattle.record_mark.proofs.StreamLemmas.{Reads-last, word-append}
 

@@ -1,5 +1,5 @@
 -- A message that is sent is one fragment (RFC 5531, section 11).
-use Rattle.std.specs.Prelude.{◌≡◌, ℕ, ◌+◌, ◌^◌, ◌≤◌, List, [], ◌∷◌, ◌++◌, length, false}
+use Rattle.std.specs.Prelude.{ℕ, ◌+◌, ◌^◌, ◌≤◌, List, [], ◌∷◌, ◌++◌, length, false}
 use Rattle.std.specs.Int.{w32, to_be_bytes}
 use Rattle.record_mark.specs.declared.TheConstants.{MAX_RECORD}
 use Rattle.record_mark.specs.Stream.{Splits}

@@ -9,12 +9,9 @@ mod sent;
 #[cfg(test)]
 mod tests;
 
-
-
 pub use crate::assembler::{Assembler, MarkError};
 pub use crate::law::{one_reading, sent_is_one_record};
 pub use crate::sent::last_mark;
-
 use bytes::Bytes;
 
 /// The most bytes that a record may have.

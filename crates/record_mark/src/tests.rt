@@ -25,7 +25,11 @@ fn pieces(rt: HostRuntime) -> Result<(), Fail> {
     let mut stream = Vec::from_slice(rt.alloc(), &STREAM)?;
     stream.push(0x63)?;
     for at in 0..stream.len() + 1 {
-        assert_eq!(rt; all(rt.alloc(), &stream, at)?.as_slice(), b"ab\0c\0".as_slice(), "at {at}");
+        assert_eq!(rt;
+            all(rt.alloc(), &stream, at)?.as_slice(),
+            b"ab\0c\0".as_slice(),
+            "at {at}"
+        );
     }
     one_reading();
     sent_is_one_record();
@@ -51,9 +55,15 @@ fn record_too_long(rt: HostRuntime) -> Result<(), Fail> {
     let mut assembler = Assembler::new(rt.alloc());
     let first = assembler.feed(&[0x80, 0, 0, 1, 0x61, 0x80, 0, 0x20, 1]);
     assert_eq!(rt; told(first), Some((1, true)));
-    assert_eq!(rt; told(assembler.feed(&[0x80, 0, 0, 1, 0x61])), Some((0, true)));
+    assert_eq!(rt;
+        told(assembler.feed(&[0x80, 0, 0, 1, 0x61])),
+        Some((0, true))
+    );
     let text = MarkError::RecordTooLong(Records::new(rt.alloc())).to_string(rt.alloc())?;
     assert_eq!(rt; text.as_str(), "10 RecordTooLong");
-    assert_eq!(rt; MarkError::Starved.to_string(rt.alloc())?.as_str(), "1 Starved");
+    assert_eq!(rt;
+        MarkError::Starved.to_string(rt.alloc())?.as_str(),
+        "1 Starved"
+    );
     Ok(())
 }

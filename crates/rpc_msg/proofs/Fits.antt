@@ -1,8 +1,6 @@
 -- How many bytes a header or a reply has.
 use Rattle.std.proofs.Common.{◌≡◌, ◌≤◌, ℕ, length, arith, refl}
 use Rattle.xdr_core.specs.Formats.{word, opaque, both}
-use Rattle.rpc_msg.specs.declared.reply.AcceptError.{AcceptError}
-use Rattle.rpc_msg.specs.declared.reply.Denial.{Denial}
 use Rattle.rpc_msg.specs.declared.reply.Denial.TheVariants.{RpcMismatch, BadCred}
 use Rattle.rpc_msg.specs.Grammar.{opaque_auth, call_start, call_body, written_call}
 use Rattle.rpc_msg.specs.declared.reply.Reply.{Reply}

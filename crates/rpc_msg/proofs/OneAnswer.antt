@@ -1,6 +1,5 @@
 -- Bytes are one answer.
-use Rattle.std.proofs.Common.{◌≡◌, ◌≢◌, ℕ, zero, suc, List, ◌⊎◌, inl, inr, refl, sym, ◌∙◌, ap, subst, arith}
-use Rattle.xdr_core.specs.Codec.{Front}
+use Rattle.std.proofs.Common.{◌≡◌, ℕ, List, inl, inr, refl, sym, ◌∙◌, ap, subst, arith}
 use Rattle.xdr_core.proofs.Meaning.{front_one}
 use Rattle.rpc_msg.specs.declared.answer.Answer.{Answer}
 use Rattle.rpc_msg.specs.declared.answer.AnswerOutcome.{AnswerOutcome}

@@ -6,7 +6,7 @@ use Rattle.rpc_msg.specs.declared.call.CallStart.{CallStart}
 use Rattle.rpc_msg.specs.declared.header.Header.{Header}
 use Rattle.rpc_msg.specs.declared.header.HeaderError.{HeaderError}
 use Rattle.rpc_msg.specs.declared.header.HeaderError.TheVariants.{NotACall, BadHeader, RpcVersion, BadCred}
-use Rattle.rpc_msg.specs.Grammar.{Auth, Body, call_start, call_body, call_of}
+use Rattle.rpc_msg.specs.Grammar.{Body, call_start, call_body, call_of}
 use Rattle.rpc_msg.specs.Verdict.{IsAccepted, IsCall, HasHeader, LacksHeader, Asks, HasOtherVersion, HasBadCred, IsRefusal}
 use Rattle.rpc_msg.specs.Laws.{HasOneVerdict}
 

@@ -1,7 +1,7 @@
 -- What an answer to a call of the server's says, by what a front of it spells (RFC 5531, section 9).
-use Rattle.std.specs.Prelude.{◌≡◌, ◌≢◌, ℕ, List, ◌⊎◌}
+use Rattle.std.specs.Prelude.{◌≢◌, ℕ, List, ◌⊎◌}
 use Rattle.xdr_core.specs.Codec.{Codec, Front}
-use Rattle.xdr_core.specs.Formats.{◌&◌, word, below}
+use Rattle.xdr_core.specs.Formats.{◌&◌, below}
 use Rattle.rpc_msg.specs.declared.answer.Answer.{Answer}
 use Rattle.rpc_msg.specs.declared.answer.AnswerOutcome.{AnswerOutcome}
 use Rattle.rpc_msg.specs.declared.answer.AnswerOutcome.TheVariants.{Success, Failure}

@@ -1,15 +1,13 @@
 -- The grammar of replies (RFC 5531, section 9).
-use Rattle.std.specs.Prelude.{ℕ, List, ◌≡◌}
+use Rattle.std.specs.Prelude.{ℕ, List}
 use Rattle.xdr_core.specs.Codec.{Codec}
 use Rattle.xdr_core.specs.Formats.{◌&◌, word}
-use Rattle.rpc_msg.specs.declared.auth.OpaqueAuth.{OpaqueAuth}
 use Rattle.rpc_msg.specs.declared.reply.AcceptError.{AcceptError}
 use Rattle.rpc_msg.specs.declared.reply.AcceptError.TheVariants.{ProgUnavail, ProcUnavail, GarbageArgs, SystemErr}
-use Rattle.rpc_msg.specs.declared.reply.Denial.{Denial}
 use Rattle.rpc_msg.specs.declared.reply.Denial.TheVariants.{RpcMismatch, BadCred}
 use Rattle.rpc_msg.specs.declared.reply.Reply.{Reply}
 use Rattle.rpc_msg.specs.declared.reply.Reply.TheVariants.{Success, AcceptFailure, Mismatch, Denied}
-use Rattle.rpc_msg.specs.Grammar.{Auth, opaque_auth, auth_none, view_of_auth}
+use Rattle.rpc_msg.specs.Grammar.{Auth, opaque_auth, auth_none}
 
 -- the xid, the message type and the reply_stat
 unfoldable pub reply_start : Codec (ℕ × (ℕ × ℕ))

@@ -7,18 +7,14 @@ mod auth;
 mod call;
 mod header;
 mod law;
-
 mod reply;
 #[cfg(test)]
 mod tests;
-
-
 
 pub use answer::{Answer, AnswerOutcome};
 pub use auth::{AuthSys, OpaqueAuth};
 pub use call::{Call, CallBody, CallStart, put_call};
 pub use header::{Header, HeaderError};
-
 pub use law::{one_answer, one_verdict};
 pub use reply::{
     AcceptError, Denial, Reply, reply_accept_error, reply_denied, reply_mismatch, reply_success,
@@ -29,8 +25,10 @@ pub const RPC_VERSION: u32 = 2;
 
 /// The message types (RFC 5531, section 9).
 pub(crate) const CALL: u32 = 0;
+
 pub(crate) const REPLY: u32 = 1;
 
 /// The reply_stat of a reply that was accepted, and of one that was denied.
 pub(crate) const MSG_ACCEPTED: u32 = 0;
+
 pub(crate) const MSG_DENIED: u32 = 1;

@@ -34,23 +34,11 @@ pub enum Denial {
 /// What a server says to the call of an xid, but for the result that follows a `Success`.
 #[derive(Clone, Copy, Debug, PartialEq, Eq)]
 pub enum Reply {
-    Success {
-        xid: u32,
-    },
-    AcceptFailure {
-        xid: u32,
-        error: AcceptError,
-    },
+    Success { xid: u32 },
+    AcceptFailure { xid: u32, error: AcceptError },
     /// PROG_MISMATCH: the program is served in versions from `low` to `high`.
-    Mismatch {
-        xid: u32,
-        low: u32,
-        high: u32,
-    },
-    Denied {
-        xid: u32,
-        denial: Denial,
-    },
+    Mismatch { xid: u32, low: u32, high: u32 },
+    Denied { xid: u32, denial: Denial },
 }
 
 impl Reply {
@@ -80,10 +68,7 @@ fn accepted(xid: u32, stat: u32) -> (ReplyStart, (OpaqueAuth<'static>, u32))
     ensures body { result.1.0.body.bytes.now ≡ [] }
     ensures stat { result.1.1 ≡ stat }
 {
-    (
-        (xid, (REPLY, MSG_ACCEPTED)),
-        (OpaqueAuth::none(), stat),
-    )
+    ((xid, (REPLY, MSG_ACCEPTED)), (OpaqueAuth::none(), stat))
 }
 
 /// A SUCCESS; the result is to follow.

@@ -14,7 +14,19 @@ fn words(alloc: Global, words: &[u32]) -> Result<Vec<u8>, Fail> {
 
 /// NULL of program 100021 version 4, with this RPC version, credential flavor and body's words.
 fn call(alloc: Global, version: u32, flavor: u32, body: &[u32]) -> Result<Vec<u8>, Fail> {
-    let mut bytes = words(alloc, &[1, 0, version, 100021, 4, 0, flavor, 4 * (body.len() % 16) as u32])?;
+    let mut bytes = words(
+        alloc,
+        &[
+            1,
+            0,
+            version,
+            100021,
+            4,
+            0,
+            flavor,
+            4 * (body.len() % 16) as u32,
+        ],
+    )?;
     bytes.extend_from_slice(&words(alloc, body)?)?;
     bytes.extend_from_slice(&[0; 8])?;
     Ok(bytes)
@@ -28,7 +40,12 @@ fn verdict(bytes: &[u8]) -> Result<(Header, usize), HeaderError> {
 #[test]
 fn headers(rt: HostRuntime) -> Result<(), Fail> {
     let alloc = rt.alloc();
-    let null = Header { xid: 1, prog: 100021, vers: 4, proc: 0 };
+    let null = Header {
+        xid: 1,
+        prog: 100021,
+        vers: 4,
+        proc: 0,
+    };
     let sys = [0, 1, 0x6100_0000, 0, 0, 0];
     let too_many = [0, 1, 0x6100_0000, 0, 0, 17];
     let cases = [
@@ -36,15 +53,33 @@ fn headers(rt: HostRuntime) -> Result<(), Fail> {
         // the body of AUTH_NONE is not looked at, nor what follows an AUTH_SYS value
         (call(alloc, 2, 0, &[7])?, Ok((null, 0))),
         (call(alloc, 2, 1, &sys)?, Ok((null, 0))),
-        (call(alloc, 2, 1, &[0, 1, 0x6100_0000, 0, 0, 0, 9])?, Ok((null, 0))),
-        (call(alloc, 2, 1, &too_many)?, Err(HeaderError::BadCred { xid: 1 })),
-        (call(alloc, 2, 6, &[])?, Err(HeaderError::BadCred { xid: 1 })),
-        (call(alloc, 3, 6, &[])?, Err(HeaderError::RpcVersion { xid: 1 })),
+        (
+            call(alloc, 2, 1, &[0, 1, 0x6100_0000, 0, 0, 0, 9])?,
+            Ok((null, 0)),
+        ),
+        (
+            call(alloc, 2, 1, &too_many)?,
+            Err(HeaderError::BadCred { xid: 1 }),
+        ),
+        (
+            call(alloc, 2, 6, &[])?,
+            Err(HeaderError::BadCred { xid: 1 }),
+        ),
+        (
+            call(alloc, 3, 6, &[])?,
+            Err(HeaderError::RpcVersion { xid: 1 }),
+        ),
         (words(alloc, &[1, 1, 2])?, Err(HeaderError::NotACall)),
         (words(alloc, &[1, 0])?, Err(HeaderError::NotACall)),
-        (words(alloc, &[1, 0, 2, 100021])?, Err(HeaderError::BadHeader)),
+        (
+            words(alloc, &[1, 0, 2, 100021])?,
+            Err(HeaderError::BadHeader),
+        ),
         // a credential of 401 bytes
-        (words(alloc, &[1, 0, 2, 100021, 4, 0, 0, 401])?, Err(HeaderError::BadHeader)),
+        (
+            words(alloc, &[1, 0, 2, 100021, 4, 0, 0, 401])?,
+            Err(HeaderError::BadHeader),
+        ),
     ];
     for (bytes, want) in cases {
         assert_eq!(rt; verdict(&bytes), want, "of {bytes:?}");
@@ -58,14 +93,48 @@ fn replies(rt: HostRuntime) -> Result<(), Fail> {
     let alloc = rt.alloc();
     let error = |error| Reply::AcceptFailure { xid: 1, error };
     let cases = [
-        (Reply::Success { xid: 1 }, words(alloc, &[1, 1, 0, 0, 0, 0])?),
-        (error(AcceptError::ProgUnavail), words(alloc, &[1, 1, 0, 0, 0, 1])?),
-        (Reply::Mismatch { xid: 1, low: 4, high: 4 }, words(alloc, &[1, 1, 0, 0, 0, 2, 4, 4])?),
-        (error(AcceptError::ProcUnavail), words(alloc, &[1, 1, 0, 0, 0, 3])?),
-        (error(AcceptError::GarbageArgs), words(alloc, &[1, 1, 0, 0, 0, 4])?),
-        (error(AcceptError::SystemErr), words(alloc, &[1, 1, 0, 0, 0, 5])?),
-        (Reply::Denied { xid: 1, denial: Denial::RpcMismatch { low: 2, high: 2 } }, words(alloc, &[1, 1, 1, 0, 2, 2])?),
-        (Reply::Denied { xid: 1, denial: Denial::BadCred }, words(alloc, &[1, 1, 1, 1, 1])?),
+        (
+            Reply::Success { xid: 1 },
+            words(alloc, &[1, 1, 0, 0, 0, 0])?,
+        ),
+        (
+            error(AcceptError::ProgUnavail),
+            words(alloc, &[1, 1, 0, 0, 0, 1])?,
+        ),
+        (
+            Reply::Mismatch {
+                xid: 1,
+                low: 4,
+                high: 4,
+            },
+            words(alloc, &[1, 1, 0, 0, 0, 2, 4, 4])?,
+        ),
+        (
+            error(AcceptError::ProcUnavail),
+            words(alloc, &[1, 1, 0, 0, 0, 3])?,
+        ),
+        (
+            error(AcceptError::GarbageArgs),
+            words(alloc, &[1, 1, 0, 0, 0, 4])?,
+        ),
+        (
+            error(AcceptError::SystemErr),
+            words(alloc, &[1, 1, 0, 0, 0, 5])?,
+        ),
+        (
+            Reply::Denied {
+                xid: 1,
+                denial: Denial::RpcMismatch { low: 2, high: 2 },
+            },
+            words(alloc, &[1, 1, 1, 0, 2, 2])?,
+        ),
+        (
+            Reply::Denied {
+                xid: 1,
+                denial: Denial::BadCred,
+            },
+            words(alloc, &[1, 1, 1, 1, 1])?,
+        ),
     ];
     for (reply, want) in cases {
         let mut f = Frame::new();

@@ -7,7 +7,11 @@ fn round<'r, T: Wire<'r> + Drop>(bytes: &'r [u8], f: &mut Frame) -> Option<T> {
     let mut c = Cursor::new(bytes);
     let value: T = read(&mut c).ok()?;
     let written = value.put(f).is_ok();
-    if written && c.len() == 0 { Some(value) } else { None }
+    if written && c.len() == 0 {
+        Some(value)
+    } else {
+        None
+    }
 }
 
 // RFC 4506, sections 4.1 to 4.11.
@@ -15,10 +19,16 @@ fn round<'r, T: Wire<'r> + Drop>(bytes: &'r [u8], f: &mut Frame) -> Option<T> {
 fn items(rt: HostRuntime) -> Result<(), Fail> {
     let mut f = Frame::new();
     assert_eq!(rt; round::<u32>(&[0, 0, 1, 2], &mut f), Some(258));
-    assert_eq!(rt; round::<u64>(&[0, 0, 0, 1, 0, 0, 0, 2], &mut f), Some((1 << 32) + 2));
+    assert_eq!(rt;
+        round::<u64>(&[0, 0, 0, 1, 0, 0, 0, 2], &mut f),
+        Some((1 << 32) + 2)
+    );
     assert_eq!(rt; round::<i32>(&[255, 255, 255, 254], &mut f), Some(-2));
     assert_eq!(rt; round::<bool>(&[0, 0, 0, 1], &mut f), Some(true));
-    assert_eq!(rt; round::<(u32, bool)>(&[0, 0, 0, 7, 0, 0, 0, 0], &mut f), Some((7, false)));
+    assert_eq!(rt;
+        round::<(u32, bool)>(&[0, 0, 0, 7, 0, 0, 0, 0], &mut f),
+        Some((7, false))
+    );
     let opaque: Opaque<5> = round(&[0, 0, 0, 5, 1, 2, 3, 4, 5, 0, 0, 0], &mut f).ok_or("opaque")?;
     assert_eq!(rt; opaque.bytes, &[1u8, 2, 3, 4, 5][..]);
     let fixed: Fixed<3> = round(&[1, 2, 3, 0], &mut f).ok_or("fixed")?;
@@ -47,11 +57,20 @@ fn refusals(rt: HostRuntime) -> Result<(), Fail> {
     let mut c = Cursor::new(&[0, 0, 0, 1, 7, 1, 2, 3]);
     assert!(rt; matches!(Opaque::<1>::get(&mut c), Ok(_)));
     let mut text = String::new(rt.alloc());
-    for error in [XdrError::Starved, XdrError::Short, XdrError::BadBool, XdrError::BadEnum, XdrError::TooLong] {
+    for error in [
+        XdrError::Starved,
+        XdrError::Short,
+        XdrError::BadBool,
+        XdrError::BadEnum,
+        XdrError::TooLong,
+    ] {
         text.push_str(error.to_string(rt.alloc())?.as_str())?;
     }
     text.push_str(FrameFull.to_string(rt.alloc())?.as_str())?;
-    assert_eq!(rt; text.as_str(), "1 Starved2 Short3 BadBool4 BadEnum5 TooLong25 FrameFull");
+    assert_eq!(rt;
+        text.as_str(),
+        "1 Starved2 Short3 BadBool4 BadEnum5 TooLong25 FrameFull"
+    );
     Ok(())
 }
 

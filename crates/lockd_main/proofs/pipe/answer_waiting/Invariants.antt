@@ -1,4 +1,4 @@
-use Rattle.std.proofs.Common.{◌≡◌, List, ℕ}
+use Rattle.std.proofs.Common.{List}
 use Rattle.std.specs.Io.KnownBytes.{Appends}
 use Rattle.daemon_core.specs.declared.event.Outputs.{Outputs}
 use Rattle.daemon_core.specs.Hub.{Run, all_bytes_sent}

@@ -1,4 +1,4 @@
-use Rattle.std.proofs.Common.{◌≡◌, ◌∙◌, ap}
+use Rattle.std.proofs.Common.{◌∙◌, ap}
 use Rattle.xdr_core.specs.Codec.{Front}
 use Rattle.xdr_core.proofs.Meaning.{front_one}
 use Rattle.rpc_msg.specs.declared.call.CallStart.{CallStart}
