@@ -1,0 +1,12 @@
+pub mod Version
+pub mod Offset
+pub mod Stat
+pub mod Access
+pub mod Lock
+pub mod Arguments
+pub mod Share
+pub mod Notify
+pub mod Results
+pub mod Call
+pub mod Shown
+pub mod Messages

@@ -1,0 +1,95 @@
+-- The bytes of what is sent: the arguments of the server's own calls and the results of those that it answers.
+use Rattle.std.specs.Prelude.{◌≡◌, ℕ, Bool, List, []}
+use Rattle.definitions.specs.Nlm.{Version, Lock, TestArgs, Res, TestRes, ShareRes}
+use Rattle.definitions.specs.Outgoing.{granted_args}
+use Rattle.nlm4_types.specs.declared.messages.Grant as grant_declared
+use Rattle.nlm4_types.specs.declared.messages.NlmMessage.{NlmMessage}
+use Rattle.nlm4_types.specs.declared.messages.NlmMessage.TheVariants as message
+use Rattle.nlm4_types.specs.declared.messages.NlmResult.{NlmResult}
+use Rattle.nlm4_types.specs.declared.messages.NlmResult.TheVariants as result_case
+use Rattle.nlm4_types.specs.Version.{is_wide}
+use Rattle.nlm4_types.specs.Lock.{view_of_lock, clamped_lock}
+use Rattle.nlm4_types.specs.Arguments.{testargs}
+use Rattle.nlm4_types.specs.Share.{view_of_shareres, shareres}
+use Rattle.nlm4_types.specs.Results.{view_of_res, view_of_testres, res, testres}
+use Rattle.nlm4_types.specs.Shown.{shown_res, shown_testres, shown_shareres}
+
+-- the arguments with an offset and a length that have a spelling
+abbrev pub clamped_testargs : Bool → TestArgs → TestArgs
+clamped_testargs wide a = record a { alock = clamped_lock wide a.alock }
+
+-- what is written of a lock that is tested or granted
+abbrev pub args_bytes : Bool → List ℕ → Bool → Lock → List ℕ
+args_bytes wide cookie exclusive alock = (testargs wide).written (record { cookie = cookie; exclusive = exclusive; alock = alock })
+
+-- the arguments of GRANTED and GRANTED_MSG
+abbrev pub shown_grant : Version → ℕ → Bool → Lock → TestArgs
+shown_grant version number exclusive alock = clamped_testargs (is_wide version) (granted_args number exclusive alock)
+
+abbrev pub grant_bytes : Version → ℕ → Bool → Lock → List ℕ
+grant_bytes version number exclusive alock = (testargs (is_wide version)).written (shown_grant version number exclusive alock)
+
+abbrev pub res_bytes : Version → Res → List ℕ
+res_bytes version r = res.written (shown_res version r)
+
+abbrev pub testres_bytes : Version → TestRes → List ℕ
+testres_bytes version r = (testres (is_wide version)).written (shown_testres version r)
+
+abbrev pub shareres_bytes : Version → ShareRes → List ℕ
+shareres_bytes version r = shareres.written (shown_shareres version r)
+
+-- ---- the calls that the server makes
+
+abbrev pub bytes_of_grant : Version → grant_declared.Grant → List ℕ
+bytes_of_grant version g = grant_bytes version g.number g.exclusive (view_of_lock g.alock)
+
+abbrev pub procedure_of : NlmMessage → ℕ
+procedure_of (message.Granted g) = 5
+procedure_of (message.GrantedMsg g) = 10
+procedure_of (message.TestRes r) = 11
+procedure_of (message.LockRes r) = 12
+procedure_of (message.CancelRes r) = 13
+procedure_of (message.UnlockRes r) = 14
+
+abbrev pub message_bytes : Version → NlmMessage → List ℕ
+message_bytes version (message.Granted g) = bytes_of_grant version g
+message_bytes version (message.GrantedMsg g) = bytes_of_grant version g
+message_bytes version (message.TestRes r) = testres_bytes version (view_of_testres r)
+message_bytes version (message.LockRes r) = res_bytes version (view_of_res r)
+message_bytes version (message.CancelRes r) = res_bytes version (view_of_res r)
+message_bytes version (message.UnlockRes r) = res_bytes version (view_of_res r)
+
+-- what the bytes of a message are a spelling of
+abbrev pub SpellsGrant : Version → List ℕ → grant_declared.Grant → Type 0
+SpellsGrant version text g = (testargs (is_wide version)).Spells text (shown_grant version g.number g.exclusive (view_of_lock g.alock))
+
+abbrev pub SpellsRes : Version → List ℕ → Res → Type 0
+SpellsRes version text r = res.Spells text (shown_res version r)
+
+abbrev pub SpellsTestRes : Version → List ℕ → TestRes → Type 0
+SpellsTestRes version text r = (testres (is_wide version)).Spells text (shown_testres version r)
+
+abbrev pub SpellsShareRes : Version → List ℕ → ShareRes → Type 0
+SpellsShareRes version text r = shareres.Spells text (shown_shareres version r)
+
+abbrev pub SpellsMessage : Version → List ℕ → NlmMessage → Type 0
+SpellsMessage version text (message.Granted g) = SpellsGrant version text g
+SpellsMessage version text (message.GrantedMsg g) = SpellsGrant version text g
+SpellsMessage version text (message.TestRes r) = SpellsTestRes version text (view_of_testres r)
+SpellsMessage version text (message.LockRes r) = SpellsRes version text (view_of_res r)
+SpellsMessage version text (message.CancelRes r) = SpellsRes version text (view_of_res r)
+SpellsMessage version text (message.UnlockRes r) = SpellsRes version text (view_of_res r)
+
+-- ---- the results of the calls that it answers
+
+abbrev pub result_bytes : Version → NlmResult → List ℕ
+result_bytes version result_case.Nothing = []
+result_bytes version (result_case.Res r) = res_bytes version (view_of_res r)
+result_bytes version (result_case.TestRes r) = testres_bytes version (view_of_testres r)
+result_bytes version (result_case.ShareRes r) = shareres_bytes version (view_of_shareres r)
+
+abbrev pub SpellsResult : Version → List ℕ → NlmResult → Type 0
+SpellsResult version text result_case.Nothing = text ≡ []
+SpellsResult version text (result_case.Res r) = SpellsRes version text (view_of_res r)
+SpellsResult version text (result_case.TestRes r) = SpellsTestRes version text (view_of_testres r)
+SpellsResult version text (result_case.ShareRes r) = SpellsShareRes version text (view_of_shareres r)

@@ -1,0 +1,22 @@
+-- The versions that are served, and in what they differ (RFC 1813, appendix II; XNFS, chapter 10).
+use Rattle.std.specs.Prelude.{Bool, true, false}
+use Rattle.definitions.specs.Nlm as nlm
+use Rattle.nlm4_types.specs.declared.version.Version.{Version}
+use Rattle.nlm4_types.specs.declared.version.Version.TheVariants.{V1, V3, V4}
+
+abbrev pub view_of_version : Version → nlm.Version
+view_of_version V1 = nlm.V1
+view_of_version V3 = nlm.V3
+view_of_version V4 = nlm.V4
+
+-- whether offsets and lengths have 8 bytes
+abbrev pub is_wide : nlm.Version → Bool
+is_wide nlm.V1 = false
+is_wide nlm.V3 = false
+is_wide nlm.V4 = true
+
+-- whether it has the procedures 20 to 23
+abbrev pub has_shares : nlm.Version → Bool
+has_shares nlm.V1 = false
+has_shares nlm.V3 = true
+has_shares nlm.V4 = true

@@ -1,0 +1,32 @@
+//! The values of the network lock manager's protocol, versions 1, 3 and 4, and how XDR (RFC 4506) spells them.
+#![tactic(auto)]
+
+mod access;
+mod arguments;
+mod call;
+mod error;
+mod lock;
+mod messages;
+mod notify;
+mod offset;
+mod results;
+mod shares;
+mod shown;
+mod stat;
+mod version;
+
+pub use access::{Access, Mode};
+pub use arguments::{CancelArgs, LockArgs, TestArgs, UnlockArgs};
+pub use call::{NlmCall, is_known, one_call};
+pub use error::CallError;
+pub use lock::{Lock, Name, Netobj};
+pub use messages::{Grant, NlmMessage, NlmResult};
+pub use notify::Notify;
+pub use offset::{NARROW, WIDE};
+pub use results::{Holder, Res, TestRes};
+pub use shares::{ShareArgs, ShareRes};
+pub use stat::Stat;
+pub use version::Version;
+
+#[cfg(test)]
+mod tests;

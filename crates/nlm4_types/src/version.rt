@@ -1,0 +1,7 @@
+/// A version of the protocol that is served (XNFS, chapter 10; RFC 1813, appendix II).
+#[derive(Clone, Copy, Debug, PartialEq, Eq)]
+pub enum Version {
+    V1,
+    V3,
+    V4,
+}

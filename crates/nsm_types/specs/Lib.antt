@@ -1,0 +1,4 @@
+pub mod Arguments
+pub mod Results
+pub mod Call
+pub mod Messages

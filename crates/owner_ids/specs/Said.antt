@@ -1,0 +1,32 @@
+-- Owners as the definitions have them.
+use Rattle.std.specs.Prelude.{◌≡◌, Bool, Option, Some, None}
+use Rattle.std.specs.Borrow.{Bor}
+use Rattle.std.specs.Ordering.{eq_by_cmp, on}
+use Rattle.std.specs.declared.cmp.Ordering.{Ordering}
+use Rattle.definitions.specs.Owners.{Owner, Remote, Process, Description, owner_cmp}
+use Rattle.owner_ids.specs.declared.owner.Owner.{Owner as HeldOwner}
+use Rattle.owner_ids.specs.declared.owner.Owner.TheVariants.{Remote as HeldRemote, Process as HeldProcess, Description as HeldDescription}
+
+abbrev pub said : HeldOwner → Owner
+said (HeldRemote name svid oh) = Remote (record { name = name.items; svid = svid; oh = oh.items })
+said (HeldProcess pid) = Process pid
+said (HeldDescription number) = Description number
+
+abbrev pub said_some : Option HeldOwner → Option Owner
+said_some None = None
+said_some (Some x) = Some (said x)
+
+-- owners in memory compare as what they say
+abbrev pub held_cmp : HeldOwner → HeldOwner → Ordering
+held_cmp = on said owner_cmp
+
+abbrev pub same_held : HeldOwner → HeldOwner → Bool
+same_held = eq_by_cmp held_cmp
+
+-- both say one owner
+abbrev pub IsCopy : HeldOwner → HeldOwner → Type 0
+IsCopy x copy = said copy ≡ said x
+
+abbrev pub said_found : Option (Bor HeldOwner) → Option Owner
+said_found None = None
+said_found (Some x) = Some (said x.now)

@@ -1,0 +1,153 @@
+//! Owners by number.
+ghost use Rattle.std.specs.Prelude.{◌≡◌, ◌≢◌, ◌<◌, ◌^◌, ℕ, [], Some, None, Ok, IfOk, OnErr, IfSome, IfNone, IsSome};
+ghost use Rattle.definitions.specs.Owners.{owner_cmp};
+ghost use Rattle.owner_ids.specs.Said.{said, said_some, said_found};
+ghost use Rattle.owner_ids.specs.Names.{named, number_cmp, Renames, WasFor};
+ghost use Rattle.owner_ids.specs.Orders.{number_total, number_exact};
+
+use crate::order::OwnerOrder;
+use crate::owner::Owner;
+use slab::Slab;
+use std::alloc::{AllocError, Global};
+use std::cmp::Ordering;
+use std::collections::BTreeMap;
+use std::marker::Model;
+use thiserror::Error;
+
+/// The number of an owner while it is in use.
+pub type OwnerId = u32;
+
+const MOST_OWNERS: usize = 4_294_967_296;
+
+/// There is no memory, or no number, for one more owner.
+#[derive(Clone, Copy, Debug, PartialEq, Eq, Error)]
+#[error("1 Starved")]
+pub struct Starved;
+
+impl From<AllocError> for Starved {
+    fn from(_refused: AllocError) -> Starved {
+        Starved
+    }
+}
+
+/// The owners in use, each with one number. A clause sees the owner at each number, or none.
+#[derive(Drop)]
+pub struct Owners {
+    slots: Slab<Owner>,
+    // A search by value is in the owners' order, so that no choice of names makes it slow.
+    numbers: BTreeMap<Owner, OwnerId>,
+}
+
+impl Model for Owners {
+    ghost use Rattle.std.specs.Prelude.{List, Option};
+    ghost use Rattle.definitions.specs.Owners.{Owner};
+    ghost use Rattle.owner_ids.specs.Kept.{owners_of, IsKept};
+
+    ghost Value = { List (Option Owner) };
+
+    ghost view = { owners_of };
+
+    ghost invariant = { IsKept };
+}
+
+impl Owners {
+    /// No owner is in use.
+    pub fn new(alloc: Global) -> Owners
+        ensures { result ≡ [] }
+    {
+        Owners {
+            slots: Slab::new(alloc),
+            numbers: BTreeMap::new(alloc),
+        }
+    }
+
+    /// The number of an owner, which gets one where it has none. An owner in use keeps its number, and takes no memory.
+    /// Starved: the owners in use and their numbers are as before.
+    pub fn intern(&mut self, owner: &Owner) -> Result<OwnerId, Starved>
+        ensures known { (n : ℕ) → named self.old n ≡ Some (said owner.now) → result ≡ Ok n }
+        ensures named { IfOk result (λ n. Renames (named self.old) (named self.new) n (Some (said owner.now))) }
+        ensures was { IfOk result (λ n. WasFor (named self.old) n (said owner.now)) }
+        ensures err { OnErr result (self.new ≡ self.old) }
+    {
+        if let Some(number) = self.number(owner) {
+            return Ok(number);
+        }
+        let kept = owner.clone()?;
+        let key = owner.clone()?;
+        self.add(kept, key)
+    }
+
+    // The number of an owner in use.
+    fn number(&self, owner: &Owner) -> Option<OwnerId>
+        ensures found { IfSome result (λ n. named self.now n ≡ Some (said owner.now)) }
+        ensures known { (n : ℕ) → named self.now n ≡ Some (said owner.now) → result ≡ Some n }
+    {
+        self.numbers.get(owner).copied()
+    }
+
+    // A number for an owner who has none, of which these are two copies.
+    fn add(&mut self, owner: Owner, key: Owner) -> Result<OwnerId, Starved>
+        requires copies { said key ≡ said owner }
+        requires absent { (n : ℕ) → named self.old n ≢ Some (said owner) }
+        ensures named { IfOk result (λ n. Renames (named self.old) (named self.new) n (Some (said owner))) }
+        ensures free { IfOk result (λ n. named self.old n ≡ None) }
+        ensures err { OnErr result (self.new ≡ self.old) }
+    {
+        self.slots.reserve(1)?;
+        let place = self.slots.vacant_key();
+        if place >= MOST_OWNERS {
+            return Err(Starved);
+        }
+        let number = place as OwnerId;
+        if self.numbers.insert(key, number).is_err() {
+            return Err(Starved);
+        }
+        let _ = self.slots.insert_reserved(owner);
+        Ok(number)
+    }
+
+    /// The owner of a number in use.
+    pub fn get(&self, number: OwnerId) -> &Owner
+        requires { IsSome (named self.now number) }
+        ensures { named self.now number ≡ Some (said result.now) }
+    {
+        &self.slots[number as usize]
+    }
+
+    // The owner of a number, if it is in use.
+    pub(crate) fn find(&self, number: OwnerId) -> Option<&Owner>
+        ensures { named self.now number ≡ said_found result }
+    {
+        self.slots.get(number as usize)
+    }
+
+    /// Takes a number out of use. From now on it may be another owner's.
+    pub fn release(&mut self, number: OwnerId)
+        requires { IsSome (named self.old number) }
+        ensures { Renames (named self.old) (named self.new) number None }
+    {
+        let owner = self.slots.remove(number as usize);
+        let _ = self.numbers.remove(&owner);
+    }
+}
+
+/// Numbers in use stand as their owners.
+impl OwnerOrder for Owners {
+    ghost order = { λ owners. number_cmp (named owners) };
+
+    fn compare(&self, a: OwnerId, b: OwnerId) -> Ordering {
+        match (self.find(a), self.find(b)) {
+            (Some(x), Some(y)) => x.cmp(y).then(a.cmp(&b)),
+            (Some(_), None) => Ordering::Greater,
+            (None, Some(_)) => Ordering::Less,
+            (None, None) => a.cmp(&b),
+        }
+    }
+
+    ghost total = { λ owners. number_total (named owners) };
+
+    ghost exact = { λ owners. number_exact (named owners) };
+}
+
+#[cfg(test)]
+mod tests;

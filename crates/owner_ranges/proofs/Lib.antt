@@ -1,0 +1,6 @@
+pub mod Words
+pub mod Keeping
+pub mod Counting
+pub mod FirstConflicts
+pub mod Released
+pub mod RunOrders

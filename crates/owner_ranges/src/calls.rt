@@ -1,0 +1,108 @@
+//! A table's calls, in the words of owners.
+ghost use Rattle.std.specs.Prelude.{◌≡◌, ◌≤◌, ◌<◌, ◌^◌, ◌++◌, ◌∷◌, ℕ, [], List, IsErr, OnOk, OnErr, ◌↔◌, true, Some, slice_get};
+ghost use Rattle.definitions.specs.Settings.{Setting as OwnerSetting, Request, without_host, without_owner_on};
+ghost use Rattle.definitions.specs.Starts.{first_conflict, used, used_of, refuses, runs, Run as OwnerRun};
+ghost use Rattle.definitions.specs.Owners.{Owner};
+ghost use Rattle.owner_ids.specs.Names.{named, is_owned_by};
+ghost use Rattle.owner_ranges.specs.Same.{IsSameSetting, IsSameRun, IsSameRequest, IsSameFound};
+ghost use Rattle.owner_ranges.specs.Stands.{Stands};
+ghost use Rattle.range_table.specs.Settings.{mode_at, IsUsed};
+
+use owner_ids::{HostOf, OwnerId, Owners};
+use range_table::{FileId, NoRuns, RangeTable, Run, Setting};
+
+/// How many runs the owners have.
+pub fn used<T: RangeTable>(table: &T, owners: &Owners) -> u32
+    ensures { (settings : List OwnerSetting) → Stands (named owners.now) (mode_at (T.settings table.now)) settings → result ≡ used settings }
+{
+    let _owners = owners;
+    table.used()
+}
+
+/// How many runs the owners of a host have.
+pub fn used_of<T: RangeTable>(table: &T, owners: &Owners, host: &[u8]) -> u32
+    ensures { (settings : List OwnerSetting) → Stands (named owners.now) (mode_at (T.settings table.now)) settings → result ≡ used_of host.now settings }
+{
+    table.used_of(&HostOf { owners, name: host })
+}
+
+/// How many they would have after a setting of one of them.
+pub fn used_after<T: RangeTable>(table: &T, owners: &Owners, host: &[u8], setting: &Setting) -> u32
+    requires ordered { setting.now.first ≤ setting.now.last }
+    requires inside { setting.now.last < 2 ^ 63 }
+    requires own { is_owned_by (named owners.now) host.now setting.now.owner ≡ true }
+    ensures { (settings : List OwnerSetting) (t : OwnerSetting) → Stands (named owners.now) (mode_at (T.settings table.now)) settings → IsSameSetting (named owners.now) setting.now t → result ≡ used_of host.now (settings ++ t ∷ []) }
+{
+    let host = HostOf { owners, name: host };
+    table.used_after(
+        &host,
+        &setting.file,
+        setting.owner,
+        setting.first,
+        setting.last,
+        setting.mode,
+    )
+}
+
+/// The i-th of all runs, by file, first byte and owner.
+pub fn runs<T: RangeTable>(table: &T, owners: &Owners, i: u32) -> Run
+    requires { (count : ℕ) × IsUsed (mode_at (T.settings table.now)) count × (i < count) }
+    ensures { (settings : List OwnerSetting) → Stands (named owners.now) (mode_at (T.settings table.now)) settings → (t : OwnerRun) × (slice_get (runs settings) i ≡ Some t) × IsSameRun (named owners.now) result t }
+{
+    table.runs(owners, i)
+}
+
+/// The first conflict, as the owners' settings have it.
+pub fn first_conflict<T: RangeTable>(table: &T, owners: &Owners, wanted: &Run) -> Option<Run>
+    requires ordered { wanted.now.first ≤ wanted.now.last }
+    requires inside { wanted.now.last < 2 ^ 63 }
+    ensures { (settings : List OwnerSetting) (r : Request) → Stands (named owners.now) (mode_at (T.settings table.now)) settings → IsSameRequest (named owners.now) wanted.now r → IsSameFound (named owners.now) result (first_conflict settings r) }
+{
+    table.first_conflict(owners, wanted)
+}
+
+/// Refused where the owners' settings refuse it, and then unchanged; else set on both sides.
+pub fn set<T: RangeTable>(table: &mut T, owners: &Owners, setting: &Setting) -> Result<(), NoRuns>
+    requires ordered { setting.now.first ≤ setting.now.last }
+    requires inside { setting.now.last < 2 ^ 63 }
+    ensures refused { (settings : List OwnerSetting) (t : OwnerSetting) → Stands (named owners.now) (mode_at (T.settings table.old)) settings → IsSameSetting (named owners.now) setting.now t → IsErr result ↔ (refuses 65536 settings t ≡ true) }
+    ensures ok { OnOk result ((settings : List OwnerSetting) (t : OwnerSetting) → Stands (named owners.now) (mode_at (T.settings table.old)) settings → IsSameSetting (named owners.now) setting.now t → Stands (named owners.now) (mode_at (T.settings table.new)) (settings ++ t ∷ [])) }
+    ensures err { OnErr result (T.settings table.new ≡ T.settings table.old) }
+{
+    let _owners = owners;
+    table.set(
+        &setting.file,
+        setting.owner,
+        setting.first,
+        setting.last,
+        setting.mode,
+    )
+}
+
+/// Takes the settings of a host's owners out on both sides.
+pub fn drop_host<T: RangeTable>(table: &mut T, owners: &Owners, host: &[u8])
+    ensures { (settings : List OwnerSetting) → Stands (named owners.now) (mode_at (T.settings table.old)) settings → Stands (named owners.now) (mode_at (T.settings table.new)) (without_host host.now settings) }
+{
+    table.drop_host(&HostOf { owners, name: host });
+}
+
+/// Takes the settings of an owner on a file out on both sides.
+pub fn drop_owner_on_file<T: RangeTable>(
+    table: &mut T,
+    owners: &Owners,
+    file: &FileId,
+    owner: OwnerId,
+)
+    ensures { (settings : List OwnerSetting) (x : Owner) → Stands (named owners.now) (mode_at (T.settings table.old)) settings → named owners.now owner ≡ Some x → Stands (named owners.now) (mode_at (T.settings table.new)) (without_owner_on file.now x settings) }
+{
+    let _owners = owners;
+    table.drop_owner_on_file(file, owner);
+}
+
+/// Leaves no setting on either side.
+pub fn clear<T: RangeTable>(table: &mut T, owners: &Owners)
+    ensures { (settings : List OwnerSetting) → Stands (named owners.now) (mode_at (T.settings table.old)) settings → Stands (named owners.now) (mode_at (T.settings table.new)) [] }
+{
+    let _owners = owners;
+    table.clear();
+}

@@ -1,0 +1,14 @@
+//! What owners hold and what their numbers hold in a table is one thing.
+#![tactic(auto)]
+
+mod calls;
+mod laws;
+mod numbers;
+
+pub use calls::{
+    clear, drop_host, drop_owner_on_file, first_conflict, runs, set, used, used_after, used_of,
+};
+pub use numbers::{holds_nothing, intern, release};
+
+#[cfg(test)]
+mod tests;

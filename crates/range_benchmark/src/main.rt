@@ -1,0 +1,153 @@
+//! Does what its arguments name and prints how many runs or owners there are, so that `time` measures it.
+//! They are `fill`, `intern`, or `set`, `reset`, `ask` with `-middle` or `-last`, then a size and a number of rounds.
+#![tactic(auto)]
+
+ghost use Rattle.std.specs.Prelude.{◌≤◌, ◌<◌, ◌^◌};
+
+use anyhow::Result;
+use owner_ids::{Owner, OwnerId, Owners};
+use range_table::{FileId, FlatTable, Mode, RangeTable, Run};
+use std::alloc::{AllocError, Global};
+use std::env;
+
+// A file of its own for each number.
+fn file_of(number: u32) -> FileId {
+    FileId::new(&number.to_be_bytes())
+}
+
+// Single bytes, each with a free one behind it.
+fn fill(table: &mut FlatTable, file: &FileId, owner: OwnerId, count: u32) {
+    for i in 0..count {
+        let byte = u64::from(i) * 2;
+        let _ = table.set(file, owner, byte, byte, Some(Mode::Exclusive));
+    }
+}
+
+// One run on each of many files, half of which stand before the file in the middle, and half behind it.
+fn fill_others(table: &mut FlatTable, owner: OwnerId, count: u32) {
+    for i in 0..count {
+        let file = if i < count / 2 {
+            file_of(i)
+        } else {
+            file_of(0x8000_0000 | i & 0xffff)
+        };
+        let _ = table.set(&file, owner, 0, 9, Some(Mode::Shared));
+    }
+}
+
+// A lock and an unlock on a file with few runs.
+fn set_and_unset(table: &mut FlatTable, file: &FileId, owner: OwnerId, rounds: u32) {
+    for _ in 0..rounds {
+        let _ = table.set(file, owner, 100, 109, Some(Mode::Exclusive));
+        let _ = table.set(file, owner, 100, 109, None);
+    }
+}
+
+// A change that moves no run.
+fn reset(table: &mut FlatTable, file: &FileId, owner: OwnerId, rounds: u32) {
+    for i in 0..rounds {
+        let mode = if i % 2 == 0 {
+            Mode::Exclusive
+        } else {
+            Mode::Shared
+        };
+        let _ = table.set(file, owner, 0, 0, Some(mode));
+    }
+}
+
+fn ask(table: &FlatTable, owners: &Owners, wanted: &Run, rounds: u32) -> u32
+    requires ordered { wanted.now.first ≤ wanted.now.last }
+    requires inside { wanted.now.last < 2 ^ 63 }
+{
+    let mut found = 0u32;
+    for _ in 0..rounds {
+        if table.first_conflict(owners, wanted).is_some() && table.used() > 0 {
+            found = found.saturating_add(1);
+        }
+    }
+    found
+}
+
+fn name_of(alloc: Global, number: u32) -> Result<Owner, AllocError> {
+    Ok(Owner::Remote {
+        name: number
+            .wrapping_mul(2_654_435_761)
+            .to_be_bytes()
+            .to_vec(alloc)?,
+        svid: 7,
+        oh: number.to_be_bytes().to_vec(alloc)?,
+    })
+}
+
+// Takes owners in and lets the last one go, again and again.
+fn intern(alloc: Global, count: u32, rounds: u32) -> Result<u32> {
+    let mut owners = Owners::new(alloc);
+    for i in 0..count {
+        let _ = owners.intern(&name_of(alloc, i)?)?;
+    }
+    let mut most = 0;
+    for i in 0..rounds {
+        let last = owners.intern(&name_of(alloc, count.wrapping_add(i % 1000))?)?;
+        owners.release(last);
+        most = most.max(last);
+    }
+    Ok(most)
+}
+
+fn beside(alloc: Global, what: &str, count: u32, rounds: u32) -> Result<u32> {
+    let mut owners = Owners::new(alloc);
+    let a = owners.intern(&Owner::Process(1))?;
+    let b = owners.intern(&Owner::Process(2))?;
+    let mut table = FlatTable::new(alloc)?;
+    let file = file_of(if what.ends_with("-last") {
+        0xf000_0000
+    } else {
+        0x7000_0000
+    });
+    fill_others(&mut table, a, count);
+    fill(&mut table, &file, a, 8);
+    match what {
+        "set-middle" | "set-last" => set_and_unset(&mut table, &file, b, rounds),
+        "reset-middle" | "reset-last" => reset(&mut table, &file, a, rounds),
+        _ => {}
+    }
+    let wanted = Run {
+        file,
+        owner: b,
+        first: 0,
+        last: 20,
+        mode: Mode::Exclusive,
+    };
+    let asked = if what.starts_with("ask") { rounds } else { 0 };
+    Ok(
+        table
+            .used()
+            .saturating_add(ask(&table, &owners, &wanted, asked)),
+    )
+}
+
+fn filled(alloc: Global, count: u32) -> Result<u32> {
+    let mut table = FlatTable::new(alloc)?;
+    fill(&mut table, &file_of(1), 1, count);
+    Ok(table.used())
+}
+
+fn main(rt: HostRuntime) -> Result<()> {
+    let mut what = String::new(rt.alloc());
+    let mut numbers = [0u32; 2];
+    for (i, word) in env::args(&rt)?.skip(1).enumerate() {
+        match i {
+            0 => what = word,
+            1 | 2 => numbers[i - 1] = word.as_str().parse()?,
+            _ => {}
+        }
+    }
+    let [count, rounds] = numbers;
+    let answer = match what.as_str() {
+        "fill" => filled(rt.alloc(), count)?,
+        "intern" => intern(rt.alloc(), count, rounds)?,
+        other => beside(rt.alloc(), other, count, rounds)?,
+    };
+    println!(rt; "{answer}")?;
+    Ok(())
+}

@@ -1,0 +1,6 @@
+pub mod File
+pub mod FileId
+pub mod Settings
+pub mod Runs
+pub mod Parts
+pub mod Flat

@@ -1,0 +1,17 @@
+//! Byte-range locks: of each owner and byte, the newest setting wins, as POSIX fcntl says.
+#![tactic(auto)]
+
+mod alike;
+mod file;
+mod flat;
+mod ordered;
+mod places;
+mod run;
+mod sorted;
+mod table;
+
+pub use alike::{first_conflict_in_both, runs_in_both, used_in_both};
+pub use file::FileId;
+pub use flat::FlatTable;
+pub use run::{Mode, NoRuns, Run, Setting};
+pub use table::RangeTable;

@@ -1,0 +1,340 @@
+//! Sorted runs in a vector whose room is reserved.
+ghost use Rattle.std.specs.Prelude.{OnOk, OnErr, IsErr, IsTrue, ◌↔◌, ◌≡◌, ◌+◌, ◌-◌, ◌<◌, ◌≤◌, ◌^◌, length, vec_len, vec_capacity, map, not, true, false, take, drop, ◌++◌, ◌&&◌};
+ghost use Rattle.std.specs.List.{filter, position_or_len, AllByRecursion};
+ghost use Rattle.range_table.specs.Runs.{is_of, starts_in, trim, kept, right, insert_run, cut, low, high, widened, joined, set_runs, is_split, is_full, run_before, before_place, IsPlace, IsRunList, is_better, best_from};
+ghost use Rattle.range_table.specs.Parts.{IsPart};
+
+use crate::file::FileId;
+use crate::places::{Part, last_before, last_run, part_of, place_of, place_past};
+use crate::run::{Mode, NoRuns, Run, Setting};
+use owner_ids::{Host, OwnerId, OwnerOrder};
+
+// What is left of the run that reaches beyond the range's end.
+fn right(runs: &[Run], part: Part, range: &Setting) -> Option<Run>
+    requires listed { IsRunList runs.now }
+    requires part { IsPart range.now.file runs.now part.begin part.end }
+    ensures { result ≡ right range.now runs.now }
+{
+    let place = place_past(runs, part, &range.file, range.last);
+    match last_run(runs, part, range, place) {
+        Some(run) => run.rest(range),
+        None => None,
+    }
+}
+
+fn low(runs: &[Run], part: Part, range: &Setting, mode: Mode) -> u64
+    requires listed { IsRunList runs.now }
+    requires part { IsPart range.now.file runs.now part.begin part.end }
+    ensures { result ≡ low range.now mode runs.now }
+{
+    let place = place_of(runs, part, &range.file, range.first);
+    match last_run(runs, part, range, place) {
+        Some(run) => run.low_beside(range, mode),
+        None => range.first,
+    }
+}
+
+fn high(runs: &[Run], part: Part, range: &Setting, mode: Mode) -> u64
+    requires listed { IsRunList runs.now }
+    requires part { IsPart range.now.file runs.now part.begin part.end }
+    requires inside { range.now.last < 2 ^ 63 }
+    ensures { result ≡ high range.now mode runs.now }
+{
+    let place = place_past(runs, part, &range.file, range.last + 1);
+    match last_run(runs, part, range, place) {
+        Some(run) => run.high_beside(range, mode),
+        None => range.last,
+    }
+}
+
+// The range with the runs of the mode that it meets.
+fn widened(runs: &[Run], part: Part, range: &Setting, mode: Mode) -> Setting
+    requires listed { IsRunList runs.now }
+    requires part { IsPart range.now.file runs.now part.begin part.end }
+    requires inside { range.now.last < 2 ^ 63 }
+    ensures { result ≡ widened range.now mode runs.now }
+{
+    Setting {
+        first: low(runs, part, range, mode),
+        last: high(runs, part, range, mode),
+        ..*range
+    }
+}
+
+fn is_split(runs: &[Run], part: Part, range: &Setting) -> bool
+    requires listed { IsRunList runs.now }
+    requires part { IsPart range.now.file runs.now part.begin part.end }
+    requires ordered { range.now.first ≤ range.now.last }
+    ensures { result ≡ is_split range.now runs.now }
+{
+    let place = place_of(runs, part, &range.file, range.first);
+    match last_run(runs, part, range, place) {
+        Some(run) => run.splits(range),
+        None => false,
+    }
+}
+
+// Leaves of the run that reaches the range what is in front of it.
+fn trim_last(runs: &mut [Run], part: Part, range: &Setting, place: usize)
+    requires listed { IsRunList runs.old }
+    requires part { IsPart range.now.file runs.old part.begin part.end }
+    requires within { place ≤ length runs.old }
+    requires place { IsPlace (before_place range.now.file range.now.first) runs.old place }
+    ensures { runs.new ≡ map (trim range.now) runs.old }
+{
+    if let Some(at) = last_before(runs, part, range, place) {
+        runs[at].trim(range);
+    }
+}
+
+// Those from one place to another that don't start in the range move together behind those in front. Where they end.
+fn gather(runs: &mut [Run], range: &Setting, from: usize, past: usize) -> usize
+    requires order { from ≤ past }
+    requires within { past ≤ length runs.old }
+    requires front { AllByRecursion (λ r. starts_in range.now r ≡ false) (take from runs.old) }
+    ensures within { result ≤ past }
+    ensures kept { take result runs.new ≡ filter (λ r. not (starts_in range.now r)) (take past runs.old) }
+    ensures rest { drop past runs.new ≡ drop past runs.old }
+{
+    let mut kept = from;
+    for at in from..past {
+        if !runs[at].starts_in(range) {
+            runs[kept] = runs[at];
+            kept += 1;
+        }
+    }
+    kept
+}
+
+// Trims and gathers what is kept of the runs up to the range's end. Where it ends, and where the others begin.
+fn gather_kept(runs: &mut [Run], part: Part, range: &Setting) -> (usize, usize)
+    requires listed { IsRunList runs.old }
+    requires part { IsPart range.now.file runs.old part.begin part.end }
+    requires ordered { range.now.first ≤ range.now.last }
+    ensures order { result.0 ≤ result.1 }
+    ensures within { result.1 ≤ length runs.new }
+    ensures kept { take result.0 runs.new ++ drop result.1 runs.new ≡ kept range.now runs.old }
+{
+    let from = place_of(runs, part, &range.file, range.first);
+    let past = place_past(runs, part, &range.file, range.last);
+    trim_last(runs, part, range, from);
+    let kept = gather(runs, range, from, past);
+    (kept, past)
+}
+
+// What lies between two places goes.
+fn close(runs: &mut Vec<Run>, kept: usize, past: usize)
+    requires order { kept ≤ past }
+    requires within { past ≤ vec_len runs.old }
+    ensures items { runs.new.items ≡ take kept runs.old.items ++ drop past runs.old.items }
+    ensures capacity { vec_capacity runs.new ≡ vec_capacity runs.old }
+{
+    if kept < past {
+        let left = runs.len() - (past - kept);
+        runs.copy_within(past.., kept);
+        runs.truncate(left);
+    }
+}
+
+fn keep(runs: &mut Vec<Run>, part: Part, range: &Setting)
+    requires listed { IsRunList runs.old.items }
+    requires part { IsPart range.now.file runs.old.items part.begin part.end }
+    requires ordered { range.now.first ≤ range.now.last }
+    ensures items { runs.new.items ≡ kept range.now runs.old.items }
+    ensures capacity { vec_capacity runs.new ≡ vec_capacity runs.old }
+{
+    let (kept, past) = gather_kept(runs, part, range);
+    close(runs, kept, past);
+}
+
+/// The most runs that a table has.
+pub(crate) const MOST_RUNS: usize = 65_536;
+
+fn place(runs: &[Run], run: &Run) -> usize
+    requires { IsRunList runs.now }
+    ensures within { result ≤ length runs.now }
+    ensures place { result ≡ position_or_len (run_before run.now) runs.now }
+{
+    runs.partition_point(|other| !run.is_before(other))
+}
+
+fn insert(runs: &mut Vec<Run>, run: Run)
+    requires listed { IsRunList runs.old.items }
+    requires room { vec_len runs.old < vec_capacity runs.old }
+    ensures items { runs.new.items ≡ insert_run run runs.old.items }
+    ensures capacity { vec_capacity runs.new ≡ vec_capacity runs.old }
+{
+    let at = place(runs, &run);
+    let _ = runs.insert(at, run);
+}
+
+fn cut(runs: &mut Vec<Run>, part: Part, range: &Setting)
+    requires listed { IsRunList runs.old.items }
+    requires part { IsPart range.now.file runs.old.items part.begin part.end }
+    requires ordered { range.now.first ≤ range.now.last }
+    requires room { length (cut range.now runs.old.items) ≤ vec_capacity runs.old }
+    ensures items { runs.new.items ≡ cut range.now runs.old.items }
+    ensures capacity { vec_capacity runs.new ≡ vec_capacity runs.old }
+{
+    let rest = right(runs, part, range);
+    keep(runs, part, range);
+    if let Some(run) = rest {
+        insert(runs, run);
+    }
+}
+
+fn join(runs: &mut Vec<Run>, part: Part, range: &Setting, mode: Mode)
+    requires listed { IsRunList runs.old.items }
+    requires part { IsPart range.now.file runs.old.items part.begin part.end }
+    requires ordered { range.now.first ≤ range.now.last }
+    requires inside { range.now.last < 2 ^ 63 }
+    requires room { length (joined range.now mode runs.old.items) ≤ vec_capacity runs.old }
+    ensures items { runs.new.items ≡ joined range.now mode runs.old.items }
+    ensures capacity { vec_capacity runs.new ≡ vec_capacity runs.old }
+{
+    let wide = widened(runs, part, range, mode);
+    cut(runs, part, &wide);
+    insert(runs, wide.run(mode));
+}
+
+fn is_full(runs: &[Run], part: Part, setting: &Setting) -> bool
+    requires listed { IsRunList runs.now }
+    requires part { IsPart setting.now.file runs.now part.begin part.end }
+    requires ordered { setting.now.first ≤ setting.now.last }
+    ensures { result ≡ is_full setting.now runs.now }
+{
+    if runs.len() + 2 <= MOST_RUNS {
+        return false;
+    }
+    setting.mode.is_some() || is_split(runs, part, setting)
+}
+
+/// In place, in room that is there.
+pub(crate) fn set(runs: &mut Vec<Run>, setting: &Setting) -> Result<(), NoRuns>
+    requires ordered { setting.now.first ≤ setting.now.last }
+    requires inside { setting.now.last < 2 ^ 63 }
+    requires listed { IsRunList runs.old.items }
+    requires few { vec_len runs.old ≤ MOST_RUNS }
+    requires room { vec_capacity runs.old ≡ MOST_RUNS }
+    ensures refused { IsErr result ↔ IsTrue (is_full setting.now runs.old.items) }
+    ensures ok { OnOk result (runs.new.items ≡ set_runs setting.now runs.old.items) }
+    ensures err { OnErr result (runs.new.items ≡ runs.old.items) }
+    ensures few { vec_len runs.new ≤ MOST_RUNS }
+    ensures room { vec_capacity runs.new ≡ MOST_RUNS }
+{
+    let part = part_of(runs, &setting.file);
+    if is_full(runs, part, setting) {
+        return Err(NoRuns);
+    }
+    match setting.mode {
+        Some(mode) => join(runs, part, setting, mode),
+        None => cut(runs, part, setting),
+    }
+    Ok(())
+}
+
+fn is_better<O: OwnerOrder>(owners: &O, best: &Option<Run>, run: &Run) -> bool
+    ensures { result ≡ is_better (O.order owners.now) best.now run.now }
+{
+    match best {
+        None => true,
+        Some(best) => {
+            run.first < best.first
+                || run.first == best.first && owners.compare(run.owner, best.owner).is_lt()
+        }
+    }
+}
+
+fn best_of<O: OwnerOrder>(runs: &[Run], owners: &O, wanted: &Run) -> Option<Run>
+    ensures { result ≡ best_from (O.order owners.now) wanted.now None runs.now }
+{
+    let mut best = None;
+    for run in runs {
+        if run.is_in_way(wanted) && is_better(owners, &best, run) {
+            best = Some(*run);
+        }
+    }
+    best
+}
+
+pub(crate) fn first_conflict<O: OwnerOrder>(runs: &[Run], owners: &O, wanted: &Run) -> Option<Run>
+    requires { IsRunList runs.now }
+    ensures { result ≡ best_from (O.order owners.now) wanted.now None runs.now }
+{
+    let part = part_of(runs, &wanted.file);
+    let past = place_past(runs, part, &wanted.file, wanted.last);
+    best_of(&runs[part.begin..past], owners, wanted)
+}
+
+pub(crate) fn drop_owner_on_file(runs: &mut Vec<Run>, file: &FileId, owner: OwnerId)
+    ensures items { runs.new.items ≡ filter (λ r. not (is_of r file.now owner)) runs.old.items }
+    ensures len { vec_len runs.new ≤ vec_len runs.old }
+    ensures capacity { vec_capacity runs.new ≡ vec_capacity runs.old }
+{
+    runs.retain(|run| !(run.file.is_same(file) && run.owner == owner));
+}
+
+pub(crate) fn drop_host<H: Host>(runs: &mut Vec<Run>, host: &H)
+    ensures items { runs.new.items ≡ filter (λ r. not (H.has host.now r.owner)) runs.old.items }
+    ensures len { vec_len runs.new ≤ vec_len runs.old }
+    ensures capacity { vec_capacity runs.new ≡ vec_capacity runs.old }
+{
+    runs.retain(|run| !host.has(run.owner));
+}
+
+pub(crate) fn used_of<H: Host>(runs: &[Run], host: &H) -> u32
+    requires { length runs.now ≤ MOST_RUNS }
+    ensures { result ≡ length (filter (λ r. H.has host.now r.owner) runs.now) }
+{
+    let mut count = 0;
+    for run in runs {
+        if host.has(run.owner) {
+            count += 1;
+        }
+    }
+    count
+}
+
+// The runs that start outside the range.
+fn used_beside<H: Host>(runs: &[Run], host: &H, range: &Setting) -> u32
+    requires { length runs.now ≤ MOST_RUNS }
+    ensures count { result ≡ length (filter (λ r. H.has host.now r.owner && not (starts_in range.now r)) runs.now) }
+    ensures few { result ≤ MOST_RUNS }
+{
+    let mut count = 0;
+    for run in runs {
+        if host.has(run.owner) && !run.starts_in(range) {
+            count += 1;
+        }
+    }
+    count
+}
+
+fn used_cut<H: Host>(runs: &[Run], host: &H, part: Part, range: &Setting) -> u32
+    requires listed { IsRunList runs.now }
+    requires part { IsPart range.now.file runs.now part.begin part.end }
+    requires few { length runs.now ≤ MOST_RUNS }
+    requires own { IsTrue (H.has host.now range.now.owner) }
+    ensures count { result ≡ length (filter (λ r. H.has host.now r.owner) (cut range.now runs.now)) }
+    ensures few { result ≤ MOST_RUNS + 1 }
+{
+    let beside = used_beside(runs, host, range);
+    match right(runs, part, range) {
+        Some(_) => beside + 1,
+        None => beside,
+    }
+}
+
+pub(crate) fn used_after<H: Host>(runs: &[Run], host: &H, setting: &Setting) -> u32
+    requires listed { IsRunList runs.now }
+    requires few { length runs.now ≤ MOST_RUNS }
+    requires inside { setting.now.last < 2 ^ 63 }
+    requires own { IsTrue (H.has host.now setting.now.owner) }
+    ensures { result ≡ length (filter (λ r. H.has host.now r.owner) (set_runs setting.now runs.now)) }
+{
+    let part = part_of(runs, &setting.file);
+    match setting.mode {
+        Some(mode) => used_cut(runs, host, part, &widened(runs, part, setting, mode)) + 1,
+        None => used_cut(runs, host, part, setting),
+    }
+}
