@@ -1,0 +1,50 @@
+//! What is done with a file, and what is denied.
+ghost use Rattle.std.specs.Prelude.{◌≡◌};
+ghost use Rattle.definitions.specs.Shares.{meets as is_met};
+
+use std::marker::Model;
+
+/// None, read, write or both (XNFS, fsh4_mode and fsh4_access).
+#[derive(Clone, Copy, Debug, PartialEq, Eq)]
+pub struct Access {
+    read: bool,
+    write: bool,
+}
+
+impl Model for Access {
+    ghost use Rattle.definitions.specs.Shares.{Access as FileAccess};
+
+    ghost Value = { FileAccess };
+
+    ghost view = { λ a. record { read = a.read; write = a.write } };
+
+    ghost inverse = { λ a. record { read = a.read; write = a.write } };
+}
+
+impl Access {
+    pub fn new(read: bool, write: bool) -> Access
+        ensures { result ≡ record { read = read; write = write } }
+    {
+        Access { read, write }
+    }
+
+    pub fn reads(self) -> bool
+        ensures { result ≡ self.read }
+    {
+        self.read
+    }
+
+    pub fn writes(self) -> bool
+        ensures { result ≡ self.write }
+    {
+        self.write
+    }
+
+    /// Whether both read, or both write.
+    pub fn meets(self, other: Access) -> bool
+        ensures { result ≡ is_met self other }
+    {
+        let both_read = self.read && other.read;
+        both_read || self.write && other.write
+    }
+}

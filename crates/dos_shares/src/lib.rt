@@ -1,0 +1,14 @@
+//! The table of DOS shares: what each owner does with a whole file, and what it denies the others (XNFS, NLM_SHARE;
+//! RFC 1813, appendix II).
+#![tactic(auto)]
+
+mod access;
+mod share;
+mod shares;
+#[cfg(test)]
+mod tests;
+
+pub use access::Access;
+pub use owner_ids::Starved;
+pub use share::Share;
+pub use shares::{MOST_SHARES, ShareError, Shares};
