@@ -9,7 +9,7 @@ use Rattle.daemon_core.specs.declared.event.Outcome.TheVariants.{Applied, Starve
 use Rattle.daemon_core.specs.declared.event.Event.{Event}
 use Rattle.daemon_core.specs.declared.event.Event.TheVariants.{Connect, Piece, Disconnect, Take}
 use Rattle.daemon_core.specs.declared.event.Outputs.{Outputs}
-use Rattle.daemon_core.specs.declared.peer.Peer.{Peer}
+use Rattle.kept_replies.specs.declared.key.Peer.{Peer}
 use Rattle.daemon_core.specs.Service.{reply_to, reply_to_refused, IsAnswered}
 use Rattle.daemon_core.specs.Outputs.{marked_by, answered_to}
 use Rattle.daemon_core.specs.Untaken.{AreRecords, untaken}

@@ -7,7 +7,7 @@ use Rattle.daemon_core.specs.declared.event.Event.TheVariants.{Connect, Piece, D
 use Rattle.daemon_core.specs.declared.event.Outcome.{Outcome}
 use Rattle.daemon_core.specs.declared.event.Outcome.TheVariants.{Applied, Starved}
 use Rattle.daemon_core.specs.declared.event.Outputs.{Outputs}
-use Rattle.daemon_core.specs.declared.peer.Peer.{Peer}
+use Rattle.kept_replies.specs.declared.key.Peer.{Peer}
 use Rattle.daemon_core.specs.Outputs.{quiet, starved, answered_to, bytes_sent}
 use Rattle.daemon_core.specs.Service.{IsAnswered}
 use Rattle.daemon_core.specs.Untaken.{AreRecords, untaken}

@@ -4,7 +4,7 @@ use Rattle.record_mark.specs.Stream.{Splits}
 use Rattle.daemon_core.specs.declared.event.Outcome.{Outcome}
 use Rattle.daemon_core.specs.declared.event.Outcome.TheVariants.{Applied, Starved}
 use Rattle.daemon_core.specs.declared.event.Outputs.{Outputs}
-use Rattle.daemon_core.specs.declared.peer.Peer.{Peer}
+use Rattle.kept_replies.specs.declared.key.Peer.{Peer}
 use Rattle.daemon_core.specs.Untaken.{marked}
 use Rattle.daemon_core.specs.Outputs.{quiet, starved, marked_by}
 

@@ -5,9 +5,9 @@ ghost use Rattle.daemon_core.specs.Link.{fresh, Receives, with_taken};
 ghost use Rattle.daemon_core.specs.Untaken.{AreRecords, untaken};
 
 use crate::event::{Outcome, Outputs, Refusal, make_quiet, make_starved};
-use crate::peer::Peer;
 use bytes::Bytes;
 use history::History;
+use kept_replies::Peer;
 use record_mark::{Assembler, MarkError};
 use std::alloc::Global;
 use std::marker::Model;

@@ -6,10 +6,11 @@ ghost use Rattle.daemon_core.specs.Hub.{Hub, opening, place_of, Connects, Discon
 
 use crate::connection::Connection;
 use crate::event::{Event, Outcome, Outputs, Sent, make_quiet, make_starved};
-use crate::peer::Peer;
 use crate::service::answer;
+use kept_replies::Peer;
+use owner_ids::Starved;
 use rpc_msg::Reply;
-use std::alloc::{AllocError, Global};
+use std::alloc::Global;
 use std::marker::Model;
 
 /// Contracts see of each connection all that came on it, and which of its records were taken.
@@ -130,8 +131,8 @@ impl Daemon {
         }
     }
 
-    /// All events, one after another. All places are got first: at `Err` no event is done.
-    pub fn run(&mut self, events: Vec<Event>) -> Result<Vec<Outputs>, AllocError>
+    /// All events, one after another. All places are got first. Starved: no event is done.
+    pub fn run(&mut self, events: Vec<Event>) -> Result<Vec<Outputs>, Starved>
         ensures run { IfOk result (λ outs. Run self.old events.items outs.items self.new) }
         ensures err { OnErr result (self.new ≡ self.old) }
     {

@@ -4,7 +4,7 @@ ghost use Rattle.std.specs.Prelude.{◌≡◌, ◌+◌, ◌≤◌, ◌++◌, ◌
 ghost use Rattle.rpc_msg.specs.Reply.{written_reply};
 ghost use Rattle.daemon_core.specs.Outputs.{quiet, starved};
 
-use crate::peer::Peer;
+use kept_replies::Peer;
 use rpc_msg::Reply;
 use thiserror::Error;
 use xdr_core::{Frame, FrameFull};

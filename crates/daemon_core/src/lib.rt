@@ -5,7 +5,6 @@ mod connection;
 mod daemon;
 mod event;
 mod law;
-mod peer;
 mod service;
 #[cfg(test)]
 mod tests;
@@ -14,4 +13,4 @@ pub use crate::connection::Connection;
 pub use crate::daemon::Daemon;
 pub use crate::event::{Event, Outcome, Outputs, Refusal, Sent};
 pub use crate::law::one_run;
-pub use crate::peer::Peer;
+pub use kept_replies::Peer;

@@ -12,7 +12,7 @@ use Rattle.daemon_core.specs.declared.event.Outcome.TheVariants.{Applied, Starve
 use Rattle.daemon_core.specs.declared.event.Outputs.{Outputs}
 use Rattle.daemon_core.specs.declared.event.Refusal.{Refusal}
 use Rattle.daemon_core.specs.declared.event.Sent.{Sent}
-use Rattle.daemon_core.specs.declared.peer.Peer.{Peer}
+use Rattle.kept_replies.specs.declared.key.Peer.{Peer}
 use Rattle.daemon_core.specs.Outputs.{bytes_sent, marked_by}
 use Rattle.daemon_core.specs.Link.{Link, Hears, Receives}
 use Rattle.daemon_core.specs.Hub.{Hub, opening, place_of, Pieces, Connects, TakesAt, HubStep, Run, all_bytes_sent}

@@ -7,7 +7,7 @@ use Rattle.daemon_core.specs.declared.event.Event.{Event}
 use Rattle.daemon_core.specs.declared.event.Event.TheVariants.{Connect, Piece, Disconnect, Take}
 use Rattle.daemon_core.specs.declared.event.Outputs.{Outputs}
 use Rattle.daemon_core.specs.declared.event.Refusal.{Refusal}
-use Rattle.daemon_core.specs.declared.peer.Peer.{Peer}
+use Rattle.kept_replies.specs.declared.key.Peer.{Peer}
 use Rattle.daemon_core.specs.Hub.{Hub, opening, place_of, Waits, HubStep, Run, all_bytes_sent}
 use Rattle.lockd_main.specs.declared.fault.Fault.{Fault}
 use Rattle.lockd_main.specs.declared.fault.Fault.TheVariants.{Starved, RecordTooLong, ReadFault, WriteFault}

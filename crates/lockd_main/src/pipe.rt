@@ -1,7 +1,7 @@
 //! One stream of records from a reader, and what it is answered to a writer.
 
 ghost use Rattle.std.specs.Prelude.{◌≡◌, ℕ, List, [], Option};
-ghost use Rattle.daemon_core.specs.declared.peer.Peer.{Peer};
+ghost use Rattle.kept_replies.specs.declared.key.Peer.{Peer};
 ghost use Rattle.lockd_main.specs.Written.{ReadsPiece};
 ghost use Rattle.lockd_main.specs.Pipe.{AnswersWaiting, TurnEnds, EndsAt, PipeEnds};
 

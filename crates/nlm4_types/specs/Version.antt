@@ -1,4 +1,4 @@
--- The versions that are served, and in what they differ (RFC 1813, appendix II; XNFS, chapter 10).
+-- The versions that are served, and in what they differ (RFC 1813, appendix II; XNFS).
 use Rattle.std.specs.Prelude.{Bool, true, false}
 use Rattle.definitions.specs.Nlm as nlm
 use Rattle.nlm4_types.specs.declared.version.Version.{Version}

@@ -33,7 +33,7 @@ pub enum NlmCall<'r> {
     FreeAll(Notify<'r>),
 }
 
-/// Whether the server answers the procedure in this version: version 1 ends with procedure 15 (XNFS, chapter 10), and
+/// Whether the server answers the procedure in this version: version 1 ends with procedure 15 (XNFS), and
 /// what a server sends to its clients alone is none of them.
 pub fn is_known(version: Version, procedure: u32) -> bool
     ensures { result ≡ is_known_in (view_of_version version) procedure }

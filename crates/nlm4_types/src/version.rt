@@ -1,4 +1,4 @@
-/// A version of the protocol that is served (XNFS, chapter 10; RFC 1813, appendix II).
+/// A version of the protocol that is served (XNFS; RFC 1813, appendix II).
 #[derive(Clone, Copy, Debug, PartialEq, Eq)]
 pub enum Version {
     V1,

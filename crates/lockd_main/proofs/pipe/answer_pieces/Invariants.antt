@@ -1,5 +1,5 @@
 use Rattle.std.proofs.Common.{ℕ, List, [], Option}
-use Rattle.daemon_core.specs.declared.peer.Peer.{Peer}
+use Rattle.kept_replies.specs.declared.key.Peer.{Peer}
 use Rattle.lockd_main.specs.Pipe.{EndsAt}
 use Rattle.lockd_main.proofs.pipe.answer_pieces.Given as goal
 

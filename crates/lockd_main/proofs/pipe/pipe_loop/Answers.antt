@@ -1,6 +1,6 @@
 use Rattle.std.proofs.Common.{inr}
 use Rattle.daemon_core.specs.declared.event.Outcome.TheVariants.{Applied, Starved}
-use Rattle.daemon_core.specs.declared.peer.TheConstants.Peer.{PIPE}
+use Rattle.kept_replies.specs.declared.key.TheConstants.Peer.{PIPE}
 use Rattle.lockd_main.proofs.PipeLemmas.{at-start}
 use Rattle.lockd_main.proofs.pipe.pipe_loop.Goals as goal
 

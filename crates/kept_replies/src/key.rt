@@ -1,7 +1,9 @@
-//! Where calls come from.
+//! What a kept reply is found by.
+use bytes::Bytes;
+use std::marker::Model;
 
 /// An address without its port, and whether it is this machine. Two peers are one where both are equal.
-#[derive(Clone, Copy, Debug, PartialEq, Eq)]
+#[derive(Clone, Copy, Debug, PartialEq, Eq, Hash)]
 pub struct Peer {
     /// An IPv6 address, or an IPv4 address in its mapped form (RFC 4291, section 2.5.5.2).
     pub address: [u8; 16],
@@ -14,4 +16,11 @@ impl Peer {
         address: *b"pipe\0\0\0\0\0\0\0\0\0\0\0\0",
         is_local: true,
     };
+}
+
+/// Who asked, and the whole record of the call, which shares the bytes that were received.
+#[derive(Debug, PartialEq, Eq, Hash, Drop)]
+pub struct Key {
+    pub peer: Peer,
+    pub record: Bytes,
 }
