@@ -1,6 +1,7 @@
 //! A full table, keys that differ in one part, and a random script beside a plain list.
 use super::*;
 use bytes::Bytes;
+use owner_ids::Starved;
 use std::alloc::{AllocError, Global};
 use std::test::*;
 
@@ -38,6 +39,15 @@ fn is_kept(found: Option<&Noted>, call: Option<u32>) -> bool {
     }
 }
 
+/// Keeps the reply of a call under whose key nothing is kept. Whether it was so.
+fn keep_new(kept: &mut KeptReplies<Noted>, key: Key, reply: Noted) -> Result<bool, Starved> {
+    if kept.look(&key).is_some() {
+        return Ok(false);
+    }
+    kept.keep(key, reply)?;
+    Ok(true)
+}
+
 #[test]
 fn a_reply_is_its_peers_and_its_records(rt: HostRuntime) -> Result<(), Fail> {
     let mut kept = KeptReplies::new(rt.alloc())?;
@@ -48,8 +58,10 @@ fn a_reply_is_its_peers_and_its_records(rt: HostRuntime) -> Result<(), Fail> {
     let mut address = PEER.address;
     address[15] = 2;
     let other = Peer { address, ..PEER };
-    kept.keep(key(rt.alloc(), PEER, 20)?, Noted(20))?;
-    kept.keep(key(rt.alloc(), Peer::PIPE, 20)?, Noted(21))?;
+    let peers_key = key(rt.alloc(), PEER, 20)?;
+    let pipes_key = key(rt.alloc(), Peer::PIPE, 20)?;
+    assert!(rt; keep_new(&mut kept, peers_key, Noted(20))?);
+    assert!(rt; keep_new(&mut kept, pipes_key, Noted(21))?);
     let asked = [
         (PEER, 20, Some(20)),
         (Peer::PIPE, 20, Some(21)),
@@ -72,7 +84,8 @@ fn a_reply_is_its_peers_and_its_records(rt: HostRuntime) -> Result<(), Fail> {
 fn kept_limit(rt: HostRuntime) -> Result<(), Fail> {
     let mut kept = KeptReplies::new(rt.alloc())?;
     for call in 0..MOST_KEPT as u32 {
-        kept.keep(key(rt.alloc(), PEER, call)?, Noted(call))?;
+        let key = key(rt.alloc(), PEER, call)?;
+        assert!(rt; keep_new(&mut kept, key, Noted(call))?);
     }
     assert_eq!(rt; kept.len(), MOST_KEPT);
     let first = key(rt.alloc(), PEER, 0)?;
@@ -81,7 +94,8 @@ fn kept_limit(rt: HostRuntime) -> Result<(), Fail> {
     assert!(rt; is_kept(kept.look(&second), Some(1)));
     assert!(rt; is_kept(kept.find(&first), Some(0)));
     for call in [2_000, 2_001] {
-        kept.keep(key(rt.alloc(), PEER, call)?, Noted(call))?;
+        let key = key(rt.alloc(), PEER, call)?;
+        assert!(rt; keep_new(&mut kept, key, Noted(call))?);
     }
     assert_eq!(rt; kept.len(), MOST_KEPT);
     assert!(rt; is_kept(kept.look(&first), Some(0)));
@@ -122,7 +136,7 @@ fn random_uses_beside_a_plain_list(rt: HostRuntime) -> Result<(), Fail> {
         assert!(rt; is_kept(kept.look(&key), found));
         assert!(rt; is_kept(kept.find(&key), found));
         if found.is_none() {
-            kept.keep(key, Noted(call))?;
+            assert!(rt; keep_new(&mut kept, key, Noted(call))?);
             plain.keep(call)?;
         }
     }

@@ -2,6 +2,7 @@
 use Rattle.std.proofs.Common.{◌≡◌, ◌≢◌, ℕ, List, Option, Some, None, map, refl, sym, ap, ◌∙◌, ◌==◌, Bool, true, false, subst, cond}
 use Rattle.std.proofs.lemmas.Bool.{eqb-true, eqb-false, true≢false}
 use Rattle.std.proofs.Math.ListN.{get_or-map}
+use Rattle.definitions.specs.Owners.{Owner}
 use Rattle.definitions.proofs.OwnerLaws.{same_owner-Decides}
 use Rattle.slab.specs.Slab.{Slab, get, Updates}
 use Rattle.owner_ids.specs.declared.owner.Owner.{Owner as HeldOwner}
@@ -84,3 +85,8 @@ module _ (names after : Names) (numbers next : HeldOwner → Option ℕ) (x : He
 
     pub lists_removed : Lists after next
     lists_removed = record { found = removed_found; listed = removed_listed }
+
+-- what nobody has stays nobody's, where the number that is changed is another, or goes out of use
+pub still_nobody : (names after : Names) (n : ℕ) (x : Option Owner) → Renames names after n x → names 4294967295 ≡ None → (n ≡ 4294967295 → after n ≡ None) → after 4294967295 ≡ None
+still_nobody names after n x r nobody at =
+    by_number 4294967295 n (λ i. ap after i ∙ at (sym i)) (λ o. r.others 4294967295 o ∙ nobody)

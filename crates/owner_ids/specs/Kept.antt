@@ -1,5 +1,5 @@
 -- Owners in a slab, with their numbers in a map.
-use Rattle.std.specs.Prelude.{ℕ, ◌≡◌, List, Option, Some, map}
+use Rattle.std.specs.Prelude.{ℕ, ◌≡◌, List, Option, Some, None, map}
 use Rattle.std.specs.BTreeMap.{get}
 use Rattle.definitions.specs.Owners.{Owner}
 use Rattle.owner_ids.specs.declared.owners.Owners.TheInside.{Inside}
@@ -10,7 +10,8 @@ use Rattle.owner_ids.specs.Names.{named}
 abbrev pub owners_of : Inside → List (Option Owner)
 owners_of o = map said_some o.slots.slots
 
--- the map has the number of each owner in use, and nothing else
+-- the map has the number of each owner in use, and nothing else; one number is nobody's
 pub record IsKept (o : Inside) : Type 0 where
   pub found : (x : HeldOwner) (n : ℕ) → get held_cmp o.numbers x ≡ Some n → named (owners_of o) n ≡ Some (said x)
   pub listed : (x : HeldOwner) (n : ℕ) → named (owners_of o) n ≡ Some (said x) → get held_cmp o.numbers x ≡ Some n
+  pub nobody : named (owners_of o) 4294967295 ≡ None

@@ -9,4 +9,4 @@ mod owners;
 pub use hosts::{HostOf, OneOwner};
 pub use order::{Host, OwnerOrder};
 pub use owner::Owner;
-pub use owners::{OwnerId, Owners, Starved};
+pub use owners::{NOBODY, OwnerId, Owners, Starved};

@@ -17,7 +17,8 @@ use thiserror::Error;
 /// The number of an owner while it is in use.
 pub type OwnerId = u32;
 
-const MOST_OWNERS: usize = 4_294_967_296;
+/// A number that no owner ever has.
+pub const NOBODY: OwnerId = 4_294_967_295;
 
 /// There is no memory, or no number, for one more owner.
 #[derive(Clone, Copy, Debug, PartialEq, Eq, Error)]
@@ -77,8 +78,9 @@ impl Owners {
         self.add(kept, key)
     }
 
-    // The number of an owner in use.
-    fn number(&self, owner: &Owner) -> Option<OwnerId>
+    /// The number of an owner in use.
+    pub fn number(&self, owner: &Owner) -> Option<OwnerId>
+        ensures nobody { named self.now 4294967295 ≡ None }
         ensures found { IfSome result (λ n. named self.now n ≡ Some (said owner.now)) }
         ensures known { (n : ℕ) → named self.now n ≡ Some (said owner.now) → result ≡ Some n }
     {
@@ -95,7 +97,7 @@ impl Owners {
     {
         self.slots.reserve(1)?;
         let place = self.slots.vacant_key();
-        if place >= MOST_OWNERS {
+        if place >= NOBODY as usize {
             return Err(Starved);
         }
         let number = place as OwnerId;

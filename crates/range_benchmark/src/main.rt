@@ -1,8 +1,9 @@
 //! Does what its arguments name and prints how many runs or owners there are, so that `time` measures it.
-//! They are `fill`, `intern`, or `set`, `reset`, `ask` with `-middle` or `-last`, then a size and a number of rounds.
+//! They are `fill`, `intern`, or `set`, `reset`, `used`, `conflict` with `-front`, `-middle`, `-back` or `-turns`,
+//! then a size and a number of rounds.
 #![tactic(auto)]
 
-ghost use Rattle.std.specs.Prelude.{◌≤◌, ◌<◌, ◌^◌};
+ghost use Rattle.std.specs.Prelude.{◌≡◌, length};
 
 use anyhow::Result;
 use owner_ids::{Owner, OwnerId, Owners};
@@ -23,11 +24,18 @@ fn fill(table: &mut FlatTable, file: &FileId, owner: OwnerId, count: u32) {
     }
 }
 
+// The files with few runs stand in front of the others, in the middle, and behind them.
+const FRONT: u32 = 0;
+
+const MIDDLE: u32 = 0x7000_0000;
+
+const BACK: u32 = 0xf000_0000;
+
 // One run on each of many files, half of which stand before the file in the middle, and half behind it.
 fn fill_others(table: &mut FlatTable, owner: OwnerId, count: u32) {
     for i in 0..count {
         let file = if i < count / 2 {
-            file_of(i)
+            file_of(i + 1)
         } else {
             file_of(0x8000_0000 | i & 0xffff)
         };
@@ -35,34 +43,58 @@ fn fill_others(table: &mut FlatTable, owner: OwnerId, count: u32) {
     }
 }
 
-// A lock and an unlock on a file with few runs.
-fn set_and_unset(table: &mut FlatTable, file: &FileId, owner: OwnerId, rounds: u32) {
-    for _ in 0..rounds {
-        let _ = table.set(file, owner, 100, 109, Some(Mode::Exclusive));
-        let _ = table.set(file, owner, 100, 109, None);
+// A lock and an unlock, on one file after the other.
+fn set_and_unset(table: &mut FlatTable, files: &[FileId], owner: OwnerId, rounds: u32) {
+    for i in 0..rounds {
+        if let Some(file) = files.get(i as usize % files.len().max(1)) {
+            let _ = table.set(file, owner, 100, 109, Some(Mode::Exclusive));
+            let _ = table.set(file, owner, 100, 109, None);
+        }
     }
 }
 
-// A change that moves no run.
-fn reset(table: &mut FlatTable, file: &FileId, owner: OwnerId, rounds: u32) {
+// A change of mode.
+fn reset(table: &mut FlatTable, files: &[FileId], owner: OwnerId, rounds: u32) {
     for i in 0..rounds {
-        let mode = if i % 2 == 0 {
+        let mode = if i / 4 % 2 == 0 {
             Mode::Exclusive
         } else {
             Mode::Shared
         };
-        let _ = table.set(file, owner, 0, 0, Some(mode));
+        if let Some(file) = files.get(i as usize % files.len().max(1)) {
+            let _ = table.set(file, owner, 0, 0, Some(mode));
+        }
     }
 }
 
-fn ask(table: &FlatTable, owners: &Owners, wanted: &Run, rounds: u32) -> u32
-    requires ordered { wanted.now.first ≤ wanted.now.last }
-    requires inside { wanted.now.last < 2 ^ 63 }
-{
+fn ask_used(table: &FlatTable, rounds: u32) -> u32 {
     let mut found = 0u32;
     for _ in 0..rounds {
-        if table.first_conflict(owners, wanted).is_some() && table.used() > 0 {
-            found = found.saturating_add(1);
+        found = found.wrapping_add(table.used());
+    }
+    found
+}
+
+fn ask_conflict(
+    table: &FlatTable,
+    owners: &Owners,
+    files: &[FileId],
+    owner: OwnerId,
+    rounds: u32,
+) -> u32 {
+    let mut found = 0u32;
+    for i in 0..rounds {
+        if let Some(file) = files.get(i as usize % files.len().max(1)) {
+            let wanted = Run {
+                file: *file,
+                owner,
+                first: 0,
+                last: 20,
+                mode: Mode::Exclusive,
+            };
+            if table.first_conflict(owners, &wanted).is_some() {
+                found = found.saturating_add(1);
+            }
         }
     }
     found
@@ -94,36 +126,40 @@ fn intern(alloc: Global, count: u32, rounds: u32) -> Result<u32> {
     Ok(most)
 }
 
+// The files that the name speaks of.
+fn files_of<'a>(all: &'a [FileId], what: &str) -> &'a [FileId]
+    requires { length all.now ≡ 3 }
+{
+    match what {
+        _ if what.ends_with("-front") => &all[..1],
+        _ if what.ends_with("-middle") => &all[1..2],
+        _ if what.ends_with("-back") => &all[2..],
+        _ => all,
+    }
+}
+
 fn beside(alloc: Global, what: &str, count: u32, rounds: u32) -> Result<u32> {
     let mut owners = Owners::new(alloc);
     let a = owners.intern(&Owner::Process(1))?;
     let b = owners.intern(&Owner::Process(2))?;
     let mut table = FlatTable::new(alloc)?;
-    let file = file_of(if what.ends_with("-last") {
-        0xf000_0000
-    } else {
-        0x7000_0000
-    });
     fill_others(&mut table, a, count);
-    fill(&mut table, &file, a, 8);
+    let all = [file_of(FRONT), file_of(MIDDLE), file_of(BACK)];
+    for file in &all {
+        fill(&mut table, file, a, 8);
+    }
+    let files = files_of(&all, what);
+    let answer = match what {
+        _ if what.starts_with("used") => ask_used(&table, rounds),
+        _ if what.starts_with("conflict") => ask_conflict(&table, &owners, files, b, rounds),
+        _ => 0,
+    };
     match what {
-        "set-middle" | "set-last" => set_and_unset(&mut table, &file, b, rounds),
-        "reset-middle" | "reset-last" => reset(&mut table, &file, a, rounds),
+        _ if what.starts_with("set") => set_and_unset(&mut table, files, b, rounds),
+        _ if what.starts_with("reset") => reset(&mut table, files, a, rounds),
         _ => {}
     }
-    let wanted = Run {
-        file,
-        owner: b,
-        first: 0,
-        last: 20,
-        mode: Mode::Exclusive,
-    };
-    let asked = if what.starts_with("ask") { rounds } else { 0 };
-    Ok(
-        table
-            .used()
-            .saturating_add(ask(&table, &owners, &wanted, asked)),
-    )
+    Ok(table.used().saturating_add(answer))
 }
 
 fn filled(alloc: Global, count: u32) -> Result<u32> {

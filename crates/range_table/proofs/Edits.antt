@@ -1,12 +1,12 @@
 -- What the edits of a sorted list leave.
 use Rattle.std.proofs.Common.{◌≡◌, ℕ, zero, suc, ◌<◌, ◌≤◌, ◌+◌, ◌-◌, Bool, true, false, cond, not, List, [], ◌∷◌, ◌++◌, Option, Some, None, refl, sym, ap, ◌∙◌, subst, arith, length, take, drop, get_or, set, map, append-nil, ltb, ◌==◌, ◌&&◌}
-use Rattle.std.proofs.lemmas.List.{take-append-drop, take_more, take_more_set, drop-set-lt, drop-drop, take-map, drop-map, get_or-drop}
+use Rattle.std.proofs.lemmas.List.{take-append-drop, take_more, take_more_set, drop-set-lt, drop-drop, take-map, drop-map, get_or-drop, length-take-le, take-append-le, take-take, drop_at}
 use Rattle.std.proofs.lemmas.Bool.{true≢false}
 use Rattle.std.specs.Ordering.{nat_cmp, ordering_then, is_lt, is_le}
 use Rattle.std.specs.declared.cmp.Ordering.{Ordering}
 use Rattle.std.specs.declared.cmp.Ordering.TheVariants.{Less, Equal, Greater}
 use Rattle.std.proofs.lemmas.List.Elements.{filter-append}
-use Rattle.std.specs.List.{AllByRecursion, filter, position_or_len}
+use Rattle.std.specs.List.{AllByRecursion, filter, position_or_len, remove}
 use Rattle.std.specs.List.Sorted.{IsPartitionedBy}
 use Rattle.range_table.specs.File.{File, same_file, file_cmp}
 use Rattle.range_table.specs.Runs.{run_before, before_place, upto_place, IsPlace, IsRunList, starts_in, trim, kept, is_better, best_from}
@@ -42,7 +42,10 @@ all_stay c (r ∷ rs) h = rw h.0 (ap (λ xs. r ∷ xs) (all_stay c rs h.1))
 
 -- ---- gathering them
 
-module _ (c : Setting) (old now : List Run) (kept at : ℕ) (x : Run) (n : length now ≡ length old) (l : at < length now) (e : x ≡ get_or now at x) (d : drop at now ≡ drop at old) where
+all_kept : (keep : Run → Bool) (x : Run) → keep x ≡ true → filter keep (x ∷ []) ≡ x ∷ []
+all_kept keep x h = rw h refl
+
+module _ (keep : Run → Bool) (old now : List Run) (kept at : ℕ) (x : Run) (n : length now ≡ length old) (l : at < length now) (e : x ≡ get_or now at x) (d : drop at now ≡ drop at old) where
   same_there : get_or old at x ≡ x
   same_there =
       let z : at + 0 ≡ at = omega arith in
@@ -51,22 +54,33 @@ module _ (c : Setting) (old now : List Run) (kept at : ℕ) (x : Run) (n : lengt
   taken : take (at + 1) old ≡ take at old ++ x ∷ []
   taken = take_more old at x (omega arith) ∙ ap (λ y. take at old ++ y ∷ []) same_there
 
-  pub gather_one : kept ≤ at → take kept now ≡ filter (stays c) (take at old) → starts_in c x ≡ false → take (kept + 1) (set now kept x) ≡ filter (stays c) (take (at + 1) old)
+  pub gather_one : kept ≤ at → take kept now ≡ filter keep (take at old) → keep x ≡ true → take (kept + 1) (set now kept x) ≡ filter keep (take (at + 1) old)
   gather_one o t s =
       take_more_set now kept x (omega arith)
       ∙ ap (λ ys. ys ++ x ∷ []) t
-      ∙ sym (ap (filter (stays c)) taken ∙ filter-append (stays c) (take at old) (x ∷ []) ∙ ap (λ ys. filter (stays c) (take at old) ++ ys) (all_stay c (x ∷ []) (s, tt)))
+      ∙ sym (ap (filter keep) taken ∙ filter-append keep (take at old) (x ∷ []) ∙ ap (λ ys. filter keep (take at old) ++ ys) (all_kept keep x s))
 
-  pub gather_none : take kept now ≡ filter (stays c) (take at old) → starts_in c x ≡ true → take kept now ≡ filter (stays c) (take (at + 1) old)
+  pub gather_none : take kept now ≡ filter keep (take at old) → keep x ≡ false → take kept now ≡ filter keep (take (at + 1) old)
   gather_none t s =
       t
-      ∙ sym (ap (filter (stays c)) taken ∙ filter-append (stays c) (take at old) (x ∷ []) ∙ ap (λ ys. filter (stays c) (take at old) ++ ys) (rw s refl) ∙ append-nil (filter (stays c) (take at old)))
+      ∙ sym (ap (filter keep) taken ∙ filter-append keep (take at old) (x ∷ []) ∙ ap (λ ys. filter keep (take at old) ++ ys) (rw s refl) ∙ append-nil (filter keep (take at old)))
 
 pub next_rest : (old now : List Run) (at : ℕ) → drop at now ≡ drop at old → drop (at + 1) now ≡ drop (at + 1) old
 next_rest old now at d = sym (drop-drop 1 at now) ∙ ap (drop 1) d ∙ drop-drop 1 at old
 
 pub next_rest_set : (old now : List Run) (kept at : ℕ) (x : Run) → kept ≤ at → drop at now ≡ drop at old → drop (at + 1) (set now kept x) ≡ drop (at + 1) old
 next_rest_set old now kept at x o d = drop-set-lt (at + 1) now kept x (omega arith) ∙ next_rest old now at d
+
+-- the last of the runs in front of a place goes
+pub close_more : (xs ys : List Run) (past gone : ℕ) → gone < past → past ≤ length xs → ys ≡ take (past - gone) xs ++ drop past xs → remove ys (past - (gone + 1)) ≡ take (past - (gone + 1)) xs ++ drop past xs
+close_more xs ys past gone l u h =
+    let k = past - (gone + 1) in
+    let n : past - gone ≡ suc k = omega arith in
+    let m : length (take (suc k) xs) ≡ suc k = length-take-le (suc k) xs (omega arith) in
+    let e : ys ≡ take (suc k) xs ++ drop past xs = h ∙ ap (λ j. take j xs ++ drop past xs) n in
+    ap (λ zs. take k zs ++ drop (suc k) zs) e
+    ∙ ap (λ zs. zs ++ drop (suc k) (take (suc k) xs ++ drop past xs)) (take-append-le k (take (suc k) xs) (drop past xs) (omega arith) ∙ take-take k (suc k) xs (omega arith))
+    ∙ ap (λ zs. take k xs ++ zs) (drop_at (take (suc k) xs) (drop past xs) (suc k) m)
 
 -- ---- places of the range
 
@@ -172,6 +186,15 @@ position_is x rs at l p = go rs at l p.below p.above where
   go (r ∷ rs) (suc at) l b a = rw (not_true (run_before x r) b.0) (let m = go rs at (omega arith) b.1 a in omega arith)
 
 -- ---- the runs that may be in the way
+
+pub best_taken : (order : ℕ → ℕ → Ordering) (wanted : Run) (best : Option Run) (x : Run) (rs : List Run) → conflicts wanted x ≡ true → is_better order best x ≡ true → best_from order wanted best (x ∷ rs) ≡ best_from order wanted (Some x) rs
+best_taken order wanted best x rs h k = rw (h, k) refl
+
+pub best_clear : (order : ℕ → ℕ → Ordering) (wanted : Run) (best : Option Run) (x : Run) (rs : List Run) → conflicts wanted x ≡ false → best_from order wanted best (x ∷ rs) ≡ best_from order wanted best rs
+best_clear order wanted best x rs h = rw h refl
+
+pub best_stays : (order : ℕ → ℕ → Ordering) (wanted : Run) (best : Option Run) (x : Run) (rs : List Run) → conflicts wanted x ≡ true → is_better order best x ≡ false → best_from order wanted best (x ∷ rs) ≡ best_from order wanted best rs
+best_stays order wanted best x rs h k = rw (h, k) refl
 
 quiet : (order : ℕ → ℕ → Ordering) (wanted : Run) (best : Option Run) (rs : List Run) → AllByRecursion (λ r. conflicts wanted r ≡ false) rs → best_from order wanted best rs ≡ best
 quiet order wanted best [] h = refl

@@ -19,3 +19,8 @@ pub mod FileParts
 pub mod Lasts
 pub mod Edits
 pub mod Once
+pub mod RunLists
+pub mod OneMore
+pub mod OneLess
+pub mod Halves
+pub mod Splitting

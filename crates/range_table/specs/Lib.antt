@@ -3,4 +3,5 @@ pub mod FileId
 pub mod Settings
 pub mod Runs
 pub mod Parts
+pub mod RunList
 pub mod Flat

@@ -1,11 +1,11 @@
-//! One sorted list of runs, whose room is reserved once.
+//! One sorted list of runs.
 ghost use Rattle.std.specs.Prelude.{◌≡◌, [], IfOk};
 
 use crate::file::FileId;
-use crate::ordered;
 use crate::run::{Mode, NoRuns, Run, Setting};
-use crate::sorted::{self, MOST_RUNS};
+use crate::run_list::RunList;
 use crate::table::RangeTable;
+use crate::{ordered, sorted};
 use history::History;
 use owner_ids::{Host, OwnerId, OwnerOrder, Starved};
 use std::alloc::Global;
@@ -14,7 +14,7 @@ use std::marker::Model;
 /// Runs in order of file, first byte and owner's number. A clause sees the settings that stand, oldest first.
 #[derive(Drop)]
 pub struct FlatTable {
-    runs: Vec<Run>,
+    runs: RunList,
     history: History<Setting>,
 }
 
@@ -37,7 +37,7 @@ impl FlatTable {
         ensures { IfOk result (λ table. table ≡ []) }
     {
         Ok(FlatTable {
-            runs: Vec::with_capacity(alloc, MOST_RUNS)?,
+            runs: RunList::new(alloc)?,
             history: History::new(),
         })
     }
@@ -103,7 +103,7 @@ impl RangeTable for FlatTable {
     }
 
     fn clear(&mut self) {
-        self.runs.clear();
+        self.runs.truncate(0);
         self.history = History::new();
     }
 }

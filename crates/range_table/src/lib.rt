@@ -7,6 +7,7 @@ mod flat;
 mod ordered;
 mod places;
 mod run;
+mod run_list;
 mod sorted;
 mod table;
 

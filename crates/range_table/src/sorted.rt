@@ -1,5 +1,5 @@
-//! Sorted runs in a vector whose room is reserved.
-ghost use Rattle.std.specs.Prelude.{OnOk, OnErr, IsErr, IsTrue, ◌↔◌, ◌≡◌, ◌+◌, ◌-◌, ◌<◌, ◌≤◌, ◌^◌, length, vec_len, vec_capacity, map, not, true, false, take, drop, ◌++◌, ◌&&◌};
+//! A sorted list of runs, set and asked in place.
+ghost use Rattle.std.specs.Prelude.{OnOk, OnErr, IsErr, IsTrue, ◌↔◌, ◌≡◌, ◌+◌, ◌-◌, ◌<◌, ◌≤◌, ◌^◌, length, map, not, true, false, take, drop, ◌++◌, ◌&&◌};
 ghost use Rattle.std.specs.List.{filter, position_or_len, AllByRecursion};
 ghost use Rattle.range_table.specs.Runs.{is_of, starts_in, trim, kept, right, insert_run, cut, low, high, widened, joined, set_runs, is_split, is_full, run_before, before_place, IsPlace, IsRunList, is_better, best_from};
 ghost use Rattle.range_table.specs.Parts.{IsPart};
@@ -7,10 +7,11 @@ ghost use Rattle.range_table.specs.Parts.{IsPart};
 use crate::file::FileId;
 use crate::places::{Part, last_before, last_run, part_of, place_of, place_past};
 use crate::run::{Mode, NoRuns, Run, Setting};
+use crate::run_list::{MOST_RUNS, RunList};
 use owner_ids::{Host, OwnerId, OwnerOrder};
 
 // What is left of the run that reaches beyond the range's end.
-fn right(runs: &[Run], part: Part, range: &Setting) -> Option<Run>
+fn right(runs: &RunList, part: Part, range: &Setting) -> Option<Run>
     requires listed { IsRunList runs.now }
     requires part { IsPart range.now.file runs.now part.begin part.end }
     ensures { result ≡ right range.now runs.now }
@@ -22,7 +23,7 @@ fn right(runs: &[Run], part: Part, range: &Setting) -> Option<Run>
     }
 }
 
-fn low(runs: &[Run], part: Part, range: &Setting, mode: Mode) -> u64
+fn low(runs: &RunList, part: Part, range: &Setting, mode: Mode) -> u64
     requires listed { IsRunList runs.now }
     requires part { IsPart range.now.file runs.now part.begin part.end }
     ensures { result ≡ low range.now mode runs.now }
@@ -34,7 +35,7 @@ fn low(runs: &[Run], part: Part, range: &Setting, mode: Mode) -> u64
     }
 }
 
-fn high(runs: &[Run], part: Part, range: &Setting, mode: Mode) -> u64
+fn high(runs: &RunList, part: Part, range: &Setting, mode: Mode) -> u64
     requires listed { IsRunList runs.now }
     requires part { IsPart range.now.file runs.now part.begin part.end }
     requires inside { range.now.last < 2 ^ 63 }
@@ -48,7 +49,7 @@ fn high(runs: &[Run], part: Part, range: &Setting, mode: Mode) -> u64
 }
 
 // The range with the runs of the mode that it meets.
-fn widened(runs: &[Run], part: Part, range: &Setting, mode: Mode) -> Setting
+fn widened(runs: &RunList, part: Part, range: &Setting, mode: Mode) -> Setting
     requires listed { IsRunList runs.now }
     requires part { IsPart range.now.file runs.now part.begin part.end }
     requires inside { range.now.last < 2 ^ 63 }
@@ -61,7 +62,7 @@ fn widened(runs: &[Run], part: Part, range: &Setting, mode: Mode) -> Setting
     }
 }
 
-fn is_split(runs: &[Run], part: Part, range: &Setting) -> bool
+fn is_split(runs: &RunList, part: Part, range: &Setting) -> bool
     requires listed { IsRunList runs.now }
     requires part { IsPart range.now.file runs.now part.begin part.end }
     requires ordered { range.now.first ≤ range.now.last }
@@ -75,7 +76,7 @@ fn is_split(runs: &[Run], part: Part, range: &Setting) -> bool
 }
 
 // Leaves of the run that reaches the range what is in front of it.
-fn trim_last(runs: &mut [Run], part: Part, range: &Setting, place: usize)
+fn trim_last(runs: &mut RunList, part: Part, range: &Setting, place: usize)
     requires listed { IsRunList runs.old }
     requires part { IsPart range.now.file runs.old part.begin part.end }
     requires within { place ≤ length runs.old }
@@ -83,23 +84,27 @@ fn trim_last(runs: &mut [Run], part: Part, range: &Setting, place: usize)
     ensures { runs.new ≡ map (trim range.now) runs.old }
 {
     if let Some(at) = last_before(runs, part, range, place) {
-        runs[at].trim(range);
+        let mut run = *runs.get(at);
+        run.trim(range);
+        runs.set(at, &run);
     }
 }
 
 // Those from one place to another that don't start in the range move together behind those in front. Where they end.
-fn gather(runs: &mut [Run], range: &Setting, from: usize, past: usize) -> usize
+fn gather(runs: &mut RunList, range: &Setting, from: usize, past: usize) -> usize
     requires order { from ≤ past }
     requires within { past ≤ length runs.old }
     requires front { AllByRecursion (λ r. starts_in range.now r ≡ false) (take from runs.old) }
     ensures within { result ≤ past }
     ensures kept { take result runs.new ≡ filter (λ r. not (starts_in range.now r)) (take past runs.old) }
     ensures rest { drop past runs.new ≡ drop past runs.old }
+    ensures long { length runs.new ≡ length runs.old }
 {
     let mut kept = from;
     for at in from..past {
-        if !runs[at].starts_in(range) {
-            runs[kept] = runs[at];
+        let run = *runs.get(at);
+        if !run.starts_in(range) {
+            runs.set(kept, &run);
             kept += 1;
         }
     }
@@ -107,7 +112,7 @@ fn gather(runs: &mut [Run], range: &Setting, from: usize, past: usize) -> usize
 }
 
 // Trims and gathers what is kept of the runs up to the range's end. Where it ends, and where the others begin.
-fn gather_kept(runs: &mut [Run], part: Part, range: &Setting) -> (usize, usize)
+fn gather_kept(runs: &mut RunList, part: Part, range: &Setting) -> (usize, usize)
     requires listed { IsRunList runs.old }
     requires part { IsPart range.now.file runs.old part.begin part.end }
     requires ordered { range.now.first ≤ range.now.last }
@@ -122,59 +127,51 @@ fn gather_kept(runs: &mut [Run], part: Part, range: &Setting) -> (usize, usize)
     (kept, past)
 }
 
-// What lies between two places goes.
-fn close(runs: &mut Vec<Run>, kept: usize, past: usize)
+// What lies between two places goes, the last run first: then no other one of them moves.
+fn close(runs: &mut RunList, kept: usize, past: usize)
     requires order { kept ≤ past }
-    requires within { past ≤ vec_len runs.old }
-    ensures items { runs.new.items ≡ take kept runs.old.items ++ drop past runs.old.items }
-    ensures capacity { vec_capacity runs.new ≡ vec_capacity runs.old }
+    requires within { past ≤ length runs.old }
+    ensures { runs.new ≡ take kept runs.old ++ drop past runs.old }
 {
-    if kept < past {
-        let left = runs.len() - (past - kept);
-        runs.copy_within(past.., kept);
-        runs.truncate(left);
+    for gone in 0..past - kept {
+        runs.remove(past - (gone + 1));
     }
 }
 
-fn keep(runs: &mut Vec<Run>, part: Part, range: &Setting)
-    requires listed { IsRunList runs.old.items }
-    requires part { IsPart range.now.file runs.old.items part.begin part.end }
+fn keep(runs: &mut RunList, part: Part, range: &Setting)
+    requires listed { IsRunList runs.old }
+    requires part { IsPart range.now.file runs.old part.begin part.end }
     requires ordered { range.now.first ≤ range.now.last }
-    ensures items { runs.new.items ≡ kept range.now runs.old.items }
-    ensures capacity { vec_capacity runs.new ≡ vec_capacity runs.old }
+    ensures { runs.new ≡ kept range.now runs.old }
 {
     let (kept, past) = gather_kept(runs, part, range);
     close(runs, kept, past);
 }
 
-/// The most runs that a table has.
-pub(crate) const MOST_RUNS: usize = 65_536;
-
-fn place(runs: &[Run], run: &Run) -> usize
+fn place(runs: &RunList, run: &Run) -> usize
     requires { IsRunList runs.now }
     ensures within { result ≤ length runs.now }
     ensures place { result ≡ position_or_len (run_before run.now) runs.now }
 {
-    runs.partition_point(|other| !run.is_before(other))
+    let len = runs.len();
+    runs.partition_point(0, len, &|other: &Run| !run.is_before(other))
 }
 
-fn insert(runs: &mut Vec<Run>, run: Run)
-    requires listed { IsRunList runs.old.items }
-    requires room { vec_len runs.old < vec_capacity runs.old }
-    ensures items { runs.new.items ≡ insert_run run runs.old.items }
-    ensures capacity { vec_capacity runs.new ≡ vec_capacity runs.old }
+fn insert(runs: &mut RunList, run: Run)
+    requires listed { IsRunList runs.old }
+    requires room { length runs.old < MOST_RUNS }
+    ensures { runs.new ≡ insert_run run runs.old }
 {
     let at = place(runs, &run);
-    let _ = runs.insert(at, run);
+    runs.insert(at, &run);
 }
 
-fn cut(runs: &mut Vec<Run>, part: Part, range: &Setting)
-    requires listed { IsRunList runs.old.items }
-    requires part { IsPart range.now.file runs.old.items part.begin part.end }
+fn cut(runs: &mut RunList, part: Part, range: &Setting)
+    requires listed { IsRunList runs.old }
+    requires part { IsPart range.now.file runs.old part.begin part.end }
     requires ordered { range.now.first ≤ range.now.last }
-    requires room { length (cut range.now runs.old.items) ≤ vec_capacity runs.old }
-    ensures items { runs.new.items ≡ cut range.now runs.old.items }
-    ensures capacity { vec_capacity runs.new ≡ vec_capacity runs.old }
+    requires room { length (cut range.now runs.old) ≤ MOST_RUNS }
+    ensures { runs.new ≡ cut range.now runs.old }
 {
     let rest = right(runs, part, range);
     keep(runs, part, range);
@@ -183,21 +180,20 @@ fn cut(runs: &mut Vec<Run>, part: Part, range: &Setting)
     }
 }
 
-fn join(runs: &mut Vec<Run>, part: Part, range: &Setting, mode: Mode)
-    requires listed { IsRunList runs.old.items }
-    requires part { IsPart range.now.file runs.old.items part.begin part.end }
+fn join(runs: &mut RunList, part: Part, range: &Setting, mode: Mode)
+    requires listed { IsRunList runs.old }
+    requires part { IsPart range.now.file runs.old part.begin part.end }
     requires ordered { range.now.first ≤ range.now.last }
     requires inside { range.now.last < 2 ^ 63 }
-    requires room { length (joined range.now mode runs.old.items) ≤ vec_capacity runs.old }
-    ensures items { runs.new.items ≡ joined range.now mode runs.old.items }
-    ensures capacity { vec_capacity runs.new ≡ vec_capacity runs.old }
+    requires room { length (joined range.now mode runs.old) ≤ MOST_RUNS }
+    ensures { runs.new ≡ joined range.now mode runs.old }
 {
     let wide = widened(runs, part, range, mode);
     cut(runs, part, &wide);
     insert(runs, wide.run(mode));
 }
 
-fn is_full(runs: &[Run], part: Part, setting: &Setting) -> bool
+fn is_full(runs: &RunList, part: Part, setting: &Setting) -> bool
     requires listed { IsRunList runs.now }
     requires part { IsPart setting.now.file runs.now part.begin part.end }
     requires ordered { setting.now.first ≤ setting.now.last }
@@ -210,17 +206,15 @@ fn is_full(runs: &[Run], part: Part, setting: &Setting) -> bool
 }
 
 /// In place, in room that is there.
-pub(crate) fn set(runs: &mut Vec<Run>, setting: &Setting) -> Result<(), NoRuns>
+pub(crate) fn set(runs: &mut RunList, setting: &Setting) -> Result<(), NoRuns>
     requires ordered { setting.now.first ≤ setting.now.last }
     requires inside { setting.now.last < 2 ^ 63 }
-    requires listed { IsRunList runs.old.items }
-    requires few { vec_len runs.old ≤ MOST_RUNS }
-    requires room { vec_capacity runs.old ≡ MOST_RUNS }
-    ensures refused { IsErr result ↔ IsTrue (is_full setting.now runs.old.items) }
-    ensures ok { OnOk result (runs.new.items ≡ set_runs setting.now runs.old.items) }
-    ensures err { OnErr result (runs.new.items ≡ runs.old.items) }
-    ensures few { vec_len runs.new ≤ MOST_RUNS }
-    ensures room { vec_capacity runs.new ≡ MOST_RUNS }
+    requires listed { IsRunList runs.old }
+    requires few { length runs.old ≤ MOST_RUNS }
+    ensures refused { IsErr result ↔ IsTrue (is_full setting.now runs.old) }
+    ensures ok { OnOk result (runs.new ≡ set_runs setting.now runs.old) }
+    ensures err { OnErr result (runs.new ≡ runs.old) }
+    ensures few { length runs.new ≤ MOST_RUNS }
 {
     let part = part_of(runs, &setting.file);
     if is_full(runs, part, setting) {
@@ -245,11 +239,21 @@ fn is_better<O: OwnerOrder>(owners: &O, best: &Option<Run>, run: &Run) -> bool
     }
 }
 
-fn best_of<O: OwnerOrder>(runs: &[Run], owners: &O, wanted: &Run) -> Option<Run>
-    ensures { result ≡ best_from (O.order owners.now) wanted.now None runs.now }
+// Of the runs from one place to another.
+fn best_of<O: OwnerOrder>(
+    runs: &RunList,
+    begin: usize,
+    end: usize,
+    owners: &O,
+    wanted: &Run,
+) -> Option<Run>
+    requires order { begin ≤ end }
+    requires within { end ≤ length runs.now }
+    ensures { result ≡ best_from (O.order owners.now) wanted.now None (take (end - begin) (drop begin runs.now)) }
 {
     let mut best = None;
-    for run in runs {
+    for at in begin..end {
+        let run = runs.get(at);
         if run.is_in_way(wanted) && is_better(owners, &best, run) {
             best = Some(*run);
         }
@@ -257,38 +261,50 @@ fn best_of<O: OwnerOrder>(runs: &[Run], owners: &O, wanted: &Run) -> Option<Run>
     best
 }
 
-pub(crate) fn first_conflict<O: OwnerOrder>(runs: &[Run], owners: &O, wanted: &Run) -> Option<Run>
+pub(crate) fn first_conflict<O: OwnerOrder>(runs: &RunList, owners: &O, wanted: &Run) -> Option<Run>
     requires { IsRunList runs.now }
     ensures { result ≡ best_from (O.order owners.now) wanted.now None runs.now }
 {
     let part = part_of(runs, &wanted.file);
     let past = place_past(runs, part, &wanted.file, wanted.last);
-    best_of(&runs[part.begin..past], owners, wanted)
+    best_of(runs, part.begin, past, owners, wanted)
 }
 
-pub(crate) fn drop_owner_on_file(runs: &mut Vec<Run>, file: &FileId, owner: OwnerId)
-    ensures items { runs.new.items ≡ filter (λ r. not (is_of r file.now owner)) runs.old.items }
-    ensures len { vec_len runs.new ≤ vec_len runs.old }
-    ensures capacity { vec_capacity runs.new ≡ vec_capacity runs.old }
+pub(crate) fn drop_owner_on_file(runs: &mut RunList, file: &FileId, owner: OwnerId)
+    ensures { runs.new ≡ filter (λ r. not (is_of r file.now owner)) runs.old }
 {
-    runs.retain(|run| !(run.file.is_same(file) && run.owner == owner));
+    let mut kept = 0;
+    for at in 0..runs.len() {
+        let run = *runs.get(at);
+        if !run.is_by(file, owner) {
+            runs.set(kept, &run);
+            kept += 1;
+        }
+    }
+    runs.truncate(kept);
 }
 
-pub(crate) fn drop_host<H: Host>(runs: &mut Vec<Run>, host: &H)
-    ensures items { runs.new.items ≡ filter (λ r. not (H.has host.now r.owner)) runs.old.items }
-    ensures len { vec_len runs.new ≤ vec_len runs.old }
-    ensures capacity { vec_capacity runs.new ≡ vec_capacity runs.old }
+pub(crate) fn drop_host<H: Host>(runs: &mut RunList, host: &H)
+    ensures { runs.new ≡ filter (λ r. not (H.has host.now r.owner)) runs.old }
 {
-    runs.retain(|run| !host.has(run.owner));
+    let mut kept = 0;
+    for at in 0..runs.len() {
+        let run = *runs.get(at);
+        if !host.has(run.owner) {
+            runs.set(kept, &run);
+            kept += 1;
+        }
+    }
+    runs.truncate(kept);
 }
 
-pub(crate) fn used_of<H: Host>(runs: &[Run], host: &H) -> u32
+pub(crate) fn used_of<H: Host>(runs: &RunList, host: &H) -> u32
     requires { length runs.now ≤ MOST_RUNS }
     ensures { result ≡ length (filter (λ r. H.has host.now r.owner) runs.now) }
 {
     let mut count = 0;
-    for run in runs {
-        if host.has(run.owner) {
+    for at in 0..runs.len() {
+        if host.has(runs.get(at).owner) {
             count += 1;
         }
     }
@@ -296,13 +312,14 @@ pub(crate) fn used_of<H: Host>(runs: &[Run], host: &H) -> u32
 }
 
 // The runs that start outside the range.
-fn used_beside<H: Host>(runs: &[Run], host: &H, range: &Setting) -> u32
+fn used_beside<H: Host>(runs: &RunList, host: &H, range: &Setting) -> u32
     requires { length runs.now ≤ MOST_RUNS }
     ensures count { result ≡ length (filter (λ r. H.has host.now r.owner && not (starts_in range.now r)) runs.now) }
     ensures few { result ≤ MOST_RUNS }
 {
     let mut count = 0;
-    for run in runs {
+    for at in 0..runs.len() {
+        let run = runs.get(at);
         if host.has(run.owner) && !run.starts_in(range) {
             count += 1;
         }
@@ -310,7 +327,7 @@ fn used_beside<H: Host>(runs: &[Run], host: &H, range: &Setting) -> u32
     count
 }
 
-fn used_cut<H: Host>(runs: &[Run], host: &H, part: Part, range: &Setting) -> u32
+fn used_cut<H: Host>(runs: &RunList, host: &H, part: Part, range: &Setting) -> u32
     requires listed { IsRunList runs.now }
     requires part { IsPart range.now.file runs.now part.begin part.end }
     requires few { length runs.now ≤ MOST_RUNS }
@@ -325,7 +342,7 @@ fn used_cut<H: Host>(runs: &[Run], host: &H, part: Part, range: &Setting) -> u32
     }
 }
 
-pub(crate) fn used_after<H: Host>(runs: &[Run], host: &H, setting: &Setting) -> u32
+pub(crate) fn used_after<H: Host>(runs: &RunList, host: &H, setting: &Setting) -> u32
     requires listed { IsRunList runs.now }
     requires few { length runs.now ≤ MOST_RUNS }
     requires inside { setting.now.last < 2 ^ 63 }

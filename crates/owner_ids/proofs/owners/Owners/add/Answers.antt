@@ -1,4 +1,4 @@
-use Rattle.std.proofs.Common.{◌≡◌, Some, None, sym, ap, ◌∙◌, subst, cond, OnOk, is_err, false}
+use Rattle.std.proofs.Common.{arith, ◌≡◌, Some, None, sym, ap, ◌∙◌, subst, cond, OnOk, is_err, false}
 use Rattle.std.specs.BTreeMap.{get}
 use Rattle.std.specs.Ordering.{is_eq}
 use Rattle.std.specs.declared.result.Result.{Result}
@@ -8,7 +8,7 @@ use Rattle.definitions.specs.Owners.{owner_cmp}
 use Rattle.owner_ids.specs.Said.{said, said_some, held_cmp}
 use Rattle.owner_ids.specs.Names.{named, Renames}
 use Rattle.owner_ids.specs.Kept.{owners_of}
-use Rattle.owner_ids.proofs.Slots.{named_said, renames_from, lists_added}
+use Rattle.owner_ids.proofs.Slots.{named_said, renames_from, lists_added, still_nobody}
 use Rattle.owner_ids.proofs.owners.Owners.add.Goals as goal
 
 when_ok : {V E P : Type 0} (r : Result V E) → is_err r ≡ false → OnOk r P → P
@@ -32,7 +32,7 @@ invariant_of-self-2 c =
     (λ k e. c.requires.absent k (ap (λ o. named o k) (sym c.self.view_is) ∙ e))
     free (renamed c)
     (λ q. subst (λ z. get held_cmp c.insert.new.self q ≡ cond (is_eq (owner_cmp z (said q))) (Some c.vacant_key-place.result) (get held_cmp c.self.inside.numbers q)) c.requires.copies (u.0 q)) in
-    record { found = kept.found; listed = kept.listed }
+    record { found = kept.found; listed = kept.listed; nobody = still_nobody names _ c.vacant_key-place.result (Some (said c.args.owner)) (renamed c) c.self.invariant.nobody (λ e. absurd (omega (arith, e, c.if-place.false))) }
 
 pub returns-clause-named : goal.returns-clause-named
 returns-clause-named c = rw (← c.self.view_is) (renamed c)

@@ -3,7 +3,7 @@ use Rattle.std.specs.BTreeMap.{get}
 use Rattle.owner_ids.specs.Said.{said, said_some, held_cmp}
 use Rattle.owner_ids.specs.Names.{named}
 use Rattle.owner_ids.specs.Kept.{owners_of}
-use Rattle.owner_ids.proofs.Slots.{named_said, renames_from, lists_removed}
+use Rattle.owner_ids.proofs.Slots.{named_said, renames_from, lists_removed, still_nobody}
 use Rattle.owner_ids.proofs.owners.Owners.release.Goals as goal
 
 pub invariant_of-self : goal.invariant_of-self
@@ -12,7 +12,7 @@ invariant_of-self c =
     let here : names c.args.number ≡ Some (said c.remove-owner.result) = named_said c.self.inside.slots c.args.number ∙ ap said_some c.remove-owner.ensures.value in
     let r = renames_from c.self.inside.slots.slots c.self.inside.slots c.remove-owner.new.self c.args.number None refl c.remove-owner.ensures.updates in
     let kept = lists_removed names _ (get held_cmp c.self.inside.numbers) (get held_cmp c.remove.new.self) c.remove-owner.result c.args.number (record { found = c.self.invariant.found; listed = c.self.invariant.listed }) here r c.remove.ensures.updates.0 in
-    record { found = kept.found; listed = kept.listed }
+    record { found = kept.found; listed = kept.listed; nobody = still_nobody names _ c.args.number None r c.self.invariant.nobody (λ e. r.there) }
 
 pub returns : goal.returns
 returns c =

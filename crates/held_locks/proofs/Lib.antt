@@ -1,0 +1,4 @@
+pub mod Strangers
+pub mod Counting
+pub mod Ties
+pub mod Sweeps

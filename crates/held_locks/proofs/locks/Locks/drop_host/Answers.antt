@@ -1,0 +1,8 @@
+use Rattle.held_locks.proofs.Ties.{tied_without_host}
+use Rattle.held_locks.proofs.locks.Locks.drop_host.Goals as goal
+
+pub invariant_of-self : goal.invariant_of-self
+invariant_of-self g c =
+    rw c.after-self-inside.ensures
+    (tied_without_host (g.R.RangeTable.settings c.self.inside.table) (g.R.RangeTable.settings c.drop_host.new.self) c.self.inside.counts.items c.clear_host.new.counts.items c.self.inside.owners c.release_host.new.owners c.self.inside.settings.items c.args.name.now
+    c.self.invariant c.drop_host.ensures c.clear_host.ensures.counts c.clear_host.ensures.places c.release_host.ensures)

@@ -1,0 +1,59 @@
+use Rattle.std.proofs.Common.{◌≡◌, ◌≢◌, ℕ, Some, None, sym, ap, ◌∙◌, subst, true, false, refl, ◌⊎◌}
+use Rattle.owner_ids.specs.Said.{said}
+use Rattle.owner_ids.specs.Names.{named}
+use Rattle.range_table.specs.Settings.{mode_at}
+use Rattle.owner_ranges.proofs.Counting.{refusal_over}
+use Rattle.owner_ranges.specs.Same.{held_mode}
+use Rattle.held_locks.specs.Held.{IsKnown}
+use Rattle.held_locks.specs.Asked.{changed, change_by_number}
+use Rattle.held_locks.proofs.Ties.{tied_set, tied_stranger, stranger_mode, stranger_is_not_refused, same_change}
+use Rattle.held_locks.proofs.locks.Locks.set.Goals as goal
+use Rattle.held_locks.proofs.locks.Locks.set.Goals.{in-Some+in_ok-set, in_default}
+
+none_some : {A : Type 0} (x : A) → None ≡ Some x → ⊥
+none_some x e = cc
+
+false_true : {A : Type 0} → false ≡ true → A
+false_true e = cc
+
+pub returns-in_err-set-clause-refused : goal.returns-in_err-set-clause-refused
+returns-in_err-set-clause-refused g c =
+    let names = c.self.inside.owners in
+    let n = c.in-Some.number in
+    let change = c.args.change.now in
+    let held = mode_at (g.R.RangeTable.settings c.self.inside.table) in
+    let over = refusal_over (named names) held c.self.inside.settings.items (change_by_number n change) (changed change) c.self.invariant.stands (same_change names n change c.in-Some.ensures.found) in
+    rw (← c.self.view_is) ((λ e. over.0 (c.in_err-set.ensures.refused.0 refl)), λ t. c.from_residual.ensures.0)
+
+pub invariant_of-self-2 : goal.invariant_of-self-2
+invariant_of-self-2 g c = elim c.match-number.branch [
+  | in-Some+in_ok-set w ↦
+      rw (c.after-self-inside.ensures, w.self-inside-is)
+      (tied_set (g.R.RangeTable.settings c.self.inside.table) (g.R.RangeTable.settings w.set.new.table) c.self.inside.counts.items w.set.new.counts.items c.self.inside.owners c.self.inside.settings.items w.in-Some.number c.args.change.now
+      c.self.invariant w.in-Some.ensures.found w.in_ok-set.ensures.ok w.in_ok-set.ensures.counted w.in_ok-set.ensures.places)
+  | in_default w ↦
+      let change = c.args.change.now in
+      let fresh : (k : ℕ) → named c.self.inside.owners k ≢ Some (said change.owner.now) = λ k e. none_some k (w.in_default.ensures.known k e) in
+      let known = subst (λ h. (change.mode ≡ None) ⊎ IsKnown h (said change.owner.now)) (sym c.self.view_is) c.requires.known in
+      rw (c.after-self-inside.ensures, w.self-inside-is)
+      (tied_stranger (g.R.RangeTable.settings c.self.inside.table) c.self.inside.counts.items c.self.inside.owners c.self.inside.settings.items change c.self.invariant fresh (stranger_mode c.self.inside.owners change known fresh))
+]
+
+pub returns-clause-refused : goal.returns-clause-refused
+returns-clause-refused g c = elim c.match-number.branch [
+  | in-Some+in_ok-set w ↦
+      let names = c.self.inside.owners in
+      let n = w.in-Some.number in
+      let change = c.args.change.now in
+      let held = mode_at (g.R.RangeTable.settings c.self.inside.table) in
+      let over = refusal_over (named names) held c.self.inside.settings.items (change_by_number n change) (changed change) c.self.invariant.stands (same_change names n change w.in-Some.ensures.found) in
+      rw (← c.self.view_is) ((λ e. false_true e), λ t. w.in_ok-set.ensures.refused.1 (over.1 t))
+  | in_default w ↦
+      let change = c.args.change.now in
+      let names = named c.self.inside.owners in
+      let fresh : (k : ℕ) → names k ≢ Some (said change.owner.now) = λ k e. none_some k (w.in_default.ensures.known k e) in
+      let known = subst (λ h. (change.mode ≡ None) ⊎ IsKnown h (said change.owner.now)) (sym c.self.view_is) c.requires.known in
+      let none = stranger_mode c.self.inside.owners change known fresh in
+      let held = mode_at (g.R.RangeTable.settings c.self.inside.table) in
+      rw (← c.self.view_is) ((λ e. false_true e), λ t. sym (stranger_is_not_refused names held c.self.inside.settings.items c.self.invariant.stands (said change.owner.now) fresh (changed change) refl (ap held_mode none)) ∙ t)
+]

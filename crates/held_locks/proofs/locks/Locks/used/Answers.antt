@@ -1,0 +1,8 @@
+use Rattle.owner_ids.specs.Names.{named}
+use Rattle.range_table.specs.Settings.{mode_at}
+use Rattle.owner_ranges.proofs.Counting.{used_over}
+use Rattle.held_locks.proofs.locks.Locks.used.Goals as goal
+
+pub returns : goal.returns
+returns g c =
+    rw (← c.self.view_is) (used_over (named c.self.inside.owners) (mode_at (g.R.RangeTable.settings c.self.inside.table)) c.self.inside.settings.items c.used.result c.self.invariant.stands c.used.ensures)

@@ -1,0 +1,30 @@
+-- What is asked of the locks and what they show, as the definitions have it.
+use Rattle.std.specs.Prelude.{ℕ, Option, Some, None}
+use Rattle.definitions.specs.Settings.{Setting, Request}
+use Rattle.definitions.specs.Starts.{Run}
+use Rattle.owner_ids.specs.Said.{said}
+use Rattle.range_table.specs.declared.run.Run.{Run as NumberRun}
+use Rattle.range_table.specs.declared.run.Setting.{Setting as NumberSetting}
+use Rattle.owner_ranges.specs.Same.{mode_of, held_mode}
+use Rattle.held_locks.specs.declared.asked.Request.{Request as HeldRequest}
+use Rattle.held_locks.specs.declared.asked.Change.{Change}
+use Rattle.held_locks.specs.declared.asked.Holder.{Holder}
+
+abbrev pub asked : HeldRequest → Request
+asked r = record { file = r.file; owner = said r.owner.now; first = r.first; last = r.last; mode = mode_of r.mode }
+
+abbrev pub changed : Change → Setting
+changed c = record { file = c.file; owner = said c.owner.now; first = c.first; last = c.last; mode = held_mode c.mode }
+
+abbrev pub shown : Holder → Run
+shown h = record { file = h.file; owner = said h.owner.now; first = h.first; last = h.last; mode = mode_of h.mode }
+
+abbrev pub shown_found : Option Holder → Option Run
+shown_found None = None
+shown_found (Some h) = Some (shown h)
+
+abbrev pub run_by_number : ℕ → HeldRequest → NumberRun
+run_by_number n r = record { file = r.file; owner = n; first = r.first; last = r.last; mode = r.mode }
+
+abbrev pub change_by_number : ℕ → Change → NumberSetting
+change_by_number n c = record { file = c.file; owner = n; first = c.first; last = c.last; mode = c.mode }

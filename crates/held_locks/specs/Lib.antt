@@ -1,0 +1,4 @@
+pub mod Asked
+pub mod Held
+pub mod Tied
+pub mod Stranger

@@ -1,0 +1,51 @@
+//! What is asked of the locks, and what they show.
+use owner_ids::{Owner, OwnerId};
+use range_table::{FileId, Mode, Run};
+
+/// A lock that is wanted (POSIX fcntl): from the first to the last byte, 0 to 2^63 - 1.
+#[derive(Clone, Copy)]
+pub struct Request<'a> {
+    pub file: FileId,
+    pub owner: &'a Owner,
+    pub first: u64,
+    pub last: u64,
+    pub mode: Mode,
+}
+
+/// What an owner is to hold from the first to the last byte from now on: a mode, or nothing.
+#[derive(Clone, Copy)]
+pub struct Change<'a> {
+    pub file: FileId,
+    pub owner: &'a Owner,
+    pub first: u64,
+    pub last: u64,
+    pub mode: Option<Mode>,
+}
+
+/// Bytes of a file that an owner holds in one mode, and no more around them.
+#[derive(Clone, Copy)]
+pub struct Holder<'a> {
+    pub file: FileId,
+    pub owner: &'a Owner,
+    pub first: u64,
+    pub last: u64,
+    pub mode: Mode,
+}
+
+ghost use Rattle.std.specs.Prelude.{◌≡◌};
+ghost use Rattle.held_locks.specs.Asked.{run_by_number};
+
+impl Request<'_> {
+    // The same, of a number.
+    pub(crate) fn by_number(&self, owner: OwnerId) -> Run
+        ensures { result ≡ run_by_number owner self.now }
+    {
+        Run {
+            file: self.file,
+            owner,
+            first: self.first,
+            last: self.last,
+            mode: self.mode,
+        }
+    }
+}

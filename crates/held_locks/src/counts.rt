@@ -1,0 +1,106 @@
+//! How many runs each number has.
+ghost use Rattle.std.specs.Prelude.{◌≡◌, ◌<◌, ◌≤◌, ◌^◌, ◌↔◌, ◌-◌, ◌++◌, ◌∷◌, ℕ, [], Some, None, cond, length, not, IsErr, OnOk, OnErr, slice_index_or, slice_set};
+ghost use Rattle.std.specs.List.{filter};
+ghost use Rattle.definitions.specs.Owners.{Owner as SaidOwner};
+ghost use Rattle.owner_ids.specs.Names.{named, is_owned_by};
+ghost use Rattle.range_table.specs.Settings.{IsRefused, mode_at, is_by};
+ghost use Rattle.held_locks.specs.Asked.{change_by_number};
+ghost use Rattle.held_locks.specs.Tied.{AreCounts};
+
+use crate::asked::Change;
+use owner_ids::{Host, HostOf, OwnerId, Owners, Starved};
+use range_table::{FileId, NoRuns, RangeTable};
+
+/// Room for the count of a number. The counts stay.
+pub(crate) fn make_place(counts: &mut Vec<u32>, number: OwnerId) -> Result<(), Starved>
+    ensures place { OnOk result (number < length counts.new.items) }
+    ensures more { length counts.old.items ≤ length counts.new.items }
+    ensures err { OnErr result (length counts.old.items ≤ number) }
+    ensures few { length counts.old.items ≤ 4294967296 → length counts.new.items ≤ 4294967296 }
+    ensures counts { (n : ℕ) → slice_index_or counts.new.items n 0 ≡ slice_index_or counts.old.items n 0 }
+{
+    let len = number as usize + 1;
+    if counts.len() < len {
+        counts.resize(len, 0)?;
+    }
+    Ok(())
+}
+
+// The runs of a number, which alone has changed, where there were and are so many in all.
+fn recount(counts: &mut Vec<u32>, number: OwnerId, before: u32, after: u32)
+    requires place { number < length counts.old.items }
+    requires part { slice_index_or counts.old.items number 0 ≤ before }
+    requires rest { before - slice_index_or counts.old.items number 0 ≤ after }
+    ensures { counts.new.items ≡ slice_set counts.old.items number (after - (before - slice_index_or counts.old.items number 0)) }
+{
+    let others = before - counts[number as usize];
+    counts[number as usize] = after - others;
+}
+
+/// Sets what a number holds, and counts its runs. Refused, nothing has changed.
+pub(crate) fn set<R: RangeTable>(
+    table: &mut R,
+    counts: &mut Vec<u32>,
+    number: OwnerId,
+    change: &Change<'_>,
+) -> Result<(), NoRuns>
+    requires ordered { change.now.first ≤ change.now.last }
+    requires inside { change.now.last < 2 ^ 63 }
+    requires place { number < length counts.old.items }
+    requires counted { AreCounts (R.settings table.old) counts.old.items }
+    ensures refused { IsErr result ↔ IsRefused (mode_at (R.settings table.old)) (change_by_number number change.now) }
+    ensures ok { OnOk result (R.settings table.new ≡ R.settings table.old ++ change_by_number number change.now ∷ []) }
+    ensures err { OnErr result (R.settings table.new ≡ R.settings table.old) }
+    ensures counted { AreCounts (R.settings table.new) counts.new.items }
+    ensures places { length counts.new.items ≡ length counts.old.items }
+{
+    let before = table.used();
+    table.set(&change.file, number, change.first, change.last, change.mode)?;
+    recount(counts, number, before, table.used());
+    Ok(())
+}
+
+/// Takes what a number holds of a file out, and counts its runs.
+pub(crate) fn drop_owner_on_file<R: RangeTable>(
+    table: &mut R,
+    counts: &mut Vec<u32>,
+    file: &FileId,
+    number: OwnerId,
+)
+    requires place { number < length counts.old.items }
+    requires counted { AreCounts (R.settings table.old) counts.old.items }
+    ensures settings { R.settings table.new ≡ filter (λ s. not (is_by file.now number s)) (R.settings table.old) }
+    ensures counted { AreCounts (R.settings table.new) counts.new.items }
+    ensures places { length counts.new.items ≡ length counts.old.items }
+{
+    let before = table.used();
+    table.drop_owner_on_file(file, number);
+    recount(counts, number, before, table.used());
+}
+
+/// The numbers of some owners have no runs from now on.
+pub(crate) fn clear_host<H: Host>(counts: &mut Vec<u32>, host: &H)
+    requires { length counts.old.items ≤ 4294967296 }
+    ensures counts { (n : ℕ) → slice_index_or counts.new.items n 0 ≡ cond (H.has host.now n) 0 (slice_index_or counts.old.items n 0) }
+    ensures places { length counts.new.items ≡ length counts.old.items }
+{
+    for number in 0..counts.len() {
+        if host.has(number as OwnerId) {
+            counts[number] = 0;
+        }
+    }
+}
+
+/// Takes the numbers of a host's owners out of use.
+pub(crate) fn release_host(owners: &mut Owners, most: usize, name: &[u8])
+    requires few { most ≤ 4294967296 }
+    requires within { (n : ℕ) (x : SaidOwner) → named owners.old n ≡ Some x → n < most }
+    ensures { (n : ℕ) → named owners.new n ≡ cond (is_owned_by (named owners.old) name.now n) None (named owners.old n) }
+{
+    for number in 0..most {
+        let number = number as OwnerId;
+        if (HostOf { owners, name }).has(number) {
+            owners.release(number);
+        }
+    }
+}

@@ -1,0 +1,13 @@
+//! The byte-range locks that owners hold. Owners are values here: that a table knows them by number is this crate's own
+//! affair, and so is when a number goes out of use.
+#![tactic(auto)]
+
+mod asked;
+mod counts;
+mod locks;
+
+pub use asked::{Change, Holder, Request};
+pub use locks::Locks;
+
+#[cfg(test)]
+mod tests;

@@ -1,0 +1,260 @@
+//! The locks of all owners.
+ghost use Rattle.std.specs.Prelude.{◌≡◌, ◌≢◌, ◌≤◌, ◌<◌, ◌^◌, ◌+◌, ◌⊎◌, ◌↔◌, ◌++◌, ◌∷◌, ℕ, [], true, false, Some, None, IfOk, IfSome, IfNone, OnOk, OnErr, IsErr, IsTrue, slice_get};
+ghost use Rattle.definitions.specs.Owners.{Owner as SaidOwner, is_of_host};
+ghost use Rattle.definitions.specs.Settings.{without_host, without_owner_on};
+ghost use Rattle.definitions.specs.Conflict.{conflicts};
+ghost use Rattle.definitions.specs.Starts.{first_conflict, is_short, refuses, used, runs};
+ghost use Rattle.owner_ids.specs.Said.{said};
+ghost use Rattle.owner_ids.specs.Names.{named};
+ghost use Rattle.owner_ranges.specs.Stands.{Stands};
+ghost use Rattle.range_table.specs.Settings.{mode_at};
+ghost use Rattle.held_locks.specs.Asked.{asked, changed, shown, shown_found};
+ghost use Rattle.held_locks.specs.Held.{IsKnown, KeepsKnown, SameNames, HoldsNothing};
+ghost use Rattle.held_locks.specs.Stranger.{IsAsker};
+
+use crate::asked::{Change, Holder, Request};
+use crate::counts::{self, make_place};
+use history::History;
+use owner_ids::{HostOf, NOBODY, Owner, OwnerId, Owners, Starved};
+use range_table::{FileId, NoRuns, RangeTable};
+use std::alloc::Global;
+use std::marker::Model;
+
+/// One setting as contracts see it. None is ever made.
+#[derive(Drop)]
+struct OwnerSetting {
+    file: FileId,
+    owner: Owner,
+    first: u64,
+    last: u64,
+    mode: Option<range_table::Mode>,
+}
+
+impl Model for OwnerSetting {
+    ghost use Rattle.definitions.specs.Settings.{Setting};
+    ghost use Rattle.owner_ids.specs.Said.{said};
+    ghost use Rattle.owner_ranges.specs.Same.{held_mode};
+
+    ghost Value = { Setting };
+
+    ghost view = { λ s. record { file = s.file; owner = said s.owner; first = s.first; last = s.last; mode = held_mode s.mode } };
+}
+
+/// The locks of all owners on all files, over a table of ranges. A contract sees the settings of the owners, oldest first,
+/// and who is known: only a known owner's lock can be set, so that setting it takes no memory.
+#[derive(Drop)]
+pub struct Locks<R: RangeTable> {
+    alloc: Global,
+    table: R,
+    owners: Owners,
+    counts: Vec<u32>,
+    settings: History<OwnerSetting>,
+}
+
+impl<R: RangeTable> Model for Locks<R> {
+    ghost use Rattle.held_locks.specs.Held.{Held};
+    ghost use Rattle.held_locks.specs.Tied.{IsTied};
+
+    ghost Value = { Held };
+
+    ghost view = { λ l. record { settings = l.settings.items; names = l.owners } };
+
+    ghost invariant = { λ l. IsTied (R.settings l.table) l.counts.items l.owners l.settings.items };
+}
+
+impl<R: RangeTable> Locks<R> {
+    /// Over a table that holds nothing.
+    pub fn new(alloc: Global, table: R) -> Locks<R>
+        requires { R.settings table ≡ [] }
+        ensures { result ≡ record { settings = []; names = [] } }
+    {
+        Locks {
+            alloc,
+            table,
+            owners: Owners::new(alloc),
+            counts: Vec::new(alloc),
+            settings: History::new(),
+        }
+    }
+
+    /// Whether fewer than 2 of 65,536 runs are free, so that no lock can be set.
+    pub fn is_short(&self) -> bool
+        ensures { result ≡ is_short 65536 self.now.settings }
+    {
+        self.used() > 65_534
+    }
+
+    /// How many runs the owners have.
+    pub fn used(&self) -> u32
+        ensures { result ≡ used self.now.settings }
+    {
+        self.table.used()
+    }
+
+    // The asker's number, or nobody's.
+    fn asker(&self, owner: &Owner) -> OwnerId
+        ensures { IsAsker (named self.now.names) result (said owner.now) }
+    {
+        match self.owners.number(owner) {
+            Some(number) => number,
+            None => NOBODY,
+        }
+    }
+
+    /// The lock of another owner that is first in the way: of the least first byte, then of the least owner.
+    pub fn first_conflict(&self, wanted: &Request<'_>) -> Option<Holder<'_>>
+        requires ordered { wanted.now.first ≤ wanted.now.last }
+        requires inside { wanted.now.last < 2 ^ 63 }
+        ensures { shown_found result ≡ first_conflict self.now.settings (asked wanted.now) }
+    {
+        let asker = self.asker(wanted.owner);
+        match self
+            .table
+            .first_conflict(&self.owners, &wanted.by_number(asker))
+        {
+            Some(run) => Some(Holder {
+                file: run.file,
+                owner: self.owners.get(run.owner),
+                first: run.first,
+                last: run.last,
+                mode: run.mode,
+            }),
+            None => None,
+        }
+    }
+
+    /// Whether another owner's lock is in the way.
+    pub fn conflicts(&self, wanted: &Request<'_>) -> bool
+        requires ordered { wanted.now.first ≤ wanted.now.last }
+        requires inside { wanted.now.last < 2 ^ 63 }
+        ensures { result ≡ conflicts self.now.settings (asked wanted.now) }
+    {
+        self.first_conflict(wanted).is_some()
+    }
+}
+
+impl<R: RangeTable> Locks<R> {
+    /// Makes an owner known, so that a lock of it can be set. Starved: no owner has become known, and none is forgotten.
+    pub fn admit(&mut self, owner: &Owner) -> Result<(), Starved>
+        ensures settings { self.new.settings ≡ self.old.settings }
+        ensures known { OnOk result (IsKnown self.new (said owner.now)) }
+        ensures others { KeepsKnown self.old self.new }
+        ensures err { OnErr result (SameNames self.old self.new) }
+    {
+        let number = self.owners.intern(owner)?;
+        match make_place(&mut self.counts, number) {
+            Ok(()) => Ok(()),
+            Err(starved) => {
+                self.owners.release(number);
+                Err(starved)
+            }
+        }
+    }
+
+    /// From now on the owner holds this mode from the first to the last byte, or nothing. Whoever locks is known.
+    /// Refused where fewer than 2 of 65,536 runs are free, but for an unlock that raises the number of runs no further.
+    /// Then nothing has changed.
+    pub fn set(&mut self, change: &Change<'_>) -> Result<(), NoRuns>
+        requires ordered { change.now.first ≤ change.now.last }
+        requires inside { change.now.last < 2 ^ 63 }
+        requires known { (change.now.mode ≡ None) ⊎ IsKnown self.old (said change.now.owner.now) }
+        ensures refused { IsErr result ↔ IsTrue (refuses 65536 self.old.settings (changed change.now)) }
+        ensures ok { OnOk result (self.new.settings ≡ self.old.settings ++ changed change.now ∷ []) }
+        ensures err { OnErr result (self.new.settings ≡ self.old.settings) }
+        ensures names { self.new.names ≡ self.old.names }
+    {
+        if let Some(number) = self.owners.number(change.owner) {
+            counts::set(&mut self.table, &mut self.counts, number, change)?;
+        }
+        self.settings = self.settings.after(change);
+        Ok(())
+    }
+}
+
+impl<R: RangeTable> Locks<R> {
+    // The number of a known owner that holds nothing.
+    fn idle_number(&self, owner: &Owner) -> Option<OwnerId>
+        ensures number { IfSome result (λ n. named self.now.names n ≡ Some (said owner.now)) }
+        ensures idle { IfSome result (λ n. HoldsNothing self.now (said owner.now)) }
+        ensures none { IfNone result (HoldsNothing self.now (said owner.now) → (n : ℕ) → named self.now.names n ≢ Some (said owner.now)) }
+    {
+        match self.owners.number(owner) {
+            Some(number) if self.counts[number as usize] == 0 => Some(number),
+            _ => None,
+        }
+    }
+
+    /// Forgets an owner that holds nothing. The others stay known.
+    pub fn forget_idle(&mut self, owner: &Owner)
+        ensures settings { self.new.settings ≡ self.old.settings }
+        ensures others { (x : SaidOwner) → x ≢ said owner.now → IsKnown self.old x → IsKnown self.new x }
+        ensures forgotten { HoldsNothing self.old (said owner.now) → (n : ℕ) → named self.new.names n ≢ Some (said owner.now) }
+        ensures kept { (HoldsNothing self.old (said owner.now) → ⊥) → KeepsKnown self.old self.new }
+    {
+        if let Some(number) = self.idle_number(owner) {
+            self.owners.release(number);
+        }
+    }
+
+    /// Takes the settings of a host's owners out, and forgets them. The others stay known.
+    pub fn drop_host(&mut self, name: &[u8])
+        ensures settings { self.new.settings ≡ without_host name.now self.old.settings }
+        ensures others { (x : SaidOwner) → is_of_host name.now x ≡ false → IsKnown self.old x → IsKnown self.new x }
+        ensures forgotten { (x : SaidOwner) → is_of_host name.now x ≡ true → (n : ℕ) → named self.new.names n ≢ Some x }
+    {
+        let host = HostOf {
+            owners: &self.owners,
+            name,
+        };
+        self.table.drop_host(&host);
+        counts::clear_host(&mut self.counts, &host);
+        counts::release_host(&mut self.owners, self.counts.len(), name);
+        self.settings = self.settings.after(&name);
+    }
+
+    /// Takes the settings of an owner on a file out. It stays known.
+    pub fn drop_owner_on_file(&mut self, file: &FileId, owner: &Owner)
+        ensures settings { self.new.settings ≡ without_owner_on file.now (said owner.now) self.old.settings }
+        ensures names { self.new.names ≡ self.old.names }
+    {
+        if let Some(number) = self.owners.number(owner) {
+            counts::drop_owner_on_file(&mut self.table, &mut self.counts, file, number);
+        }
+        self.settings = self.settings.after(&(file, owner));
+    }
+
+    /// Leaves no setting, and nobody known.
+    pub fn clear(&mut self)
+        ensures { self.new ≡ record { settings = []; names = [] } }
+    {
+        self.table.clear();
+        self.owners = Owners::new(self.alloc);
+        self.counts.clear();
+        self.settings = History::new();
+    }
+}
+
+impl<R: RangeTable> Locks<R> {
+    /// The i-th of all locks, in order of file, first byte and owner.
+    pub fn holder(&self, i: u32) -> Holder<'_>
+        requires { i < used self.now.settings }
+        ensures { slice_get (runs self.now.settings) i ≡ Some (shown result) }
+    {
+        let run = self.table.runs(&self.owners, i);
+        Holder {
+            file: run.file,
+            owner: self.owners.get(run.owner),
+            first: run.first,
+            last: run.last,
+            mode: run.mode,
+        }
+    }
+
+    /// The table and the owners' numbers, for the tables beside it that know owners by number.
+    pub fn parts(&self) -> (&R, &Owners)
+        ensures stands { Stands (named result.1.now) (mode_at (R.settings result.0.now)) self.now.settings }
+        ensures names { result.1.now ≡ self.now.names }
+    {
+        (&self.table, &self.owners)
+    }
+}

@@ -1,0 +1,79 @@
+-- What a record says, by what a front of it spells: header, program, version, procedure, arguments, in this order (RFC 5531, section 9).
+use Rattle.std.specs.Prelude.{ℕ, ◌≡◌, ◌⊎◌, Bool, true, false, cond, ◌==◌, List}
+use Rattle.xdr_core.specs.Codec.{Codec, Front}
+use Rattle.definitions.specs.Nlm as nlm
+use Rattle.definitions.specs.Nsm as nsm
+use Rattle.definitions.specs.Replies.{Call, Nlm, Nsm, Refusal, RpcMismatch, BadCredential, ProgUnavail, ProgMismatch, ProcUnavail, GarbageArgs, Reading, Ignored, Turned, Asks}
+use Rattle.rpc_msg.specs.declared.header.Header.{Header}
+use Rattle.rpc_msg.specs.declared.header.HeaderError.{HeaderError}
+use Rattle.rpc_msg.specs.declared.header.HeaderError.TheVariants.{NotACall, BadHeader, RpcVersion, BadCred}
+use Rattle.rpc_msg.specs.Verdict.{Asks as HeaderAsks, IsRefusal, NoFront}
+use Rattle.nlm4_types.specs.Call as nlm_call
+use Rattle.nsm_types.specs.Call as nsm_call
+
+-- what is no call, or has no header, is ignored
+abbrev pub reading_of_refused : HeaderError → Reading
+reading_of_refused NotACall = Ignored
+reading_of_refused BadHeader = Ignored
+reading_of_refused (RpcVersion xid) = Turned xid RpcMismatch
+reading_of_refused (BadCred xid) = Turned xid BadCredential
+
+-- a version that is not served, of a program that is served in one
+abbrev pub mismatch : ℕ → ℕ → Reading
+mismatch xid version = Turned xid (ProgMismatch version version)
+
+-- a front of the bytes spells the arguments, which make the call
+pub record IsCallOf {V : Type 0} (c : Codec V) (named : V → Call) (xid : ℕ) (arguments : List ℕ) (said : Reading) : Type 0 where
+  pub value : V
+  pub rest : List ℕ
+  pub front : Front c.Spells arguments value rest
+  pub is : said ≡ Asks xid (named value)
+
+-- no front does
+pub record IsGarbage {V : Type 0} (c : Codec V) (xid : ℕ) (arguments : List ℕ) (said : Reading) : Type 0 where
+  pub none : NoFront c arguments
+  pub is : said ≡ Turned xid GarbageArgs
+
+-- the arguments of a procedure, if the program has it
+abbrev pub IsArguments : {V : Type 0} → Bool → Codec V → (V → Call) → ℕ → List ℕ → Reading → Type 0
+IsArguments false c named xid arguments said = said ≡ Turned xid ProcUnavail
+IsArguments true c named xid arguments said = IsCallOf c named xid arguments said ⊎ IsGarbage c xid arguments said
+
+-- the lock manager, version 4
+abbrev pub IsNlmAsked : ℕ → ℕ → List ℕ → Reading → Type 0
+IsNlmAsked xid procedure arguments said = IsArguments (nlm_call.is_known_in nlm.V4 procedure) (nlm_call.call nlm.V4 procedure) (Nlm nlm.V4) xid arguments said
+
+-- the status monitor, version 1
+abbrev pub IsNsmAsked : ℕ → ℕ → List ℕ → Reading → Type 0
+IsNsmAsked xid procedure arguments said = IsArguments (nsm_call.is_known_number procedure) (nsm_call.call procedure) Nsm xid arguments said
+
+abbrev pub in_version : Bool → Type 0 → Type 0 → Type 0
+in_version true served other = served
+in_version false served other = other
+
+-- a call with a header: its program, its version, its procedure
+abbrev pub IsAsked : Header → List ℕ → Reading → Type 0
+IsAsked h arguments said =
+    in_version (h.prog == 100021)
+    (in_version (h.vers == 4) (IsNlmAsked h.xid h.proc arguments said) (said ≡ mismatch h.xid 4))
+    (in_version (h.prog == 100024)
+    (in_version (h.vers == 1) (IsNsmAsked h.xid h.proc arguments said) (said ≡ mismatch h.xid 1))
+    (said ≡ Turned h.xid ProgUnavail))
+
+pub record IsCalled (record' : List ℕ) (said : Reading) : Type 0 where
+  pub header : Header
+  pub arguments : List ℕ
+  pub asks : HeaderAsks record' header arguments
+  pub is : IsAsked header arguments said
+
+pub record IsTurned (record' : List ℕ) (said : Reading) : Type 0 where
+  pub error : HeaderError
+  pub refused : IsRefusal record' error
+  pub is : said ≡ reading_of_refused error
+
+abbrev pub IsReading : List ℕ → Reading → Type 0
+IsReading bytes said = IsCalled bytes said ⊎ IsTurned bytes said
+
+-- a record has one reading
+abbrev pub OneReading : Type 0
+OneReading = (bytes : List ℕ) (a b : Reading) → IsReading bytes a → IsReading bytes b → a ≡ b

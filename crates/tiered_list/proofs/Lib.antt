@@ -1,0 +1,3 @@
+pub mod Pieces
+pub mod Pushes
+pub mod Turns

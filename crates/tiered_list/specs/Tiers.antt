@@ -1,0 +1,16 @@
+-- Lists of 1,024 numbers, one behind the other.
+use Rattle.std.specs.Prelude.{ℕ, ◌≡◌, ◌<◌, ◌++◌, List, length, take, drop}
+use Rattle.std.specs.List.{AllByRecursion}
+
+-- the cells from the head on, and then those in front of it
+abbrev pub turned : ℕ → List ℕ → List ℕ
+turned head cells = drop head cells ++ take head cells
+
+pub record IsRing (head : ℕ) (cells : List ℕ) : Type 0 where
+  pub inside : head < 1024
+  pub long : length cells ≡ 1024
+
+-- 64 tiers of 1,024 numbers
+pub record AreTiers (tiers : List (List ℕ)) : Type 0 where
+  pub count : length tiers ≡ 64
+  pub each : AllByRecursion (λ t. length t ≡ 1024) tiers
