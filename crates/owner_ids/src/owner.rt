@@ -1,7 +1,7 @@
 //! Who holds a lock.
 ghost use Rattle.std.specs.Prelude.{◌≡◌, refl, Some};
 ghost use Rattle.std.specs.Cmp.{partial_equiv_from_equiv, partial_order_from_agreeing_total};
-ghost use Rattle.definitions.specs.Owners.{is_of_host};
+ghost use Rattle.definitions.specs.Owners.{is_of_host, is_description};
 ghost use Rattle.owner_ids.specs.Said.{said, held_cmp, same_held, IsCopy};
 ghost use Rattle.owner_ids.specs.Held.{held_total, held_equiv};
 
@@ -31,6 +31,18 @@ impl Owner {
         match self {
             Owner::Remote { name, .. } => name.as_slice() == host,
             Owner::Process(_) | Owner::Description(_) => false,
+        }
+    }
+}
+
+impl Owner {
+    /// Whether it is an open file description.
+    pub fn is_description(&self) -> bool
+        ensures { result ≡ is_description (said self.now) }
+    {
+        match self {
+            Owner::Description(_) => true,
+            Owner::Remote { .. } | Owner::Process(_) => false,
         }
     }
 }

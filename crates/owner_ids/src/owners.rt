@@ -116,8 +116,8 @@ impl Owners {
         &self.slots[number as usize]
     }
 
-    // The owner of a number, if it is in use.
-    pub(crate) fn find(&self, number: OwnerId) -> Option<&Owner>
+    /// The owner of a number, if it is in use.
+    pub fn find(&self, number: OwnerId) -> Option<&Owner>
         ensures { named self.now number ≡ said_found result }
     {
         self.slots.get(number as usize)

@@ -53,7 +53,7 @@ same_held_is (Some NumberShared) (Some NumberExclusive) e = absurd (true≢false
 same_held_is (Some NumberExclusive) (Some NumberShared) e = absurd (true≢false (sym e))
 same_held_is (Some NumberExclusive) (Some NumberExclusive) e = refl
 
-excludes_same : (m : Option NumberMode) (k : NumberMode) → excludes_number m k ≡ excludes (held_mode m) (mode_of k)
+pub excludes_same : (m : Option NumberMode) (k : NumberMode) → excludes_number m k ≡ excludes (held_mode m) (mode_of k)
 excludes_same None k = refl
 excludes_same (Some NumberExclusive) k = refl
 excludes_same (Some NumberShared) NumberShared = refl

@@ -4,3 +4,4 @@ pub mod Counting
 pub mod FirstConflicts
 pub mod Released
 pub mod RunOrders
+pub mod InWay

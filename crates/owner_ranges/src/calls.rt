@@ -1,14 +1,15 @@
 //! A table's calls, in the words of owners.
 ghost use Rattle.std.specs.Prelude.{◌≡◌, ◌≤◌, ◌<◌, ◌^◌, ◌++◌, ◌∷◌, ℕ, [], List, IsErr, OnOk, OnErr, ◌↔◌, true, Some, slice_get};
 ghost use Rattle.definitions.specs.Settings.{Setting as OwnerSetting, Request, without_host, without_owner_on};
-ghost use Rattle.definitions.specs.Starts.{first_conflict, used, used_of, refuses, runs, Run as OwnerRun};
+ghost use Rattle.definitions.specs.Conflict.{conflicts, conflicts_with};
+ghost use Rattle.definitions.specs.Starts.{is_short, first_conflict, used, used_of, refuses, runs, Run as OwnerRun};
 ghost use Rattle.definitions.specs.Owners.{Owner};
 ghost use Rattle.owner_ids.specs.Names.{named, is_owned_by};
 ghost use Rattle.owner_ranges.specs.Same.{IsSameSetting, IsSameRun, IsSameRequest, IsSameFound};
 ghost use Rattle.owner_ranges.specs.Stands.{Stands};
 ghost use Rattle.range_table.specs.Settings.{mode_at, IsUsed};
 
-use owner_ids::{HostOf, OwnerId, Owners};
+use owner_ids::{HostOf, OneOwner, OwnerId, Owners};
 use range_table::{FileId, NoRuns, RangeTable, Run, Setting};
 
 /// How many runs the owners have.
@@ -59,6 +60,37 @@ pub fn first_conflict<T: RangeTable>(table: &T, owners: &Owners, wanted: &Run) -
     ensures { (settings : List OwnerSetting) (r : Request) → Stands (named owners.now) (mode_at (T.settings table.now)) settings → IsSameRequest (named owners.now) wanted.now r → IsSameFound (named owners.now) result (first_conflict settings r) }
 {
     table.first_conflict(owners, wanted)
+}
+
+/// Whether another owner's mode is in the way of a lock.
+pub fn conflicts<T: RangeTable>(table: &T, owners: &Owners, wanted: &Run) -> bool
+    requires ordered { wanted.now.first ≤ wanted.now.last }
+    requires inside { wanted.now.last < 2 ^ 63 }
+    ensures { (settings : List OwnerSetting) (r : Request) → Stands (named owners.now) (mode_at (T.settings table.now)) settings → IsSameRequest (named owners.now) wanted.now r → result ≡ conflicts settings r }
+{
+    T::first_conflict(table, owners, wanted).is_some()
+}
+
+/// Whether a mode of this owner is in the way of another's lock.
+pub fn conflicts_with<T: RangeTable>(
+    table: &T,
+    owners: &Owners,
+    wanted: &Run,
+    owner: OwnerId,
+) -> bool
+    requires ordered { wanted.now.first ≤ wanted.now.last }
+    requires inside { wanted.now.last < 2 ^ 63 }
+    ensures { (settings : List OwnerSetting) (r : Request) (y : Owner) → Stands (named owners.now) (mode_at (T.settings table.now)) settings → IsSameRequest (named owners.now) wanted.now r → named owners.now owner ≡ Some y → result ≡ conflicts_with settings r y }
+{
+    let _owners = owners;
+    table.is_in_way(&OneOwner { owner }, wanted)
+}
+
+/// Whether fewer than 2 of 65,536 runs are free.
+pub fn is_short<T: RangeTable>(table: &T, owners: &Owners) -> bool
+    ensures { (settings : List OwnerSetting) → Stands (named owners.now) (mode_at (T.settings table.now)) settings → result ≡ is_short 65536 settings }
+{
+    used(table, owners) > 65_534
 }
 
 /// Refused where the owners' settings refuse it, and then unchanged; else set on both sides.

@@ -6,7 +6,8 @@ mod laws;
 mod numbers;
 
 pub use calls::{
-    clear, drop_host, drop_owner_on_file, first_conflict, runs, set, used, used_after, used_of,
+    clear, conflicts, conflicts_with, drop_host, drop_owner_on_file, first_conflict, is_short,
+    runs, set, used, used_after, used_of,
 };
 pub use numbers::{holds_nothing, intern, release};
 

@@ -24,3 +24,4 @@ pub mod OneMore
 pub mod OneLess
 pub mod Halves
 pub mod Splitting
+pub mod InWay

@@ -72,6 +72,10 @@ impl RangeTable for FlatTable {
         sorted::first_conflict(&self.runs, owners, wanted)
     }
 
+    fn is_in_way<H: Host>(&self, host: &H, wanted: &Run) -> bool {
+        sorted::is_in_way(&self.runs, host, wanted)
+    }
+
     fn drop_owner_on_file(&mut self, file: &FileId, owner: OwnerId) {
         sorted::drop_owner_on_file(&mut self.runs, file, owner);
         self.history = self.history.after(&(*file, owner));

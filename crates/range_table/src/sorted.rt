@@ -1,7 +1,8 @@
 //! A sorted list of runs, set and asked in place.
 ghost use Rattle.std.specs.Prelude.{OnOk, OnErr, IsErr, IsTrue, ◌↔◌, ◌≡◌, ◌+◌, ◌-◌, ◌<◌, ◌≤◌, ◌^◌, length, map, not, true, false, take, drop, ◌++◌, ◌&&◌};
-ghost use Rattle.std.specs.List.{filter, position_or_len, AllByRecursion};
+ghost use Rattle.std.specs.List.{filter, list_any, position_or_len, AllByRecursion};
 ghost use Rattle.range_table.specs.Runs.{is_of, starts_in, trim, kept, right, insert_run, cut, low, high, widened, joined, set_runs, is_split, is_full, run_before, before_place, IsPlace, IsRunList, is_better, best_from};
+ghost use Rattle.range_table.specs.Settings.{is_against};
 ghost use Rattle.range_table.specs.Parts.{IsPart};
 
 use crate::file::FileId;
@@ -268,6 +269,30 @@ pub(crate) fn first_conflict<O: OwnerOrder>(runs: &RunList, owners: &O, wanted: 
     let part = part_of(runs, &wanted.file);
     let past = place_past(runs, part, &wanted.file, wanted.last);
     best_of(runs, part.begin, past, owners, wanted)
+}
+
+// Whether one of the runs from one place to another is.
+fn any_in_way<H: Host>(runs: &RunList, begin: usize, end: usize, host: &H, wanted: &Run) -> bool
+    requires order { begin ≤ end }
+    requires within { end ≤ length runs.now }
+    ensures { result ≡ list_any (is_against (H.has host.now) wanted.now) (take (end - begin) (drop begin runs.now)) }
+{
+    for at in begin..end {
+        let run = runs.get(at);
+        if run.is_in_way(wanted) && host.has(run.owner) {
+            return true;
+        }
+    }
+    false
+}
+
+/// Whether a run of one of the host's owners is in the way of the wanted one.
+pub(crate) fn is_in_way<H: Host>(runs: &RunList, host: &H, wanted: &Run) -> bool
+    requires { IsRunList runs.now }
+    ensures { result ≡ list_any (is_against (H.has host.now) wanted.now) runs.now }
+{
+    let part = part_of(runs, &wanted.file);
+    any_in_way(runs, part.begin, part.end, host, wanted)
 }
 
 pub(crate) fn drop_owner_on_file(runs: &mut RunList, file: &FileId, owner: OwnerId)

@@ -1,7 +1,8 @@
 //! What each table of ranges promises.
 ghost use Rattle.std.specs.Prelude.{◌≡◌, ◌<◌, ◌≤◌, ◌^◌, ◌↔◌, ℕ, [], ◌∷◌, ◌++◌, List, OnOk, OnErr, IsErr, IsTrue, not, slice_get};
+ghost use Rattle.std.specs.Bool.{Decides};
 ghost use Rattle.std.specs.List.{filter};
-ghost use Rattle.range_table.specs.Settings.{mode_at, setting, IsRefused, IsUsed, AreRuns, IsFirstConflict, is_by, held_by, held_after};
+ghost use Rattle.range_table.specs.Settings.{mode_at, setting, IsRefused, IsUsed, AreRuns, IsFirstConflict, IsConflictBy, is_by, held_by, held_after};
 ghost use Rattle.range_table.specs.declared.run.Run.{Run};
 ghost use Rattle.range_table.specs.declared.run.Setting.{Setting};
 
@@ -46,6 +47,12 @@ pub trait RangeTable {
         requires ordered { wanted.now.first ≤ wanted.now.last }
         requires inside { wanted.now.last < 2 ^ 63 }
         ensures { IsFirstConflict (O.order owners.now) (mode_at (settings self.now)) wanted.now result };
+
+    /// Whether some owner of the host, other than the one who asks, is in the way of a lock.
+    fn is_in_way<H: Host>(&self, host: &H, wanted: &Run) -> bool
+        requires ordered { wanted.now.first ≤ wanted.now.last }
+        requires inside { wanted.now.last < 2 ^ 63 }
+        ensures { Decides result (IsConflictBy (H.has host.now) (mode_at (settings self.now)) wanted.now) };
 
     /// Takes the settings of an owner on a file out.
     fn drop_owner_on_file(&mut self, file: &FileId, owner: OwnerId)

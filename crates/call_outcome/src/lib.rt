@@ -1,0 +1,12 @@
+//! What comes of a call: its procedure's result, or why it has none, as a value that owns its bytes, and the reply that
+//! tells it (RFC 5531, section 9).
+#![tactic(auto)]
+
+mod copies;
+mod outcome;
+mod result;
+#[cfg(test)]
+mod tests;
+
+pub use outcome::Outcome;
+pub use result::{CallResult, ShareRes};

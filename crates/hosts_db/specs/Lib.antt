@@ -1,0 +1,4 @@
+pub mod Places
+pub mod Quotas
+pub mod Kept
+pub mod Calls

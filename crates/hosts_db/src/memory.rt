@@ -1,0 +1,178 @@
+//! A store in memory.
+ghost use Rattle.std.specs.Prelude.{◌≡◌, ◌↔◌, ◌⊎◌, ◌<◌, ◌≤◌, ◌+◌, length, vec_len, IfOk};
+ghost use Rattle.definitions.specs.Bytes.{in_order};
+ghost use Rattle.definitions.specs.Hosts.{row_cmp, watch_cmp};
+ghost use Rattle.hosts_db.specs.Places.{put_all};
+
+use crate::error::StoreError;
+use crate::host_rows::HostRows;
+use crate::refusals::Refusals;
+use crate::rows::{HostRow, MOST_NAME_BYTES, MyId, Watch};
+use crate::search::{MOST_HOSTS, MOST_WATCHES};
+use crate::store::HostStore;
+use std::alloc::{AllocError, Global};
+
+/// Hosts in memory, which a crash doesn't take. Nothing is refused but what is past a limit.
+#[derive(Drop)]
+pub struct MemHosts {
+    rows: HostRows,
+    refusals: Refusals,
+    alloc: Global,
+}
+
+// Puts all of them in their places, the last first, so that of two rows of one name the first stands.
+#[tactic(auto, using(crate::proofs::Filling::put_all_last, crate::proofs::Filling::put_most, crate::proofs::Filling::not_past))]
+fn put_hosts(rows: &mut HostRows, mut hosts: Vec<HostRow>)
+    requires { length rows.old.rows + vec_len hosts ≤ 4096 }
+    ensures { rows.new ≡ record rows.old { rows = put_all row_cmp hosts.items rows.old.rows } }
+{
+    while let Some(host) = hosts.pop() {
+        rows.put_host(host);
+    }
+}
+
+// Puts all of them in their places, the last first, so that of two watches of one key the first stands.
+#[tactic(auto, using(crate::proofs::Filling::put_all_last, crate::proofs::Filling::put_most))]
+fn put_watches(rows: &mut HostRows, mut watches: Vec<Watch>)
+    requires { length rows.old.watches + vec_len watches ≤ 1024 }
+    ensures { rows.new ≡ record rows.old { watches = put_all watch_cmp watches.items rows.old.watches } }
+{
+    while let Some(watch) = watches.pop() {
+        rows.put_watch(watch);
+    }
+}
+
+impl MemHosts {
+    /// A store that holds these. Of two rows of one name, or two watches of one key, the first stands.
+    ///
+    /// `StoreRefused` where there are more than 4,096 rows or 1,024 watches, `Starved` where there is no memory.
+    pub fn new(
+        alloc: Global,
+        own: u32,
+        hosts: Vec<HostRow>,
+        watches: Vec<Watch>,
+    ) -> Result<MemHosts, StoreError>
+        requires { own < 2147483648 }
+        ensures rows { IfOk result (λ store. ⟦<MemHosts as HostStore>⟧.rows store ≡ record { own = own; rows = in_order row_cmp hosts.items; watches = in_order watch_cmp watches.items }) }
+        ensures refusals { IfOk result (λ store. ⟦<MemHosts as HostStore>⟧.refusals store ≡ 0) }
+        ensures refused { (result ≡ Err StoreError.StoreRefused) ↔ ((4096 < vec_len hosts) ⊎ (1024 < vec_len watches)) }
+    {
+        if hosts.len() > MOST_HOSTS || watches.len() > MOST_WATCHES {
+            return Err(StoreError::StoreRefused);
+        }
+        let Ok(mut rows) = HostRows::new(alloc) else {
+            return Err(StoreError::Starved);
+        };
+        rows.set_own(own);
+        put_hosts(&mut rows, hosts);
+        put_watches(&mut rows, watches);
+        Ok(MemHosts {
+            rows,
+            refusals: Refusals::new(),
+            alloc,
+        })
+    }
+
+    // Counts a refusal.
+    fn refuse(&mut self) -> StoreError
+        ensures error { result ≡ StoreError.StoreRefused }
+        ensures counts { self.new ≡ record self.old { refusals = self.old.refusals + 1 } }
+    {
+        self.refusals.add();
+        StoreError::StoreRefused
+    }
+
+    // What `watch` stores, of copies.
+    fn copies(
+        &self,
+        mon_name: &[u8],
+        my_id: &MyId<'_>,
+        private_bytes: &[u8; 16],
+    ) -> Result<(Vec<u8>, Watch), AllocError>
+        requires { length mon_name.now ≤ MOST_NAME_BYTES }
+        ensures { IfOk result (λ made. (made.0.items ≡ mon_name.now) × (made.1 ≡ record { mon_name = mon_name.now; my_id = my_id.now; private_bytes = private_bytes.now })) }
+    {
+        let name = Vec::from_slice(self.alloc, mon_name)?;
+        let watch = Watch::new(self.alloc, mon_name, my_id, private_bytes)?;
+        Ok((name, watch))
+    }
+}
+
+impl HostStore for MemHosts {
+    ghost use Rattle.std.specs.Prelude.{◌≡◌, true};
+
+    ghost rows = { λ m. m.rows };
+
+    ghost refusals = { λ m. m.refusals };
+
+    ghost may_leave = { λ m left. left ≡ m.rows };
+
+    ghost may_refuse = { λ _ is_past. is_past ≡ true };
+
+    fn start(&mut self) -> Result<u32, StoreError> {
+        Ok(self.rows.start())
+    }
+
+    fn monitor(&mut self, name: &[u8], state: i32) -> Result<(), StoreError> {
+        if self.rows.is_host_past_limit(name) {
+            return Err(self.refuse());
+        }
+        let Ok(name) = Vec::from_slice(self.alloc, name) else {
+            return Err(StoreError::Starved);
+        };
+        self.rows.monitor(name, state);
+        Ok(())
+    }
+
+    fn seen(&mut self, name: &[u8], state: i32) -> Result<(), StoreError> {
+        self.rows.seen(name, state);
+        Ok(())
+    }
+
+    fn acked(&mut self, name: &[u8], epoch: u32) -> Result<(), StoreError> {
+        self.rows.acked(name, epoch);
+        Ok(())
+    }
+
+    fn quota(&mut self, name: &[u8], runs: u32) -> Result<(), StoreError> {
+        self.rows.quota(name, runs);
+        Ok(())
+    }
+
+    fn watch(
+        &mut self,
+        mon_name: &[u8],
+        my_id: &MyId<'_>,
+        private_bytes: &[u8; 16],
+    ) -> Result<(), StoreError> {
+        if self.rows.is_watch_past_limit(mon_name, my_id) {
+            return Err(self.refuse());
+        }
+        let Ok((name, watch)) = self.copies(mon_name, my_id, private_bytes) else {
+            return Err(StoreError::Starved);
+        };
+        self.rows.watch(name, watch);
+        Ok(())
+    }
+
+    fn unwatch(&mut self, mon_name: Option<&[u8]>, my_id: &MyId<'_>) -> Result<(), StoreError> {
+        self.rows.unwatch(mon_name, my_id);
+        Ok(())
+    }
+
+    fn own(&self) -> u32 {
+        self.rows.own()
+    }
+
+    fn hosts(&self) -> &[HostRow] {
+        self.rows.hosts()
+    }
+
+    fn host(&self, name: &[u8]) -> Option<&HostRow> {
+        self.rows.host(name)
+    }
+
+    fn watches(&self) -> &[Watch] {
+        self.rows.watches()
+    }
+}

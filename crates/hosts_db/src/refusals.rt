@@ -1,0 +1,37 @@
+//! How often a store has refused.
+ghost use Rattle.std.specs.Prelude.{◌≡◌, ◌+◌};
+
+use history::History;
+use std::marker::Model;
+
+/// How often a store has refused, which contracts alone see. It takes no memory.
+#[derive(Drop)]
+pub struct Refusals {
+    each: History<()>,
+}
+
+impl Model for Refusals {
+    ghost use Rattle.std.specs.Prelude.{ℕ, length};
+
+    ghost Value = { ℕ };
+
+    ghost view = { λ r. length r.each.items };
+}
+
+impl Refusals {
+    /// None yet.
+    pub fn new() -> Refusals
+        ensures { result ≡ 0 }
+    {
+        Refusals {
+            each: History::new(),
+        }
+    }
+
+    /// One more.
+    pub fn add(&mut self)
+        ensures { self.new ≡ self.old + 1 }
+    {
+        self.each = self.each.and(&());
+    }
+}

@@ -1,0 +1,269 @@
+//! One host's row, one watch, and whom a watch calls.
+ghost use Rattle.std.specs.Prelude.{◌≡◌, ◌≤◌, length, IfOk};
+ghost use Rattle.definitions.specs.Bytes.{bytes_cmp, same_bytes};
+ghost use Rattle.definitions.specs.Hosts.{my_id_cmp, is_watch};
+ghost use Rattle.std.specs.Ordering.{ordering_then};
+ghost use Rattle.std.specs.Option.{option_copied};
+
+use std::alloc::{AllocError, Global};
+use std::cmp::Ordering;
+use std::marker::Model;
+
+/// How many bytes a name may have (XNFS, SM_MAXSTRLEN).
+pub const MOST_NAME_BYTES: usize = 1024;
+
+/// The quota of a new row: as many runs as there may be in all, so that it refuses nothing.
+pub const FULL_QUOTA: u32 = 65_536;
+
+/// A host that is told of a restart.
+#[derive(Debug, Drop)]
+pub struct HostRow {
+    name: Vec<u8>,
+    epoch: u32,
+    seen: i32,
+    quota: u32,
+}
+
+impl Model for HostRow {
+    ghost use Rattle.definitions.specs.Hosts.{HostRow as StoredHost};
+
+    ghost Value = { StoredHost };
+
+    ghost view = { λ r. record { name = r.name.items; epoch = r.epoch; seen = r.seen; quota = r.quota } };
+
+    ghost use Rattle.std.specs.Prelude.{◌≤◌, length};
+
+    ghost invariant = { λ r. length r.name.items ≤ 1024 };
+}
+
+impl HostRow {
+    /// A row of the host `name`, made in the own state `epoch`.
+    pub fn new(name: Vec<u8>, epoch: u32, seen: i32, quota: u32) -> HostRow
+        requires { length name.items ≤ MOST_NAME_BYTES }
+        ensures { result ≡ record { name = name.items; epoch = epoch; seen = seen; quota = quota } }
+    {
+        HostRow {
+            name,
+            epoch,
+            seen,
+            quota,
+        }
+    }
+
+    pub fn name(&self) -> &[u8]
+        ensures value { result.now ≡ self.now.name }
+        ensures fits { length result.now ≤ MOST_NAME_BYTES }
+    {
+        self.name.as_slice()
+    }
+
+    /// The own state that was current when the row was made, or that the host last acknowledged.
+    pub fn epoch(&self) -> u32
+        ensures { result ≡ self.now.epoch }
+    {
+        self.epoch
+    }
+
+    /// The host's own state, as it last told it.
+    pub fn seen(&self) -> i32
+        ensures { result ≡ self.now.seen }
+    {
+        self.seen
+    }
+
+    /// How many runs the host's owners may have.
+    pub fn quota(&self) -> u32
+        ensures { result ≡ self.now.quota }
+    {
+        self.quota
+    }
+
+    pub(crate) fn set_epoch(&mut self, epoch: u32)
+        ensures { self.new ≡ record self.old { epoch = epoch } }
+    {
+        self.epoch = epoch;
+    }
+
+    pub(crate) fn set_seen(&mut self, seen: i32)
+        ensures { self.new ≡ record self.old { seen = seen } }
+    {
+        self.seen = seen;
+    }
+
+    pub(crate) fn set_quota(&mut self, quota: u32)
+        ensures { self.new ≡ record self.old { quota = quota } }
+    {
+        self.quota = quota;
+    }
+
+    // How the row's name compares with another.
+    pub(crate) fn order(&self, name: &[u8]) -> Ordering
+        ensures { result ≡ bytes_cmp self.now.name name.now }
+    {
+        self.name.as_slice().cmp(name)
+    }
+}
+
+/// Whom to call when a monitored host has restarted (XNFS, my_id).
+#[derive(Debug, Drop)]
+pub struct MyId<'a> {
+    my_name: &'a [u8],
+    prog: i32,
+    vers: i32,
+    proc: i32,
+}
+
+impl<'a> Model for MyId<'a> {
+    ghost use Rattle.definitions.specs.Nsm.{MyId as WatcherId};
+
+    ghost Value = { WatcherId };
+
+    ghost view = { λ m. record { my_name = m.my_name.now; prog = m.prog; vers = m.vers; proc = m.proc } };
+
+    ghost use Rattle.std.specs.Prelude.{◌≤◌, length};
+
+    ghost invariant = { λ m. length m.my_name.now ≤ 1024 };
+}
+
+impl<'a> MyId<'a> {
+    /// The procedure `proc` of the program `prog`, version `vers`, on the host `my_name`.
+    pub fn new(my_name: &'a [u8], prog: i32, vers: i32, proc: i32) -> MyId<'a>
+        requires { length my_name.now ≤ MOST_NAME_BYTES }
+        ensures { result ≡ record { my_name = my_name.now; prog = prog; vers = vers; proc = proc } }
+    {
+        MyId {
+            my_name,
+            prog,
+            vers,
+            proc,
+        }
+    }
+
+    pub fn my_name(&self) -> &'a [u8]
+        ensures value { result.now ≡ self.now.my_name }
+        ensures fits { length result.now ≤ MOST_NAME_BYTES }
+    {
+        self.my_name
+    }
+
+    pub fn prog(&self) -> i32
+        ensures { result ≡ self.now.prog }
+    {
+        self.prog
+    }
+
+    pub fn vers(&self) -> i32
+        ensures { result ≡ self.now.vers }
+    {
+        self.vers
+    }
+
+    pub fn proc(&self) -> i32
+        ensures { result ≡ self.now.proc }
+    {
+        self.proc
+    }
+
+    // In order of my_name, prog, vers and proc.
+    pub(crate) fn order(&self, other: &MyId<'_>) -> Ordering
+        ensures { result ≡ my_id_cmp self.now other.now }
+    {
+        self.my_name
+            .cmp(other.my_name)
+            .then(self.prog.cmp(&other.prog))
+            .then(self.vers.cmp(&other.vers))
+            .then(self.proc.cmp(&other.proc))
+    }
+}
+
+/// Who is called when a host restarts, and 16 bytes that are handed back (XNFS, mon).
+#[derive(Debug, Drop)]
+pub struct Watch {
+    mon_name: Vec<u8>,
+    my_name: Vec<u8>,
+    prog: i32,
+    vers: i32,
+    proc: i32,
+    private_bytes: [u8; 16],
+}
+
+impl Model for Watch {
+    ghost use Rattle.definitions.specs.Hosts.{Watch as StoredWatch};
+
+    ghost Value = { StoredWatch };
+
+    ghost view = { λ w. record { mon_name = w.mon_name.items; my_id = record { my_name = w.my_name.items; prog = w.prog; vers = w.vers; proc = w.proc }; private_bytes = w.private_bytes } };
+
+    ghost use Rattle.std.specs.Prelude.{◌≤◌, length};
+
+    ghost invariant = { λ w. (length w.mon_name.items ≤ 1024) × (length w.my_name.items ≤ 1024) };
+}
+
+impl Watch {
+    /// A watch of the host `mon_name`, of copies.
+    pub fn new(
+        alloc: Global,
+        mon_name: &[u8],
+        my_id: &MyId<'_>,
+        private_bytes: &[u8; 16],
+    ) -> Result<Watch, AllocError>
+        requires { length mon_name.now ≤ MOST_NAME_BYTES }
+        ensures { IfOk result (λ w. w ≡ record { mon_name = mon_name.now; my_id = my_id.now; private_bytes = private_bytes.now }) }
+    {
+        Ok(Watch {
+            mon_name: Vec::from_slice(alloc, mon_name)?,
+            my_name: Vec::from_slice(alloc, my_id.my_name)?,
+            prog: my_id.prog,
+            vers: my_id.vers,
+            proc: my_id.proc,
+            private_bytes: *private_bytes,
+        })
+    }
+
+    /// The host that is watched.
+    pub fn mon_name(&self) -> &[u8]
+        ensures value { result.now ≡ self.now.mon_name }
+        ensures fits { length result.now ≤ MOST_NAME_BYTES }
+    {
+        self.mon_name.as_slice()
+    }
+
+    /// Whom it calls.
+    pub fn my_id(&self) -> MyId<'_>
+        ensures { result ≡ self.now.my_id }
+    {
+        MyId {
+            my_name: self.my_name.as_slice(),
+            prog: self.prog,
+            vers: self.vers,
+            proc: self.proc,
+        }
+    }
+
+    pub fn private_bytes(&self) -> &[u8; 16]
+        ensures { result.now ≡ self.now.private_bytes }
+    {
+        &self.private_bytes
+    }
+
+    // How the watch's key compares with another.
+    pub(crate) fn order(&self, mon_name: &[u8], my_id: &MyId<'_>) -> Ordering
+        ensures { result ≡ ordering_then (bytes_cmp self.now.mon_name mon_name.now) (my_id_cmp self.now.my_id my_id.now) }
+    {
+        self.mon_name
+            .as_slice()
+            .cmp(mon_name)
+            .then(self.my_id().order(my_id))
+    }
+
+    // Whether it is the watch of this watcher, of this host or of any.
+    pub(crate) fn is_of(&self, mon_name: Option<&[u8]>, my_id: &MyId<'_>) -> bool
+        ensures { result ≡ is_watch (option_copied mon_name.entry) my_id.now self.now }
+    {
+        let is_mine = self.my_id().order(my_id).is_eq();
+        match mon_name {
+            Some(name) => self.mon_name.as_slice() == name && is_mine,
+            None => is_mine,
+        }
+    }
+}

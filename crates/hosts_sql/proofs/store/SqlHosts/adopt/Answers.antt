@@ -1,0 +1,16 @@
+use Rattle.std.proofs.Common.{◌≡◌, sym, ap, ◌∙◌, rules}
+use Rattle.sqlite.specs.Held.{state}
+use Rattle.hosts_sql.specs.Maps.{listed}
+use Rattle.hosts_sql.specs.Tables.{no_schema}
+use Rattle.hosts_sql.proofs.Create.{shown_fresh}
+use Rattle.hosts_sql.proofs.Listed.{none_listed}
+use Rattle.hosts_sql.proofs.store.SqlHosts.adopt.Goals as goal
+
+pub invariant_of-result : goal.invariant_of-result
+invariant_of-result g c = record {
+  kept = λ clean is_open.
+      let none : (state g.S.Store c.args.conn).committed.schema ≡ no_schema = search rules in
+      ap listed (shown_fresh (state g.S.Store c.args.conn).committed none (c.schema.ensures.live is_open).1) ∙ none_listed ∙ sym c.in-Ok.ensures;
+  tables = search rules;
+  fresh = search rules;
+}

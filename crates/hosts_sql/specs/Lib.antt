@@ -1,0 +1,5 @@
+pub mod Tables
+pub mod Maps
+pub mod Shown
+pub mod Wrote
+pub mod Reading

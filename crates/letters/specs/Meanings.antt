@@ -1,0 +1,52 @@
+-- What is sent, as the definitions have it.
+use Rattle.std.specs.Option.{option_map}
+use Rattle.definitions.specs.Nlm as nlm
+use Rattle.definitions.specs.Nsm as nsm
+use Rattle.definitions.specs.Outgoing as outgoing
+use Rattle.nlm4_types.specs.Stat.{view_of_stat}
+use Rattle.nlm4_types.specs.Version.{view_of_version}
+use Rattle.owner_ids.specs.Said.{said}
+use Rattle.owner_ranges.specs.Same.{mode_of}
+use Rattle.letters.specs.declared.lock.Lock as lock_declared
+use Rattle.letters.specs.declared.lock.LocalLock as local_declared
+use Rattle.letters.specs.declared.results.Res as res_declared
+use Rattle.letters.specs.declared.results.Holder as holder_declared
+use Rattle.letters.specs.declared.results.TestRes as test_declared
+use Rattle.letters.specs.declared.message.MyId as my_id_declared
+use Rattle.letters.specs.declared.message.Message.{Message}
+use Rattle.letters.specs.declared.message.Message.TheVariants as message
+use Rattle.letters.specs.declared.letter.Destination.{Destination}
+use Rattle.letters.specs.declared.letter.Destination.TheVariants as destination
+
+abbrev pub lock_of : lock_declared.Lock → nlm.Lock
+lock_of l = record { caller_name = l.caller_name; fh = l.fh; oh = l.oh; svid = l.svid; l_offset = l.l_offset; l_len = l.l_len }
+
+abbrev pub local_lock_of : local_declared.LocalLock → outgoing.LocalLock
+local_lock_of l = record { owner = said l.owner; file = l.file; offset = l.offset; len = l.len }
+
+abbrev pub res_of : res_declared.Res → nlm.Res
+res_of r = record { cookie = r.cookie; stat = view_of_stat r.stat }
+
+abbrev pub holder_of : holder_declared.Holder → nlm.Holder
+holder_of h = record { exclusive = h.exclusive; svid = h.svid; oh = h.oh; l_offset = h.l_offset; l_len = h.l_len }
+
+abbrev pub test_res_of : test_declared.TestRes → nlm.TestRes
+test_res_of r = record { cookie = r.cookie; stat = view_of_stat r.stat; holder = option_map holder_of r.holder }
+
+abbrev pub my_id_of : my_id_declared.MyId → nsm.MyId
+my_id_of m = record { my_name = m.my_name; prog = m.prog; vers = m.vers; proc = m.proc }
+
+abbrev pub message_of : Message → outgoing.Message
+message_of (message.Granted version exclusive lock) = outgoing.Granted (view_of_version version) exclusive (lock_of lock)
+message_of (message.GrantedMsg version exclusive lock) = outgoing.GrantedMsg (view_of_version version) exclusive (lock_of lock)
+message_of (message.GrantedLine mode lock) = outgoing.GrantedLine (mode_of mode) (local_lock_of lock)
+message_of (message.TestResult version res) = outgoing.TestResult (view_of_version version) (test_res_of res)
+message_of (message.LockResult version res) = outgoing.LockResult (view_of_version version) (res_of res)
+message_of (message.CancelResult version res) = outgoing.CancelResult (view_of_version version) (res_of res)
+message_of (message.UnlockResult version res) = outgoing.UnlockResult (view_of_version version) (res_of res)
+message_of (message.Status my_id mon_name state bytes) = outgoing.Status (my_id_of my_id) mon_name state bytes
+message_of (message.Notify name state) = outgoing.Notify name state
+
+abbrev pub destination_of : Destination → outgoing.Destination
+destination_of (destination.Host name) = outgoing.ToHost name
+destination_of (destination.Connection number) = outgoing.ToConnection number

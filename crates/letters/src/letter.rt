@@ -1,0 +1,72 @@
+//! A message and whom it is for.
+ghost use Rattle.std.specs.Prelude.{◌≡◌, ◌&&◌};
+ghost use Rattle.definitions.specs.Outgoing.{is_to_host, is_grant};
+ghost use Rattle.letters.specs.Meanings.{destination_of, message_of};
+
+use crate::message::Message;
+use crate::short::ShortBytes;
+use std::marker::Model;
+
+/// Whom a call is for.
+#[derive(Drop)]
+pub enum Destination {
+    /// A host, by its name.
+    Host(ShortBytes),
+    /// A local connection, by its number.
+    Connection(u64),
+}
+
+impl Destination {
+    /// Whether it is this host.
+    pub fn is_host(&self, name: &[u8]) -> bool
+        ensures { result ≡ is_to_host name.now (destination_of self.now) }
+    {
+        match self {
+            Destination::Host(host) => host.as_slice() == name,
+            Destination::Connection(_) => false,
+        }
+    }
+}
+
+/// What a call says, and to whom. It stays what it is however often it is sent.
+#[derive(Drop)]
+pub struct Letter {
+    to: Destination,
+    message: Message,
+}
+
+impl Model for Letter {
+    ghost use Rattle.definitions.specs.Outgoing.{Letter as SentLetter};
+    ghost use Rattle.letters.specs.Meanings.{destination_of, message_of};
+
+    ghost Value = { SentLetter };
+
+    ghost view = { λ l. record { to = destination_of l.to; message = message_of l.message } };
+}
+
+impl Letter {
+    pub fn new(to: Destination, message: Message) -> Letter
+        ensures { result ≡ record { to = destination_of to; message = message_of message } }
+    {
+        Letter { to, message }
+    }
+
+    pub fn to(&self) -> &Destination
+        ensures { destination_of result.now ≡ self.now.to }
+    {
+        &self.to
+    }
+
+    pub fn message(&self) -> &Message
+        ensures { message_of result.now ≡ self.now.message }
+    {
+        &self.message
+    }
+
+    /// Whether it is GRANTED or GRANTED_MSG to this host.
+    pub fn is_grant_to(&self, name: &[u8]) -> bool
+        ensures { result ≡ (is_grant self.now.message && is_to_host name.now self.now.to) }
+    {
+        self.message.is_grant() && self.to.is_host(name)
+    }
+}

@@ -1,0 +1,17 @@
+//! What the server's own calls say: whom each is for, and the version, procedure and arguments that it carries, as
+//! values that own their bytes.
+#![tactic(auto)]
+
+mod letter;
+mod lock;
+mod message;
+mod results;
+mod short;
+#[cfg(test)]
+mod tests;
+
+pub use letter::{Destination, Letter};
+pub use lock::{LocalLock, Lock};
+pub use message::{Message, MyId};
+pub use results::{Holder, Res, TestRes};
+pub use short::ShortBytes;
