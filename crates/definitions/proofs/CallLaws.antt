@@ -1,8 +1,8 @@
 -- Lists of the server's own calls: what is left of them, what is due again, and what comes behind.
-use Rattle.std.proofs.Common.{◌≡◌, ℕ, ◌+◌, ◌%◌, ◌^◌, Bool, true, false, cond, ltb, List, [], ◌∷◌, ◌++◌, refl, sym, ap, ◌∙◌, Option, Some, None, inl, inr}
+use Rattle.std.proofs.Common.{◌≡◌, ℕ, ◌+◌, ◌%◌, ◌^◌, Bool, true, false, cond, List, [], ◌∷◌, ◌++◌, refl, sym, ap, ◌∙◌, Some, None, inl, inr}
 use Rattle.std.proofs.lemmas.List.{append-nil, append_assoc}
 use Rattle.definitions.specs.Bytes.{Holds, first_that, without, without_first}
-use Rattle.definitions.specs.Outgoing.{Letter, Outgoing, due_now, ends_when_sent, once_more, after_sending, older, oldest_that}
+use Rattle.definitions.specs.Outgoing.{Letter, Outgoing, due_now, ends_when_sent, once_more, after_sending}
 use Rattle.definitions.specs.World.{World, with_due, with_all_due}
 use Rattle.definitions.specs.Numbers.{numbered, number_behind, AreLeft, NoneLeft, IsGone, IsLeft, Continues}
 
@@ -52,19 +52,6 @@ holds_first p (y ∷ ys) x e = go (p y) e (holds_first p ys x)
     go : (b : Bool) → cond b (Some y) (first_that p ys) ≡ Some x → (first_that p ys ≡ Some x → Holds ys x) → Holds (y ∷ ys) x
     go true h more = inl (inside y x h)
     go false h more = inr (more h)
-
-pub oldest_holds : (p : Outgoing → Bool) (calls : List Outgoing) (c : Outgoing) → oldest_that p calls ≡ Some c → Holds calls c
-oldest_holds p [] c e = absurd (none_some c e)
-oldest_holds p (d ∷ calls) c e = go (p d) (oldest_that p calls) refl e (oldest_holds p calls c)
-  where
-    by_age : (x : Outgoing) (b : Bool) → Some (cond b x d) ≡ Some c → (x ≡ c → Holds calls c) → Holds (d ∷ calls) c
-    by_age x true h more = inr (more (inside x c h))
-    by_age x false h more = inl (inside d c h)
-
-    go : (b : Bool) (o : Option Outgoing) → oldest_that p calls ≡ o → cond b (Some (older o d)) o ≡ Some c → (oldest_that p calls ≡ Some c → Holds calls c) → Holds (d ∷ calls) c
-    go true None k h more = inl (inside d c h)
-    go true (Some x) k h more = by_age x (ltb x.number d.number) h (λ i. more (k ∙ ap (λ y. Some y) i))
-    go false o k h more = inr (more (k ∙ h))
 
 -- ---- what comes behind
 

@@ -5,7 +5,7 @@ use Rattle.definitions.specs.Settings.{Setting}
 use Rattle.definitions.specs.Starts.{refuses}
 use Rattle.definitions.specs.Nlm.{Stat, DENIED, DENIED_GRACE_PERIOD, Lock}
 use Rattle.definitions.specs.Hosts.{Acked, after_store}
-use Rattle.definitions.specs.Outgoing.{Outgoing, Destination, ToHost, ToConnection, Message, Granted, GrantedMsg, Notify, without_call, after_silence_of, call_of_xid, call_of_cookie}
+use Rattle.definitions.specs.Outgoing.{Outgoing, Destination, ToHost, ToConnection, Message, Granted, GrantedMsg, Notify, without_call, after_silence, call_of_xid, call_of_cookie}
 use Rattle.definitions.specs.Ranges.{unlock_of}
 use Rattle.definitions.specs.Replies.{AnswerReading, Unreadable, AcceptedSuccess, OtherAnswer}
 use Rattle.definitions.specs.World.{World, Limits, with_setting, with_hosts, with_calls}
@@ -28,7 +28,7 @@ unlocked limits w s = cond (refuses limits.runs w.settings s) (became TableStays
 -- status 0 ends a grant, 1 ends it and unlocks, 4 counts as a silence, and all else ends it
 abbrev pub grant_answered : Limits → World → Outgoing → Lock → Option Stat → Told Change
 grant_answered limits w c alock (Some DENIED) = unlocked limits (ended w c) (unlock_of alock)
-grant_answered limits w c alock (Some DENIED_GRACE_PERIOD) = became TableStays (with_calls w (after_silence_of c w.calls))
+grant_answered limits w c alock (Some DENIED_GRACE_PERIOD) = became TableStays (with_calls w (after_silence c.number w.calls))
 grant_answered limits w c alock _ = became TableStays (ended w c)
 
 -- a host that has heard of the restart: its epoch is stored, and where the store refuses, the row stays

@@ -1,5 +1,5 @@
 //! Does what its arguments name and prints how many runs or owners there are, so that `time` measures it.
-//! They are `fill`, `intern`, or `set`, `reset`, `used`, `conflict` with `-front`, `-middle`, `-back` or `-turns`,
+//! They are `fill`, `sweep`, `intern`, or `set`, `reset`, `used`, `conflict` with `-front`, `-middle`, `-back` or `-turns`,
 //! then a size and a number of rounds.
 #![tactic(auto)]
 
@@ -168,6 +168,19 @@ fn filled(alloc: Global, count: u32) -> Result<u32> {
     Ok(table.used())
 }
 
+// Fills a file, and takes its runs away again: the first half by one `set`, then those behind it.
+fn swept(alloc: Global, count: u32, rounds: u32) -> Result<u32> {
+    let mut table = FlatTable::new(alloc)?;
+    let file = file_of(1);
+    let most = u64::from(count);
+    for _ in 0..rounds {
+        fill(&mut table, &file, 1, count);
+        let _ = table.set(&file, 1, 0, most, None);
+        let _ = table.set(&file, 1, 0, 2 * most, None);
+    }
+    Ok(table.used())
+}
+
 fn main(rt: HostRuntime) -> Result<()> {
     let mut what = String::new(rt.alloc());
     let mut numbers = [0u32; 2];
@@ -181,6 +194,7 @@ fn main(rt: HostRuntime) -> Result<()> {
     let [count, rounds] = numbers;
     let answer = match what.as_str() {
         "fill" => filled(rt.alloc(), count)?,
+        "sweep" => swept(rt.alloc(), count, rounds)?,
         "intern" => intern(rt.alloc(), count, rounds)?,
         other => beside(rt.alloc(), other, count, rounds)?,
     };

@@ -1,6 +1,6 @@
 -- What the edits of a sorted list leave.
 use Rattle.std.proofs.Common.{◌≡◌, ℕ, zero, suc, ◌<◌, ◌≤◌, ◌+◌, ◌-◌, Bool, true, false, cond, not, List, [], ◌∷◌, ◌++◌, Option, Some, None, refl, sym, ap, ◌∙◌, subst, arith, length, take, drop, get_or, set, map, append-nil, ltb, ◌==◌, ◌&&◌}
-use Rattle.std.proofs.lemmas.List.{take-append-drop, take_more, take_more_set, drop-set-lt, drop-drop, take-map, drop-map, get_or-drop, length-take-le, take-append-le, take-take, drop_at}
+use Rattle.std.proofs.lemmas.List.{append_assoc, length-drop, take_all, take-append-drop, take_more, take_more_set, drop-set-lt, drop-drop, take-map, drop-map, get_or-drop, length-take-le, take-append-le, take-take, drop_at}
 use Rattle.std.proofs.lemmas.Bool.{true≢false}
 use Rattle.std.specs.Ordering.{nat_cmp, ordering_then, is_lt, is_le}
 use Rattle.std.specs.declared.cmp.Ordering.{Ordering}
@@ -70,6 +70,34 @@ next_rest old now at d = sym (drop-drop 1 at now) ∙ ap (drop 1) d ∙ drop-dro
 
 pub next_rest_set : (old now : List Run) (kept at : ℕ) (x : Run) → kept ≤ at → drop at now ≡ drop at old → drop (at + 1) (set now kept x) ≡ drop (at + 1) old
 next_rest_set old now kept at x o d = drop-set-lt (at + 1) now kept x (omega arith) ∙ next_rest old now at d
+
+-- ---- moving those behind a place down
+
+pub moved_none : (old : List Run) (kept past : ℕ) → take (kept + (past - past)) old ≡ take kept old ++ take (past - past) (drop past old)
+moved_none old kept past =
+    let z : past - past ≡ 0 = omega arith in
+    let y : kept + 0 ≡ kept = omega arith in
+    rw (z, y) (sym (append-nil (take kept old)))
+
+pub moved_one : (old now : List Run) (kept past at : ℕ) (x : Run) → length now ≡ length old → at < length now → x ≡ get_or now at x → drop at now ≡ drop at old → kept ≤ past → past ≤ at → take (kept + (at - past)) now ≡ take kept old ++ take (at - past) (drop past old) → take (kept + (at + 1 - past)) (set now (kept + (at - past)) x) ≡ take kept old ++ take (at + 1 - past) (drop past old)
+moved_one old now kept past at x n l e d o p t =
+    let i = at - past in
+    let a : at + 1 - past ≡ i + 1 = omega arith in
+    let b : kept + (i + 1) ≡ kept + i + 1 = omega arith in
+    let j : past + i ≡ at = omega arith in
+    let g : get_or (drop past old) i x ≡ x = get_or-drop past old i x ∙ ap (λ m. get_or old m x) j ∙ same_there (λ r. true) old now at at x n l e d in
+    let m : i < length (drop past old) = rw (length-drop past old) (omega arith) in
+    let more : take (i + 1) (drop past old) ≡ take i (drop past old) ++ x ∷ [] = take_more (drop past old) i x m ∙ ap (λ y. take i (drop past old) ++ y ∷ []) g in
+    ap (λ k. take (kept + k) (set now (kept + i) x)) a
+    ∙ ap (λ k. take k (set now (kept + i) x)) b
+    ∙ take_more_set now (kept + i) x (omega arith)
+    ∙ ap (λ ys. ys ++ x ∷ []) t
+    ∙ append_assoc (take kept old) (take i (drop past old)) (x ∷ [])
+    ∙ ap (λ ys. take kept old ++ ys) (sym more)
+    ∙ ap (λ k. take kept old ++ take k (drop past old)) (sym a)
+
+pub moved_all : (old now : List Run) (kept past len : ℕ) → len ≡ length old → past ≤ len → take (kept + (len - past)) now ≡ take kept old ++ take (len - past) (drop past old) → take (kept + (len - past)) now ≡ take kept old ++ drop past old
+moved_all old now kept past len n p t = t ∙ ap (λ ys. take kept old ++ ys) (take_all (len - past) (drop past old) (rw (length-drop past old) (omega arith)))
 
 -- the last of the runs in front of a place goes
 pub close_more : (xs ys : List Run) (past gone : ℕ) → gone < past → past ≤ length xs → ys ≡ take (past - gone) xs ++ drop past xs → remove ys (past - (gone + 1)) ≡ take (past - (gone + 1)) xs ++ drop past xs

@@ -129,13 +129,40 @@ fn gather_kept(runs: &mut RunList, part: Part, range: &Setting) -> (usize, usize
 }
 
 // What lies between two places goes, the last run first: then no other one of them moves.
-fn close(runs: &mut RunList, kept: usize, past: usize)
+fn remove_each(runs: &mut RunList, kept: usize, past: usize)
     requires order { kept ≤ past }
     requires within { past ≤ length runs.old }
     ensures { runs.new ≡ take kept runs.old ++ drop past runs.old }
 {
     for gone in 0..past - kept {
         runs.remove(past - (gone + 1));
+    }
+}
+
+// What lies between two places goes, in one pass over the runs behind it.
+fn move_down(runs: &mut RunList, kept: usize, past: usize)
+    requires order { kept ≤ past }
+    requires within { past ≤ length runs.old }
+    ensures { runs.new ≡ take kept runs.old ++ drop past runs.old }
+{
+    let len = runs.len();
+    for at in past..len {
+        let run = *runs.get(at);
+        runs.set(kept + (at - past), &run);
+    }
+    runs.truncate(kept + (len - past));
+}
+
+// What lies between two places goes. To take a run out costs what it costs to move some dozens.
+fn close(runs: &mut RunList, kept: usize, past: usize)
+    requires order { kept ≤ past }
+    requires within { past ≤ length runs.old }
+    ensures { runs.new ≡ take kept runs.old ++ drop past runs.old }
+{
+    if (runs.len() - past) / 64 < past - kept {
+        move_down(runs, kept, past);
+    } else {
+        remove_each(runs, kept, past);
     }
 }
 
