@@ -70,6 +70,21 @@ impl Shares {
         self.held.as_slice()
     }
 
+    /// Whether a share can be taken. `ShareDenied` comes before `NoShares`.
+    pub fn check(&self, share: &Share) -> Result<(), ShareError>
+        ensures ok { OnOk result ((is_denied self.now share.now ≡ false) × (has_no_room MOST_SHARES self.now share.now ≡ false)) }
+        ensures denied { (result ≡ Err ShareError.ShareDenied) ↔ (is_denied self.now share.now ≡ true) }
+        ensures no_room { (result ≡ Err ShareError.NoShares) ↔ ((is_denied self.now share.now ≡ false) × (has_no_room MOST_SHARES self.now share.now ≡ true)) }
+    {
+        if self.is_denied(share) {
+            return Err(ShareError::ShareDenied);
+        }
+        if self.is_full_for(share) {
+            return Err(ShareError::NoShares);
+        }
+        Ok(())
+    }
+
     /// Takes a share (XNFS, NLM_SHARE). The owner's earlier share of the file goes.
     ///
     /// `ShareDenied` comes before `NoShares`. After either the table is as it was, and the share is dropped.

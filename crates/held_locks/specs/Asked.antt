@@ -1,5 +1,6 @@
 -- What is asked of the locks and what they show, as the definitions have it.
 use Rattle.std.specs.Prelude.{ℕ, Option, Some, None}
+use Rattle.definitions.specs.Owners.{Owner}
 use Rattle.definitions.specs.Settings.{Setting, Request}
 use Rattle.definitions.specs.Starts.{Run}
 use Rattle.owner_ids.specs.Said.{said}
@@ -15,6 +16,10 @@ asked r = record { file = r.file; owner = said r.owner.now; first = r.first; las
 
 abbrev pub changed : Change → Setting
 changed c = record { file = c.file; owner = said c.owner.now; first = c.first; last = c.last; mode = held_mode c.mode }
+
+-- what an owner sets by a lock that is wanted
+abbrev pub setting_by : Owner → NumberRun → Setting
+setting_by x r = record { file = r.file; owner = x; first = r.first; last = r.last; mode = Some (mode_of r.mode) }
 
 abbrev pub shown : Holder → Run
 shown h = record { file = h.file; owner = said h.owner.now; first = h.first; last = h.last; mode = mode_of h.mode }

@@ -17,6 +17,10 @@ IsKnown h x = (n : ℕ) × (named h.names n ≡ Some x)
 abbrev pub KeepsKnown : Held → Held → Type 0
 KeepsKnown before after = (x : Owner) → IsKnown before x → IsKnown after x
 
+-- who had a number has that number still
+abbrev pub KeepsNames : Held → Held → Type 0
+KeepsNames before after = (n : ℕ) (x : Owner) → named before.names n ≡ Some x → named after.names n ≡ Some x
+
 -- each number names whom it named
 abbrev pub SameNames : Held → Held → Type 0
 SameNames before after = (n : ℕ) → named after.names n ≡ named before.names n

@@ -1,5 +1,5 @@
 //! The locks of all owners.
-ghost use Rattle.std.specs.Prelude.{◌≡◌, ◌≢◌, ◌≤◌, ◌<◌, ◌^◌, ◌+◌, ◌⊎◌, ◌↔◌, ◌++◌, ◌∷◌, ℕ, [], true, false, Some, None, IfOk, IfSome, IfNone, OnOk, OnErr, IsErr, IsTrue, slice_get};
+ghost use Rattle.std.specs.Prelude.{◌≡◌, ◌≢◌, ◌≤◌, ◌<◌, ◌^◌, ◌+◌, ◌⊎◌, ◌↔◌, ◌++◌, ◌∷◌, ℕ, [], true, false, Some, None, IfOk, IfSome, IfNone, OnOk, OnErr, IsErr, IsTrue, IsSome, slice_get};
 ghost use Rattle.definitions.specs.Owners.{Owner as SaidOwner, is_of_host};
 ghost use Rattle.definitions.specs.Settings.{without_host, without_owner_on};
 ghost use Rattle.definitions.specs.Conflict.{conflicts};
@@ -8,15 +8,15 @@ ghost use Rattle.owner_ids.specs.Said.{said};
 ghost use Rattle.owner_ids.specs.Names.{named};
 ghost use Rattle.owner_ranges.specs.Stands.{Stands};
 ghost use Rattle.range_table.specs.Settings.{mode_at};
-ghost use Rattle.held_locks.specs.Asked.{asked, changed, shown, shown_found};
-ghost use Rattle.held_locks.specs.Held.{IsKnown, KeepsKnown, SameNames, HoldsNothing};
+ghost use Rattle.held_locks.specs.Asked.{asked, changed, setting_by, shown, shown_found};
+ghost use Rattle.held_locks.specs.Held.{IsKnown, KeepsKnown, KeepsNames, SameNames, HoldsNothing};
 ghost use Rattle.held_locks.specs.Stranger.{IsAsker};
 
 use crate::asked::{Change, Holder, Request};
 use crate::counts::{self, make_place};
 use history::History;
 use owner_ids::{HostOf, NOBODY, Owner, OwnerId, Owners, Starved};
-use range_table::{FileId, NoRuns, RangeTable};
+use range_table::{FileId, NoRuns, RangeTable, Run};
 use std::alloc::Global;
 use std::marker::Model;
 
@@ -139,6 +139,7 @@ impl<R: RangeTable> Locks<R> {
         ensures settings { self.new.settings ≡ self.old.settings }
         ensures known { OnOk result (IsKnown self.new (said owner.now)) }
         ensures others { KeepsKnown self.old self.new }
+        ensures names { KeepsNames self.old self.new }
         ensures err { OnErr result (SameNames self.old self.new) }
     {
         let number = self.owners.intern(owner)?;
@@ -169,6 +170,28 @@ impl<R: RangeTable> Locks<R> {
         self.settings = self.settings.after(change);
         Ok(())
     }
+
+    /// The same of a lock that is wanted by its owner's number, which is in use.
+    pub fn set_run(&mut self, wanted: &Run) -> Result<(), NoRuns>
+        requires ordered { wanted.now.first ≤ wanted.now.last }
+        requires inside { wanted.now.last < 2 ^ 63 }
+        requires known { IsSome (named self.old.names wanted.now.owner) }
+        ensures refused { (x : SaidOwner) → named self.old.names wanted.now.owner ≡ Some x → IsErr result ↔ IsTrue (refuses 65536 self.old.settings (setting_by x wanted.now)) }
+        ensures ok { OnOk result ((x : SaidOwner) → named self.old.names wanted.now.owner ≡ Some x → self.new.settings ≡ self.old.settings ++ setting_by x wanted.now ∷ []) }
+        ensures err { OnErr result (self.new.settings ≡ self.old.settings) }
+        ensures names { self.new.names ≡ self.old.names }
+    {
+        let change = Change {
+            file: wanted.file,
+            owner: self.owners.get(wanted.owner),
+            first: wanted.first,
+            last: wanted.last,
+            mode: Some(wanted.mode),
+        };
+        counts::set(&mut self.table, &mut self.counts, wanted.owner, &change)?;
+        self.settings = self.settings.after(&change);
+        Ok(())
+    }
 }
 
 impl<R: RangeTable> Locks<R> {
@@ -188,6 +211,7 @@ impl<R: RangeTable> Locks<R> {
     pub fn forget_idle(&mut self, owner: &Owner)
         ensures settings { self.new.settings ≡ self.old.settings }
         ensures others { (x : SaidOwner) → x ≢ said owner.now → IsKnown self.old x → IsKnown self.new x }
+        ensures names { (n : ℕ) (x : SaidOwner) → x ≢ said owner.now → named self.old.names n ≡ Some x → named self.new.names n ≡ Some x }
         ensures forgotten { HoldsNothing self.old (said owner.now) → (n : ℕ) → named self.new.names n ≢ Some (said owner.now) }
         ensures kept { (HoldsNothing self.old (said owner.now) → ⊥) → KeepsKnown self.old self.new }
     {
@@ -200,6 +224,7 @@ impl<R: RangeTable> Locks<R> {
     pub fn drop_host(&mut self, name: &[u8])
         ensures settings { self.new.settings ≡ without_host name.now self.old.settings }
         ensures others { (x : SaidOwner) → is_of_host name.now x ≡ false → IsKnown self.old x → IsKnown self.new x }
+        ensures names { (n : ℕ) (x : SaidOwner) → is_of_host name.now x ≡ false → named self.old.names n ≡ Some x → named self.new.names n ≡ Some x }
         ensures forgotten { (x : SaidOwner) → is_of_host name.now x ≡ true → (n : ℕ) → named self.new.names n ≢ Some x }
     {
         let host = HostOf {

@@ -1,13 +1,1 @@
-pub mod Texts
-pub mod PutLemmas
-pub mod Lists
-pub mod Monitor
-pub mod Watch
-pub mod Steps
-pub mod Rows
-pub mod Both
-pub mod Create
-pub mod Permuted
-pub mod Reading
-pub mod Update
-pub mod Listed
+pub mod AsKept

@@ -1,5 +1,0 @@
-pub mod Tables
-pub mod Maps
-pub mod Shown
-pub mod Wrote
-pub mod Reading

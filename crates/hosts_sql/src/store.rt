@@ -1,20 +1,16 @@
 //! A store over a database.
-ghost use Rattle.std.specs.Prelude.{◌≡◌, ◌≤◌, true, false, length, IfOk, IfErr, Some};
+ghost use Rattle.std.specs.Prelude.{◌≡◌, true, false, IfOk, IfErr};
 ghost use Rattle.std.specs.Coded.{→_prop};
 ghost use Rattle.sqlite.specs.State.{HasCleanDisk, KeepsCommit, Survives};
 ghost use Rattle.sqlite.specs.Held.{state};
-ghost use Rattle.std.specs.Option.{is_some};
-ghost use Rattle.definitions.specs.Bytes.{is_any};
-ghost use Rattle.definitions.specs.Hosts.{has_row, is_watch, next_own, after_store, is_past_limit, Begin, Monitor, Watched};
-ghost use Rattle.hosts_db.specs.Calls.{Counts, IsNotStarved, IsPastLimit, Leaves, Makes};
-ghost use Rattle.hosts_sql.specs.Wrote.{HasTables, HasTables-prop, IsAsKept, IsFresh, IsFresh-prop, MayLeave};
+ghost use Rattle.hosts_statements.specs.Wrote.{HasTables, HasTables-prop, IsAsKept, IsFresh, IsFresh-prop};
 
-use crate::loading::load;
-use crate::statements::{insert_host, make_and_start, set_own};
-use crate::tables::{is_host_schema, is_none};
-use crate::watching::write_watch;
+use crate::calls::{write_acked, write_quota, write_seen, write_unwatch, write_watch};
 use definitions::own_state::next_own_state;
-use hosts_db::{HostRow, HostRows, MyId, Refusals, StoreError, Watch};
+use hosts_db::{HostRow, HostRows, HostStore, MyId, Refusals, StoreError, Watch};
+use hosts_statements::loading::load;
+use hosts_statements::statements::{insert_host, make_and_start, set_own};
+use hosts_statements::tables::{is_host_schema, is_none};
 use sqlite::{Alter, Connection};
 use std::alloc::Global;
 
@@ -79,14 +75,28 @@ impl<S: Alter> SqlHosts<S> {
         })
     }
 
-    /// Takes the next own state, as `HostStore::start`.
-    pub fn start(&mut self) -> Result<u32, StoreError>
-        ensures own { IfOk result (λ own. own ≡ next_own self.old.rows.own) }
-        ensures makes { Makes result self.old.rows self.new.rows (after_store self.old.rows Begin) }
-        ensures counts { Counts result self.old.refusals self.new.refusals }
-        ensures not_starved { IsNotStarved result }
-        ensures crash { Leaves result (MayLeave (state S.Store self.old.conn)) (MayLeave (state S.Store self.new.conn)) (after_store self.old.rows Begin) }
+    /// Gives the connection back, as the last call left it.
+    pub fn into_connection(self) -> Connection<S>
+        ensures { result ≡ self.conn }
     {
+        let SqlHosts { conn, .. } = self;
+        conn
+    }
+}
+
+impl<S: Alter> HostStore for SqlHosts<S> {
+    ghost use Rattle.sqlite.specs.Held.{state};
+    ghost use Rattle.hosts_statements.specs.Wrote.{MayLeave};
+
+    ghost rows = { λ s. s.rows };
+
+    ghost refusals = { λ s. s.refusals };
+
+    ghost may_leave = { λ s. MayLeave (state S.Store s.conn) };
+
+    ghost may_refuse = { λ _ _. Unit {0} };
+
+    fn start(&mut self) -> Result<u32, StoreError> {
         let own = next_own_state(self.rows.own());
         let done = if self.has_tables {
             set_own(&mut self.conn, own)
@@ -103,15 +113,7 @@ impl<S: Alter> SqlHosts<S> {
         Ok(own)
     }
 
-    /// Adds the row of a host that has none, as `HostStore::monitor`.
-    pub fn monitor(&mut self, name: &[u8], seen: i32) -> Result<(), StoreError>
-        requires fits { length name.now ≤ 1024 }
-        requires new { has_row self.old.rows name.now ≡ false }
-        ensures makes { Makes result self.old.rows self.new.rows (after_store self.old.rows (Monitor name.now seen)) }
-        ensures counts { Counts result self.old.refusals self.new.refusals }
-        ensures limit { IsPastLimit result (is_past_limit 4096 1024 self.old.rows (Monitor name.now seen)) }
-        ensures crash { Leaves result (MayLeave (state S.Store self.old.conn)) (MayLeave (state S.Store self.new.conn)) (after_store self.old.rows (Monitor name.now seen)) }
-    {
+    fn monitor(&mut self, name: &[u8], state: i32) -> Result<(), StoreError> {
         if !self.is_started || !self.has_tables || self.rows.is_host_past_limit(name) {
             self.refusals.add();
             return Err(StoreError::StoreRefused);
@@ -120,39 +122,70 @@ impl<S: Alter> SqlHosts<S> {
             return Err(StoreError::Starved);
         };
         let epoch = self.rows.own();
-        if insert_host(&mut self.conn, name, epoch, seen).is_err() {
+        if insert_host(&mut self.conn, name, epoch, state).is_err() {
             self.refusals.add();
             return Err(StoreError::StoreRefused);
         }
-        self.rows.monitor(kept, seen);
+        self.rows.monitor(kept, state);
         Ok(())
     }
 
-    /// Adds a watch that isn't there, and the row of its host where it has none, as `HostStore::watch`.
-    pub fn add_watch(
-        &mut self,
-        mon: &[u8],
-        my_id: &MyId<'_>,
-        private: &[u8; 16],
-    ) -> Result<(), StoreError>
-        requires fits { length mon.now ≤ 1024 }
-        requires new { is_any (is_watch (Some mon.now) my_id.now) self.old.rows.watches ≡ false }
-        ensures makes { Makes result self.old.rows self.new.rows (after_store self.old.rows (Watched mon.now my_id.now private.now)) }
-        ensures counts { Counts result self.old.refusals self.new.refusals }
-        ensures limit { IsPastLimit result (is_past_limit 4096 1024 self.old.rows (Watched mon.now my_id.now private.now)) }
-        ensures crash { Leaves result (MayLeave (state S.Store self.old.conn)) (MayLeave (state S.Store self.new.conn)) (after_store self.old.rows (Watched mon.now my_id.now private.now)) }
-    {
-        if !self.is_started || !self.has_tables || self.rows.is_watch_past_limit(mon, my_id) {
+    fn seen(&mut self, name: &[u8], state: i32) -> Result<(), StoreError> {
+        if !self.is_started || !self.has_tables {
             self.refusals.add();
             return Err(StoreError::StoreRefused);
         }
-        let Ok(name) = Vec::from_slice(self.alloc, mon) else {
+        if write_seen(&mut self.conn, &self.rows, name, state).is_err() {
+            self.refusals.add();
+            return Err(StoreError::StoreRefused);
+        }
+        self.rows.seen(name, state);
+        Ok(())
+    }
+
+    fn acked(&mut self, name: &[u8], epoch: u32) -> Result<(), StoreError> {
+        if !self.is_started || !self.has_tables {
+            self.refusals.add();
+            return Err(StoreError::StoreRefused);
+        }
+        if write_acked(&mut self.conn, &self.rows, name, epoch).is_err() {
+            self.refusals.add();
+            return Err(StoreError::StoreRefused);
+        }
+        self.rows.acked(name, epoch);
+        Ok(())
+    }
+
+    fn quota(&mut self, name: &[u8], runs: u32) -> Result<(), StoreError> {
+        if !self.is_started || !self.has_tables {
+            self.refusals.add();
+            return Err(StoreError::StoreRefused);
+        }
+        if write_quota(&mut self.conn, &self.rows, name, runs).is_err() {
+            self.refusals.add();
+            return Err(StoreError::StoreRefused);
+        }
+        self.rows.quota(name, runs);
+        Ok(())
+    }
+
+    fn watch(
+        &mut self,
+        mon_name: &[u8],
+        my_id: &MyId<'_>,
+        private_bytes: &[u8; 16],
+    ) -> Result<(), StoreError> {
+        if !self.is_started || !self.has_tables || self.rows.is_watch_past_limit(mon_name, my_id) {
+            self.refusals.add();
+            return Err(StoreError::StoreRefused);
+        }
+        let Ok(name) = Vec::from_slice(self.alloc, mon_name) else {
             return Err(StoreError::Starved);
         };
-        let Ok(watch) = Watch::new(self.alloc, mon, my_id, private) else {
+        let Ok(watch) = Watch::new(self.alloc, mon_name, my_id, private_bytes) else {
             return Err(StoreError::Starved);
         };
-        if write_watch(&mut self.conn, &self.rows, mon, my_id, private).is_err() {
+        if write_watch(&mut self.conn, &self.rows, mon_name, my_id, private_bytes).is_err() {
             self.refusals.add();
             return Err(StoreError::StoreRefused);
         }
@@ -160,37 +193,32 @@ impl<S: Alter> SqlHosts<S> {
         Ok(())
     }
 
-    pub fn own(&self) -> u32
-        ensures { result ≡ self.now.rows.own }
-    {
+    fn unwatch(&mut self, mon_name: Option<&[u8]>, my_id: &MyId<'_>) -> Result<(), StoreError> {
+        if !self.is_started || !self.has_tables {
+            self.refusals.add();
+            return Err(StoreError::StoreRefused);
+        }
+        if write_unwatch(&mut self.conn, mon_name, my_id).is_err() {
+            self.refusals.add();
+            return Err(StoreError::StoreRefused);
+        }
+        self.rows.unwatch(mon_name, my_id);
+        Ok(())
+    }
+
+    fn own(&self) -> u32 {
         self.rows.own()
     }
 
-    /// The rows in order of name.
-    pub fn hosts(&self) -> &[HostRow]
-        ensures { result.now ≡ self.now.rows.rows }
-    {
+    fn hosts(&self) -> &[HostRow] {
         self.rows.hosts()
     }
 
-    /// The row of this name.
-    pub fn host(&self, name: &[u8]) -> Option<&HostRow>
-        ensures { is_some result ≡ has_row self.now.rows name.now }
-    {
+    fn host(&self, name: &[u8]) -> Option<&HostRow> {
         self.rows.host(name)
     }
 
-    /// Whether this watcher watches this host.
-    pub fn has_watch(&self, mon: &[u8], my_id: &MyId<'_>) -> bool
-        ensures { result ≡ is_any (is_watch (Some mon.now) my_id.now) self.now.rows.watches }
-    {
-        self.rows.has_watch(mon, my_id)
-    }
-
-    /// The watches in order of key.
-    pub fn watches(&self) -> &[Watch]
-        ensures { result.now ≡ self.now.rows.watches }
-    {
+    fn watches(&self) -> &[Watch] {
         self.rows.watches()
     }
 }

@@ -1,0 +1,73 @@
+use Rattle.std.proofs.Common.{◌<◌, ◌∙◌, ◌||◌, true, false, arith, length, sym, ap, subst, get_or}
+use Rattle.std.specs.Prelude.{IsSome}
+use Rattle.std.proofs.lemmas.List.{length-set}
+use Rattle.definitions.specs.Conflict.{conflicts_with}
+use Rattle.owner_ids.specs.Names.{named}
+use Rattle.range_table.specs.declared.run.Run.{Run}
+use Rattle.blocked_list.specs.Reach.{leads}
+use Rattle.blocked_list.specs.Waiting.{Taken, owner_at, request_by, waiter_by, waiters_by}
+use Rattle.blocked_list.proofs.Waits.{named_is, same_request_by}
+use Rattle.blocked_list.proofs.Following.{begins, follows, closes, opens, fewer_left, at_there, used_at, within_waiters}
+use Rattle.blocked_list.proofs.slots.Slots.comes_back.Goals as goal
+
+pub loop-place-init : goal.loop-place-init
+loop-place-init g c = record {
+  wide = c.reach.array_long;
+  long = c.told-followed;
+  searched = λ settings h known asker.
+      begins settings (waiters_by (named c.args.owners.now) c.args.self.now.waiters) (request_by (named c.args.owners.now) c.args.wanted.now) c.reach.new.reached c.args.followed.now
+      (λ k x at. c.reach.ensures settings h known asker k x at ∙ ap (λ b. b || leads settings (request_by (named c.args.owners.now) c.args.wanted.now) x) (c.requires.nobody k))
+      (λ k x at. c.requires.nowhere k);
+}
+
+pub loop-place-smaller : goal.loop-place-smaller
+loop-place-smaller g c =
+    let some = c.in-Some.ensures.some in
+    let within : c.in-Some.place < length c.loop-place.followed = (let l = c.loop-place.invariant.long in let p = some.0 in let e = c.len.ensures in let ok = c.self.inside.waiters.ok.0 in let i = c.self.invariant.0 in omega arith) in
+    fewer_left c.loop-place.followed c.in-Some.place within some.2
+
+pub returns-then-conflicts_with : goal.returns-then-conflicts_with
+returns-then-conflicts_with g c = λ settings h known asker step.
+    let names = named c.args.owners.now in
+    let xs = waiters_by (named c.args.owners.now) c.args.self.now.waiters in
+    let r = request_by (named c.args.owners.now) c.args.wanted.now in
+    let w = c.index.result.now in
+    let at = c.index.ensures ∙ ap (λ (s : Taken). get_or s.waiters c.in-Some.place c.index.result.now) c.self.view_is in
+    let some = c.in-Some.ensures.some in
+    let below : c.in-Some.place < length c.args.self.now.waiters = (let p = some.0 in let e = c.len.ensures in let ok = c.self.inside.waiters.ok.0 in let n = ap (λ (s : Taken). length s.waiters) c.self.view_is in omega arith) in
+    let there = at_there names c.args.self.now.waiters c.in-Some.place w at below in
+    let used = used_at names c.args.self.now.waiters c.in-Some.place w at below known.named in
+    let next = c.wanted-next.ensures.wanted in
+    let next_used = subst (λ (q : Run). IsSome (named c.args.owners.now q.owner)) (sym next) used in
+    let told = c.conflicts_with.ensures settings (request_by names c.wanted-next.result.now) (owner_at names c.args.wanted.now.owner) h (same_request_by names c.wanted-next.result.now next_used) (named_is names c.args.wanted.now.owner asker) ∙ ap (λ (q : Run). conflicts_with settings (request_by names q) (owner_at names c.args.wanted.now.owner)) next in
+    let searched = c.loop-place.invariant.searched settings h known asker in
+    sym (closes settings xs r c.loop-place.reached c.loop-place.followed c.in-Some.place (waiter_by names w) searched there some.1 step (sym told ∙ c.if-conflicts_with.true))
+
+pub loop-place-preserved : goal.loop-place-preserved
+loop-place-preserved g c = record {
+  wide = c.reach-in-Some.array_long;
+  long = length-set c.loop-place.followed c.in-Some.place true ∙ c.loop-place.invariant.long;
+  searched = λ settings h known asker.
+      let names = named c.args.owners.now in
+      let xs = waiters_by (named c.args.owners.now) c.args.self.now.waiters in
+      let r = request_by (named c.args.owners.now) c.args.wanted.now in
+      let w = c.index.result.now in
+      let at = c.index.ensures ∙ ap (λ (s : Taken). get_or s.waiters c.in-Some.place c.index.result.now) c.self.view_is in
+      let some = c.in-Some.ensures.some in
+      let below : c.in-Some.place < length c.args.self.now.waiters = (let p = some.0 in let e = c.len.ensures in let ok = c.self.inside.waiters.ok.0 in let n = ap (λ (s : Taken). length s.waiters) c.self.view_is in omega arith) in
+      let there = at_there names c.args.self.now.waiters c.in-Some.place w at below in
+      let used = used_at names c.args.self.now.waiters c.in-Some.place w at below known.named in
+      let next = c.wanted-next.ensures.wanted in
+      let next_used = subst (λ (q : Run). IsSome (named c.args.owners.now q.owner)) (sym next) used in
+      let told = c.conflicts_with.ensures settings (request_by names c.wanted-next.result.now) (owner_at names c.args.wanted.now.owner) h (same_request_by names c.wanted-next.result.now next_used) (named_is names c.args.wanted.now.owner asker) ∙ ap (λ (q : Run). conflicts_with settings (request_by names q) (owner_at names c.args.wanted.now.owner)) next in
+      let searched = c.loop-place.invariant.searched settings h known asker in
+      let within : c.in-Some.place < length c.loop-place.followed = (let l = c.loop-place.invariant.long in let p = some.0 in let e = c.len.ensures in let ok = c.self.inside.waiters.ok.0 in let i = c.self.invariant.0 in omega arith) in
+      follows settings xs r c.loop-place.reached c.loop-place.followed c.reach-in-Some.new.reached c.in-Some.place (waiter_by names w) searched there some.1 within (sym told ∙ c.if-conflicts_with.false)
+      (λ k y stands. c.reach-in-Some.ensures settings h known next_used k y stands ∙ ap (λ (q : Run). get_or c.loop-place.reached k false || leads settings (request_by names q) y) next);
+}
+
+pub returns : goal.returns
+returns g c = λ settings h known asker step.
+    let names = named c.args.owners.now in
+    opens settings (waiters_by names c.args.self.now.waiters) (request_by names c.args.wanted.now) c.loop-place.reached c.loop-place.followed (c.loop-place.invariant.searched settings h known asker)
+    (λ k x at. (let there = within_waiters names c.args.self.now.waiters k x at in let below : k < c.len.result = (let e = c.len.ensures in let ok = c.self.inside.waiters.ok.0 in let n = ap (λ (s : Taken). length s.waiters) c.self.view_is in omega (arith, there)) in c.in_default.ensures.none k below))

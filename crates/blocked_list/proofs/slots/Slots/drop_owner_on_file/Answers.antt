@@ -1,0 +1,34 @@
+use Rattle.std.proofs.Common.{rules, not, ◌≡◌, ◌≤◌, List, length, arith, ◌&&◌, ◌==◌, ap, subst, sym, ◌∙◌}
+use Rattle.std.proofs.lemmas.Fn.{filter_same}
+use Rattle.definitions.specs.Bytes.{same_bytes}
+use Rattle.definitions.specs.Owners.{same_owner}
+use Rattle.definitions.specs.Waits.{Waiter}
+use Rattle.blocked_list.specs.Waiting.{Waiting, AreNamed, owner_at, waiter_by, waiters_by}
+use Rattle.std.specs.List.{filter}
+use Rattle.blocked_list.specs.ByFile.{IsIndex, file_at}
+use Rattle.blocked_list.proofs.Parts.{kept_as_many}
+use Rattle.blocked_list.proofs.Waits.{without_agrees, owner_on_agrees, named_filter}
+use Rattle.blocked_list.proofs.slots.Slots.drop_owner_on_file.Goals as goal
+
+pub returns-clause-by : goal.returns-clause-by
+returns-clause-by c =
+    let test = λ (w : Waiting). same_bytes w.wanted.file c.args.file.now && (w.wanted.owner == c.args.owner) in
+    rw (← c.self.view_is) (λ names known k.
+    ap (waiters_by names) (filter_same _ (λ (w : Waiting). not (test w)) _ (λ x b f' k. search rules) _ _ c.retain.ensures.filtered)
+    ∙ without_agrees (waiter_by names) test (λ (x : Waiter). same_bytes x.request.file c.args.file.now && same_owner x.request.owner (owner_at names c.args.owner)) c.self.inside.waiters.items (owner_on_agrees names known.distinct c.args.file.now c.args.owner k c.self.inside.waiters.items known.named))
+
+pub returns-clause-named : goal.returns-clause-named
+returns-clause-named c =
+    let test = λ (w : Waiting). same_bytes w.wanted.file c.args.file.now && (w.wanted.owner == c.args.owner) in
+    rw (← c.self.view_is) (λ names h.
+    subst (AreNamed names) (sym (filter_same _ (λ (w : Waiting). not (test w)) _ (λ x b f' k. search rules) _ _ c.retain.ensures.filtered)) (named_filter names (λ (w : Waiting). not (test w)) c.self.inside.waiters.items h))
+
+pub renew_after-requires-clause-same : goal.renew_after-requires-clause-same
+renew_after-requires-clause-same c = λ few.
+    let ws = c.self.inside.waiters.items in
+    let t = λ (w : Waiting). not (same_bytes w.wanted.file c.args.file.now && (w.wanted.owner == c.args.owner)) in
+    let kept : c.retain.new.self.items ≡ filter t ws = filter_same _ t _ (λ x b f' k. search rules) _ _ c.retain.ensures.filtered in
+    let at : c.deref.result.now ≡ filter t ws = c.deref.ensures.value ∙ kept in
+    let long : length ws ≤ length (filter t ws) = (let e = c.len-before.ensures in let ok = c.self.inside.waiters.ok.0 in let l = ap length at in omega arith) in
+    let whole : c.deref.result.now ≡ ws = at ∙ kept_as_many t ws long in
+    subst (λ (vs : List Waiting). IsIndex (file_at vs) (length vs) c.self.inside.by_file) (sym whole) c.self.invariant.2

@@ -1,0 +1,12 @@
+use Rattle.std.proofs.Common.{◌≡◌, false, List, take}
+use Rattle.definitions.specs.Bytes.{is_any}
+use Rattle.definitions.specs.Settings.{Setting}
+use Rattle.definitions.specs.World.{is_ready, the_limits}
+use Rattle.owner_ids.specs.Names.{named}
+use Rattle.owner_ranges.specs.Stands.{Stands}
+use Rattle.range_table.specs.Settings.{mode_at}
+use Rattle.blocked_list.specs.Waiting.{AreKnown, waiters_by}
+use Rattle.blocked_list.proofs.slots.Slots.next_grantable.Given as goal
+
+abbrev pub invariant-loop-place : goal.invariant-loop-place
+invariant-loop-place g l = (settings : List Setting) → Stands (named l.owners) (mode_at (g.T.RangeTable.settings l.table)) settings → AreKnown (named l.owners) l.self.waiters → is_any (is_ready the_limits settings) (take l.place (waiters_by (named l.owners) l.self.waiters)) ≡ false

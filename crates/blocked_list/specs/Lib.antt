@@ -1,0 +1,5 @@
+pub mod First
+pub mod Waiting
+pub mod Ready
+pub mod Reach
+pub mod ByFile

@@ -1,0 +1,27 @@
+-- Who can be granted, among those who wait for one file, and among the others.
+use Rattle.std.specs.Prelude.{◌≡◌, Bool, false, not, ◌&&◌, List, [], ◌∷◌, ◌++◌}
+use Rattle.definitions.specs.Bytes.{Bytes, same_bytes, is_any}
+use Rattle.definitions.specs.Owners.{Owner}
+use Rattle.definitions.specs.Settings.{Setting, without_owner_on}
+use Rattle.definitions.specs.Starts.{is_short}
+use Rattle.definitions.specs.Moves.{AreRanges}
+use Rattle.definitions.specs.Waits.{Waiter}
+use Rattle.definitions.specs.World.{is_ready, the_limits}
+
+-- can be granted, and waits for this file
+abbrev pub is_ready_on : Bytes → List Setting → Waiter → Bool
+is_ready_on file settings x = same_bytes x.request.file file && is_ready the_limits settings x
+
+-- can be granted, but waits for another file
+abbrev pub is_ready_off : Bytes → List Setting → Waiter → Bool
+is_ready_off file settings x = not (same_bytes x.request.file file) && is_ready the_limits settings x
+
+-- where nobody is ready and 2 runs are free, a setting lets only those wait no longer who wait for its file
+abbrev pub SettingFreesLaw : Type 0
+SettingFreesLaw =
+    (settings : List Setting) (s : Setting) (waiters : List Waiter) → AreRanges waiters → is_short 65536 settings ≡ false → is_any (is_ready the_limits settings) waiters ≡ false → is_any (is_ready_off s.file (settings ++ s ∷ [])) waiters ≡ false
+
+-- and so does a drop of an owner on a file
+abbrev pub CloseFreesLaw : Type 0
+CloseFreesLaw =
+    (settings : List Setting) (file : Bytes) (owner : Owner) (waiters : List Waiter) → AreRanges waiters → is_short 65536 settings ≡ false → is_any (is_ready the_limits settings) waiters ≡ false → is_any (is_ready_off file (without_owner_on file owner settings)) waiters ≡ false

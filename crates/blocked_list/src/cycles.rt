@@ -1,0 +1,176 @@
+//! Who would wait for whom in a circle.
+ghost use Rattle.std.specs.Prelude.{◌≡◌, ◌<◌, ◌≤◌, ◌+◌, ◌-◌, ◌^◌, ◌||◌, ◌↔◌, ℕ, List, not, true, false, Some, IsSome, IfSome, IfNone, length, slice_get, slice_index_or};
+ghost use Rattle.definitions.specs.Owners.{is_description};
+ghost use Rattle.definitions.specs.Settings.{Setting as OwnerSetting};
+ghost use Rattle.definitions.specs.Waits.{Waiter as OwnerWaiter, closes_cycle};
+ghost use Rattle.owner_ids.specs.Names.{named};
+ghost use Rattle.owner_ranges.specs.Stands.{Stands};
+ghost use Rattle.range_table.specs.Settings.{mode_at};
+ghost use Rattle.blocked_list.specs.Reach.{leads};
+ghost use Rattle.blocked_list.specs.Waiting.{AreKnown, owner_at, request_by, waiters_by};
+
+use crate::slots::Slots;
+use owner_ids::{OwnerId, Owners};
+use range_table::{RangeTable, Run};
+use thiserror::Error;
+
+/// Why one may not wait.
+#[derive(Clone, Copy, Debug, PartialEq, Eq, Error)]
+pub enum BlockError {
+    /// Waiting would close a cycle of waits back to the one who asks (POSIX fcntl, EDEADLK).
+    #[error("18 Deadlock")]
+    Deadlock,
+    /// No place is free.
+    #[error("16 NoSlots")]
+    NoSlots,
+}
+
+impl Slots {
+    /// Whether one may wait for this lock, while so many of the free places are spoken for. `Deadlock` comes before
+    /// `NoSlots`.
+    pub fn may_block<T: RangeTable>(
+        &self,
+        table: &T,
+        owners: &Owners,
+        wanted: &Run,
+        spoken_for: usize,
+    ) -> Result<(), BlockError>
+        requires ordered { wanted.now.first ≤ wanted.now.last }
+        requires inside { wanted.now.last < 2 ^ 63 }
+        ensures deadlock { (settings : List OwnerSetting) → Stands (named owners.now) (mode_at (T.settings table.now)) settings → AreKnown (named owners.now) self.now.waiters → IsSome (named owners.now wanted.now.owner) → (result ≡ Err BlockError.Deadlock) ↔ (closes_cycle settings (waiters_by (named owners.now) self.now.waiters) (request_by (named owners.now) wanted.now) ≡ true) }
+        ensures no_slots { (settings : List OwnerSetting) → Stands (named owners.now) (mode_at (T.settings table.now)) settings → AreKnown (named owners.now) self.now.waiters → IsSome (named owners.now wanted.now.owner) → (result ≡ Err BlockError.NoSlots) ↔ ((closes_cycle settings (waiters_by (named owners.now) self.now.waiters) (request_by (named owners.now) wanted.now) ≡ false) × (8192 - (length self.now.waiters + self.now.calls) ≤ spoken_for)) }
+    {
+        if self.closes_cycle(table, owners, wanted) {
+            return Err(BlockError::Deadlock);
+        }
+        if self.free() <= spoken_for {
+            return Err(BlockError::NoSlots);
+        }
+        Ok(())
+    }
+
+    /// Whether one who waited for this lock would wait, directly or through others, for itself. Open file descriptions
+    /// are neither askers nor steps of a cycle.
+    pub fn closes_cycle<T: RangeTable>(&self, table: &T, owners: &Owners, wanted: &Run) -> bool
+        requires ordered { wanted.now.first ≤ wanted.now.last }
+        requires inside { wanted.now.last < 2 ^ 63 }
+        ensures { (settings : List OwnerSetting) → Stands (named owners.now) (mode_at (T.settings table.now)) settings → AreKnown (named owners.now) self.now.waiters → IsSome (named owners.now wanted.now.owner) → result ≡ closes_cycle settings (waiters_by (named owners.now) self.now.waiters) (request_by (named owners.now) wanted.now) }
+    {
+        if !is_step(owners, wanted.owner) {
+            return false;
+        }
+        let mut reached = unmarked();
+        let mut followed = unmarked();
+        self.comes_back(table, owners, wanted, &mut reached, &mut followed)
+    }
+
+    // Whether somebody whom this lock makes wait for, directly or through others, waits for its owner. Each who was reached
+    // is followed once.
+    fn comes_back<T: RangeTable>(
+        &self,
+        table: &T,
+        owners: &Owners,
+        wanted: &Run,
+        reached: &mut [bool; 8192],
+        followed: &mut [bool; 8192],
+    ) -> bool
+        requires ordered { wanted.now.first ≤ wanted.now.last }
+        requires inside { wanted.now.last < 2 ^ 63 }
+        requires nobody { (k : ℕ) → slice_index_or reached.old k false ≡ false }
+        requires nowhere { (k : ℕ) → slice_index_or followed.old k false ≡ false }
+        ensures { (settings : List OwnerSetting) → Stands (named owners.now) (mode_at (T.settings table.now)) settings → AreKnown (named owners.now) self.now.waiters → IsSome (named owners.now wanted.now.owner) → is_description (owner_at (named owners.now) wanted.now.owner) ≡ false → result ≡ closes_cycle settings (waiters_by (named owners.now) self.now.waiters) (request_by (named owners.now) wanted.now) }
+    {
+        self.reach(table, owners, wanted, reached);
+        while let Some(place) = pending(reached, followed, self.waiters.len()) {
+            followed[place] = true;
+            let next = self.waiters[place].wanted();
+            if owner_ranges::conflicts_with(table, owners, next, wanted.owner) {
+                return true;
+            }
+            self.reach(table, owners, next, reached);
+        }
+        false
+    }
+
+    // Marks the waiters whose modes keep this lock out, but for descriptions.
+    fn reach<T: RangeTable>(
+        &self,
+        table: &T,
+        owners: &Owners,
+        wanted: &Run,
+        reached: &mut [bool; 8192],
+    )
+        requires ordered { wanted.now.first ≤ wanted.now.last }
+        requires inside { wanted.now.last < 2 ^ 63 }
+        ensures { (settings : List OwnerSetting) → Stands (named owners.now) (mode_at (T.settings table.now)) settings → AreKnown (named owners.now) self.now.waiters → IsSome (named owners.now wanted.now.owner) → (k : ℕ) (x : OwnerWaiter) → slice_get (waiters_by (named owners.now) self.now.waiters) k ≡ Some x → slice_index_or reached.new k false ≡ (slice_index_or reached.old k false || leads settings (request_by (named owners.now) wanted.now) x) }
+    {
+        for place in 0..self.waiters.len() {
+            reached[place] = self.is_reached(table, owners, wanted, place, reached[place]);
+        }
+    }
+
+    // Whether the waiter at this place was reached before, or is now.
+    fn is_reached<T: RangeTable>(
+        &self,
+        table: &T,
+        owners: &Owners,
+        wanted: &Run,
+        place: usize,
+        before: bool,
+    ) -> bool
+        requires there { place < length self.now.waiters }
+        requires ordered { wanted.now.first ≤ wanted.now.last }
+        requires inside { wanted.now.last < 2 ^ 63 }
+        ensures { (settings : List OwnerSetting) → Stands (named owners.now) (mode_at (T.settings table.now)) settings → AreKnown (named owners.now) self.now.waiters → IsSome (named owners.now wanted.now.owner) → (x : OwnerWaiter) → slice_get (waiters_by (named owners.now) self.now.waiters) place ≡ Some x → result ≡ (before || leads settings (request_by (named owners.now) wanted.now) x) }
+    {
+        before || self.leads_to(table, owners, wanted, place)
+    }
+
+    // Whether the waiter at this place is no description, and its modes keep this lock out.
+    fn leads_to<T: RangeTable>(
+        &self,
+        table: &T,
+        owners: &Owners,
+        wanted: &Run,
+        place: usize,
+    ) -> bool
+        requires there { place < length self.now.waiters }
+        requires ordered { wanted.now.first ≤ wanted.now.last }
+        requires inside { wanted.now.last < 2 ^ 63 }
+        ensures { (settings : List OwnerSetting) → Stands (named owners.now) (mode_at (T.settings table.now)) settings → AreKnown (named owners.now) self.now.waiters → IsSome (named owners.now wanted.now.owner) → (x : OwnerWaiter) → slice_get (waiters_by (named owners.now) self.now.waiters) place ≡ Some x → result ≡ leads settings (request_by (named owners.now) wanted.now) x }
+    {
+        let owner = self.waiters[place].wanted().owner;
+        is_step(owners, owner) && owner_ranges::conflicts_with(table, owners, wanted, owner)
+    }
+}
+
+// Whether the owner can be a step of a cycle: an open file description can't.
+fn is_step(owners: &Owners, owner: OwnerId) -> bool
+    ensures { IsSome (named owners.now owner) → result ≡ not (is_description (owner_at (named owners.now) owner)) }
+{
+    match owners.find(owner) {
+        Some(found) => !found.is_description(),
+        None => true,
+    }
+}
+
+// The first of so many places that was reached and not followed.
+fn pending(reached: &[bool; 8192], followed: &[bool; 8192], count: usize) -> Option<usize>
+    requires { count ≤ 8192 }
+    ensures some { IfSome result (λ place. (place < count) × (slice_index_or reached.now place false ≡ true) × (slice_index_or followed.now place false ≡ false)) }
+    ensures none { IfNone result ((k : ℕ) → k < count → slice_index_or reached.now k false ≡ true → slice_index_or followed.now k false ≡ true) }
+{
+    for place in 0..count {
+        if reached[place] && !followed[place] {
+            return Some(place);
+        }
+    }
+    None
+}
+
+// A mark for each place, and none is made.
+fn unmarked() -> [bool; 8192]
+    ensures { (k : ℕ) → slice_index_or result k false ≡ false }
+{
+    [false; 8192]
+}

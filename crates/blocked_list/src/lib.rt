@@ -1,0 +1,17 @@
+//! Who waits for a lock, and how many places waiters and the server's own calls take together (XNFS, NLM_LOCK with
+//! `block`; POSIX fcntl, F_SETLKW and EDEADLK).
+#![tactic(auto)]
+
+mod by_file;
+mod cycles;
+mod grants;
+pub mod laws;
+mod slots;
+#[cfg(test)]
+mod tests;
+mod waiter;
+
+pub use cycles::BlockError;
+pub use owner_ids::Starved;
+pub use slots::{MOST_SLOTS, NoSlots, NotWaiting, Slots};
+pub use waiter::Waiter;

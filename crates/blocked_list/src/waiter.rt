@@ -1,0 +1,92 @@
+//! One who waits.
+ghost use Rattle.std.specs.Prelude.{◌≡◌, ◌<◌, ◌≤◌, ◌^◌, ◌==◌, ◌&&◌, not, List, IsSome};
+ghost use Rattle.definitions.specs.Bytes.{same_bytes};
+ghost use Rattle.definitions.specs.Settings.{Setting as OwnerSetting};
+ghost use Rattle.definitions.specs.Conflict.{conflicts};
+ghost use Rattle.owner_ids.specs.Names.{named};
+ghost use Rattle.owner_ranges.specs.Stands.{Stands};
+ghost use Rattle.range_table.specs.Settings.{mode_at};
+ghost use Rattle.blocked_list.specs.Waiting.{request_by, same_wanted};
+
+use letters::Letter;
+use owner_ids::Owners;
+use range_table::{FileId, RangeTable, Run};
+use std::marker::Model;
+
+/// The lock that somebody waits for, whom the tables know by number, and the call that tells of it once it is granted.
+#[derive(Drop)]
+pub struct Waiter {
+    wanted: Run,
+    letter: Letter,
+}
+
+impl Model for Waiter {
+    ghost use Rattle.std.specs.Prelude.{◌≤◌, ◌<◌, ◌^◌};
+    ghost use Rattle.blocked_list.specs.Waiting.{Waiting};
+
+    ghost Value = { Waiting };
+
+    ghost view = { λ w. record { wanted = w.wanted; letter = w.letter } };
+
+    ghost invariant = { λ w. (w.wanted.first ≤ w.wanted.last) × (w.wanted.last < 2 ^ 63) };
+}
+
+impl Waiter {
+    /// A waiter for this lock, from copies that the caller made.
+    pub fn new(wanted: Run, letter: Letter) -> Waiter
+        requires ordered { wanted.first ≤ wanted.last }
+        requires inside { wanted.last < 2 ^ 63 }
+        ensures { result ≡ record { wanted = wanted; letter = letter } }
+    {
+        Waiter { wanted, letter }
+    }
+
+    /// The lock that is wanted. Its owner's number is in use as long as it waits.
+    pub fn wanted(&self) -> &Run
+        ensures wanted { result.now ≡ self.now.wanted }
+        ensures ordered { result.now.first ≤ result.now.last }
+        ensures inside { result.now.last < 2 ^ 63 }
+    {
+        &self.wanted
+    }
+
+    /// What tells of the grant, and whom.
+    pub fn letter(&self) -> &Letter
+        ensures { result.now ≡ self.now.letter }
+    {
+        &self.letter
+    }
+
+    /// Gives the letter up.
+    pub fn into_letter(self) -> Letter
+        ensures { result ≡ self.letter }
+    {
+        self.letter
+    }
+
+    // Whether it waits for this lock: of one owner, file, range and mode.
+    #[tactic(auto, using(crate::proofs::Waits::modes_same, owner_ranges::proofs::Words::file_same))]
+    pub(crate) fn is_for(&self, wanted: &Run) -> bool
+        ensures { result ≡ same_wanted self.now.wanted wanted.now }
+    {
+        self.wanted.file.is_same(&wanted.file)
+            && self.wanted.owner == wanted.owner
+            && self.wanted.first == wanted.first
+            && self.wanted.last == wanted.last
+            && self.wanted.mode.is_same(wanted.mode)
+    }
+
+    #[tactic(auto, using(owner_ranges::proofs::Words::file_same))]
+    pub(crate) fn is_on(&self, file: &FileId) -> bool
+        ensures { result ≡ same_bytes self.now.wanted.file file.now }
+    {
+        self.wanted.file.is_same(file)
+    }
+
+    // Whether nobody is in the way.
+    pub(crate) fn is_free<T: RangeTable>(&self, table: &T, owners: &Owners) -> bool
+        ensures { (settings : List OwnerSetting) → Stands (named owners.now) (mode_at (T.settings table.now)) settings → IsSome (named owners.now self.now.wanted.owner) → result ≡ not (conflicts settings (request_by (named owners.now) self.now.wanted)) }
+    {
+        !owner_ranges::conflicts(table, owners, &self.wanted)
+    }
+}

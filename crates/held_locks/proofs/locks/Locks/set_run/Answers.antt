@@ -1,0 +1,43 @@
+use Rattle.std.proofs.Common.{◌≡◌, ℕ, Some, sym, subst, true, false, refl, List, Option}
+use Rattle.definitions.specs.Owners.{Owner}
+use Rattle.owner_ids.specs.Names.{named}
+use Rattle.range_table.specs.Settings.{mode_at}
+use Rattle.range_table.specs.declared.run.Run.{Run}
+use Rattle.owner_ranges.proofs.Counting.{refusal_over}
+use Rattle.owner_ranges.specs.Same.{IsSameSetting}
+use Rattle.held_locks.specs.Asked.{setting_by}
+use Rattle.held_locks.specs.declared.asked.Change.{Change}
+use Rattle.held_locks.proofs.Ties.{tied_set}
+use Rattle.held_locks.proofs.locks.Locks.set_run.Goals as goal
+
+false_true : {A : Type 0} → false ≡ true → A
+false_true e = cc
+
+same : (names : List (Option Owner)) (r : Run) (x : Owner) → named names r.owner ≡ Some x → IsSameSetting (named names) (record { file = r.file; owner = r.owner; first = r.first; last = r.last; mode = Some r.mode }) (setting_by x r)
+same names r x e = record { file = refl; owner = e; first = refl; last = refl; mode = refl }
+
+pub returns-in_err-set-clause-refused : goal.returns-in_err-set-clause-refused
+returns-in_err-set-clause-refused g c = λ x e.
+    let names = c.self.inside.owners in
+    let r = c.args.wanted.now in
+    let known = subst (λ h. named h.names r.owner ≡ Some x) (sym c.self.view_is) e in
+    let held = mode_at (g.R.RangeTable.settings c.self.inside.table) in
+    let over = refusal_over (named names) held c.self.inside.settings.items (record { file = r.file; owner = r.owner; first = r.first; last = r.last; mode = Some r.mode }) (setting_by x r) c.self.invariant.stands (same names r x known) in
+    rw (← c.self.view_is) ((λ f. over.0 (c.in_err-set.ensures.refused.0 refl)), λ t. c.from_residual.ensures.0)
+
+pub invariant_of-self-2 : goal.invariant_of-self-2
+invariant_of-self-2 g c =
+    let r = c.args.wanted.now in
+    let change : Change = record { file = r.file; owner = c.get.result; first = r.first; last = r.last; mode = Some r.mode } in
+    rw c.after-self-inside.ensures
+    (tied_set (g.R.RangeTable.settings c.self.inside.table) (g.R.RangeTable.settings c.set.new.table) c.self.inside.counts.items c.set.new.counts.items c.self.inside.owners c.self.inside.settings.items r.owner change
+    c.self.invariant c.get.ensures c.in_ok-set.ensures.ok c.in_ok-set.ensures.counted c.in_ok-set.ensures.places)
+
+pub returns-clause-refused : goal.returns-clause-refused
+returns-clause-refused g c = λ x e.
+    let names = c.self.inside.owners in
+    let r = c.args.wanted.now in
+    let known = subst (λ h. named h.names r.owner ≡ Some x) (sym c.self.view_is) e in
+    let held = mode_at (g.R.RangeTable.settings c.self.inside.table) in
+    let over = refusal_over (named names) held c.self.inside.settings.items (record { file = r.file; owner = r.owner; first = r.first; last = r.last; mode = Some r.mode }) (setting_by x r) c.self.invariant.stands (same names r x known) in
+    rw (← c.self.view_is) ((λ f. false_true f), λ t. c.in_ok-set.ensures.refused.1 (over.1 t))

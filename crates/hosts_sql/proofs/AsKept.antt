@@ -1,0 +1,80 @@
+-- What a call's statements make is what the call is to make.
+use Rattle.std.proofs.Common.{◌≡◌, ℕ, ℤ, pos, Bool, true, false, cond, ◌||◌, List, [], ◌∷◌, Option, Some, None, IsTrue, refl, sym, ap, subst, ◌∙◌, arith}
+use Rattle.std.specs.Ordering.{is_eq}
+use Rattle.std.proofs.lemmas.Map.Text.{is_eq-slice_cmp}
+use Rattle.sqlite_trees.specs.Tree.{Trees}
+use Rattle.sqlite.specs.State.{State, HasCleanDisk, Survives}
+use Rattle.sqlite.proofs.StateLemmas.{survives_weaker}
+use Rattle.definitions.specs.Bytes.{Bytes, IsAscending, bytes_cmp, same_bytes, is_any, first_that, put, without}
+use Rattle.definitions.specs.Nsm.{MyId}
+use Rattle.definitions.specs.Hosts.{HostRow, Hosts, row_cmp, watch_cmp, row_of, has_row, after_store, Seen, Acked, Watched}
+use Rattle.hosts_db.specs.Quotas.{after_quota, with_quota}
+use Rattle.hosts_statements.specs.Wrote.{WroteHosts, MayWriteHosts, hosts_in}
+use Rattle.hosts_statements.proofs.Listed.{bytes_exact}
+use Rattle.hosts_statements.proofs.OwnIds.{eq_equal}
+use Rattle.hosts_statements.proofs.Changed.{put_changes, none_changes, seen_is, epoch_is, quota_is}
+
+pub wrote_as : (f g : Hosts → Hosts) (old new : State) → f (hosts_in old) ≡ g (hosts_in old) → WroteHosts f old new → WroteHosts g old new
+wrote_as f g old new same w = record { was_open = w.was_open; is_open = w.is_open; whole = w.whole; rows = w.rows ∙ same }
+
+pub may_as : (f g : Hosts → Hosts) (old : State) (db : Trees) → (IsTrue old.is_open → f (hosts_in old) ≡ g (hosts_in old)) → MayWriteHosts f old db → MayWriteHosts g old db
+may_as f g old db same h = (h.0, h.1 ∙ same h.0)
+
+-- the rows are those in memory
+pub at_kept : (f g : Hosts → Hosts) (old : State) (rows : Hosts) → hosts_in old ≡ rows → f rows ≡ g rows → f (hosts_in old) ≡ g (hosts_in old)
+at_kept f g old rows kept same = ap f kept ∙ same ∙ ap g (sym kept)
+
+module _ (f g : Hosts → Hosts) (old new : State) (rows : Hosts) (kept : HasCleanDisk old → IsTrue old.is_open → hosts_in old ≡ rows) (same : f rows ≡ g rows) where
+  pub kept_wrote : HasCleanDisk old → WroteHosts f old new → WroteHosts g old new
+  kept_wrote clean w = wrote_as f g old new (at_kept f g old rows (kept clean w.was_open) same) w
+
+  pub kept_survives : Survives old new (MayWriteHosts f old) → Survives old new (MayWriteHosts g old)
+  kept_survives s = survives_weaker old new (MayWriteHosts f old) (MayWriteHosts g old) (λ clean db may.
+      may_as f g old db (λ is_open. at_kept f g old rows (kept (omega (arith, s.clean, clean)) is_open) same) may) s
+
+pub watch_of_host : (h : Hosts) (mon : Bytes) (my : MyId) (private : Bytes) → has_row h mon ≡ true
+    → ◌≡◌ {A = Hosts} (record h { watches = put watch_cmp (record { mon_name = mon; my_id = my; private_bytes = private }) h.watches }) (after_store h (Watched mon my private))
+watch_of_host h mon my private there =
+    let other = put row_cmp (record { name = mon; epoch = h.own; seen = pos 0; quota = 65536 }) h.rows in
+    let same : h.rows ≡ cond (has_row h mon) h.rows other = ap (λ b. cond b h.rows other) (sym there) in
+    λ i. record { own = h.own; rows = same i; watches = put watch_cmp (record { mon_name = mon; my_id = my; private_bytes = private }) h.watches }
+
+abbrev is_named : Bytes → HostRow → Bool
+is_named name row = same_bytes row.name name
+
+same_name : (a b : Bytes) → same_bytes a b ≡ true → a ≡ b
+same_name a b e = bytes_exact a b (eq_equal (bytes_cmp a b) (is_eq-slice_cmp a b ∙ e))
+
+some_is : (a b : HostRow) → ◌≡◌ {A = Option HostRow} (Some a) (Some b) → a ≡ b
+some_is a b e = cc
+
+found_name : (name : Bytes) (rows : List HostRow) (row : HostRow) → first_that (is_named name) rows ≡ Some row → row.name ≡ name
+found_name name [] row found = absurd cc
+found_name name (r ∷ rs) row found = go (same_bytes r.name name) refl found (λ more. found_name name rs row more)
+  where
+    go : (b : Bool) → same_bytes r.name name ≡ b → cond b (Some r) (first_that (is_named name) rs) ≡ Some row → (first_that (is_named name) rs ≡ Some row → row.name ≡ name) → row.name ≡ name
+    go true e found more = ap (λ (x : HostRow). x.name) (sym (some_is r row found)) ∙ same_name r.name name e
+    go false e found more = more found
+
+module _ (h : Hosts) (name : Bytes) where
+  pub unseen : (seen : ℤ) → has_row h name ≡ false → ◌≡◌ {A = Hosts} (record h { rows = without (λ (r : HostRow). same_bytes r.name name) h.rows }) (after_store h (Seen name seen))
+  unseen seen none = let both = none_changes name (λ r. record r { seen = seen }) h.rows none in ap (λ rows. record h { rows = rows }) (both.0 ∙ sym both.1 ∙ seen_is name seen h.rows)
+
+  pub unacked : (epoch : ℕ) → has_row h name ≡ false → ◌≡◌ {A = Hosts} (record h { rows = without (λ (r : HostRow). same_bytes r.name name) h.rows }) (after_store h (Acked name epoch))
+  unacked epoch none = let both = none_changes name (λ r. record r { epoch = epoch }) h.rows none in ap (λ rows. record h { rows = rows }) (both.0 ∙ sym both.1 ∙ epoch_is name epoch h.rows)
+
+  pub unset : (runs : ℕ) → has_row h name ≡ false → ◌≡◌ {A = Hosts} (record h { rows = without (λ (r : HostRow). same_bytes r.name name) h.rows }) (after_quota h name runs)
+  unset runs none = let both = none_changes name (λ r. record r { quota = runs }) h.rows none in ap (λ rows. record h { rows = rows }) (both.0 ∙ sym both.1 ∙ quota_is name runs h.rows)
+
+  module _ (rise : IsAscending row_cmp h.rows) (row : HostRow) (is : row_of h name ≡ Some row) where
+    named : row.name ≡ name
+    named = found_name name h.rows row is
+
+    pub seen_at : (seen : ℤ) → ◌≡◌ {A = Hosts} (record h { rows = put row_cmp (record { name = name; epoch = row.epoch; seen = seen; quota = row.quota }) h.rows }) (after_store h (Seen name seen))
+    seen_at seen = ap (λ n. record h { rows = put row_cmp (record { name = n; epoch = row.epoch; seen = seen; quota = row.quota }) h.rows }) (sym named) ∙ ap (λ rows. record h { rows = rows }) (put_changes name (λ r. record r { seen = seen }) (λ r. refl) row h.rows rise is ∙ seen_is name seen h.rows)
+
+    pub acked_at : (epoch : ℕ) → ◌≡◌ {A = Hosts} (record h { rows = put row_cmp (record { name = name; epoch = epoch; seen = row.seen; quota = row.quota }) h.rows }) (after_store h (Acked name epoch))
+    acked_at epoch = ap (λ n. record h { rows = put row_cmp (record { name = n; epoch = epoch; seen = row.seen; quota = row.quota }) h.rows }) (sym named) ∙ ap (λ rows. record h { rows = rows }) (put_changes name (λ r. record r { epoch = epoch }) (λ r. refl) row h.rows rise is ∙ epoch_is name epoch h.rows)
+
+    pub set_at : (runs : ℕ) → ◌≡◌ {A = Hosts} (record h { rows = put row_cmp (record { name = name; epoch = row.epoch; seen = row.seen; quota = runs }) h.rows }) (after_quota h name runs)
+    set_at runs = ap (λ n. record h { rows = put row_cmp (record { name = n; epoch = row.epoch; seen = row.seen; quota = runs }) h.rows }) (sym named) ∙ ap (λ rows. record h { rows = rows }) (put_changes name (λ r. record r { quota = runs }) (λ r. refl) row h.rows rise is ∙ quota_is name runs h.rows)

@@ -1,0 +1,23 @@
+use Rattle.std.proofs.Common.{w32, ◌≡◌, sym, ap, ◌∙◌, arith}
+use Rattle.std.proofs.lemmas.Int.{to_z-of_z}
+use Rattle.std.specs.Option.{option_copied}
+use Rattle.definitions.specs.Hosts.{Hosts, Monitor, Seen, Acked, Watched, Unwatched, after_store}
+use Rattle.hosts_db.specs.Quotas.{after_quota}
+use Rattle.sqlite_trees.specs.Tree.{Trees}
+use Rattle.sqlite.specs.State.{HasCleanDisk}
+use Rattle.sqlite.specs.Held.{state}
+use Rattle.hosts_statements.specs.Maps.{listed}
+use Rattle.hosts_statements.specs.Shown.{shown}
+use Rattle.hosts_statements.specs.Wrote.{WroteHosts}
+use Rattle.hosts_statements.proofs.Permuted.{gave}
+use Rattle.hosts_sql.proofs.store.SqlHostsHostStore.unwatch.Goals as goal
+
+pub returns-clause-crash : goal.returns-clause-crash
+returns-clause-crash g c left may =
+    let old = c.args.self.now.conn in
+    let new = c.write_unwatch.new.conn in
+    let change : Hosts → Hosts = λ h. after_store h (Unwatched (option_copied c.args.mon_name) c.args.my_id.now) in
+    let wrote : WroteHosts change (state g.S.Store old) (state g.S.Store new) = gave c.write_unwatch.result (sym c.is_err.ensures.value ∙ c.if-is_err.false) (c.write_unwatch.ensures.ok may.0) in
+    let same : may.1 ≡ (state g.S.Store new).committed.trees = g.met.S.Store.settled new.store may.1 wrote.is_open may.2 in
+    let early : HasCleanDisk (state g.S.Store old) = omega (arith, may.0, c.write_unwatch.ensures.crash.clean) in
+    sym may.3 ∙ ap (λ (db : Trees). listed (shown db)) same ∙ wrote.rows ∙ ap change (c.args.self.now.kept early wrote.was_open)

@@ -1,0 +1,101 @@
+-- What the statement of `monitor` does to the rows.
+use Rattle.std.proofs.Common.{◌≡◌, ◌⊎◌, inl, inr, ℕ, ℤ, pos, List, [], ◌∷◌, Bool, true, false, cond, not, ◌&&◌, None, Option, Ok, Err, Result, refl, sym, ap, subst, ◌∙◌, arith}
+use Rattle.sqlite_value.specs.declared.value.Value.{Value}
+use Rattle.sqlite_value.specs.declared.value.Value.TheVariants.{Null, Int, Blob}
+use Rattle.sqlite_value.specs.Order.{Row}
+use Rattle.sqlite_sql.specs.Term.{Term, lit, col}
+use Rattle.sqlite_sql.specs.Ops.{unary}
+use Rattle.sqlite_schema.specs.declared.schema.Keys.{Keys}
+use Rattle.sqlite_schema.specs.declared.schema.Kind.TheVariants.{Integer}
+use Rattle.sqlite_schema.specs.declared.command.Source.TheVariants.{Values}
+use Rattle.sqlite_schema.specs.declared.command.Command.TheVariants.{Insert}
+use Rattle.sqlite_trees.specs.Tree.{Trees, put_row}
+use Rattle.sqlite_trees.specs.Objects.{catalog_tree}
+use Rattle.sqlite_rules.specs.Cast.{cast}
+use Rattle.sqlite_rules.specs.Edit.{Edit, edit_of, edited, next_rowid, is_taken, are_fresh, Applies}
+use Rattle.sqlite_rules.specs.declared.error.Rowids.TheVariants.{Chosen}
+use Rattle.sqlite.specs.declared.run.Mode.{Mode}
+use Rattle.sqlite.specs.Does.{Tally, Does}
+use Rattle.sqlite.specs.Rows.{Written}
+use Rattle.sqlite.specs.Effect.{Database}
+use Rattle.sqlite.proofs.Callers.{one_step}
+use Rattle.hosts_statements.specs.Tables.{hosts_table, host_schema}
+use Rattle.hosts_statements.specs.Maps.{Host}
+
+abbrev pub stored : Value → List ℕ → Host → Row
+stored id name host = id ∷ Blob name ∷ Int (pos host.epoch) ∷ Int host.seen ∷ Int (pos host.quota) ∷ []
+
+abbrev pub terms : List Term
+terms = lit Null ∷ col 0 0 ∷ col 0 1 ∷ col 0 2 ∷ col 0 3 ∷ []
+
+abbrev pub params : List ℕ → Host → Row
+params name host = Blob name ∷ Int (pos host.epoch) ∷ Int host.seen ∷ Int (pos host.quota) ∷ []
+
+-- the table has one more row, and the other tables are as they were
+pub record Grown (row : Row) (old new : Trees) : Type 0 where
+  pub rows : new 1 ≡ put_row row (old 1)
+  pub fresh : is_taken (old 1) row ≡ false
+  pub own : new 0 ≡ old 0
+  pub watches : new 3 ≡ old 3
+  pub listed : new catalog_tree ≡ old catalog_tree
+
+either : (b : Bool) (x : Value) → cond b x x ≡ x
+either true x = refl
+either false x = refl
+
+pub cast_null : cast Integer Null ≡ Null
+unfolding unary
+cast_null = either _ Null
+
+pub cast_number : (n : ℤ) → cast Integer (Int n) ≡ Int n
+unfolding unary
+cast_number n = either _ (Int n)
+
+-- a part that gave a value did not stop on the way
+pub went : {B E R : Type 0} {b : B} {Stops : E → Type 0} → ((stop : E) × Stops stop × (Ok b ≡ Err stop)) ⊎ R → R
+went (inl stopped) = absurd (let e = stopped.2 in cc)
+went (inr on) = on
+
+pub same_value : {B E : Type 0} {a b : B} → ◌≡◌ {A = Result B E} (Ok a) (Ok b) → a ≡ b
+same_value e = cc
+
+pub untaken : (b : Bool) → (not b && true) ≡ true → b ≡ false
+untaken true h = absurd cc
+untaken false h = refl
+
+abbrev source : List ℕ → Host → Row
+source name host = Null ∷ params name host
+
+abbrev the_edit : Trees → List ℕ → Host → Edit
+the_edit db name host = edit_of db (hosts_table 1) [] Chosen 0 (source name host ∷ [])
+
+news_is : (db : Trees) (name : List ℕ) (host : Host) → (the_edit db name host).news ≡ stored (Int (next_rowid (db 1))) name host ∷ []
+news_is db name host = rw (cast_null, cast_number (pos host.epoch), cast_number host.seen, cast_number (pos host.quota))
+
+grown : (checks : List Term) (keys : Keys) (db next : Trees) (name : List ℕ) (host : Host) → Applies (host_schema checks) keys db (the_edit db name host) next
+    → Grown (stored (Int (next_rowid (db 1))) name host) db next
+grown checks keys db next name host a =
+    let news = news_is db name host in
+    let row = stored (Int (next_rowid (db 1))) name host in
+    record {
+      rows = a.rows ∙ ap (λ all. edited db (record { table = hosts_table 1; gone = []; news = all })) news;
+      fresh = untaken (is_taken (db 1) row) (subst (λ all. are_fresh (db 1) all ≡ true) news a.fresh);
+      own = a.tables.0 (λ e. omega (arith, e));
+      watches = a.tables.1.1.0 (λ e. omega (arith, e));
+      listed = a.others catalog_tree (λ e. omega (arith, e)) ((λ e. omega (arith, e)), ((λ e. omega (arith, e)), tt));
+    }
+
+pub does_monitor : (limit : Option ℕ) (mode : Mode) (checks : List Term) (name : List ℕ) (host : Host) (db : Trees) (text : List ℕ) (tally : Tally) (after : Database)
+    → Does limit mode (params name host) (record { schema = host_schema checks; trees = db }) text None (Insert 1 (Values terms 5)) (Ok (tally, after))
+    → (after.schema ≡ host_schema checks) × Grown (stored (Int (next_rowid (db 1))) name host) db after.trees
+does_monitor limit mode checks name host db text tally after h =
+    let done = went h in
+    let now = ap (λ (p : Tally × Database). p.1) (same_value (went (went done.2).2).2) in
+    let given = went done.1 in
+    let written = went (went given.2).2 in
+    let counted = went written.2 in
+    let trees : done.0.trees ≡ written.0 = ap (λ (it : Written). it.trees) (same_value counted.2) ∙ same_value counted.1 in
+    let applied = one_step (host_schema checks) _ db written.0 (edit_of db (hosts_table 1) [] Chosen 0 given.0) refl written.1 in
+    let same : after.trees ≡ written.0 = ap (λ (d : Database). d.trees) now ∙ trees in
+    let exact = subst (λ all. Applies (host_schema checks) mode.keys db (edit_of db (hosts_table 1) [] Chosen 0 all) written.0) given.1.1 applied in
+    (ap (λ (d : Database). d.schema) now, subst (Grown (stored (Int (next_rowid (db 1))) name host) db) (sym same) (grown checks mode.keys db written.0 name host exact))

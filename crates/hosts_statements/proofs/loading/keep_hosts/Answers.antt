@@ -1,0 +1,46 @@
+use Rattle.std.proofs.Common.{◌≡◌, ◌≤◌, [], false, length, map, refl, sym, ap, subst, ◌∙◌, rules}
+use Rattle.std.specs.FinMap.{FinMap, entries, empty, insert}
+use Rattle.std.specs.Cmp.Lexicographic.{nat_list_cmp_total}
+use Rattle.definitions.specs.Bytes.{bytes_cmp, put}
+use Rattle.definitions.specs.Hosts.{Hosts, HostRow, row_cmp, has_row}
+use Rattle.hosts_statements.specs.Maps.{Host, host_row}
+use Rattle.hosts_statements.specs.Shown.{host_of}
+use Rattle.hosts_statements.specs.Reading.{KeepsAll}
+use Rattle.hosts_statements.proofs.Lists.{past_end, next_item}
+use Rattle.hosts_statements.proofs.Listed.{bytes_exact, no_host, host_put, none_kept}
+use Rattle.hosts_statements.proofs.Permuted.{keeps_rows}
+use Rattle.hosts_statements.proofs.loading.keep_hosts.Goals as goal
+
+pub loop-at-init : goal.loop-at-init
+loop-at-init c =
+    let start : map host_row (entries (empty {R = bytes_cmp})) ≡ [] = none_kept bytes_cmp host_row in
+    (empty, ap (λ rows. record c.args.kept.now { rows = rows }) (c.requires ∙ sym start), λ after h. h)
+
+pub loop-at-preserved : goal.loop-at-preserved
+loop-at-preserved c =
+    let m = c.loop-at.invariant.0 in
+    let kept = c.loop-at.invariant.1 in
+    let row = c.index-rows-at.result in
+    let e = host_of row in
+    let is : c.in_ok-host.host ≡ host_row e = c.in_ok-host.ensures in
+    let has = rw c.name.ensures.value at (sym c.has_host.ensures ∙ c.if-has_host.false) in
+    let seen : has_row (record c.args.kept.now { rows = map host_row (entries m) }) e.0 ≡ false = ap (λ (h : Hosts). has_row h e.0) (sym kept) ∙ ap (λ (x : HostRow). has_row c.loop-at.kept x.name) (sym is) ∙ has in
+    let absent = no_host m e.0 seen in (
+      insert m e.0 e.1,
+      c.put_host.ensures ∙ ap (λ (h : Hosts). record h { rows = put row_cmp c.in_ok-host.host h.rows }) kept ∙ ap (λ (x : HostRow). record c.args.kept.now { rows = put row_cmp x (map host_row (entries m)) }) is
+          ∙ ap (λ rows. record c.args.kept.now { rows = rows }) (sym (host_put m e.0 e.1)),
+      λ after h. c.loop-at.invariant.2 after (subst (λ xs. KeepsAll host_of m xs after) (sym (next_item c.args.rows.now c.loop-at.at row c.loop-at-test.true c.index-rows-at.is)) (absent, h)),
+    )
+
+pub returns-clause-ok : goal.returns-clause-ok
+returns-clause-ok c =
+    let end : length c.args.rows.now ≤ c.loop-at.at = search rules in
+    let m = c.loop-at.invariant.0 in
+    let all = keeps_rows nat_list_cmp_total bytes_exact host_of c.args.rows.now m (c.loop-at.invariant.2 m (subst (λ xs. KeepsAll host_of m xs m) (sym (past_end c.args.rows.now c.loop-at.at end)) refl)) in
+    c.loop-at.invariant.1 ∙ ap (λ (m : FinMap bytes_cmp Host). record c.args.kept.now { rows = map host_row (entries m) }) all.0
+
+pub returns-clause-apart : goal.returns-clause-apart
+returns-clause-apart c =
+    let end : length c.args.rows.now ≤ c.loop-at.at = search rules in
+    let m = c.loop-at.invariant.0 in
+    (keeps_rows nat_list_cmp_total bytes_exact host_of c.args.rows.now m (c.loop-at.invariant.2 m (subst (λ xs. KeepsAll host_of m xs m) (sym (past_end c.args.rows.now c.loop-at.at end)) refl))).1

@@ -1,0 +1,6 @@
+pub mod Tables
+pub mod Maps
+pub mod Shown
+pub mod Own
+pub mod Reading
+pub mod Wrote

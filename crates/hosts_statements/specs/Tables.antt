@@ -1,0 +1,135 @@
+-- The three tables, their indexes and their texts.
+use Rattle.std.specs.Prelude.{ℕ, ◌+◌, true, false, [], ◌∷◌, Some, None, codes, List, pos}
+use Rattle.sqlite_value.specs.declared.value.Value.TheVariants.{Null, Int}
+use Rattle.sqlite_value.specs.declared.keys.Collation.TheVariants.{Binary}
+use Rattle.sqlite_value.specs.declared.keys.Order.{Order}
+use Rattle.sqlite_schema.specs.declared.schema.Column.{Column}
+use Rattle.sqlite_schema.specs.declared.schema.Kind.{Kind}
+use Rattle.sqlite_schema.specs.declared.schema.Kind.TheVariants.{Integer, Blob}
+use Rattle.sqlite_schema.specs.declared.schema.Table.{Table}
+use Rattle.sqlite_schema.specs.declared.schema.Index.{Index}
+use Rattle.sqlite_schema.specs.declared.schema.Schema.{Schema}
+use Rattle.sqlite_sql.specs.Term.{Term, lit, col, op2}
+use Rattle.sqlite_sql.specs.declared.ops.BinaryOp.TheVariants.{Compare}
+use Rattle.sqlite_sql.specs.declared.ops.CompareOp.TheVariants.{Eq}
+
+abbrev pub own_text : List ℕ
+own_text = codes "CREATE TABLE own (id INTEGER PRIMARY KEY CHECK (id = 1), version INTEGER NOT NULL, state INTEGER NOT NULL) STRICT"
+
+abbrev pub hosts_text : List ℕ
+hosts_text = codes "CREATE TABLE hosts2 (name BLOB NOT NULL PRIMARY KEY, epoch INTEGER NOT NULL, seen INTEGER NOT NULL, quota INTEGER NOT NULL) STRICT"
+
+abbrev pub watches_text : List ℕ
+watches_text = codes "CREATE TABLE watches (mon BLOB NOT NULL, my BLOB NOT NULL, prog INTEGER NOT NULL, vers INTEGER NOT NULL, proc INTEGER NOT NULL, priv BLOB NOT NULL, PRIMARY KEY (mon, my, prog, vers, proc)) STRICT"
+
+-- a column that is NOT NULL
+abbrev pub required : List ℕ → Kind → Column
+required name kind = record { name = name; kind = kind; is_strict = true; not_null = true; default = Null; collation = Binary }
+
+-- a table with a key that is no rowid, in the tree with this number
+abbrev pub keyed : List ℕ → ℕ → List Column → List ℕ → Order → Table
+keyed name tree columns key order = record {
+  name = name;
+  tree = tree;
+  columns = columns;
+  key = None;
+  primary = key;
+  uniques = key ∷ [];
+  orders = order ∷ [];
+  checks = [];
+  references = [];
+  computed = [];
+  stamps = record { places = []; terms = []; formats = [] };
+  is_counted = false;
+}
+
+abbrev pub hosts_columns : List Column
+hosts_columns = required (codes "name") Blob ∷ required (codes "epoch") Integer ∷ required (codes "seen") Integer ∷ required (codes "quota") Integer ∷ []
+
+abbrev pub watches_columns : List Column
+watches_columns =
+    required (codes "mon") Blob ∷ required (codes "my") Blob ∷ required (codes "prog") Integer ∷ required (codes "vers") Integer ∷ required (codes "proc") Integer ∷ required (codes "priv") Blob ∷ []
+
+abbrev pub one_key : Order
+one_key = record { digits = 0 }
+
+abbrev pub five_keys : Order
+five_keys = record { digits = 0 }
+
+abbrev pub hosts_table : ℕ → Table
+hosts_table tree = keyed (codes "hosts2") tree hosts_columns (1 ∷ []) one_key
+
+abbrev pub watches_table : ℕ → Table
+watches_table tree = keyed (codes "watches") tree watches_columns (1 ∷ 2 ∷ 3 ∷ 4 ∷ 5 ∷ []) five_keys
+
+abbrev pub id_column : Column
+id_column = record { name = codes "id"; kind = Integer; is_strict = true; not_null = false; default = Null; collation = Binary }
+
+abbrev pub own_columns : List Column
+own_columns = id_column ∷ required (codes "version") Integer ∷ required (codes "state") Integer ∷ []
+
+-- the table of the own state, whose one row has the id 1
+abbrev pub own_table : List Term → Table
+own_table checks = record {
+  name = codes "own";
+  tree = 0;
+  columns = own_columns;
+  key = Some 0;
+  primary = 0 ∷ [];
+  uniques = [];
+  orders = [];
+  checks = checks;
+  references = [];
+  computed = [];
+  stamps = record { places = []; terms = []; formats = [] };
+  is_counted = false;
+}
+
+-- id = 1
+abbrev pub own_checks : List Term
+own_checks = op2 (Compare Eq Binary) (col 1 0) (lit (Int (pos 1))) ∷ []
+
+abbrev pub key_index : List ℕ → ℕ → List ℕ → Order → Index
+key_index name tree columns order = record { name = name; tree = tree + 1; table = tree; columns = columns; order = order; is_unique = true }
+
+abbrev pub host_tables : List Term → List Table
+host_tables checks = own_table checks ∷ hosts_table 1 ∷ watches_table 3 ∷ []
+
+abbrev pub host_indexes : List Index
+host_indexes = key_index (codes "sqlite_autoindex_hosts2_1") 1 (1 ∷ []) one_key ∷ key_index (codes "sqlite_autoindex_watches_1") 3 (1 ∷ 2 ∷ 3 ∷ 4 ∷ 5 ∷ []) five_keys ∷ []
+
+abbrev pub host_schema : List Term → Schema
+host_schema checks = record { tables = host_tables checks; indexes = host_indexes; views = [] }
+
+abbrev pub no_schema : Schema
+no_schema = record { tables = []; indexes = []; views = [] }
+
+abbrev pub monitor_text : List ℕ
+monitor_text = codes "INSERT INTO hosts2 (name, epoch, seen, quota) VALUES (?1, ?2, ?3, ?4)"
+
+abbrev pub watch_text : List ℕ
+watch_text = codes "INSERT INTO watches (mon, my, prog, vers, proc, priv) VALUES (?1, ?2, ?3, ?4, ?5, ?6)"
+
+abbrev pub first_own_text : List ℕ
+first_own_text = codes "INSERT INTO own (id, version, state) VALUES (1, 2, ?1)"
+
+abbrev pub read_hosts_text : List ℕ
+read_hosts_text = codes "SELECT rowid, name, epoch, seen, quota FROM hosts2 ORDER BY rowid"
+
+abbrev pub read_own_text : List ℕ
+read_own_text = codes "SELECT id, version, state FROM own"
+
+abbrev pub read_watches_text : List ℕ
+read_watches_text = codes "SELECT rowid, mon, my, prog, vers, proc, priv FROM watches ORDER BY rowid"
+
+abbrev pub set_own_text : List ℕ
+set_own_text = codes "UPDATE own SET state = ?1"
+
+abbrev pub delete_host_text : List ℕ
+delete_host_text = codes "DELETE FROM hosts2 WHERE name = ?1"
+
+abbrev pub delete_watch_text : List ℕ
+delete_watch_text = codes "DELETE FROM watches WHERE mon = ?1 AND my = ?2 AND prog = ?3 AND vers = ?4 AND proc = ?5"
+
+abbrev pub delete_watches_text : List ℕ
+delete_watches_text = codes "DELETE FROM watches WHERE my = ?1 AND prog = ?2 AND vers = ?3 AND proc = ?4"

@@ -1,0 +1,151 @@
+-- What a statement of this crate leaves of a connection.
+use Rattle.std.specs.Prelude.{◌≡◌, ℕ, pos, true, None, Option, Ok, List, [], ◌∷◌, slice_index_or, map, IsTrue}
+use Rattle.sqlite_value.specs.declared.value.Value.TheVariants.{Null, Int}
+use Rattle.sqlite_value.specs.Order.{Row, column}
+use Rattle.sqlite_value.specs.contracts.row.Row as row
+use Rattle.sqlite_trees.specs.Objects.{number_in}
+use Rattle.std.specs.Coded.{Coded-set, coded_list, →_prop, ×_prop}
+use Rattle.sqlite_schema.specs.contracts.schema.Schema.{the_row}
+use Rattle.sqlite_sql.specs.Term.{Term}
+use Rattle.sqlite_trees.specs.Tree.{Trees}
+use Rattle.sqlite_schema.specs.declared.command.Command.{Command}
+use Rattle.sqlite_schema.specs.declared.command.Command.TheVariants.{Insert, Update, Delete}
+use Rattle.sqlite_schema.specs.declared.schema.Table.{Table}
+use Rattle.sqlite_schema.specs.declared.schema.Schema.{Schema}
+use Rattle.sqlite.specs.declared.run.Mode.{Mode}
+use Rattle.sqlite.specs.Does.{Tally, Does}
+use Rattle.sqlite.specs.State.{State, HasCleanDisk}
+use Rattle.sqlite.specs.Given.{IsPlain}
+use Rattle.sqlite.specs.Listing.{understood}
+use Rattle.definitions.specs.Hosts.{Hosts}
+use Rattle.hosts_statements.specs.Maps.{Rows, listed}
+use Rattle.sqlite.specs.Effect.{Database, IsDatabase}
+use Rattle.hosts_statements.specs.Tables.{own_checks, host_schema, no_schema}
+use Rattle.hosts_statements.specs.Own.{is_host, is_watched, AreOwn, AreOwn-prop}
+use Rattle.hosts_statements.specs.Reading.{command_in}
+use Rattle.hosts_statements.specs.Shown.{shown}
+
+-- the CHECKs of the first table
+abbrev pub checks_in : List Table → List Term
+checks_in [] = []
+checks_in (table ∷ tables) = table.checks
+
+-- the three tables, whatever the CHECK of the first is
+abbrev pub IsHostSchema : Schema → Type 0
+IsHostSchema schema = schema ≡ host_schema (checks_in schema.tables)
+
+-- the rows that the last commit left
+abbrev pub rows_in : State → Rows
+rows_in s = shown s.committed.trees
+
+-- and as a store shows them
+abbrev pub hosts_in : State → Hosts
+hosts_in s = listed (rows_in s)
+
+-- the row of the own state, whose id is its rowid
+abbrev pub own_row_at : ℕ → ℕ → Row
+own_row_at version own = Int (pos 1) ∷ Null ∷ Int (pos version) ∷ Int (pos own) ∷ []
+
+-- its id, version and state
+abbrev pub own_shown : Row → Row
+own_shown row = column row 0 ∷ column row 2 ∷ column row 3 ∷ []
+
+abbrev pub number_at : List Row → ℕ → ℕ
+number_at rows place = number_in (column (slice_index_or rows 0 []) place)
+
+-- the table of the own state has its one row
+abbrev pub HasOwnRow : List Row → Type 0
+HasOwnRow rows = map own_shown rows ≡ (Int (pos 1) ∷ Int (pos (number_at rows 2)) ∷ Int (pos (number_at rows 3)) ∷ []) ∷ []
+
+-- the tables are there, the own state is, and the rows of the others are told apart by their rowids
+abbrev pub IsWhole : Database → Type 0
+IsWhole d = (IsHostSchema d.schema × HasOwnRow (d.trees 0)) × (AreOwn is_host (d.trees 1) × AreOwn is_watched (d.trees 3))
+
+pub IsWhole-prop : (d : Database) → IsProp (IsWhole d)
+IsWhole-prop d = ×_prop (×_prop (Coded-set the_row.coded _ _) (Coded-set (coded_list row.the_row.coded) _ _)) (×_prop (AreOwn-prop is_host (d.trees 1)) (AreOwn-prop is_watched (d.trees 3)))
+
+-- the last commit holds the tables
+abbrev pub HasTables : State → Type 0
+HasTables s = HasCleanDisk s → IsTrue s.is_open → IsWhole s.committed
+
+pub HasTables-prop : (s : State) → IsProp (HasTables s)
+HasTables-prop s = →_prop (→_prop (IsWhole-prop s.committed))
+
+-- a database with no object
+abbrev pub IsFresh : State → Type 0
+IsFresh s = HasCleanDisk s → IsTrue s.is_open → s.committed.schema ≡ no_schema
+
+pub IsFresh-prop : (s : State) → IsProp (IsFresh s)
+IsFresh-prop s = →_prop (→_prop (Coded-set the_row.coded _ _))
+
+-- the change is committed
+pub record WroteHosts (change : Hosts → Hosts) (old new : State) : Type 0 where
+  pub was_open : IsTrue old.is_open
+  pub is_open : IsTrue new.is_open
+  pub whole : IsWhole new.committed
+  pub rows : hosts_in new ≡ change (hosts_in old)
+
+-- what the call writes, if it gets that far
+abbrev pub MayWriteHosts : (Hosts → Hosts) → State → Trees → Type 0
+MayWriteHosts change old db = IsTrue old.is_open × (listed (shown db) ≡ change (hosts_in old))
+
+-- an open after a crash at this moment may find these rows, if no wrong answer of the disk was taken as true
+abbrev pub MayLeave : State → Hosts → Type 0
+MayLeave s left = HasCleanDisk s × (db : Trees) × s.may_leave db × (listed (shown db) ≡ left)
+
+-- the last commit shows these rows
+abbrev pub IsAsKept : State → Hosts → Type 0
+IsAsKept s hosts = HasCleanDisk s → IsTrue s.is_open → listed (rows_in s) ≡ hosts
+
+-- the tables are made and hold no row
+pub record AreMade (d : Database) : Type 0 where
+  pub is : d.schema ≡ host_schema own_checks
+  pub own : d.trees 0 ≡ []
+  pub hosts : d.trees 1 ≡ []
+  pub watches : d.trees 3 ≡ []
+
+-- the same, in a transaction that has committed nothing
+pub record HasMade (old new : State) : Type 0 where
+  pub was_open : IsTrue old.is_open
+  pub made : AreMade new.now
+  pub committed : new.committed ≡ old.committed
+  pub mode : new.in_transaction ≡ true
+
+-- ---- texts that ran
+
+-- it writes the rows of one table
+abbrev pub IsRowWrite : Command → Type 0
+IsRowWrite (Insert at from) = Unit {0}
+IsRowWrite (Update at q) = Unit {0}
+IsRowWrite (Delete at q) = Unit {0}
+IsRowWrite _ = ⊥
+
+-- a text did what its command does
+abbrev pub Ran : List ℕ → Row → Database → Database → Type 0
+Ran sql params from to = (k : Command) → IsRowWrite k → command_in (understood from.schema sql) ≡ k → IsPlain (understood from.schema sql)
+    → (text : List ℕ) × (limit : Option ℕ) × (mode : Mode) × (tally : Tally) × Does limit mode params from text None k (Ok (tally, to)) × IsDatabase to
+
+-- two texts in turn
+abbrev pub RanTwo : List ℕ → Row → List ℕ → Row → Database → Database → Type 0
+RanTwo one given two more from to = (mid : Database) × Ran one given from mid × Ran two more mid to
+
+-- three texts in turn
+abbrev pub RanThree : List ℕ → Row → List ℕ → Row → List ℕ → Row → Database → Database → Type 0
+RanThree one given two more three last from to = (mid : Database) × RanTwo one given two more from mid × Ran three last mid to
+
+-- a transaction's work is the last commit
+pub record Committed (Work : Database → Database → Type 0) (old new : State) : Type 0 where
+  pub was_open : IsTrue old.is_open
+  pub is_open : IsTrue new.is_open
+  pub work : Work old.committed new.committed
+
+-- what the transaction commits, if it gets that far
+abbrev pub MayWork : (Database → Database → Type 0) → State → Trees → Type 0
+MayWork Work old db = IsTrue old.is_open × (to : Database) × (to.trees ≡ db) × Work old.committed to
+
+-- the work of a transaction so far, which has committed nothing
+pub record HasWorked (Work : Database → Database → Type 0) (old new : State) : Type 0 where
+  pub was_open : IsTrue old.is_open
+  pub work : Work old.now new.now
+  pub committed : new.committed ≡ old.committed
+  pub mode : new.in_transaction ≡ true

@@ -1,0 +1,8 @@
+//! The statements of the store of hosts, and what each makes of the rows.
+#![tactic(auto)]
+
+pub mod loading;
+mod rowids;
+mod running;
+pub mod statements;
+pub mod tables;

@@ -1,0 +1,207 @@
+//! The statements that write, each with what it makes of the rows.
+ghost use Rattle.std.specs.Prelude.{◌≡◌, pos, true, false, IsTrue, OnOk, OnErr, Some, None};
+ghost use Rattle.sqlite.specs.State.{HasCleanDisk, KeepsCommit, Survives};
+ghost use Rattle.sqlite.specs.Held.{state};
+ghost use Rattle.definitions.specs.Bytes.{put, same_bytes, without};
+ghost use Rattle.definitions.specs.Hosts.{HostRow, has_row, row_cmp, watch_cmp, after_store, Monitor, Watched, Unwatched};
+ghost use Rattle.hosts_statements.specs.Tables.{no_schema};
+ghost use Rattle.hosts_statements.specs.Wrote.{HasMade, HasTables, IsFresh, MayWriteHosts, WroteHosts, hosts_in};
+
+use crate::running::{run_one, run_three, run_two};
+use hosts_db::MyId;
+use sqlite::{Alter, Connection, Error, ErrorCode, Transaction, params};
+
+/// Adds the row of a new host.
+pub fn insert_host<S: Alter>(
+    conn: &mut Connection<S>,
+    name: &[u8],
+    epoch: u32,
+    seen: i32,
+) -> Result<(), Error>
+    requires tables { HasTables (state S.Store conn.old) }
+    requires new { HasCleanDisk (state S.Store conn.old) → IsTrue (state S.Store conn.old).is_open → has_row (hosts_in (state S.Store conn.old)) name.now ≡ false }
+    requires own { HasCleanDisk (state S.Store conn.old) → IsTrue (state S.Store conn.old).is_open → (hosts_in (state S.Store conn.old)).own ≡ epoch }
+    ensures ok { HasCleanDisk (state S.Store conn.new) → OnOk result (WroteHosts (λ h. after_store h (Monitor name.now seen)) (state S.Store conn.old) (state S.Store conn.new)) }
+    ensures err { HasCleanDisk (state S.Store conn.new) → OnErr result (KeepsCommit (state S.Store conn.old) (state S.Store conn.new)) }
+    ensures crash { Survives (state S.Store conn.old) (state S.Store conn.new) (MayWriteHosts (λ h. after_store h (Monitor name.now seen)) (state S.Store conn.old)) }
+{
+    run_one(
+        conn,
+        "INSERT INTO hosts2 (name, epoch, seen, quota) VALUES (?1, ?2, ?3, ?4)",
+        params![name, epoch, seen, 65_536u32],
+    )
+}
+
+/// Puts a host's row in the place of the row of its name, or adds it.
+pub fn replace_host<S: Alter>(
+    conn: &mut Connection<S>,
+    name: &[u8],
+    epoch: u32,
+    seen: i32,
+    quota: u32,
+) -> Result<(), Error>
+    requires tables { HasTables (state S.Store conn.old) }
+    ensures ok { HasCleanDisk (state S.Store conn.new) → OnOk result (WroteHosts (λ h. record h { rows = put row_cmp (record { name = name.now; epoch = epoch; seen = seen; quota = quota }) h.rows }) (state S.Store conn.old) (state S.Store conn.new)) }
+    ensures err { HasCleanDisk (state S.Store conn.new) → OnErr result (KeepsCommit (state S.Store conn.old) (state S.Store conn.new)) }
+    ensures crash { Survives (state S.Store conn.old) (state S.Store conn.new) (MayWriteHosts (λ h. record h { rows = put row_cmp (record { name = name.now; epoch = epoch; seen = seen; quota = quota }) h.rows }) (state S.Store conn.old)) }
+{
+    run_two(
+        conn,
+        "DELETE FROM hosts2 WHERE name = ?1",
+        params![name],
+        "INSERT INTO hosts2 (name, epoch, seen, quota) VALUES (?1, ?2, ?3, ?4)",
+        params![name, epoch, seen, quota],
+    )
+}
+
+/// Takes out the row of a host.
+pub fn delete_host<S: Alter>(conn: &mut Connection<S>, name: &[u8]) -> Result<(), Error>
+    requires tables { HasTables (state S.Store conn.old) }
+    ensures ok { HasCleanDisk (state S.Store conn.new) → OnOk result (WroteHosts (λ h. record h { rows = without (λ (r : HostRow). same_bytes r.name name.now) h.rows }) (state S.Store conn.old) (state S.Store conn.new)) }
+    ensures err { HasCleanDisk (state S.Store conn.new) → OnErr result (KeepsCommit (state S.Store conn.old) (state S.Store conn.new)) }
+    ensures crash { Survives (state S.Store conn.old) (state S.Store conn.new) (MayWriteHosts (λ h. record h { rows = without (λ (r : HostRow). same_bytes r.name name.now) h.rows }) (state S.Store conn.old)) }
+{
+    run_one(conn, "DELETE FROM hosts2 WHERE name = ?1", params![name])
+}
+
+/// Puts a watch in the place of the watch of its key, or adds it.
+pub fn put_watch<S: Alter>(
+    conn: &mut Connection<S>,
+    mon: &[u8],
+    my_id: &MyId<'_>,
+    private: &[u8; 16],
+) -> Result<(), Error>
+    requires tables { HasTables (state S.Store conn.old) }
+    ensures ok { HasCleanDisk (state S.Store conn.new) → OnOk result (WroteHosts (λ h. record h { watches = put watch_cmp (record { mon_name = mon.now; my_id = my_id.now; private_bytes = private.now }) h.watches }) (state S.Store conn.old) (state S.Store conn.new)) }
+    ensures err { HasCleanDisk (state S.Store conn.new) → OnErr result (KeepsCommit (state S.Store conn.old) (state S.Store conn.new)) }
+    ensures crash { Survives (state S.Store conn.old) (state S.Store conn.new) (MayWriteHosts (λ h. record h { watches = put watch_cmp (record { mon_name = mon.now; my_id = my_id.now; private_bytes = private.now }) h.watches }) (state S.Store conn.old)) }
+{
+    let my = my_id.my_name();
+    let (prog, vers, proc) = (my_id.prog(), my_id.vers(), my_id.proc());
+    run_two(
+        conn,
+        "DELETE FROM watches WHERE mon = ?1 AND my = ?2 AND prog = ?3 AND vers = ?4 AND proc = ?5",
+        params![mon, my, prog, vers, proc],
+        "INSERT INTO watches (mon, my, prog, vers, proc, priv) VALUES (?1, ?2, ?3, ?4, ?5, ?6)",
+        params![mon, my, prog, vers, proc, private.as_slice()],
+    )
+}
+
+/// Adds the row of a new host, and puts a watch of it.
+pub fn put_host_and_watch<S: Alter>(
+    conn: &mut Connection<S>,
+    epoch: u32,
+    mon: &[u8],
+    my_id: &MyId<'_>,
+    private: &[u8; 16],
+) -> Result<(), Error>
+    requires tables { HasTables (state S.Store conn.old) }
+    requires new { HasCleanDisk (state S.Store conn.old) → IsTrue (state S.Store conn.old).is_open → has_row (hosts_in (state S.Store conn.old)) mon.now ≡ false }
+    requires own { HasCleanDisk (state S.Store conn.old) → IsTrue (state S.Store conn.old).is_open → (hosts_in (state S.Store conn.old)).own ≡ epoch }
+    ensures ok { HasCleanDisk (state S.Store conn.new) → OnOk result (WroteHosts (λ h. after_store h (Watched mon.now my_id.now private.now)) (state S.Store conn.old) (state S.Store conn.new)) }
+    ensures err { HasCleanDisk (state S.Store conn.new) → OnErr result (KeepsCommit (state S.Store conn.old) (state S.Store conn.new)) }
+    ensures crash { Survives (state S.Store conn.old) (state S.Store conn.new) (MayWriteHosts (λ h. after_store h (Watched mon.now my_id.now private.now)) (state S.Store conn.old)) }
+{
+    let my = my_id.my_name();
+    let (prog, vers, proc) = (my_id.prog(), my_id.vers(), my_id.proc());
+    run_three(
+        conn,
+        "INSERT INTO hosts2 (name, epoch, seen, quota) VALUES (?1, ?2, ?3, ?4)",
+        params![mon, epoch, 0i32, 65_536u32],
+        "DELETE FROM watches WHERE mon = ?1 AND my = ?2 AND prog = ?3 AND vers = ?4 AND proc = ?5",
+        params![mon, my, prog, vers, proc],
+        "INSERT INTO watches (mon, my, prog, vers, proc, priv) VALUES (?1, ?2, ?3, ?4, ?5, ?6)",
+        params![mon, my, prog, vers, proc, private.as_slice()],
+    )
+}
+
+/// Takes out the watch of a host by a watcher.
+pub fn delete_watch<S: Alter>(
+    conn: &mut Connection<S>,
+    mon: &[u8],
+    my_id: &MyId<'_>,
+) -> Result<(), Error>
+    requires tables { HasTables (state S.Store conn.old) }
+    ensures ok { HasCleanDisk (state S.Store conn.new) → OnOk result (WroteHosts (λ h. after_store h (Unwatched (Some mon.now) my_id.now)) (state S.Store conn.old) (state S.Store conn.new)) }
+    ensures err { HasCleanDisk (state S.Store conn.new) → OnErr result (KeepsCommit (state S.Store conn.old) (state S.Store conn.new)) }
+    ensures crash { Survives (state S.Store conn.old) (state S.Store conn.new) (MayWriteHosts (λ h. after_store h (Unwatched (Some mon.now) my_id.now)) (state S.Store conn.old)) }
+{
+    let my = my_id.my_name();
+    let (prog, vers, proc) = (my_id.prog(), my_id.vers(), my_id.proc());
+    run_one(
+        conn,
+        "DELETE FROM watches WHERE mon = ?1 AND my = ?2 AND prog = ?3 AND vers = ?4 AND proc = ?5",
+        params![mon, my, prog, vers, proc],
+    )
+}
+
+/// Takes out the watches of a watcher.
+pub fn delete_watches<S: Alter>(conn: &mut Connection<S>, my_id: &MyId<'_>) -> Result<(), Error>
+    requires tables { HasTables (state S.Store conn.old) }
+    ensures ok { HasCleanDisk (state S.Store conn.new) → OnOk result (WroteHosts (λ h. after_store h (Unwatched None my_id.now)) (state S.Store conn.old) (state S.Store conn.new)) }
+    ensures err { HasCleanDisk (state S.Store conn.new) → OnErr result (KeepsCommit (state S.Store conn.old) (state S.Store conn.new)) }
+    ensures crash { Survives (state S.Store conn.old) (state S.Store conn.new) (MayWriteHosts (λ h. after_store h (Unwatched None my_id.now)) (state S.Store conn.old)) }
+{
+    let my = my_id.my_name();
+    let (prog, vers, proc) = (my_id.prog(), my_id.vers(), my_id.proc());
+    run_one(
+        conn,
+        "DELETE FROM watches WHERE my = ?1 AND prog = ?2 AND vers = ?3 AND proc = ?4",
+        params![my, prog, vers, proc],
+    )
+}
+
+/// Makes the three tables.
+fn make_tables<S: Alter>(tx: &mut Transaction<'_, S>) -> Result<(), Error>
+    requires inside { IsTrue (state S.Store tx.old.conn.now).in_transaction }
+    requires fresh { HasCleanDisk (state S.Store tx.old.conn.now) → IsTrue (state S.Store tx.old.conn.now).is_open → (state S.Store tx.old.conn.now).now.schema ≡ no_schema }
+    ensures same_reference { tx.new.conn.ghost_name ≡ tx.old.conn.ghost_name }
+    ensures ok { HasCleanDisk (state S.Store tx.new.conn.now) → OnOk result (HasMade (state S.Store tx.old.conn.now) (state S.Store tx.new.conn.now)) }
+    ensures err { HasCleanDisk (state S.Store tx.new.conn.now) → OnErr result (KeepsCommit (state S.Store tx.old.conn.now) (state S.Store tx.new.conn.now)) }
+    ensures survives { Survives (state S.Store tx.old.conn.now) (state S.Store tx.new.conn.now) (λ _. ⊥) }
+{
+    tx.execute(
+        "CREATE TABLE own (id INTEGER PRIMARY KEY CHECK (id = 1), version INTEGER NOT NULL, state INTEGER NOT NULL) STRICT",
+        &[],
+    )?;
+    tx.execute(
+        "CREATE TABLE hosts2 (name BLOB NOT NULL PRIMARY KEY, epoch INTEGER NOT NULL, seen INTEGER NOT NULL, quota INTEGER NOT NULL) STRICT",
+        &[],
+    )?;
+    tx.execute(
+        "CREATE TABLE watches (mon BLOB NOT NULL, my BLOB NOT NULL, prog INTEGER NOT NULL, vers INTEGER NOT NULL, proc INTEGER NOT NULL, priv BLOB NOT NULL, PRIMARY KEY (mon, my, prog, vers, proc)) STRICT",
+        &[],
+    )?;
+    Ok(())
+}
+
+/// Makes the tables and the row of the own state, in one transaction.
+pub fn make_and_start<S: Alter>(conn: &mut Connection<S>, own: u32) -> Result<(), Error>
+    requires { IsFresh (state S.Store conn.old) }
+    ensures ok { HasCleanDisk (state S.Store conn.new) → OnOk result (WroteHosts (λ h. record h { own = own }) (state S.Store conn.old) (state S.Store conn.new)) }
+    ensures err { HasCleanDisk (state S.Store conn.new) → OnErr result (KeepsCommit (state S.Store conn.old) (state S.Store conn.new)) }
+    ensures crash { Survives (state S.Store conn.old) (state S.Store conn.new) (MayWriteHosts (λ h. record h { own = own }) (state S.Store conn.old)) }
+{
+    if !conn.is_autocommit() {
+        return Err(Error::SqliteFailure(ErrorCode::TransactionState));
+    }
+    let _schema = conn.schema();
+    let mut tx = conn.transaction();
+    make_tables(&mut tx)?;
+    tx.execute(
+        "INSERT INTO own (id, version, state) VALUES (1, 2, ?1)",
+        params![own],
+    )?;
+    tx.commit()?;
+    Ok(())
+}
+
+/// Sets the own state, where the tables are there.
+pub fn set_own<S: Alter>(conn: &mut Connection<S>, own: u32) -> Result<(), Error>
+    requires { HasTables (state S.Store conn.old) }
+    ensures ok { HasCleanDisk (state S.Store conn.new) → OnOk result (WroteHosts (λ h. record h { own = own }) (state S.Store conn.old) (state S.Store conn.new)) }
+    ensures err { HasCleanDisk (state S.Store conn.new) → OnErr result (KeepsCommit (state S.Store conn.old) (state S.Store conn.new)) }
+    ensures crash { Survives (state S.Store conn.old) (state S.Store conn.new) (MayWriteHosts (λ h. record h { own = own }) (state S.Store conn.old)) }
+{
+    run_one(conn, "UPDATE own SET state = ?1", params![own])
+}

@@ -1,0 +1,3 @@
+pub mod Served
+pub mod Planned
+pub mod Locking

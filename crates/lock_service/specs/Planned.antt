@@ -1,0 +1,116 @@
+-- What a plan says: what the store is asked, and what follows.
+use Rattle.std.specs.Prelude.{◌≡◌, ◌≢◌, ◌⊎◌, ℕ, ◌+◌, false, cond, [], Some, None}
+use Rattle.definitions.specs.Settings.{Setting}
+use Rattle.definitions.specs.Starts.{refuses}
+use Rattle.definitions.specs.Shares.{is_denied, has_no_room, with_share, without_share}
+use Rattle.definitions.specs.Hosts.{StoreCall, Monitor, StoreAnswer, NotAsked, Yes, Refused, has_row, after_store}
+use Rattle.definitions.specs.World.{World, with_setting, with_hosts, without_host_of}
+use Rattle.definitions.specs.Rulings.{Ruling, decided}
+use Rattle.definitions.specs.Answer.{Answered, gives}
+use Rattle.owner_ids.specs.Said.{said}
+use Rattle.owner_ranges.specs.Same.{held_mode}
+use Rattle.call_outcome.specs.Values.{outcome_of}
+use Rattle.lock_world.specs.Seen.{Seen, Knows}
+use Rattle.lock_service.specs.declared.plans.Range as range
+use Rattle.lock_service.specs.declared.plans.Row as row
+use Rattle.lock_service.specs.declared.plans.Change.{Change}
+use Rattle.lock_service.specs.declared.plans.Change.TheVariants as change
+use Rattle.lock_service.specs.declared.plans.Answer as answer
+use Rattle.lock_service.specs.declared.plans.Plan.{Plan}
+use Rattle.lock_service.specs.declared.plans.Plan.TheVariants as plan
+use Rattle.lock_service.specs.declared.plans.StoreAnswer.{StoreAnswer as Told}
+use Rattle.lock_service.specs.declared.plans.StoreAnswer.TheVariants as told
+
+abbrev pub setting_of : range.Range → Setting
+setting_of r = record { file = r.file; owner = said r.owner; first = r.first; last = r.last; mode = held_mode r.mode }
+
+abbrev pub changed : Change → World → World
+changed change.Nothing w = w
+changed (change.Set r) w = with_setting w (setting_of r)
+changed (change.Share s) w = record w { shares = with_share s w.shares }
+changed (change.Unshare s) w = record w { shares = without_share s w.shares }
+changed (change.DropHost name) w = without_host_of w name.items
+
+abbrev pub answered : answer.Answer → World → Answered
+answered a w = record { outcome = outcome_of a.outcome; due = []; world = changed a.change w }
+
+abbrev pub asked : row.Row → StoreCall
+asked r = Monitor r.name r.state
+
+abbrev pub answer_of : Told → StoreAnswer
+answer_of told.NotAsked = NotAsked
+answer_of told.Yes = Yes
+answer_of told.Refused = Refused
+
+-- what the plan comes to in a world
+abbrev pub planned : Plan → World → Ruling Answered
+planned (plan.Decided a) w = decided (answered a w)
+planned (plan.AfterRow r agreed refused) w = record {
+  asks = Some (asked r);
+  agreed = answered agreed (with_hosts w (after_store w.hosts (asked r)));
+  refused = gives w (outcome_of refused);
+}
+planned (plan.Unlock r granted refused) w =
+    decided (cond (refuses 65536 w.settings (setting_of r)) (gives w (outcome_of refused)) (gives (with_setting w (setting_of r)) (outcome_of granted)))
+
+-- the world once the store has answered
+abbrev pub stored : Plan → StoreAnswer → World → World
+stored (plan.Decided a) store w = w
+stored (plan.AfterRow r agreed refused) NotAsked w = w
+stored (plan.AfterRow r agreed refused) Yes w = with_hosts w (after_store w.hosts (asked r))
+stored (plan.AfterRow r agreed refused) Refused w = w
+stored (plan.Unlock r granted refused) store w = w
+
+-- the store is asked exactly where the plan asks it
+abbrev pub IsAnswerTo : Plan → StoreAnswer → Type 0
+IsAnswerTo (plan.Decided a) store = store ≡ NotAsked
+IsAnswerTo (plan.AfterRow r agreed refused) store = store ≢ NotAsked
+IsAnswerTo (plan.Unlock r granted refused) store = store ≡ NotAsked
+
+abbrev pub counted : StoreAnswer → ℕ → ℕ
+counted NotAsked refusals = refusals
+counted Yes refusals = refusals
+counted Refused refusals = refusals + 1
+
+-- ---- when a plan can be done
+
+-- the change is refused by no table
+abbrev pub FitsChange : Change → World → Type 0
+FitsChange change.Nothing w = Unit {0}
+FitsChange (change.Set r) w = refuses 65536 w.settings (setting_of r) ≡ false
+FitsChange (change.Share s) w = (is_denied w.shares s ≡ false) × (has_no_room 16384 w.shares s ≡ false)
+FitsChange (change.Unshare s) w = Unit {0}
+FitsChange (change.DropHost name) w = Unit {0}
+
+abbrev pub Fits : Plan → World → Type 0
+Fits (plan.Decided a) w = FitsChange a.change w
+Fits (plan.AfterRow r agreed refused) w = FitsChange agreed.change w
+Fits (plan.Unlock r granted refused) w = Unit {0}
+
+-- the row that is stored is of a host that has none
+abbrev pub CanAsk : Plan → World → Type 0
+CanAsk (plan.Decided a) w = Unit {0}
+CanAsk (plan.AfterRow r agreed refused) w = has_row w.hosts r.name ≡ false
+CanAsk (plan.Unlock r granted refused) w = Unit {0}
+
+-- whoever is to hold a lock is known
+abbrev pub MayHold : range.Range → Seen → Type 0
+MayHold r s = (r.mode ≡ None) ⊎ Knows s (said r.owner)
+
+abbrev pub IsReadyFor : Change → Seen → Type 0
+IsReadyFor change.Nothing s = Unit {0}
+IsReadyFor (change.Set r) s = MayHold r s
+IsReadyFor (change.Share x) s = Unit {0}
+IsReadyFor (change.Unshare x) s = Unit {0}
+IsReadyFor (change.DropHost name) s = Unit {0}
+
+abbrev pub IsReady : Plan → Seen → Type 0
+IsReady (plan.Decided a) s = IsReadyFor a.change s
+IsReady (plan.AfterRow r agreed refused) s = IsReadyFor agreed.change s
+IsReady (plan.Unlock r granted refused) s = MayHold r s
+
+-- the plan is what the rules say of a call in this world
+pub record IsPlan (ruling : Ruling Answered) (w : World) (p : Plan) : Type 0 where
+  pub ruled : planned p w ≡ ruling
+  pub fits : Fits p w
+  pub asks : CanAsk p w

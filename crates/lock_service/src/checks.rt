@@ -1,0 +1,98 @@
+//! What a call is refused for before the rules of its procedure: its file handle, its range, the phase.
+ghost use Rattle.std.specs.Prelude.{◌≡◌, ◌≤◌, ◌<◌, ◌^◌, true, false, Some, None, IfSome, IfNone, IfOk, IfErr};
+ghost use Rattle.definitions.specs.Phases.{admits as is_admitted};
+ghost use Rattle.definitions.specs.Ranges.{is_stale, is_too_far, last_of as last_byte, range_refusal, file_refusal};
+ghost use Rattle.grace.specs.Meanings.{phase_of, kind_of};
+ghost use Rattle.nlm4_types.specs.Lock.{view_of_lock};
+ghost use Rattle.nlm4_types.specs.Stat.{view_of_stat, is_denied};
+
+use grace::{CallKind, admits};
+use hosts_db::HostStore;
+use lock_world::World;
+use nlm4_types::{Lock, Stat, WIDE};
+use range_table::{FileId, RangeTable};
+
+/// A file's last byte.
+const TOP: u64 = 0x7fff_ffff_ffff_ffff;
+
+/// The bytes that a call names.
+#[derive(Clone, Copy)]
+pub(crate) struct Place {
+    pub file: FileId,
+    pub first: u64,
+    pub last: u64,
+    pub ghost ordered: { first ≤ last },
+    pub ghost inside: { last < 2 ^ 63 },
+}
+
+/// The bytes that a lock call names, or what it is refused for.
+pub(crate) fn place_of<R: RangeTable, S: HostStore>(
+    world: &World<R, S>,
+    kind: CallKind,
+    alock: &Lock<'_, WIDE>,
+) -> Result<Place, Stat>
+    ensures ok { IfOk result (λ p. (range_refusal world.now.world (kind_of kind) (view_of_lock alock.now) ≡ None) × (p.file ≡ alock.now.fh.bytes.now) × (p.first ≡ alock.now.l_offset) × (p.last ≡ last_byte alock.now.l_offset alock.now.l_len)) }
+    ensures err { IfErr result (λ stat. range_refusal world.now.world (kind_of kind) (view_of_lock alock.now) ≡ Some (view_of_stat stat)) }
+    ensures other { IfErr result (λ stat. is_denied (view_of_stat stat) ≡ false) }
+{
+    let Some(file) = file_of(alock.fh.bytes) else {
+        return Err(Stat::StaleFh);
+    };
+    let Some(last) = last_of(alock.l_offset, alock.l_len) else {
+        return Err(Stat::Fbig);
+    };
+    if !admits(world.phase(), &kind) {
+        return Err(Stat::DeniedGracePeriod);
+    }
+    Ok(Place {
+        file,
+        first: alock.l_offset,
+        last,
+    })
+}
+
+/// What a call about a whole file is refused for.
+pub(crate) fn check_file<R: RangeTable, S: HostStore>(
+    world: &World<R, S>,
+    kind: CallKind,
+    fh: &[u8],
+) -> Result<(), Stat>
+    ensures ok { IfOk result (λ checked. file_refusal world.now.world (kind_of kind) fh.now ≡ None) }
+    ensures err { IfErr result (λ stat. file_refusal world.now.world (kind_of kind) fh.now ≡ Some (view_of_stat stat)) }
+{
+    if file_of(fh).is_none() {
+        return Err(Stat::StaleFh);
+    }
+    if !admits(world.phase(), &kind) {
+        return Err(Stat::DeniedGracePeriod);
+    }
+    Ok(())
+}
+
+// The file of a handle, which has 1 to 64 bytes.
+fn file_of(fh: &[u8]) -> Option<FileId>
+    ensures some { IfSome result (λ file. (is_stale fh.now ≡ false) × (file ≡ fh.now)) }
+    ensures none { IfNone result (is_stale fh.now ≡ true) }
+{
+    if fh.is_empty() || fh.len() > 64 {
+        return None;
+    }
+    Some(FileId::new(fh))
+}
+
+// The last byte of a range that a file can have.
+fn last_of(offset: u64, len: u64) -> Option<u64>
+    ensures some { IfSome result (λ last. (is_too_far offset len ≡ false) × (last ≡ last_byte offset len) × (offset ≤ last) × (last < 2 ^ 63)) }
+    ensures none { IfNone result (is_too_far offset len ≡ true) }
+{
+    if offset > TOP {
+        return None;
+    }
+    if len == 0 {
+        return Some(TOP);
+    }
+    if len - 1 > TOP - offset {
+        return None;
+    }
+    Some(offset + (len - 1))
+}

@@ -1,0 +1,69 @@
+//! Copies of what a call says.
+ghost use Rattle.std.specs.Prelude.{◌≡◌, ◌≤◌, length, IfOk};
+ghost use Rattle.definitions.specs.Ranges.{owner_of as owner_said, mode_of as mode_said};
+ghost use Rattle.nlm4_types.specs.Lock.{view_of_lock};
+ghost use Rattle.nlm4_types.specs.Stat.{view_of_stat};
+ghost use Rattle.owner_ids.specs.Said.{said};
+ghost use Rattle.owner_ranges.specs.Same.{mode_of as held_mode_of};
+ghost use Rattle.definitions.specs.World.{World as SaidWorld};
+ghost use Rattle.definitions.specs.Rulings.{stays};
+ghost use Rattle.definitions.specs.Answer.{res as res_said, by_reply};
+ghost use Rattle.definitions.specs.Replies.{Success, ResResult};
+ghost use Rattle.call_outcome.specs.Values.{outcome_of};
+ghost use Rattle.lock_world.specs.Whole.{IsShown};
+ghost use Rattle.lock_service.specs.Planned.{IsPlan};
+
+use crate::plans::{Answer, Change, Plan};
+use call_outcome::{CallResult, Outcome};
+use letters::{Res, ShortBytes};
+use nlm4_types::{Lock, Netobj, Stat, WIDE};
+use owner_ids::{Owner, Starved};
+use range_table::Mode;
+use std::alloc::Global;
+
+/// The owner that a call names.
+pub(crate) fn owner_of(alloc: Global, alock: &Lock<'_, WIDE>) -> Result<Owner, Starved>
+    ensures owner { IfOk result (λ owner. said owner ≡ owner_said (view_of_lock alock.now)) }
+    ensures shown { IfOk result (λ owner. IsShown (said owner)) }
+{
+    Ok(Owner::Remote {
+        name: Vec::from_slice(alloc, alock.caller_name.bytes)?,
+        svid: alock.svid,
+        oh: Vec::from_slice(alloc, alock.oh.bytes)?,
+    })
+}
+
+pub(crate) fn mode_of(exclusive: bool) -> Mode
+    ensures { held_mode_of result ≡ mode_said exclusive }
+{
+    if exclusive {
+        Mode::Exclusive
+    } else {
+        Mode::Shared
+    }
+}
+
+/// A copy of a cookie.
+pub(crate) fn cookie_of(alloc: Global, cookie: &Netobj<'_>) -> Result<ShortBytes, Starved>
+    ensures { IfOk result (λ copy. copy ≡ cookie.now.bytes.now) }
+{
+    Ok(ShortBytes::copy_of(alloc, cookie.bytes)?)
+}
+
+/// The reply of a status.
+pub(crate) fn replied(alloc: Global, cookie: &Netobj<'_>, stat: Stat) -> Result<Outcome, Starved>
+    ensures { IfOk result (λ outcome. outcome_of outcome ≡ Success (ResResult (res_said cookie.now.bytes.now (view_of_stat stat)))) }
+{
+    let cookie = cookie_of(alloc, cookie)?;
+    Ok(Outcome::Success(CallResult::Res(Res { cookie, stat })))
+}
+
+/// A status is told, and nothing changes.
+pub(crate) fn says(alloc: Global, cookie: &Netobj<'_>, stat: Stat) -> Result<Plan, Starved>
+    ensures { IfOk result (λ made. (w : SaidWorld) → IsPlan (by_reply cookie.now.bytes.now (stays w (view_of_stat stat))) w made) }
+{
+    Ok(Plan::Decided(Answer {
+        outcome: replied(alloc, cookie, stat)?,
+        change: Change::Nothing,
+    }))
+}

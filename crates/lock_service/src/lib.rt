@@ -1,0 +1,21 @@
+//! What a call of a client comes to, by procedure (XNFS; RFC 1813, appendix II). A plan is made first, which changes
+//! nothing; then all memory is got; then the store is asked, at most once; and then the plan is done, without memory.
+#![tactic(auto)]
+
+mod call;
+mod checks;
+mod copies;
+mod free_all;
+mod lock;
+mod null;
+mod plans;
+mod share;
+mod steps;
+mod test;
+mod unlock;
+mod unshare;
+
+pub use call::{Call, Procedure};
+pub use owner_ids::Starved;
+pub use plans::{Answer, Change, Plan, Range, Row, StoreAnswer};
+pub use steps::{abandon, answer, ask, commit, plan, prepare};

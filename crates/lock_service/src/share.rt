@@ -1,0 +1,89 @@
+//! SHARE: an owner does something with a file and denies the others something (XNFS, NLM_SHARE).
+ghost use Rattle.std.specs.Prelude.{◌≡◌, IfOk};
+ghost use Rattle.definitions.specs.Nlm as nlm;
+ghost use Rattle.definitions.specs.World.{World as SaidWorld, the_limits};
+ghost use Rattle.definitions.specs.Answer.{nlm_answer, share_told, share_of as share_said};
+ghost use Rattle.definitions.specs.Rulings.{decided};
+ghost use Rattle.nlm4_types.specs.Stat.{view_of_stat};
+ghost use Rattle.nlm4_types.specs.Access.{view_of_access};
+ghost use Rattle.nlm4_types.specs.Share.{view_of_shareargs};
+ghost use Rattle.lock_service.specs.Planned.{IsPlan, FitsChange, changed};
+
+use crate::checks::check_file;
+use crate::copies::cookie_of;
+use crate::plans::{Answer, Change, Plan};
+use call_outcome::{CallResult, Outcome, ShareRes};
+use dos_shares::{Access, Share, ShareError};
+use grace::CallKind;
+use hosts_db::HostStore;
+use lock_world::World;
+use nlm4_types::{Access as AskedAccess, ShareArgs, Stat};
+use owner_ids::Starved;
+use range_table::RangeTable;
+use std::alloc::Global;
+
+pub(crate) fn plan<R: RangeTable, S: HostStore>(
+    world: &World<R, S>,
+    args: &ShareArgs<'_>,
+) -> Result<Plan, Starved>
+    ensures { IfOk result (λ made. (version : nlm.Version) → IsPlan (nlm_answer the_limits world.now.world version (nlm.ShareCall (view_of_shareargs args.now))) world.now.world made) }
+{
+    let alloc = world.alloc();
+    let kind = CallKind::Sharing {
+        reclaim: args.reclaim,
+    };
+    if let Err(stat) = check_file(world, kind, args.fh.bytes) {
+        return told(alloc, args, stat, Change::Nothing);
+    }
+    let share = share_of(alloc, args)?;
+    match world.shares().check(&share) {
+        Ok(()) => told(alloc, args, Stat::Granted, Change::Share(share)),
+        Err(ShareError::ShareDenied) => told(alloc, args, Stat::Denied, Change::Nothing),
+        Err(ShareError::NoShares) => told(alloc, args, Stat::DeniedNolocks, Change::Nothing),
+    }
+}
+
+/// A status is told, with what changes.
+pub(crate) fn told(
+    alloc: Global,
+    args: &ShareArgs<'_>,
+    stat: Stat,
+    change: Change,
+) -> Result<Plan, Starved>
+    ensures { IfOk result (λ made. (w : SaidWorld) → FitsChange change w → IsPlan (decided (share_told (view_of_shareargs args.now) (record { says = view_of_stat stat; world = changed change w }))) w made) }
+{
+    let cookie = cookie_of(alloc, &args.cookie)?;
+    let res = ShareRes {
+        cookie,
+        stat,
+        sequence: 0,
+    };
+    Ok(Plan::Decided(Answer {
+        outcome: Outcome::Success(CallResult::ShareRes(res)),
+        change,
+    }))
+}
+
+/// The share that a call names.
+pub(crate) fn share_of(alloc: Global, args: &ShareArgs<'_>) -> Result<Share, Starved>
+    ensures { IfOk result (λ share. share ≡ share_said (view_of_shareargs args.now)) }
+{
+    Ok(Share::new(
+        Vec::from_slice(alloc, args.fh.bytes)?,
+        Vec::from_slice(alloc, args.caller_name.bytes)?,
+        Vec::from_slice(alloc, args.oh.bytes)?,
+        access_of(args.mode),
+        access_of(args.access),
+    ))
+}
+
+fn access_of(asked: AskedAccess) -> Access
+    ensures { result ≡ view_of_access asked }
+{
+    match asked {
+        AskedAccess::None => Access::new(false, false),
+        AskedAccess::Read => Access::new(true, false),
+        AskedAccess::Write => Access::new(false, true),
+        AskedAccess::Both => Access::new(true, true),
+    }
+}

@@ -1,0 +1,99 @@
+use Rattle.std.proofs.Common.{◌≡◌, ◌↔◌, ◌≤◌, ◌<◌, ◌^◌, ◌++◌, ◌∷◌, [], Some, None, IsErr, IsTrue, OnOk, sym, subst}
+use Rattle.definitions.specs.Owners.{Owner}
+use Rattle.definitions.specs.Starts.{refuses}
+use Rattle.definitions.specs.World.{World, the_limits, is_ready}
+use Rattle.grace.specs.Meanings.{phase_of}
+use Rattle.held_locks.specs.Asked.{setting_by}
+use Rattle.owner_ids.specs.Names.{named}
+use Rattle.blocked_list.specs.First.{IsFirstAt, IsFirstPlace}
+use Rattle.blocked_list.specs.Waiting.{AreNamed, AreKnown, owner_at, waiter_by, waiters_by}
+use Rattle.lock_world.proofs.Granting.{settled_rest, settled_grant, fewer_wait, is_set, whole_granted}
+use Rattle.lock_world.proofs.world.World.grant_next.Given.{Over}
+use Rattle.lock_world.proofs.world.World.grant_next.Goals as goal
+
+pub returns-in_default-clause-done : goal.returns-in_default-clause-done
+returns-in_default-clause-done g c = λ e.
+    let names = c.self.inside.locks.names in
+    let settings = c.self.inside.locks.settings in
+    let ws = c.self.inside.slots.waiters in
+    let named_there = subst (λ ns. AreNamed (named ns) ws) (sym c.parts.ensures.names) c.self.invariant.in_use in
+    let known : AreKnown (named c.parts.result.1.now) ws = record { distinct = c.parts.ensures.stands.distinct; named = named_there } in
+    let none = c.in_default.ensures.first settings c.parts.ensures.stands known in
+    let rest = subst (λ ns. IsFirstPlace (is_ready the_limits settings) (waiters_by (named ns) ws) None) c.parts.ensures.names none in
+    rw (← c.self.view_is) (sym (settled_rest (world g c) rest))
+  where
+    world : (g : Over) → goal.In_default g → World
+    world g c = record {
+      own_name = c.self.inside.own_name;
+      settings = c.self.inside.locks.settings;
+      waiters = waiters_by (named c.self.inside.locks.names) c.self.inside.slots.waiters;
+      shares = c.self.inside.shares;
+      phase = phase_of c.self.inside.phase;
+      hosts = g.S.HostStore.rows c.self.inside.store;
+      calls = c.self.inside.calls;
+      next = c.self.inside.next;
+    }
+
+pub set_run-requires-clause-known : goal.set_run-requires-clause-known
+set_run-requires-clause-known g c =
+    rw c.wanted.ensures.wanted (c.grant-waiter.ensures.named (named c.self.inside.locks.names) c.self.invariant.in_use).1
+
+first : (g : Over) (c : goal.After-self-1 g) → IsFirstAt (is_ready the_limits c.self.inside.locks.settings) (waiters_by (named c.self.inside.locks.names) c.self.inside.slots.waiters) c.in-Some.place
+first g c =
+    let settings = c.self.inside.locks.settings in
+    let ws = c.self.inside.slots.waiters in
+    let named_there = subst (λ ns. AreNamed (named ns) ws) (sym c.parts.ensures.names) c.self.invariant.in_use in
+    let known : AreKnown (named c.parts.result.1.now) ws = record { distinct = c.parts.ensures.stands.distinct; named = named_there } in
+    subst (λ ns. IsFirstAt (is_ready the_limits settings) (waiters_by (named ns) ws) c.in-Some.place) c.parts.ensures.names (c.in-Some.ensures.first settings c.parts.ensures.stands known)
+
+settings_are : (g : Over) (c : goal.After-self-1 g) → c.set_run.new.self.settings ≡ c.self.inside.locks.settings ++ setting_by (owner_at (named c.self.inside.locks.names) c.grant-waiter.result.wanted.owner) c.grant-waiter.result.wanted ∷ []
+settings_are g c =
+    let names = c.self.inside.locks.names in
+    let settings = c.self.inside.locks.settings in
+    let there = c.grant-waiter.ensures.there (named names) (is_ready the_limits settings) (first g c) in
+    let one = (c.grant-waiter.ensures.named (named names) c.self.invariant.in_use).1 in
+    is_set names settings c.self.inside.slots c.grant-waiter.new.self c.self.inside.calls c.grant-waiter.result c.self.invariant there one c.set_run.result c.set_run.new.self.settings
+    (subst (λ r. (x : Owner) → named names r.owner ≡ Some x → IsErr c.set_run.result ↔ IsTrue (refuses 65536 settings (setting_by x r))) c.wanted.ensures.wanted c.set_run.ensures.refused)
+    (subst (λ r. OnOk c.set_run.result ((x : Owner) → named names r.owner ≡ Some x → c.set_run.new.self.settings ≡ settings ++ setting_by x r ∷ [])) c.wanted.ensures.wanted c.set_run.ensures.ok)
+
+pub invariant_of-self : goal.invariant_of-self
+invariant_of-self g c =
+    let names = c.self.inside.locks.names in
+    let settings = c.self.inside.locks.settings in
+    let test = is_ready the_limits settings in
+    let there = c.grant-waiter.ensures.there (named names) test (first g c) in
+    let gone = c.grant-waiter.ensures.gone (named names) test (first g c) in
+    let left = c.grant-waiter.ensures.named (named names) c.self.invariant.in_use in
+    let ordered = subst (λ r. r.first ≤ r.last) c.wanted.ensures.wanted c.wanted.ensures.ordered in
+    let inside = subst (λ r. r.last < 2 ^ 63) c.wanted.ensures.wanted c.wanted.ensures.inside in
+    rw (settings_are g c, c.set_run.ensures.names, c.make_due.ensures, c.into_letter.ensures)
+    (whole_granted names settings c.self.inside.slots c.grant-waiter.new.self c.self.inside.calls c.grant-waiter.result c.self.invariant there left.1 c.self.inside.next gone left.0 c.grant-waiter.ensures.calls ordered inside)
+
+abbrev world : (g : Over) → goal.After-self-1 g → World
+world g c = record {
+  own_name = c.self.inside.own_name;
+  settings = c.self.inside.locks.settings;
+  waiters = waiters_by (named c.self.inside.locks.names) c.self.inside.slots.waiters;
+  shares = c.self.inside.shares;
+  phase = phase_of c.self.inside.phase;
+  hosts = g.S.HostStore.rows c.self.inside.store;
+  calls = c.self.inside.calls;
+  next = c.self.inside.next;
+}
+
+pub returns-clause-same : goal.returns-clause-same
+returns-clause-same g c =
+    let names = c.self.inside.locks.names in
+    let test = is_ready the_limits c.self.inside.locks.settings in
+    let there = c.grant-waiter.ensures.there (named names) test (first g c) in
+    let gone = c.grant-waiter.ensures.gone (named names) test (first g c) in
+    rw (← c.self.view_is)
+    (rw (settings_are g c, c.set_run.ensures.names, gone, c.make_due.ensures, c.into_letter.ensures) (settled_grant (world g c) (waiter_by (named names) c.grant-waiter.result) there))
+
+pub returns-clause-fewer : goal.returns-clause-fewer
+returns-clause-fewer g c = λ e.
+    let names = c.self.inside.locks.names in
+    let test = is_ready the_limits c.self.inside.locks.settings in
+    let there = c.grant-waiter.ensures.there (named names) test (first g c) in
+    let gone = c.grant-waiter.ensures.gone (named names) test (first g c) in
+    rw (← c.self.view_is) (rw (c.set_run.ensures.names, gone) (fewer_wait (world g c) (waiter_by (named names) c.grant-waiter.result) there))

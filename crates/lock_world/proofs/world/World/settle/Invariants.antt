@@ -1,0 +1,13 @@
+use Rattle.std.proofs.Common.{◌≡◌, length}
+use Rattle.definitions.specs.World.{settled, the_limits}
+use Rattle.lock_world.proofs.world.World.settle.Given as goal
+
+abbrev pub invariant-loop : goal.invariant-loop
+invariant-loop g l = record {
+  rest : settled the_limits l.self.world ≡ settled the_limits l.fn.self.world;
+  refusals : l.self.refusals ≡ l.fn.self.refusals;
+  names : l.self.names ≡ l.fn.self.names;
+}
+
+abbrev pub decreases-loop : goal.decreases-loop
+decreases-loop g l = length l.self.world.waiters

@@ -1,0 +1,13 @@
+//! The state that calls act on, and the small changes that they are made of, over any table of ranges and any store of
+//! hosts.
+#![tactic(auto)]
+
+mod anew;
+mod changes;
+mod readings;
+mod sends;
+mod settle;
+mod world;
+
+pub use owner_ids::Starved;
+pub use world::World;

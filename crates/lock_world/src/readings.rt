@@ -1,0 +1,48 @@
+//! What the locks show.
+ghost use Rattle.std.specs.Prelude.{◌≡◌, ◌≤◌, ◌<◌, ◌^◌, IfSome};
+ghost use Rattle.definitions.specs.Starts.{first_conflict, is_short};
+ghost use Rattle.definitions.specs.Conflict.{conflicts};
+ghost use Rattle.definitions.specs.Hosts.{has_row};
+ghost use Rattle.owner_ids.specs.Said.{said};
+ghost use Rattle.held_locks.specs.Asked.{asked, shown_found};
+ghost use Rattle.lock_world.specs.Whole.{IsShown};
+
+use crate::world::World;
+use held_locks::{Holder, Request};
+use hosts_db::HostStore;
+use range_table::RangeTable;
+
+impl<R: RangeTable, S: HostStore> World<R, S> {
+    /// The lock of another owner that is first in the way: of the least first byte, then of the least owner.
+    pub fn first_conflict(&self, wanted: &Request<'_>) -> Option<Holder<'_>>
+        requires ordered { wanted.now.first ≤ wanted.now.last }
+        requires inside { wanted.now.last < 2 ^ 63 }
+        ensures found { shown_found result ≡ first_conflict self.now.world.settings (asked wanted.now) }
+        ensures shown { IfSome result (λ found. IsShown (said found.owner.now) × (found.last < 2 ^ 63)) }
+    {
+        self.locks.first_conflict(wanted)
+    }
+
+    /// Whether another owner's lock is in the way.
+    pub fn conflicts(&self, wanted: &Request<'_>) -> bool
+        requires ordered { wanted.now.first ≤ wanted.now.last }
+        requires inside { wanted.now.last < 2 ^ 63 }
+        ensures { result ≡ conflicts self.now.world.settings (asked wanted.now) }
+    {
+        self.locks.conflicts(wanted)
+    }
+
+    /// Whether fewer than 2 of 65,536 runs are free, so that no lock can be set.
+    pub fn is_short(&self) -> bool
+        ensures { result ≡ is_short 65536 self.now.world.settings }
+    {
+        self.locks.is_short()
+    }
+
+    /// Whether the host has a row.
+    pub fn has_row(&self, name: &[u8]) -> bool
+        ensures { result ≡ has_row self.now.world.hosts name.now }
+    {
+        self.store.host(name).is_some()
+    }
+}

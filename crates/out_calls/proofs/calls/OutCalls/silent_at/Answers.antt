@@ -1,0 +1,35 @@
+use Rattle.std.proofs.Common.{sym, ap, [], ◌∷◌, ◌++◌, ◌∙◌}
+use Rattle.std.specs.List.{remove}
+use Rattle.definitions.specs.Outgoing.{Outgoing, is_numbered}
+use Rattle.blocked_list.proofs.Firsts.{same_at}
+use Rattle.out_calls.proofs.Sendings.{after_silence-due, after_silence-again, after_silence-last}
+use Rattle.out_calls.proofs.calls.OutCalls.silent_at.Goals as goal
+
+pub returns-then-is_due : goal.returns-then-is_due
+returns-then-is_due c =
+    let at = rw c.self.view_is at c.index.ensures in
+    after_silence-due c.args.number c.args.self.now c.args.place c.index.result.now c.requires at (sym c.if-is_due.ensures)
+
+pub returns-then-sendings-lt-MOST_SENDINGS : goal.returns-then-sendings-lt-MOST_SENDINGS
+returns-then-sendings-lt-MOST_SENDINGS c =
+    let at = rw c.self.view_is at c.index.ensures in
+    let at_two = rw c.self.view_is at c.index-2.ensures in
+    let taken = rw c.self.view_is at c.remove-call.ensures.value in
+    let gone = rw c.self.view_is at c.remove-call.ensures.items in
+    let one = same_at (is_numbered c.args.number) c.args.self.now c.args.place c.remove-call.result c.index.result.now c.requires taken at in
+    let two = same_at (is_numbered c.args.number) c.args.self.now c.args.place c.remove-call.result c.index-2.result.now c.requires taken at_two in
+    let rests = ap (λ (d : Outgoing). d.is_due) one ∙ sym c.if-is_due.ensures in
+    let few = rw (c.sendings.ensures.sent, ← two) at c.if-sendings-lt-MOST_SENDINGS.true in
+    c.push_reserved.ensures.items
+    ∙ ap (λ xs. xs ++ c.repeat.result ∷ []) gone
+    ∙ ap (λ d. remove c.args.self.now c.args.place ++ d ∷ []) c.repeat.ensures
+    ∙ after_silence-again c.args.number c.args.self.now c.args.place c.remove-call.result c.requires taken rests few
+
+pub returns-else-sendings-lt-MOST_SENDINGS : goal.returns-else-sendings-lt-MOST_SENDINGS
+returns-else-sendings-lt-MOST_SENDINGS c =
+    let at = rw c.self.view_is at c.index.ensures in
+    let at_two = rw c.self.view_is at c.index-2.ensures in
+    let gone = rw c.self.view_is at c.remove.ensures.items in
+    let two = same_at (is_numbered c.args.number) c.args.self.now c.args.place c.index.result.now c.index-2.result.now c.requires at at_two in
+    let many = rw (c.sendings.ensures.sent, ← two) at c.if-sendings-lt-MOST_SENDINGS.false in
+    gone ∙ after_silence-last c.args.number c.args.self.now c.args.place c.index.result.now c.requires at (sym c.if-is_due.ensures) many

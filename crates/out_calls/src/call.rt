@@ -1,0 +1,137 @@
+//! One call.
+ghost use Rattle.std.specs.Prelude.{◌≡◌, ◌<◌, ◌≤◌, ◌&&◌, ◌^◌, eqb, ltb, true, false};
+ghost use Rattle.definitions.specs.Bytes.{same_bytes, eight_bytes};
+ghost use Rattle.definitions.specs.Outgoing.{Outgoing, Letter as SentLetter, due_now, once_more, xid_of, was_sent, is_grant_to, is_granted_msg, ends_when_sent};
+
+use letters::Letter;
+use std::marker::Model;
+
+/// How often a call is sent before a silence forgets it.
+pub const MOST_SENDINGS: u8 = 3;
+
+/// A call of the server's own: its number, what it says and to whom, how often it was sent, and whether it is due now.
+#[derive(Drop)]
+pub struct Call {
+    number: u64,
+    letter: Letter,
+    sendings: u8,
+    is_due: bool,
+}
+
+impl Model for Call {
+    ghost use Rattle.std.specs.Prelude.{◌≡◌, ◌≤◌, ◌<◌, true};
+    ghost use Rattle.definitions.specs.Outgoing.{Outgoing};
+
+    ghost Value = { Outgoing };
+
+    ghost view = { λ c. record { number = c.number; letter = c.letter; sendings = c.sendings; is_due = c.is_due } };
+
+    ghost invariant = { λ c. (c.sendings ≤ 3) × (c.is_due ≡ true → c.sendings < 3) };
+}
+
+impl Call {
+    /// A call that is due and was never sent.
+    pub(crate) fn new(number: u64, letter: Letter) -> Call
+        ensures { result ≡ due_now number letter }
+    {
+        Call {
+            number,
+            letter,
+            sendings: 0,
+            is_due: true,
+        }
+    }
+
+    /// The number that the call got when it became due. Its low 32 bits are the xid (RFC 5531).
+    pub fn number(&self) -> u64
+        ensures { result ≡ self.now.number }
+    {
+        self.number
+    }
+
+    pub fn xid(&self) -> u32
+        ensures { result ≡ xid_of self.now }
+    {
+        (self.number % 4_294_967_296) as u32
+    }
+
+    /// What it says, and to whom: the same at each sending.
+    pub fn letter(&self) -> &Letter
+        ensures { result.now ≡ self.now.letter }
+    {
+        &self.letter
+    }
+
+    pub fn is_due(&self) -> bool
+        ensures { result ≡ self.now.is_due }
+    {
+        self.is_due
+    }
+
+    /// How often it was sent, at most `MOST_SENDINGS` times.
+    pub fn sendings(&self) -> u8
+        ensures sent { result ≡ self.now.sendings }
+        ensures most { result ≤ MOST_SENDINGS }
+    {
+        self.sendings
+    }
+
+    // Whether it was sent and a reply of this xid is its.
+    pub(crate) fn is_answered_by(&self, xid: u32) -> bool
+        ensures { result ≡ (eqb (xid_of self.now) xid && was_sent self.now) }
+    {
+        self.xid() == xid && self.sendings >= 1
+    }
+
+    // Whether it is a GRANTED_MSG that was sent and this is its cookie, the 8 bytes of its number.
+    pub(crate) fn is_answered_with(&self, cookie: &[u8]) -> bool
+        ensures { result ≡ (is_granted_msg self.now.letter.message && (same_bytes (eight_bytes self.now.number) cookie.now && was_sent self.now)) }
+    {
+        self.letter.message().is_granted_msg() && self.has_cookie(cookie) && self.sendings >= 1
+    }
+
+    #[tactic(auto, using(nlm4_types::proofs::Eight::eight_bytes_written))]
+    fn has_cookie(&self, cookie: &[u8]) -> bool
+        ensures { result ≡ same_bytes (eight_bytes self.now.number) cookie.now }
+    {
+        self.number.to_be_bytes().as_slice() == cookie
+    }
+
+    pub(crate) fn is_older(&self, other: &Call) -> bool
+        ensures { result ≡ ltb self.now.number other.now.number }
+    {
+        self.number < other.number
+    }
+
+    pub(crate) fn is_grant_to(&self, name: &[u8]) -> bool
+        ensures { result ≡ is_grant_to name.now self.now }
+    {
+        self.letter.is_grant_to(name)
+    }
+
+    pub(crate) fn ends_when_sent(&self) -> bool
+        ensures { result ≡ ends_when_sent self.now.letter.message }
+    {
+        self.letter.message().ends_when_sent()
+    }
+
+    // It is sent once more, and no longer due.
+    pub(crate) fn send(&mut self)
+        requires { self.old.is_due ≡ true }
+        ensures { self.new ≡ once_more self.old }
+    {
+        self.sendings += 1;
+        self.is_due = false;
+    }
+
+    // It is due once more, as it was.
+    pub(crate) fn repeat(self) -> Call
+        requires { self.sendings < MOST_SENDINGS }
+        ensures { result ≡ record self { is_due = true } }
+    {
+        Call {
+            is_due: true,
+            ..self
+        }
+    }
+}

@@ -1,0 +1,206 @@
+//! The calls that wait to be sent or answered.
+ghost use Rattle.std.specs.Prelude.{◌≡◌, ◌↔◌, ◌≤◌, ◌<◌, ◌++◌, ◌∷◌, [], length, IfOk, IsTrue, Option, None, Some, IfSome, IfNone, slice_index_or};
+ghost use Rattle.std.specs.List.{remove};
+ghost use Rattle.definitions.specs.Bytes.{first_that, without_first};
+ghost use Rattle.definitions.specs.Outgoing.{Outgoing, Letter as SentLetter, due_now, next_due, is_numbered, without_call, after_sending, after_silence, call_of_xid, call_of_cookie, without_grants_to};
+ghost use Rattle.blocked_list.specs.First.{IsFirstPlace};
+ghost use Rattle.out_calls.specs.Found.{found, kept_or};
+
+use crate::call::{Call, MOST_SENDINGS};
+use blocked_list::MOST_SLOTS;
+use letters::Letter;
+use owner_ids::Starved;
+use std::alloc::Global;
+use std::marker::Model;
+
+/// The server's own calls, in the order in which they became due. Contracts see the list of them.
+///
+/// Each has a place among the `MOST_SLOTS` that calls share with waiters, and whoever keeps that count takes the place
+/// first. Room for all is reserved at the start, so no later call takes memory.
+#[derive(Drop)]
+pub struct OutCalls {
+    calls: Vec<Call>,
+}
+
+impl Model for OutCalls {
+    ghost use Rattle.std.specs.Prelude.{List, ◌≤◌, length, vec_capacity};
+    ghost use Rattle.definitions.specs.Outgoing.{Outgoing};
+
+    ghost Value = { List Outgoing };
+
+    ghost view = { λ o. o.calls.items };
+
+    ghost invariant = { λ o. (length o.calls.items ≤ 8192) × (8192 ≤ vec_capacity o.calls) };
+}
+
+impl OutCalls {
+    /// No calls, with room for `MOST_SLOTS`, or `Starved` where there is no memory for it.
+    pub fn new(alloc: Global) -> Result<OutCalls, Starved>
+        ensures { IfOk result (λ calls. calls ≡ []) }
+    {
+        Ok(OutCalls {
+            calls: Vec::with_capacity(alloc, MOST_SLOTS)?,
+        })
+    }
+
+    pub fn len(&self) -> usize
+        ensures len { result ≡ length self.now }
+        ensures most { length self.now ≤ MOST_SLOTS }
+    {
+        self.calls.len()
+    }
+
+    pub fn is_empty(&self) -> bool
+        ensures { IsTrue result ↔ (self.now ≡ []) }
+    {
+        self.calls.is_empty()
+    }
+
+    /// The calls, the one that became due last at the end.
+    pub fn as_slice(&self) -> &[Call]
+        ensures { result.now ≡ self.now }
+    {
+        self.calls.as_slice()
+    }
+
+    /// A call becomes due, behind the others, under this number.
+    pub fn make_due(&mut self, number: u64, letter: Letter)
+        requires { length self.old < MOST_SLOTS }
+        ensures { self.new ≡ self.old ++ due_now number letter ∷ [] }
+    {
+        self.calls.push_reserved(Call::new(number, letter));
+    }
+
+    /// The call that is to be sent next: of those that are due, the one that became so first.
+    pub fn next_due(&self) -> Option<&Call>
+        ensures { found result ≡ next_due self.now }
+    {
+        match self.due_place() {
+            Some(place) => Some(&self.calls[place]),
+            None => None,
+        }
+    }
+
+    /// The call that is to be sent next was sent. It waits for its answer, but for a local line, which ends. Where none is
+    /// due nothing changes.
+    pub fn sent(&mut self)
+        ensures { self.new ≡ after_sending self.old }
+    {
+        if let Some(place) = self.due_place() {
+            self.sent_at(place);
+        }
+    }
+
+    /// The call that a reply of this xid belongs to (RFC 5531): of those that were sent, the oldest.
+    pub fn of_xid(&self, xid: u32) -> Option<&Call>
+        ensures { found result ≡ call_of_xid xid self.now }
+    {
+        let calls = self.calls.as_slice();
+        let mut oldest: Option<&Call> = None;
+        for call in calls {
+            if call.is_answered_by(xid) {
+                oldest = Some(older(oldest, call));
+            }
+        }
+        oldest
+    }
+
+    /// The call that a GRANTED_RES with this cookie belongs to (XNFS, NLM_GRANTED_RES): a GRANTED_MSG that was sent.
+    pub fn of_cookie(&self, cookie: &[u8]) -> Option<&Call>
+        ensures { found result ≡ call_of_cookie cookie.now self.now }
+    {
+        let calls = self.calls.as_slice();
+        let mut oldest: Option<&Call> = None;
+        for call in calls {
+            if call.is_answered_with(cookie) {
+                oldest = Some(older(oldest, call));
+            }
+        }
+        oldest
+    }
+
+    /// An answer ends the call of this number. Where there is none nothing changes.
+    pub fn answered(&mut self, number: u64)
+        ensures { self.new ≡ without_call number self.old }
+    {
+        if let Some(place) = self.place_of(number) {
+            drop(self.calls.remove(place));
+        }
+    }
+
+    /// Nothing answered the call of this number. It becomes due again, behind the others, or is forgotten once it was
+    /// sent `MOST_SENDINGS` times. Nothing changes where it is due already, or where there is none.
+    pub fn silent(&mut self, number: u64)
+        ensures { self.new ≡ after_silence number self.old }
+    {
+        if let Some(place) = self.place_of(number) {
+            self.silent_at(number, place);
+        }
+    }
+
+    /// Takes out the grants to a host that it has not answered (XNFS, NLM_FREE_ALL and SM_NOTIFY).
+    pub fn drop_host(&mut self, name: &[u8])
+        ensures { self.new ≡ without_grants_to name.now self.old }
+    {
+        self.calls.retain(|call| !call.is_grant_to(name));
+    }
+
+    /// Takes out every call, as at a restart.
+    pub fn clear(&mut self)
+        ensures { self.new ≡ [] }
+    {
+        self.calls.clear();
+    }
+
+    // Where the next call to be sent stands.
+    fn due_place(&self) -> Option<usize>
+        ensures { IsFirstPlace (λ c. c.is_due) self.now result }
+    {
+        self.calls.iter().position(|call| call.is_due())
+    }
+
+    // Where the first call of this number stands.
+    fn place_of(&self, number: u64) -> Option<usize>
+        ensures { IsFirstPlace (is_numbered number) self.now result }
+    {
+        self.calls.iter().position(|call| call.number() == number)
+    }
+
+    // Nothing answered the first call of this number, which stands here.
+    fn silent_at(&mut self, number: u64, place: usize)
+        requires { IsFirstPlace (is_numbered number) self.old (Some place) }
+        ensures { self.new ≡ after_silence number self.old }
+    {
+        if self.calls[place].is_due() {
+            return;
+        }
+        if self.calls[place].sendings() < MOST_SENDINGS {
+            let call = self.calls.remove(place);
+            self.calls.push_reserved(call.repeat());
+        } else {
+            drop(self.calls.remove(place));
+        }
+    }
+
+    // The first due call, which stands here, was sent.
+    fn sent_at(&mut self, place: usize)
+        requires { IsFirstPlace (λ c. c.is_due) self.old (Some place) }
+        ensures { self.new ≡ after_sending self.old }
+    {
+        if self.calls[place].ends_when_sent() {
+            drop(self.calls.remove(place));
+        } else {
+            self.calls[place].send();
+        }
+    }
+}
+
+// Of two calls the one of lesser number; the first where they have one.
+fn older<'a>(first: Option<&'a Call>, call: &'a Call) -> &'a Call
+    ensures { result.now ≡ kept_or (found first.entry) call.now }
+{
+    match first {
+        Some(first) if !call.is_older(first) => first,
+        _ => call,
+    }
+}
