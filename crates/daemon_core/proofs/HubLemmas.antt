@@ -1,14 +1,16 @@
 -- A take at a place.
-use Rattle.std.proofs.Common.{◌≡◌, ℕ, Option, zero, suc, ◌<◌, ◌≤◌, inl, inr, List, [], ◌∷◌, ◌++◌, subst, length, Some, slice_get, slice_set, slice_index_or, refl, sym, ◌∙◌, ap, arith}
+use Rattle.std.proofs.Common.{◌≡◌, ℕ, zero, suc, ◌<◌, ◌≤◌, inl, inr, List, [], ◌∷◌, ◌++◌, subst, length, Some, slice_get, slice_set, slice_index_or, refl, sym, ◌∙◌, ap, arith}
 use Rattle.std.proofs.lemmas.Bool.Decides.{nat_tests}
-use Rattle.rpc_msg.specs.declared.reply.Reply.{Reply}
-use Rattle.daemon_core.specs.declared.event.Outputs.{Outputs}
-use Rattle.daemon_core.specs.Outputs.{quiet, answered_to}
-use Rattle.daemon_core.specs.Service.{IsAnswered}
+use Rattle.definitions.specs.Step.{Given, State}
+use Rattle.kept_replies.specs.Pairs.{asker}
+use Rattle.lock_service.specs.Planned.{answer_of, counted}
+use Rattle.book.specs.Notes.{Takes, doing_of, Steps}
+use Rattle.daemon_core.specs.declared.outputs.Outputs.{Outputs}
+use Rattle.daemon_core.specs.Outputs.{quiet, told_to}
 use Rattle.daemon_core.specs.Untaken.{AreRecords, untaken}
 use Rattle.daemon_core.specs.Link.{Link, with_taken}
 use Rattle.daemon_core.specs.declared.event.Event.{Event}
-use Rattle.daemon_core.specs.Hub.{Hub, place_of, TakesAt, HubStep, Run}
+use Rattle.daemon_core.specs.Hub.{Hub, with_links, place_of, TakesAt, HubStep, Run}
 
 pub place_of-below : (number : ℕ) (links : List Link) (place : ℕ) → place_of number links ≡ Some place → place < length links
 place_of-below number links place e = grind (arith, nat_tests)
@@ -23,26 +25,27 @@ set-same [] place link e = refl
 set-same (l ∷ links) zero link e = cc
 set-same (l ∷ links) (suc place) link e = ap (λ xs. l ∷ xs) (set-same links place link e)
 
-hub-is : (new : Hub) (links : List Link) → new.links ≡ links → new ≡ record { links = links }
-hub-is new links e = let of_links : List Link → Hub = λ l. record { links = l } in ap of_links e
+hub-is : (old : Hub) (links : List Link) → links ≡ old.links → with_links old links ≡ old
+hub-is old links e = ap (with_links old) e
 
-pub TakesAt-none : (old new : Hub) (out : Outputs) (place i : ℕ) (link link' : Link) → slice_get old.links place ≡ Some link
+pub TakesAt-none : (old : Hub) (out : Outputs) (place i : ℕ) (link link' : Link) → slice_get old.links place ≡ Some link
     → (link' ≡ link) × ((records : List (List ℕ)) × AreRecords link.received records × (length (untaken records link.taken) ≤ i))
-    → out ≡ quiet → new.links ≡ slice_set old.links place link' → TakesAt (Some place) i old out new
-TakesAt-none old new out place i link link' there none is links =
+    → out ≡ quiet → TakesAt (Some place) i old out (with_links old (slice_set old.links place link'))
+TakesAt-none old out place i link link' there none is =
     inr (record {
       link = link;
       there = there;
       records = none.1.0;
       are = none.1.1;
       few = none.1.2;
-      quiet = (hub-is new old.links (links ∙ (ap (λ l. slice_set old.links place l) none.0 ∙ set-same old.links place link there)), is);
+      quiet = (hub-is old _ (ap (λ l. slice_set old.links place l) none.0 ∙ set-same old.links place link there), is);
     })
 
-pub TakesAt-some : (old new : Hub) (out : Outputs) (place i : ℕ) (link link' : Link) (bytes : List ℕ) (reply : Option Reply) → slice_get old.links place ≡ Some link
+pub TakesAt-some : (old : Hub) (state : State) (refusals : ℕ) (out : Outputs) (place i : ℕ) (link link' : Link) (bytes : List ℕ) (given : Given) → slice_get old.links place ≡ Some link
     → (records : List (List ℕ)) × AreRecords link.received records × (slice_get (untaken records link.taken) i ≡ Some bytes) × (link' ≡ with_taken link i)
-    → IsAnswered bytes reply → out ≡ answered_to link.number reply → new.links ≡ slice_set old.links place link' → TakesAt (Some place) i old out new
-TakesAt-some old new out place i link link' bytes reply there some answered outputs links =
+    → Steps old.state (Takes (asker link.peer) bytes) (doing_of out.outcome) (answer_of out.store) given state → refusals ≡ counted (answer_of out.store) old.refusals
+    → out ≡ told_to link.number out.outcome out.store given → TakesAt (Some place) i old out (record { state = state; refusals = refusals; links = slice_set old.links place link' })
+TakesAt-some old state refusals out place i link link' bytes given there some step counts outputs =
     inl (record {
       link = link;
       there = there;
@@ -50,9 +53,10 @@ TakesAt-some old new out place i link link' bytes reply there some answered outp
       are = some.1;
       bytes = bytes;
       is = some.2;
-      reply = reply;
-      answered = answered;
-      links = hub-is new _ (links ∙ ap (λ l. slice_set old.links place l) some.3);
+      given = given;
+      step = step;
+      refusals = counts;
+      links = ap (λ l. slice_set old.links place l) some.3;
       outputs = outputs;
     })
 

@@ -1,3 +1,4 @@
 pub mod UntakenLemmas
 pub mod HubLemmas
 pub mod SameRun
+pub mod Replays

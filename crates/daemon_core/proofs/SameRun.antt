@@ -1,38 +1,38 @@
 -- One list of events with the same outcomes has one run.
 use Rattle.std.proofs.Common.{◌≡◌, ℕ, zero, suc, ◌≤◌, inl, inr, Bool, true, false, List, [], ◌∷◌, length, Option, Some, None, slice_get, slice_set, refl, sym, ◌∙◌, ap, subst, arith}
 use Rattle.record_mark.specs.Stream.{Splits, HasOneReading}
-use Rattle.rpc_msg.specs.declared.header.Header.{Header}
-use Rattle.rpc_msg.specs.declared.reply.Reply.{Reply}
-use Rattle.rpc_msg.specs.Laws.{HasOneVerdict}
-use Rattle.daemon_core.specs.declared.event.Outcome.{Outcome}
-use Rattle.daemon_core.specs.declared.event.Outcome.TheVariants.{Applied, Starved}
-use Rattle.daemon_core.specs.declared.event.Event.{Event}
-use Rattle.daemon_core.specs.declared.event.Event.TheVariants.{Connect, Piece, Disconnect, Take}
-use Rattle.daemon_core.specs.declared.event.Outputs.{Outputs}
+use Rattle.definitions.specs.Step.{Given, State}
 use Rattle.kept_replies.specs.declared.key.Peer.{Peer}
-use Rattle.daemon_core.specs.Service.{reply_to, reply_to_refused, IsAnswered}
-use Rattle.daemon_core.specs.Outputs.{marked_by, answered_to}
+use Rattle.kept_replies.specs.Pairs.{asker}
+use Rattle.lock_service.specs.declared.plans.StoreAnswer.{StoreAnswer}
+use Rattle.lock_service.specs.Planned.{answer_of, counted}
+use Rattle.book.specs.declared.entry.Doing.{Doing}
+use Rattle.book.specs.declared.entry.Doing.TheVariants.{Applied, Starved}
+use Rattle.book.specs.Notes.{Happening, Takes, GraceEnds, BeginsAnew, doing_of, Steps, OneStep}
+use Rattle.daemon_core.specs.declared.event.Event.{Event}
+use Rattle.daemon_core.specs.declared.event.Event.TheVariants.{Connect, Piece, Disconnect, Take, GraceOver, Restart}
+use Rattle.daemon_core.specs.declared.outputs.Outputs.{Outputs}
+use Rattle.daemon_core.specs.Outputs.{marked_by, told, told_to}
 use Rattle.daemon_core.specs.Untaken.{AreRecords, untaken}
 use Rattle.daemon_core.specs.Link.{Link, Hears, Receives, with_taken}
-use Rattle.daemon_core.specs.Hub.{Hub, place_of, IsQuiet, Connects, Disconnects, Pieces, Answers, HasNone, TakesAt, HubStep, Run, HasOneRun}
+use Rattle.daemon_core.specs.Hub.{Hub, with_links, place_of, IsQuiet, Connects, Disconnects, Pieces, Answers, HasNone, TakesAt, links_after, Happens, HubStep, Run, HasOneRun}
 
 abbrev Same : Outputs → Outputs → Hub → Hub → Type 0
 Same out out' new new' = (out ≡ out') × (new ≡ new')
 
-abbrev hub_of : List Link → Hub
-hub_of links = record { links = links }
+same-hub : (new end : Hub) → new.state ≡ end.state → new.refusals ≡ end.refusals → new.links ≡ end.links → new ≡ end
+same-hub new end s r l = λ i. record { state = s i; refusals = r i; links = l i }
 
--- a record has one answer
-one_answer : HasOneVerdict → (bytes : List ℕ) (r s : Option Reply) → IsAnswered bytes r → IsAnswered bytes s → r ≡ s
-one_answer v bytes r s (inl a) (inl b) = a.is ∙ (ap (λ (h : Header). Some (reply_to h)) (v.call bytes a.header b.header _ _ a.asks b.asks).0 ∙ sym b.is)
-one_answer v bytes r s (inl a) (inr b) = absurd (v.either bytes a.header _ b.error a.asks b.refused)
-one_answer v bytes r s (inr a) (inl b) = absurd (v.either bytes b.header _ a.error b.asks a.refused)
-one_answer v bytes r s (inr a) (inr b) = a.is ∙ (ap reply_to_refused (v.refusal bytes a.error b.error a.refused b.refused) ∙ sym b.is)
+-- what the events gave, and the states after them
+same-step : OneStep → (old new end : State) (event : Happening) (o p : Doing) (a b : StoreAnswer) (given other : Given) → o ≡ p → a ≡ b → Steps old event (doing_of o) (answer_of a) given new
+    → Steps old event (doing_of p) (answer_of b) other end → (given ≡ other) × (new ≡ end)
+same-step one old new end event o p a b given other e f x y =
+    one old new end event (doing_of p) (answer_of b) given other (subst (λ (q : Doing). Steps old event (doing_of q) (answer_of b) given new) e (subst (λ (q : StoreAnswer). Steps old event (doing_of o) (answer_of q) given new) f x)) y
 
 quiet-same : (old new new' : Hub) (out out' : Outputs) → IsQuiet old out new → IsQuiet old out' new' → Same out out' new new'
 quiet-same old new new' out out' h h' = (h.1 ∙ sym h'.1, h.0 ∙ sym h'.0)
 
-Connects-same : (place : Option ℕ) (o o' : Outcome) (number : ℕ) (peer : Peer) (old new new' : Hub) (out out' : Outputs) → o ≡ o' → Connects place o number peer old out new
+Connects-same : (place : Option ℕ) (o o' : Doing) (number : ℕ) (peer : Peer) (old new new' : Hub) (out out' : Outputs) → o ≡ o' → Connects place o number peer old out new
     → Connects place o' number peer old out' new' → Same out out' new new'
 Connects-same (Some place) o o' number peer old new new' out out' e h h' = quiet-same old new new' out out' h h'
 Connects-same None Applied Applied number peer old new new' out out' e h h' = (h.1 ∙ sym h'.1, h.0 ∙ sym h'.0)
@@ -44,7 +44,7 @@ Disconnects-same : (place : Option ℕ) (old new new' : Hub) (out out' : Outputs
 Disconnects-same None old new new' out out' h h' = (h.1 ∙ sym h'.1, h.0 ∙ sym h'.0)
 Disconnects-same (Some place) old new new' out out' h h' = (h.1 ∙ sym h'.1, h.0 ∙ sym h'.0)
 
-Hears-same : HasOneReading → (o o' : Outcome) (old new new' : Link) (bytes : List ℕ) (out out' : Outputs) → o ≡ o' → Hears o old bytes out new → Hears o' old bytes out' new'
+Hears-same : HasOneReading → (o o' : Doing) (old new new' : Link) (bytes : List ℕ) (out out' : Outputs) → o ≡ o' → Hears o old bytes out new → Hears o' old bytes out' new'
     → (out ≡ out') × (new ≡ new')
 Hears-same one Applied Applied old new new' bytes out out' e h h' =
     let links : new ≡ new' = h.0 ∙ sym h'.0 in
@@ -75,7 +75,7 @@ Pieces-same one (Some place) bytes old new new' out out' e h h' =
     let link : h'.link ≡ h.link = some-same old.links place h'.link h.link h'.there h.there in
     let P : Link → Type 0 = λ l. Receives l.receives l bytes out' h'.link' in
     let found = Receives-same one h.link.receives h.link h.link' h'.link' bytes out out' e h.receives (subst P link h'.receives) in
-    let after : Link → Hub = λ l. record { links = slice_set old.links place l } in
+    let after : Link → Hub = λ l. with_links old (slice_set old.links place l) in
     (found.0, h.rest ∙ (ap after found.1 ∙ sym h'.rest))
 
 records-same : HasOneReading → (received : List ℕ) (records others : List (List ℕ)) → AreRecords received records → AreRecords received others → records ≡ others
@@ -86,18 +86,27 @@ get-none [] i x e h = cc
 get-none (y ∷ ys) zero x e h = omega arith
 get-none (y ∷ ys) (suc i) x e h = get-none ys i x e (omega arith)
 
-Answers-same : HasOneReading → HasOneVerdict → (place i : ℕ) (old new new' : Hub) (out out' : Outputs) → Answers place i old out new → Answers place i old out' new' → Same out out' new new'
-Answers-same one verdict place i old new new' out out' h h' =
+Answers-same : HasOneReading → OneStep → (place i : ℕ) (old new new' : Hub) (out out' : Outputs) → out.outcome ≡ out'.outcome → out.store ≡ out'.store → Answers place i old out new → Answers place i old out' new' → Same out out' new new'
+Answers-same one step place i old new new' out out' e f h h' =
     let link : h'.link ≡ h.link = some-same old.links place h'.link h.link h'.there h.there in
     let P : Link → Type 0 = λ l. AreRecords l.received h'.records in
     let records : h'.records ≡ h.records = records-same one h.link.received h'.records h.records (subst P link h'.are) h.are in
     let get : Link → List (List ℕ) → Option (List ℕ) = λ l rs. slice_get (untaken rs l.taken) i in
     let is' : slice_get (untaken h.records h.link.taken) i ≡ Some h'.bytes = ap (λ (rs : List (List ℕ)). get h.link rs) (sym records) ∙ (ap (λ (l : Link). get l h'.records) (sym link) ∙ h'.is) in
     let bytes : h'.bytes ≡ h.bytes = bytes-same (slice_get (untaken h.records h.link.taken) i) h'.bytes h.bytes is' h.is in
-    let Q : List ℕ → Type 0 = λ b. IsAnswered b h'.reply in
-    let reply : h.reply ≡ h'.reply = one_answer verdict h.bytes h.reply h'.reply h.answered (subst Q bytes h'.answered) in (
-      h.outputs ∙ (ap (λ (r : Option Reply). answered_to h.link.number r) reply ∙ (ap (λ (l : Link). answered_to l.number h'.reply) (sym link) ∙ sym h'.outputs)),
-      h.links ∙ (ap (λ (l : Link). hub_of (slice_set old.links place (with_taken l i))) (sym link) ∙ sym h'.links),
+    let Q : Link → List ℕ → Type 0 = λ l b. Steps old.state (Takes (asker l.peer) b) (doing_of out'.outcome) (answer_of out'.store) h'.given new'.state in
+    let step' = subst (λ (b : List ℕ). Q h.link b) bytes (subst (λ (l : Link). Q l h'.bytes) link h'.step) in
+    let same = same-step step old.state new.state new'.state (Takes (asker h.link.peer) h.bytes) out.outcome out'.outcome out.store out'.store h.given h'.given e f h.step step' in
+    let links : new.links ≡ new'.links = h.links ∙ (ap (λ (l : Link). slice_set old.links place (with_taken l i)) (sym link) ∙ sym h'.links) in (
+      h.outputs ∙ ap (λ (o : Doing). told_to h.link.number o out.store h.given) e ∙ ap (λ (a : StoreAnswer). told_to h.link.number out'.outcome a h.given) f ∙ ap (λ (x : Given). told_to h.link.number out'.outcome out'.store x) same.0 ∙ ap (λ (l : Link). told_to l.number out'.outcome out'.store h'.given) (sym link) ∙ sym h'.outputs,
+      same-hub new new' same.1 (h.refusals ∙ ap (λ (a : StoreAnswer). counted (answer_of a) old.refusals) f ∙ sym h'.refusals) links,
+    )
+
+Happens-same : OneStep → (event : Happening) (old new new' : Hub) (out out' : Outputs) → out.outcome ≡ out'.outcome → out.store ≡ out'.store → Happens event old out new → Happens event old out' new' → Same out out' new new'
+Happens-same step event old new new' out out' e f h h' =
+    let same = same-step step old.state new.state new'.state event out.outcome out'.outcome out.store out'.store h.given h'.given e f h.step h'.step in (
+      h.outputs ∙ ap (λ (o : Doing). told o out.store h.given) e ∙ ap (λ (a : StoreAnswer). told out'.outcome a h.given) f ∙ ap (λ (x : Given). told out'.outcome out'.store x) same.0 ∙ sym h'.outputs,
+      same-hub new new' same.1 (h.refusals ∙ ap (λ (a : StoreAnswer). counted (answer_of a) old.refusals) f ∙ sym h'.refusals) (h.links ∙ ap (λ (a : StoreAnswer). links_after event a old.links) f ∙ sym h'.links),
     )
 
 none-not : HasOneReading → (place i : ℕ) (old new new' : Hub) (out out' : Outputs) → Answers place i old out new → HasNone place i old out' new' → ⊥
@@ -109,27 +118,29 @@ none-not one place i old new new' out out' h h' =
     let Q : List (List ℕ) → Type 0 = λ rs. length (untaken rs h.link.taken) ≤ i in
     get-none (untaken h.records h.link.taken) i h.bytes h.is (subst Q records moved.1)
 
-TakesAt-same : HasOneReading → HasOneVerdict → (place : Option ℕ) (i : ℕ) (old new new' : Hub) (out out' : Outputs) → TakesAt place i old out new → TakesAt place i old out' new' → Same out out' new new'
-TakesAt-same one verdict None i old new new' out out' h h' = quiet-same old new new' out out' h h'
-TakesAt-same one verdict (Some place) i old new new' out out' (inl h) (inl h') = Answers-same one verdict place i old new new' out out' h h'
-TakesAt-same one verdict (Some place) i old new new' out out' (inr h) (inr h') = quiet-same old new new' out out' h.quiet h'.quiet
-TakesAt-same one verdict (Some place) i old new new' out out' (inl h) (inr h') = absurd (none-not one place i old new new' out out' h h')
-TakesAt-same one verdict (Some place) i old new new' out out' (inr h) (inl h') = absurd (none-not one place i old new' new out' out h' h)
+TakesAt-same : HasOneReading → OneStep → (place : Option ℕ) (i : ℕ) (old new new' : Hub) (out out' : Outputs) → out.outcome ≡ out'.outcome → out.store ≡ out'.store → TakesAt place i old out new → TakesAt place i old out' new' → Same out out' new new'
+TakesAt-same one step None i old new new' out out' e f h h' = quiet-same old new new' out out' h h'
+TakesAt-same one step (Some place) i old new new' out out' e f (inl h) (inl h') = Answers-same one step place i old new new' out out' e f h h'
+TakesAt-same one step (Some place) i old new new' out out' e f (inr h) (inr h') = quiet-same old new new' out out' h.quiet h'.quiet
+TakesAt-same one step (Some place) i old new new' out out' e f (inl h) (inr h') = absurd (none-not one place i old new new' out out' h h')
+TakesAt-same one step (Some place) i old new new' out out' e f (inr h) (inl h') = absurd (none-not one place i old new' new out' out h' h)
 
-HubStep-same : HasOneReading → HasOneVerdict → (old new new' : Hub) (event : Event) (out out' : Outputs) → HubStep old event out new → HubStep old event out' new' → out.outcome ≡ out'.outcome → Same out out' new new'
-HubStep-same one verdict old new new' (Connect number peer) out out' h h' e = Connects-same (place_of number old.links) out.outcome out'.outcome number peer old new new' out out' e h h'
-HubStep-same one verdict old new new' (Piece number bytes) out out' h h' e = Pieces-same one (place_of number old.links) bytes.items old new new' out out' e h h'
-HubStep-same one verdict old new new' (Disconnect number) out out' h h' e = Disconnects-same (place_of number old.links) old new new' out out' h h'
-HubStep-same one verdict old new new' (Take number i) out out' h h' e = TakesAt-same one verdict (place_of number old.links) i old new new' out out' h h'
+HubStep-same : HasOneReading → OneStep → (old new new' : Hub) (event : Event) (out out' : Outputs) → HubStep old event out new → HubStep old event out' new' → out.outcome ≡ out'.outcome → out.store ≡ out'.store → Same out out' new new'
+HubStep-same one step old new new' (Connect number peer) out out' h h' e f = Connects-same (place_of number old.links) out.outcome out'.outcome number peer old new new' out out' e h h'
+HubStep-same one step old new new' (Piece number bytes) out out' h h' e f = Pieces-same one (place_of number old.links) bytes.items old new new' out out' e h h'
+HubStep-same one step old new new' (Disconnect number) out out' h h' e f = Disconnects-same (place_of number old.links) old new new' out out' h h'
+HubStep-same one step old new new' (Take number i) out out' h h' e f = TakesAt-same one step (place_of number old.links) i old new new' out out' e f h h'
+HubStep-same one step old new new' GraceOver out out' h h' e f = Happens-same step GraceEnds old new new' out out' e f h h'
+HubStep-same one step old new new' Restart out out' h h' e f = Happens-same step BeginsAnew old new new' out out' e f h h'
 
-pub Run-same : HasOneReading → HasOneVerdict → HasOneRun
-Run-same one verdict old new new' [] [] [] h h' alike = (refl, h ∙ sym h')
-Run-same one verdict old new new' [] (o ∷ outs) outs' h h' alike = absurd h
-Run-same one verdict old new new' [] [] (o ∷ outs') h h' alike = absurd h'
-Run-same one verdict old new new' (e ∷ events) [] outs' h h' alike = absurd h
-Run-same one verdict old new new' (e ∷ events) (o ∷ outs) [] h h' alike = absurd h'
-Run-same one verdict old new new' (e ∷ events) (o ∷ outs) (o' ∷ outs') h h' alike =
-    let first = HubStep-same one verdict old h.0 h'.0 e o o' h.1 h'.1 alike.0 in
+pub Run-same : HasOneReading → OneStep → HasOneRun
+Run-same one step old new new' [] [] [] h h' alike = (refl, h ∙ sym h')
+Run-same one step old new new' [] (o ∷ outs) outs' h h' alike = absurd h
+Run-same one step old new new' [] [] (o ∷ outs') h h' alike = absurd h'
+Run-same one step old new new' (e ∷ events) [] outs' h h' alike = absurd h
+Run-same one step old new new' (e ∷ events) (o ∷ outs) [] h h' alike = absurd h'
+Run-same one step old new new' (e ∷ events) (o ∷ outs) (o' ∷ outs') h h' alike =
+    let first = HubStep-same one step old h.0 h'.0 e o o' h.1 h'.1 alike.0 alike.1 in
     let P : Hub → Type 0 = λ m. Run m events outs' new' in
-    let rest = Run-same one verdict h.0 new new' events outs outs' h.2 (subst P (sym first.1) h'.2) alike.1 in
+    let rest = Run-same one step h.0 new new' events outs outs' h.2 (subst P (sym first.1) h'.2) alike.2 in
     (ap (λ x. x ∷ outs) first.0 ∙ ap (λ xs. o' ∷ xs) rest.0, rest.1)

@@ -1,24 +1,35 @@
--- The connections and what they are answered, as a fold over events.
+-- The shared state, the connections, and what they are answered, as a fold over events.
 use Rattle.std.specs.Prelude.{◌≡◌, ℕ, ◌≤◌, ◌⊎◌, ◌==◌, List, [], ◌∷◌, ◌++◌, length, flat_map, Option, Some, None, slice_get, slice_set}
 use Rattle.std.specs.List.{position, remove}
-use Rattle.rpc_msg.specs.declared.reply.Reply.{Reply}
-use Rattle.daemon_core.specs.declared.event.Event.{Event}
-use Rattle.daemon_core.specs.declared.event.Event.TheVariants.{Connect, Piece, Disconnect, Take}
-use Rattle.daemon_core.specs.declared.event.Outcome.{Outcome}
-use Rattle.daemon_core.specs.declared.event.Outcome.TheVariants.{Applied, Starved}
-use Rattle.daemon_core.specs.declared.event.Outputs.{Outputs}
+use Rattle.definitions.specs.Bytes.{Bytes}
+use Rattle.definitions.specs.Hosts.{Hosts}
+use Rattle.definitions.specs.Step.{Given, State, opening_state}
 use Rattle.kept_replies.specs.declared.key.Peer.{Peer}
-use Rattle.daemon_core.specs.Outputs.{quiet, starved, answered_to, bytes_sent}
-use Rattle.daemon_core.specs.Service.{IsAnswered}
+use Rattle.kept_replies.specs.Pairs.{asker}
+use Rattle.lock_service.specs.declared.plans.StoreAnswer.{StoreAnswer}
+use Rattle.lock_service.specs.declared.plans.StoreAnswer.TheVariants.{NotAsked, Yes, Refused}
+use Rattle.lock_service.specs.Planned.{answer_of, counted}
+use Rattle.book.specs.declared.entry.Doing.{Doing}
+use Rattle.book.specs.declared.entry.Doing.TheVariants.{Applied, Starved}
+use Rattle.book.specs.Notes.{Happening, Takes, GraceEnds, BeginsAnew, doing_of, Steps}
+use Rattle.daemon_core.specs.declared.event.Event.{Event}
+use Rattle.daemon_core.specs.declared.event.Event.TheVariants.{Connect, Piece, Disconnect, Take, GraceOver, Restart}
+use Rattle.daemon_core.specs.declared.outputs.Outputs.{Outputs}
+use Rattle.daemon_core.specs.Outputs.{quiet, starved, told, told_to, bytes_sent}
 use Rattle.daemon_core.specs.Untaken.{AreRecords, untaken}
 use Rattle.daemon_core.specs.Link.{Link, fresh, with_taken, Receives}
 
--- the connections, each with all that came on it
+-- the shared state, how often the store has refused, and the connections, each with all that came on it
 pub record Hub : Type 0 where
+  pub state : State
+  pub refusals : ℕ
   pub links : List Link
 
-abbrev pub opening : Hub
-opening = record { links = [] }
+abbrev pub opening : Bytes → Hosts → ℕ → Hub
+opening name hosts refusals = record { state = opening_state name hosts; refusals = refusals; links = [] }
+
+abbrev pub with_links : Hub → List Link → Hub
+with_links hub links = record hub { links = links }
 
 -- the place of the connection
 abbrev pub place_of : ℕ → List Link → Option ℕ
@@ -28,14 +39,14 @@ abbrev pub IsQuiet : Hub → Outputs → Hub → Type 0
 IsQuiet old out new = (new ≡ old) × (out ≡ quiet)
 
 -- a connection whose number is in use doesn't begin
-abbrev pub Connects : Option ℕ → Outcome → ℕ → Peer → Hub → Outputs → Hub → Type 0
+abbrev pub Connects : Option ℕ → Doing → ℕ → Peer → Hub → Outputs → Hub → Type 0
 Connects (Some place) outcome number peer old out new = IsQuiet old out new
-Connects None Applied number peer old out new = (new ≡ record { links = old.links ++ fresh number peer ∷ [] }) × (out ≡ quiet)
+Connects None Applied number peer old out new = (new ≡ with_links old (old.links ++ fresh number peer ∷ [])) × (out ≡ quiet)
 Connects None Starved number peer old out new = (new ≡ old) × (out ≡ starved)
 
 abbrev pub Disconnects : Option ℕ → Hub → Outputs → Hub → Type 0
 Disconnects None old out new = IsQuiet old out new
-Disconnects (Some place) old out new = (new ≡ record { links = remove old.links place }) × (out ≡ quiet)
+Disconnects (Some place) old out new = (new ≡ with_links old (remove old.links place)) × (out ≡ quiet)
 
 -- bytes come to the connection at the place
 pub record Brings (place : ℕ) (bytes : List ℕ) (old : Hub) (out : Outputs) (new : Hub) : Type 0 where
@@ -43,7 +54,7 @@ pub record Brings (place : ℕ) (bytes : List ℕ) (old : Hub) (out : Outputs) (
   pub there : slice_get old.links place ≡ Some link
   pub link' : Link
   pub receives : Receives link.receives link bytes out link'
-  pub rest : new ≡ record { links = slice_set old.links place link' }
+  pub rest : new ≡ with_links old (slice_set old.links place link')
 
 abbrev pub Pieces : Option ℕ → List ℕ → Hub → Outputs → Hub → Type 0
 Pieces None bytes old out new = IsQuiet old out new
@@ -57,10 +68,11 @@ pub record Answers (place i : ℕ) (old : Hub) (out : Outputs) (new : Hub) : Typ
   pub are : AreRecords link.received records
   pub bytes : List ℕ
   pub is : slice_get (untaken records link.taken) i ≡ Some bytes
-  pub reply : Option Reply
-  pub answered : IsAnswered bytes reply
-  pub links : new ≡ record { links = slice_set old.links place (with_taken link i) }
-  pub outputs : out ≡ answered_to link.number reply
+  pub given : Given
+  pub step : Steps old.state (Takes (asker link.peer) bytes) (doing_of out.outcome) (answer_of out.store) given new.state
+  pub refusals : new.refusals ≡ counted (answer_of out.store) old.refusals
+  pub links : new.links ≡ slice_set old.links place (with_taken link i)
+  pub outputs : out ≡ told_to link.number out.outcome out.store given
 
 -- there is no such record
 pub record HasNone (place i : ℕ) (old : Hub) (out : Outputs) (new : Hub) : Type 0 where
@@ -87,12 +99,30 @@ abbrev pub Waits : Option ℕ → Hub → ℕ → Type 0
 Waits None hub count = count ≡ 0
 Waits (Some place) hub count = HasWaiting place hub count
 
+-- all connections end where the server begins anew, which the store agreed to
+abbrev pub links_after : Happening → StoreAnswer → List Link → List Link
+links_after BeginsAnew Yes links = []
+links_after BeginsAnew NotAsked links = links
+links_after BeginsAnew Refused links = links
+links_after (Takes peer bytes) store links = links
+links_after GraceEnds store links = links
+
+-- an event of the shared state that nobody asked for
+pub record Happens (event : Happening) (old : Hub) (out : Outputs) (new : Hub) : Type 0 where
+  pub given : Given
+  pub step : Steps old.state event (doing_of out.outcome) (answer_of out.store) given new.state
+  pub refusals : new.refusals ≡ counted (answer_of out.store) old.refusals
+  pub links : new.links ≡ links_after event out.store old.links
+  pub outputs : out ≡ told out.outcome out.store given
+
 -- one event
 abbrev pub HubStep : Hub → Event → Outputs → Hub → Type 0
 HubStep old (Connect number peer) out new = Connects (place_of number old.links) out.outcome number peer old out new
 HubStep old (Piece number bytes) out new = Pieces (place_of number old.links) bytes.items old out new
 HubStep old (Disconnect number) out new = Disconnects (place_of number old.links) old out new
 HubStep old (Take number i) out new = TakesAt (place_of number old.links) i old out new
+HubStep old GraceOver out new = Happens GraceEnds old out new
+HubStep old Restart out new = Happens BeginsAnew old out new
 
 -- all events, one after another
 abbrev pub Run : Hub → List Event → List Outputs → Hub → Type 0
@@ -101,10 +131,10 @@ Run old (event ∷ events) (out ∷ outs) new = (mid : Hub) × HubStep old event
 Run old [] (out ∷ outs) new = ⊥
 Run old (event ∷ events) [] new = ⊥
 
--- the events met want of memory in the same way
+-- the events met want of memory in the same way, and the store answered alike
 abbrev pub AreAlike : List Outputs → List Outputs → Type 0
 AreAlike [] [] = Unit {0}
-AreAlike (out ∷ outs) (other ∷ others) = (out.outcome ≡ other.outcome) × AreAlike outs others
+AreAlike (out ∷ outs) (other ∷ others) = (out.outcome ≡ other.outcome) × (out.store ≡ other.store) × AreAlike outs others
 AreAlike [] (other ∷ others) = ⊥
 AreAlike (out ∷ outs) [] = ⊥
 
@@ -112,7 +142,7 @@ AreAlike (out ∷ outs) [] = ⊥
 abbrev pub all_bytes_sent : List Outputs → List ℕ
 all_bytes_sent outs = flat_map (λ (o : Outputs). bytes_sent o.sent) outs
 
--- events and want of memory fix all outputs and the end
+-- events, want of memory and the store's answers fix all outputs and the end
 abbrev pub HasOneRun : Type 0
 HasOneRun =
     (old new end : Hub) (events : List Event) (outs others : List Outputs) → Run old events outs new → Run old events others end → AreAlike outs others

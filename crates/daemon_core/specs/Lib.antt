@@ -1,6 +1,7 @@
-pub mod Service
+pub mod Sending
 pub mod Outputs
 pub mod Untaken
 pub mod Link
 pub mod Inside
 pub mod Hub
+pub mod Laws

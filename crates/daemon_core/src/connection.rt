@@ -4,7 +4,8 @@ ghost use Rattle.std.specs.Prelude.{◌≡◌, ℕ, ◌≤◌, List, length, sli
 ghost use Rattle.daemon_core.specs.Link.{fresh, Receives, with_taken};
 ghost use Rattle.daemon_core.specs.Untaken.{AreRecords, untaken};
 
-use crate::event::{Outcome, Outputs, Refusal, make_quiet, make_starved};
+use crate::event::Refusal;
+use crate::outputs::{Outputs, make_heard, make_quiet, make_starved};
 use bytes::Bytes;
 use history::History;
 use kept_replies::Peer;
@@ -87,11 +88,7 @@ impl Connection {
         }
         self.given = given;
         self.received = self.received.and_all(piece);
-        Outputs {
-            outcome: Outcome::Applied,
-            sent: None,
-            refusal,
-        }
+        make_heard(refusal)
     }
 
     /// How many whole records there are that were not taken.

@@ -1,31 +1,37 @@
-//! The connections of a daemon, and what they are answered.
+//! The connections of a daemon, the state that they share, and what they are answered.
 
-ghost use Rattle.std.specs.Prelude.{◌≡◌, IfOk, OnErr};
-ghost use Rattle.daemon_core.specs.Outputs.{answered_to, sent_to};
-ghost use Rattle.daemon_core.specs.Hub.{Hub, opening, place_of, Connects, Disconnects, Pieces, TakesAt, Waits, HubStep, Run};
+ghost use Rattle.std.specs.Prelude.{◌≡◌, [], IfOk, OnErr};
+ghost use Rattle.book.specs.Notes.{GraceEnds, BeginsAnew};
+ghost use Rattle.daemon_core.specs.Hub.{Hub, opening, place_of, Connects, Disconnects, Pieces, TakesAt, Happens, Waits, HubStep, Run};
 
 use crate::connection::Connection;
-use crate::event::{Event, Outcome, Outputs, Sent, make_quiet, make_starved};
-use crate::service::answer;
+use crate::event::Event;
+use crate::noted::note;
+use crate::outputs::{Outputs, make_quiet, make_starved, tell, tell_to};
+use book::{Book, BookEvent, StoreAnswer};
+use hosts_db::HostStore;
 use kept_replies::Peer;
+use letters::ShortBytes;
 use owner_ids::Starved;
-use rpc_msg::Reply;
+use range_table::RangeTable;
 use std::alloc::Global;
 use std::marker::Model;
 
-/// Contracts see of each connection all that came on it, and which of its records were taken.
+/// Contracts see the shared state, how often the store has refused, and of each connection all that came on it, and which
+/// of its records were taken.
 #[derive(Drop)]
-pub struct Daemon {
+pub struct Daemon<R: RangeTable, S: HostStore> {
     alloc: Global,
+    book: Book<R, S>,
     connections: Vec<Connection>,
 }
 
-impl Model for Daemon {
+impl<R: RangeTable, S: HostStore> Model for Daemon<R, S> {
     ghost use Rattle.daemon_core.specs.Hub.{Hub};
 
     ghost Value = { Hub };
 
-    ghost view = { λ d. record { links = d.connections.items } };
+    ghost view = { λ d. record { state = d.book.journal.end; refusals = d.book.refusals; links = d.connections.items } };
 }
 
 /// Where the connection stands.
@@ -35,30 +41,27 @@ fn find(connections: &[Connection], number: u64) -> Option<usize>
     connections.iter().position(|c| c.number() == number)
 }
 
-fn answer_to(number: u64, reply: Option<Reply>) -> Outputs
-    ensures { result ≡ answered_to number reply }
-{
-    Outputs {
-        outcome: Outcome::Applied,
-        sent: match reply {
-            None => None,
-            Some(reply) => Some(Sent { to: number, reply }),
-        },
-        refusal: None,
+impl<R: RangeTable + Drop, S: HostStore + Drop> Daemon<R, S> {
+    /// With no connection, and the store's rows alone, in grace. The table has no runs, and the name is the server's own.
+    /// Starved: there is no memory for it, and table, store and name are dropped.
+    pub fn new(
+        alloc: Global,
+        table: R,
+        store: S,
+        own_name: ShortBytes,
+    ) -> Result<Daemon<R, S>, Starved>
+        requires { R.settings table ≡ [] }
+        ensures { IfOk result (λ daemon. daemon ≡ opening own_name (S.rows store) (S.refusals store)) }
+    {
+        Ok(Daemon {
+            alloc,
+            book: Book::new(alloc, table, store, own_name)?,
+            connections: Vec::new(alloc),
+        })
     }
 }
 
-impl Daemon {
-    /// With no connection.
-    pub fn new(alloc: Global) -> Daemon
-        ensures { result ≡ opening }
-    {
-        Daemon {
-            alloc,
-            connections: Vec::new(alloc),
-        }
-    }
-
+impl<R: RangeTable, S: HostStore> Daemon<R, S> {
     fn connect(&mut self, number: u64, peer: Peer) -> Outputs
         ensures { Connects (place_of number self.old.links) result.outcome number peer self.old result self.new }
     {
@@ -103,10 +106,28 @@ impl Daemon {
         };
         let connection = &mut self.connections[place];
         let number = connection.number();
+        let peer = connection.peer();
         let Some(record) = connection.take(index) else {
             return make_quiet();
         };
-        answer_to(number, answer(record.as_slice()))
+        let noted = note(self.alloc, &mut self.book, BookEvent::Take { peer, record });
+        tell_to(number, noted)
+    }
+
+    fn grace_over(&mut self) -> Outputs
+        ensures { Happens GraceEnds self.old result self.new }
+    {
+        tell(note(self.alloc, &mut self.book, BookEvent::GraceOver))
+    }
+
+    fn restart(&mut self) -> Outputs
+        ensures { Happens BeginsAnew self.old result self.new }
+    {
+        let noted = note(self.alloc, &mut self.book, BookEvent::Restart);
+        if let StoreAnswer::Yes = noted.store {
+            self.connections.clear();
+        }
+        tell(noted)
     }
 
     /// How many whole records of the connection there are that were not taken; none, if it isn't there.
@@ -128,6 +149,8 @@ impl Daemon {
             Event::Piece(number, bytes) => self.receive(number, &bytes),
             Event::Disconnect(number) => self.disconnect(number),
             Event::Take(number, index) => self.take(number, index),
+            Event::GraceOver => self.grace_over(),
+            Event::Restart => self.restart(),
         }
     }
 

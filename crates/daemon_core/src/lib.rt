@@ -1,16 +1,19 @@
-//! The daemon without its sockets: a fold over events of many connections.
+//! The daemon without its sockets: a fold over events of many connections and of the state that they share.
 #![tactic(auto)]
 
 mod connection;
 mod daemon;
 mod event;
 mod law;
-mod service;
-#[cfg(test)]
-mod tests;
+mod noted;
+mod outputs;
+mod sent;
 
 pub use crate::connection::Connection;
 pub use crate::daemon::Daemon;
-pub use crate::event::{Event, Outcome, Outputs, Refusal, Sent};
-pub use crate::law::one_run;
+pub use crate::event::{Event, Refusal};
+pub use crate::law::{grace_grants_reclaims_only, one_run, runs_are_sound};
+pub use crate::outputs::Outputs;
+pub use crate::sent::Sent;
+pub use book::{Doing, StoreAnswer};
 pub use kept_replies::Peer;

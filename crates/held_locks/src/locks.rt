@@ -152,6 +152,20 @@ impl<R: RangeTable> Locks<R> {
         }
     }
 
+    /// Whether `set` would refuse the change, also of an owner who isn't known: he holds nothing. Changes nothing.
+    pub fn refuses(&self, change: &Change<'_>) -> bool
+        requires ordered { change.now.first ≤ change.now.last }
+        requires inside { change.now.last < 2 ^ 63 }
+        ensures { result ≡ refuses 65536 self.now.settings (changed change.now) }
+    {
+        match self.owners.number(change.owner) {
+            Some(number) => {
+                self.table.refuses(&change.file, number, change.first, change.last, change.mode)
+            }
+            None => change.mode.is_some() && self.is_short(),
+        }
+    }
+
     /// From now on the owner holds this mode from the first to the last byte, or nothing. Whoever locks is known.
     /// Refused where fewer than 2 of 65,536 runs are free, but for an unlock that raises the number of runs no further.
     /// Then nothing has changed.
@@ -249,6 +263,7 @@ impl<R: RangeTable> Locks<R> {
     }
 
     /// Leaves no setting, and nobody known.
+    #[tactic(auto, using(crate::proofs::Ties::tied_nothing))]
     pub fn clear(&mut self)
         ensures { self.new ≡ record { settings = []; names = [] } }
     {

@@ -1,14 +1,13 @@
 -- What a call's statements make is what the call is to make.
-use Rattle.std.proofs.Common.{◌≡◌, ℕ, ℤ, pos, Bool, true, false, cond, ◌||◌, List, [], ◌∷◌, Option, Some, None, IsTrue, refl, sym, ap, subst, ◌∙◌, arith}
-use Rattle.std.specs.Ordering.{is_eq}
+use Rattle.std.proofs.Common.{◌≡◌, ℕ, ℤ, pos, Bool, true, false, cond, List, [], ◌∷◌, Option, Some, IsTrue, refl, sym, ap, ◌∙◌, arith}
 use Rattle.std.proofs.lemmas.Map.Text.{is_eq-slice_cmp}
 use Rattle.sqlite_trees.specs.Tree.{Trees}
 use Rattle.sqlite.specs.State.{State, HasCleanDisk, Survives}
 use Rattle.sqlite.proofs.StateLemmas.{survives_weaker}
-use Rattle.definitions.specs.Bytes.{Bytes, IsAscending, bytes_cmp, same_bytes, is_any, first_that, put, without}
+use Rattle.definitions.specs.Bytes.{Bytes, IsAscending, bytes_cmp, same_bytes, first_that, put, without}
 use Rattle.definitions.specs.Nsm.{MyId}
 use Rattle.definitions.specs.Hosts.{HostRow, Hosts, row_cmp, watch_cmp, row_of, has_row, after_store, Seen, Acked, Watched}
-use Rattle.hosts_db.specs.Quotas.{after_quota, with_quota}
+use Rattle.hosts_db.specs.Quotas.{after_quota}
 use Rattle.hosts_statements.specs.Wrote.{WroteHosts, MayWriteHosts, hosts_in}
 use Rattle.hosts_statements.proofs.Listed.{bytes_exact}
 use Rattle.hosts_statements.proofs.OwnIds.{eq_equal}

@@ -1,17 +1,42 @@
 //! The calls that write, over the rows in memory.
-ghost use Rattle.std.specs.Prelude.{◌≡◌, OnOk, OnErr, Some};
+ghost use Rattle.std.specs.Prelude.{◌≡◌, OnOk, OnErr, Some, None};
 ghost use Rattle.std.specs.Option.{option_copied};
 ghost use Rattle.sqlite.specs.State.{HasCleanDisk, KeepsCommit, Survives};
 ghost use Rattle.sqlite.specs.Held.{state};
 ghost use Rattle.definitions.specs.Hosts.{after_store, Acked, Seen, Unwatched, Watched};
 ghost use Rattle.hosts_db.specs.Quotas.{after_quota};
-ghost use Rattle.hosts_statements.specs.Wrote.{HasTables, IsAsKept, MayWriteHosts, WroteHosts};
+ghost use Rattle.hosts_statements.specs.Wrote.{HasTables, IsAsKept, IsFresh, MayWriteHosts, WroteHosts};
+ghost use Rattle.hosts_statements.specs.declared.tables.Version.TheVariants.{First, Second};
 
 use hosts_db::{HostRows, MyId};
 use hosts_statements::statements::{
-    delete_host, delete_watch, delete_watches, put_host_and_watch, put_watch, replace_host,
+    delete_host, delete_watch, delete_watches, make_and_start, put_host_and_watch, put_watch,
+    replace_host, set_own,
 };
+use hosts_statements::tables::Version;
+use hosts_upgrade::upgrade;
 use sqlite::{Alter, Connection, Error};
+
+/// Sets the own state of a file with the tables of this version, or with no object, and leaves it with those of
+/// schema 2, all in one transaction.
+pub(crate) fn write_start<S: Alter>(
+    conn: &mut Connection<S>,
+    version: Option<Version>,
+    own: u32,
+) -> Result<(), Error>
+    requires fresh { version ≡ None → IsFresh (state S.Store conn.old) }
+    requires first { version ≡ Some First → HasTables First (state S.Store conn.old) }
+    requires second { version ≡ Some Second → HasTables Second (state S.Store conn.old) }
+    ensures ok { HasCleanDisk (state S.Store conn.new) → OnOk result (WroteHosts (λ h. record h { own = own }) (state S.Store conn.old) (state S.Store conn.new)) }
+    ensures err { HasCleanDisk (state S.Store conn.new) → OnErr result (KeepsCommit (state S.Store conn.old) (state S.Store conn.new)) }
+    ensures crash { Survives (state S.Store conn.old) (state S.Store conn.new) (MayWriteHosts (λ h. record h { own = own }) (state S.Store conn.old)) }
+{
+    match version {
+        None => make_and_start(conn, own),
+        Some(Version::First) => upgrade(conn, own),
+        Some(Version::Second) => set_own(conn, own),
+    }
+}
 
 /// Puts a watch, and the row of its host, where it has none, in one transaction.
 pub(crate) fn write_watch<S: Alter>(
@@ -21,7 +46,7 @@ pub(crate) fn write_watch<S: Alter>(
     my_id: &MyId<'_>,
     private: &[u8; 16],
 ) -> Result<(), Error>
-    requires tables { HasTables (state S.Store conn.old) }
+    requires tables { HasTables Second (state S.Store conn.old) }
     requires kept { IsAsKept (state S.Store conn.old) rows.now }
     ensures ok { HasCleanDisk (state S.Store conn.new) → OnOk result (WroteHosts (λ h. after_store h (Watched mon.now my_id.now private.now)) (state S.Store conn.old) (state S.Store conn.new)) }
     ensures err { HasCleanDisk (state S.Store conn.new) → OnErr result (KeepsCommit (state S.Store conn.old) (state S.Store conn.new)) }
@@ -39,7 +64,7 @@ pub(crate) fn write_unwatch<S: Alter>(
     mon: Option<&[u8]>,
     my_id: &MyId<'_>,
 ) -> Result<(), Error>
-    requires tables { HasTables (state S.Store conn.old) }
+    requires tables { HasTables Second (state S.Store conn.old) }
     ensures ok { HasCleanDisk (state S.Store conn.new) → OnOk result (WroteHosts (λ h. after_store h (Unwatched (option_copied mon.entry) my_id.now)) (state S.Store conn.old) (state S.Store conn.new)) }
     ensures err { HasCleanDisk (state S.Store conn.new) → OnErr result (KeepsCommit (state S.Store conn.old) (state S.Store conn.new)) }
     ensures crash { Survives (state S.Store conn.old) (state S.Store conn.new) (MayWriteHosts (λ h. after_store h (Unwatched (option_copied mon.entry) my_id.now)) (state S.Store conn.old)) }
@@ -57,7 +82,7 @@ pub(crate) fn write_seen<S: Alter>(
     name: &[u8],
     seen: i32,
 ) -> Result<(), Error>
-    requires tables { HasTables (state S.Store conn.old) }
+    requires tables { HasTables Second (state S.Store conn.old) }
     requires kept { IsAsKept (state S.Store conn.old) rows.now }
     ensures ok { HasCleanDisk (state S.Store conn.new) → OnOk result (WroteHosts (λ h. after_store h (Seen name.now seen)) (state S.Store conn.old) (state S.Store conn.new)) }
     ensures err { HasCleanDisk (state S.Store conn.new) → OnErr result (KeepsCommit (state S.Store conn.old) (state S.Store conn.new)) }
@@ -77,7 +102,7 @@ pub(crate) fn write_acked<S: Alter>(
     name: &[u8],
     epoch: u32,
 ) -> Result<(), Error>
-    requires tables { HasTables (state S.Store conn.old) }
+    requires tables { HasTables Second (state S.Store conn.old) }
     requires kept { IsAsKept (state S.Store conn.old) rows.now }
     ensures ok { HasCleanDisk (state S.Store conn.new) → OnOk result (WroteHosts (λ h. after_store h (Acked name.now epoch)) (state S.Store conn.old) (state S.Store conn.new)) }
     ensures err { HasCleanDisk (state S.Store conn.new) → OnErr result (KeepsCommit (state S.Store conn.old) (state S.Store conn.new)) }
@@ -97,7 +122,7 @@ pub(crate) fn write_quota<S: Alter>(
     name: &[u8],
     runs: u32,
 ) -> Result<(), Error>
-    requires tables { HasTables (state S.Store conn.old) }
+    requires tables { HasTables Second (state S.Store conn.old) }
     requires kept { IsAsKept (state S.Store conn.old) rows.now }
     ensures ok { HasCleanDisk (state S.Store conn.new) → OnOk result (WroteHosts (λ h. after_quota h name.now runs) (state S.Store conn.old) (state S.Store conn.new)) }
     ensures err { HasCleanDisk (state S.Store conn.new) → OnErr result (KeepsCommit (state S.Store conn.old) (state S.Store conn.new)) }

@@ -5,5 +5,7 @@ mod calls;
 mod store;
 #[cfg(test)]
 mod tests;
+#[cfg(test)]
+mod upgraded;
 
 pub use store::SqlHosts;

@@ -1,16 +1,17 @@
 //! A store over a database.
-ghost use Rattle.std.specs.Prelude.{◌≡◌, true, false, IfOk, IfErr};
+ghost use Rattle.std.specs.Prelude.{◌≡◌, IsTrue, Some, None, IfOk, IfErr};
 ghost use Rattle.std.specs.Coded.{→_prop};
 ghost use Rattle.sqlite.specs.State.{HasCleanDisk, KeepsCommit, Survives};
 ghost use Rattle.sqlite.specs.Held.{state};
 ghost use Rattle.hosts_statements.specs.Wrote.{HasTables, HasTables-prop, IsAsKept, IsFresh, IsFresh-prop};
+ghost use Rattle.hosts_statements.specs.declared.tables.Version.TheVariants.{First, Second};
 
-use crate::calls::{write_acked, write_quota, write_seen, write_unwatch, write_watch};
+use crate::calls::{write_acked, write_quota, write_seen, write_start, write_unwatch, write_watch};
 use definitions::own_state::next_own_state;
 use hosts_db::{HostRow, HostRows, HostStore, MyId, Refusals, StoreError, Watch};
 use hosts_statements::loading::load;
-use hosts_statements::statements::{insert_host, make_and_start, set_own};
-use hosts_statements::tables::{is_host_schema, is_none};
+use hosts_statements::statements::insert_host;
+use hosts_statements::tables::{Version, is_none, version_of};
 use sqlite::{Alter, Connection};
 use std::alloc::Global;
 
@@ -19,24 +20,27 @@ use std::alloc::Global;
 pub struct SqlHosts<S: Alter> {
     conn: Connection<S>,
     rows: HostRows,
-    has_tables: bool,
+    // Of its tables, where it has any.
+    version: Option<Version>,
     is_started: bool,
     refusals: Refusals,
     alloc: Global,
     ghost kept: { IsAsKept (state S.Store conn) rows },
-    ghost tables: { has_tables ≡ true → HasTables (state S.Store conn) } by { →_prop (HasTables-prop (state S.Store conn)) },
-    ghost fresh: { has_tables ≡ false → IsFresh (state S.Store conn) } by { →_prop (IsFresh-prop (state S.Store conn)) },
+    ghost fresh: { version ≡ None → IsFresh (state S.Store conn) } by { →_prop (IsFresh-prop (state S.Store conn)) },
+    ghost first: { version ≡ Some First → HasTables First (state S.Store conn) } by { →_prop (HasTables-prop First (state S.Store conn)) },
+    ghost second: { version ≡ Some Second → HasTables Second (state S.Store conn) } by { →_prop (HasTables-prop Second (state S.Store conn)) },
 }
 
 impl<S: Alter> SqlHosts<S> {
-    /// Takes a database that holds no object, or the three tables of schema 2 with what they may hold, and writes
-    /// nothing. Any other is `StoreRefused`, and the connection comes back.
+    /// Takes a database that holds no object, or the tables of schema 1 or 2 with what they may hold, and writes
+    /// nothing. A host of schema 1 shows the full quota; the first `start` upgrades the file. Any other database is
+    /// `StoreRefused`, and the connection comes back.
     pub fn adopt(
         alloc: Global,
         conn: Connection<S>,
     ) -> Result<SqlHosts<S>, (StoreError, Connection<S>)>
-        ensures rows { IfOk result (λ s. IsAsKept (state S.Store s.conn) s.rows) }
-        ensures refusals { IfOk result (λ s. s.refusals ≡ 0) }
+        ensures rows { IfOk result (λ s. IsAsKept (state S.Store s.conn) (⟦<SqlHosts<S> as HostStore>⟧.rows s)) }
+        ensures refusals { IfOk result (λ s. ⟦<SqlHosts<S> as HostStore>⟧.refusals s ≡ 0) }
         ensures kept { IfOk result (λ s. HasCleanDisk (state S.Store s.conn) → KeepsCommit (state S.Store conn) (state S.Store s.conn)) }
         ensures crash { IfOk result (λ s. Survives (state S.Store conn) (state S.Store s.conn) (λ _. ⊥)) }
         ensures kept_back { IfErr result (λ e. HasCleanDisk (state S.Store e.1) → KeepsCommit (state S.Store conn) (state S.Store e.1)) }
@@ -52,27 +56,34 @@ impl<S: Alter> SqlHosts<S> {
             return Ok(SqlHosts {
                 conn,
                 rows,
-                has_tables: false,
+                version: None,
                 is_started: false,
                 refusals: Refusals::new(),
                 alloc,
             });
         }
-        if !is_host_schema(conn.schema()) {
+        let Some(version) = version_of(conn.schema()) else {
             return Err((StoreError::StoreRefused, conn));
-        }
+        };
         let mut used = conn;
-        if let Err(error) = load(alloc, &mut used, &mut rows) {
+        if let Err(error) = load(alloc, &mut used, version, &mut rows) {
             return Err((error, used));
         }
         Ok(SqlHosts {
             conn: used,
             rows,
-            has_tables: true,
+            version: Some(version),
             is_started: false,
             refusals: Refusals::new(),
             alloc,
         })
+    }
+
+    // A start made or found the tables of schema 2.
+    fn is_ready(&self) -> bool
+        ensures { IsTrue result → self.now.version ≡ Some Second }
+    {
+        self.is_started && matches!(self.version, Some(Version::Second))
     }
 
     /// Gives the connection back, as the last call left it.
@@ -98,23 +109,18 @@ impl<S: Alter> HostStore for SqlHosts<S> {
 
     fn start(&mut self) -> Result<u32, StoreError> {
         let own = next_own_state(self.rows.own());
-        let done = if self.has_tables {
-            set_own(&mut self.conn, own)
-        } else {
-            make_and_start(&mut self.conn, own)
-        };
-        if done.is_err() {
+        if write_start(&mut self.conn, self.version, own).is_err() {
             self.refusals.add();
             return Err(StoreError::StoreRefused);
         }
         let own = self.rows.start();
-        self.has_tables = true;
+        self.version = Some(Version::Second);
         self.is_started = true;
         Ok(own)
     }
 
     fn monitor(&mut self, name: &[u8], state: i32) -> Result<(), StoreError> {
-        if !self.is_started || !self.has_tables || self.rows.is_host_past_limit(name) {
+        if !self.is_ready() || self.rows.is_host_past_limit(name) {
             self.refusals.add();
             return Err(StoreError::StoreRefused);
         }
@@ -131,7 +137,7 @@ impl<S: Alter> HostStore for SqlHosts<S> {
     }
 
     fn seen(&mut self, name: &[u8], state: i32) -> Result<(), StoreError> {
-        if !self.is_started || !self.has_tables {
+        if !self.is_ready() {
             self.refusals.add();
             return Err(StoreError::StoreRefused);
         }
@@ -144,7 +150,7 @@ impl<S: Alter> HostStore for SqlHosts<S> {
     }
 
     fn acked(&mut self, name: &[u8], epoch: u32) -> Result<(), StoreError> {
-        if !self.is_started || !self.has_tables {
+        if !self.is_ready() {
             self.refusals.add();
             return Err(StoreError::StoreRefused);
         }
@@ -157,7 +163,7 @@ impl<S: Alter> HostStore for SqlHosts<S> {
     }
 
     fn quota(&mut self, name: &[u8], runs: u32) -> Result<(), StoreError> {
-        if !self.is_started || !self.has_tables {
+        if !self.is_ready() {
             self.refusals.add();
             return Err(StoreError::StoreRefused);
         }
@@ -175,7 +181,7 @@ impl<S: Alter> HostStore for SqlHosts<S> {
         my_id: &MyId<'_>,
         private_bytes: &[u8; 16],
     ) -> Result<(), StoreError> {
-        if !self.is_started || !self.has_tables || self.rows.is_watch_past_limit(mon_name, my_id) {
+        if !self.is_ready() || self.rows.is_watch_past_limit(mon_name, my_id) {
             self.refusals.add();
             return Err(StoreError::StoreRefused);
         }
@@ -194,7 +200,7 @@ impl<S: Alter> HostStore for SqlHosts<S> {
     }
 
     fn unwatch(&mut self, mon_name: Option<&[u8]>, my_id: &MyId<'_>) -> Result<(), StoreError> {
-        if !self.is_started || !self.has_tables {
+        if !self.is_ready() {
             self.refusals.add();
             return Err(StoreError::StoreRefused);
         }

@@ -1,5 +1,5 @@
 -- What the statements of a call make of the rows, and of the lists that a store shows.
-use Rattle.std.proofs.Common.{◌≡◌, ℕ, ℤ, pos, Bool, true, false, cond, not, ◌||◌, List, [], ◌∷◌, map, length, Option, Some, None, is_some, refl, sym, ap, subst, ◌∙◌}
+use Rattle.std.proofs.Common.{◌≡◌, ℕ, ℤ, pos, Bool, true, false, cond, not, ◌||◌, List, [], ◌∷◌, map, Option, Some, None, refl, sym, ap, ◌∙◌}
 use Rattle.std.proofs.lemmas.Bool.{true≢false}
 use Rattle.std.specs.declared.cmp.Ordering.{Ordering}
 use Rattle.std.specs.declared.cmp.Ordering.TheVariants.{Less, Equal, Greater}
@@ -11,14 +11,15 @@ use Rattle.std.proofs.lemmas.Map.Text.{is_eq-slice_cmp}
 use Rattle.std.specs.FinMap.{FinMap, IsAntisymmetric, get, insert, entries, retain_keys, get-insert, get-retain_keys, same_map}
 use Rattle.definitions.specs.Bytes.{Bytes, IsAscending, IsBelowAll, bytes_cmp, same_bytes, is_any, first_that, put, placed, without}
 use Rattle.definitions.specs.Nsm.{MyId}
-use Rattle.definitions.specs.Hosts.{HostRow, Watch, Hosts, row_cmp, watch_cmp, row_of, has_row, is_watch, with_seen, with_epoch, after_store, Monitor, Seen, Acked, Watched, Unwatched}
-use Rattle.hosts_db.specs.Quotas.{with_quota, after_quota}
+use Rattle.definitions.specs.Hosts.{HostRow, Hosts, row_cmp, watch_cmp, has_row, is_watch, with_seen, with_epoch, after_store, Watched, Unwatched}
+use Rattle.hosts_db.specs.Quotas.{with_quota}
 use Rattle.hosts_db.proofs.Orders.{row_total}
 use Rattle.sqlite.specs.Effect.{Database}
 use Rattle.hosts_statements.specs.Maps.{Host, WatchKey, Rows, key_cmp, host_row, watch_row, listed, made_now, is_key_of, with_host, with_watch, without_host, without_watches}
 use Rattle.hosts_statements.specs.Shown.{shown}
 use Rattle.hosts_statements.specs.Tables.{monitor_text, watch_text, delete_host_text, delete_watch_text}
-use Rattle.hosts_statements.specs.Wrote.{IsWhole, Ran, RanTwo, RanThree}
+use Rattle.hosts_statements.specs.Wrote.{IsWhole, RanTwo, RanThree}
+use Rattle.hosts_statements.specs.declared.tables.Version.TheVariants.{Second}
 use Rattle.hosts_statements.proofs.Monitor.{params}
 use Rattle.hosts_statements.proofs.Watch.{watch_params, watch_total, watch_exact}
 use Rattle.hosts_statements.proofs.Rows.{Makes, makes_then, made_host, made_watch}
@@ -52,20 +53,20 @@ watch_key_agrees k q = key_agrees k (q, []) ∙ (eq_by_cmp_equiv watch_total).sy
 
 -- ---- the calls' statements
 
-pub replaced_host : (name : Bytes) (host : Host) (from to : Database) → IsWhole from → RanTwo delete_host_text (host_given name) monitor_text (params name host) from to → Makes (λ r. with_host name host (without_host name r)) from to
+pub replaced_host : (name : Bytes) (host : Host) (from to : Database) → IsWhole Second from → RanTwo delete_host_text (host_given name) monitor_text (params name host) from to → Makes (λ r. with_host name host (without_host name r)) from to
 replaced_host name host from to whole ran =
     let first = made_without_host name from ran.0 whole ran.1 in
     let none = ap (λ (r : Rows). get r.hosts name) first.rows ∙ taken_out nat_list_cmp_total bytes_exact (shown from.trees).hosts (λ k. same_bytes k name) name (name_agrees name) in
     makes_then (without_host name) (with_host name host) from ran.0 to first (made_host name host ran.0 to first.whole none ran.2)
 
-pub replaced_watch : (k : WatchKey) (private : Bytes) (from to : Database) → IsWhole from → RanTwo delete_watch_text (watch_given k.mon k.my) watch_text (watch_params k private) from to
+pub replaced_watch : (k : WatchKey) (private : Bytes) (from to : Database) → IsWhole Second from → RanTwo delete_watch_text (watch_given k.mon k.my) watch_text (watch_params k private) from to
     → Makes (λ r. with_watch k private (without_watches (Some k.mon) k.my r)) from to
 replaced_watch k private from to whole ran =
     let first = made_without_watch k.mon k.my from ran.0 whole ran.1 in
     let none = ap (λ (r : Rows). get r.watches k) first.rows ∙ taken_out watch_total watch_exact (shown from.trees).watches (is_key_of (Some k.mon) k.my) k (watch_key_agrees k) in
     makes_then (without_watches (Some k.mon) k.my) (with_watch k private) from ran.0 to first (made_watch k private ran.0 to first.whole none ran.2)
 
-pub host_and_watch_put : (host : Host) (k : WatchKey) (private : Bytes) (from to : Database) → IsWhole from → get (shown from.trees).hosts k.mon ≡ None
+pub host_and_watch_put : (host : Host) (k : WatchKey) (private : Bytes) (from to : Database) → IsWhole Second from → get (shown from.trees).hosts k.mon ≡ None
     → RanThree monitor_text (params k.mon host) delete_watch_text (watch_given k.mon k.my) watch_text (watch_params k private) from to → Makes (λ r. with_watch k private (without_watches (Some k.mon) k.my (with_host k.mon host r))) from to
 host_and_watch_put host k private from to whole none ran =
     let first = made_host k.mon host from ran.1.0 whole none ran.1.1 in

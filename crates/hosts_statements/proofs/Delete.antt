@@ -3,26 +3,23 @@ use Rattle.std.proofs.Common.{◌≡◌, ℕ, ℤ, pos, negsuc, Bool, true, fals
 use Rattle.std.specs.List.{list_all, flat_map}
 use Rattle.std.specs.List.Sorted.{IsPermutation}
 use Rattle.std.proofs.lemmas.List.Sorted.{IsPermutation-map}
-use Rattle.sqlite_value.specs.declared.value.Value.TheVariants.{Null, Int}
+use Rattle.sqlite_value.specs.declared.value.Value.TheVariants.{Int}
 use Rattle.sqlite_value.specs.declared.keys.Collation.TheVariants.{Binary}
 use Rattle.sqlite_value.specs.Order.{Row}
-use Rattle.sqlite_sql.specs.Term.{Term, Env, holds, eval_all, lit, col, op2}
+use Rattle.sqlite_sql.specs.Term.{Term, Env, holds, lit, col, op2}
 use Rattle.sqlite_sql.specs.declared.ops.BinaryOp.TheVariants.{Compare}
 use Rattle.sqlite_sql.specs.declared.ops.CompareOp.TheVariants.{Eq}
 use Rattle.sqlite_sql.specs.Query.{Query, inner, end, IsAnswer, output, Output}
 use Rattle.sqlite_sql.specs.Program.{overlay}
 use Rattle.sqlite_schema.specs.declared.command.Command.TheVariants.{Delete}
 use Rattle.sqlite_trees.specs.Tree.{Trees, rowid}
-use Rattle.sqlite_rules.specs.Edit.{without_all, id_in}
+use Rattle.sqlite_rules.specs.Edit.{id_in}
 use Rattle.sqlite_rules.specs.Calls.{ids_of}
 use Rattle.sqlite_tied.specs.Compute.{everything}
 use Rattle.sqlite.specs.Listing.{understood}
 use Rattle.sqlite.specs.Given.{IsPlain}
-use Rattle.hosts_statements.specs.Own.{AreOwn}
 use Rattle.hosts_statements.specs.Reading.{command_in}
-use Rattle.hosts_statements.specs.Tables.{host_schema, delete_host_text, delete_watch_text, delete_watches_text}
-use Rattle.hosts_statements.proofs.OwnIds.{own_ids}
-use Rattle.hosts_statements.proofs.Gone.{deleted}
+use Rattle.hosts_statements.specs.Tables.{Place, Fresh, Upgraded, hosts_tree, hosts_at, host_schema, delete_host_text, delete_watch_text, delete_watches_text}
 
 -- the rowids of the rows of a tree that pass
 abbrev pub delete_query : ℕ → List Term → Query
@@ -51,17 +48,20 @@ watch_tests = is_given 1 0 ∷ is_given 2 1 ∷ is_given 3 2 ∷ is_given 4 3 �
 abbrev pub watches_tests : List Term
 watches_tests = is_given 2 0 ∷ is_given 3 1 ∷ is_given 4 2 ∷ is_given 5 3 ∷ []
 
-pub delete_host_is : (checks : List Term) → (command_in (understood (host_schema checks) delete_host_text) ≡ Delete 1 (record { lets = []; body = delete_query 1 host_tests })) × IsPlain (understood (host_schema checks) delete_host_text)
+pub delete_host_is : (place : Place) (checks : List Term) → (command_in (understood (host_schema place checks) delete_host_text) ≡ Delete (hosts_at place) (record { lets = []; body = delete_query (hosts_tree place) host_tests })) × IsPlain (understood (host_schema place checks) delete_host_text)
 unfolding understood everything
-delete_host_is checks = (refl, (refl, refl))
+delete_host_is Fresh checks = (refl, (refl, refl))
+delete_host_is Upgraded checks = (refl, (refl, refl))
 
-pub delete_watch_is : (checks : List Term) → (command_in (understood (host_schema checks) delete_watch_text) ≡ Delete 2 (record { lets = []; body = delete_query 3 watch_tests })) × IsPlain (understood (host_schema checks) delete_watch_text)
+pub delete_watch_is : (place : Place) (checks : List Term) → (command_in (understood (host_schema place checks) delete_watch_text) ≡ Delete 2 (record { lets = []; body = delete_query 3 watch_tests })) × IsPlain (understood (host_schema place checks) delete_watch_text)
 unfolding understood everything
-delete_watch_is checks = (refl, (refl, refl))
+delete_watch_is Fresh checks = (refl, (refl, refl))
+delete_watch_is Upgraded checks = (refl, (refl, refl))
 
-pub delete_watches_is : (checks : List Term) → (command_in (understood (host_schema checks) delete_watches_text) ≡ Delete 2 (record { lets = []; body = delete_query 3 watches_tests })) × IsPlain (understood (host_schema checks) delete_watches_text)
+pub delete_watches_is : (place : Place) (checks : List Term) → (command_in (understood (host_schema place checks) delete_watches_text) ≡ Delete 2 (record { lets = []; body = delete_query 3 watches_tests })) × IsPlain (understood (host_schema place checks) delete_watches_text)
 unfolding understood everything
-delete_watches_is checks = (refl, (refl, refl))
+delete_watches_is Fresh checks = (refl, (refl, refl))
+delete_watches_is Upgraded checks = (refl, (refl, refl))
 
 abbrev pub passes : List Term → Row → Row → Bool
 passes tests params row = list_all (holds (params ∷ row ∷ [])) tests

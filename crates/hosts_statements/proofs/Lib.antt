@@ -1,3 +1,5 @@
+pub mod Places
+pub mod Schemas
 pub mod Texts
 pub mod PutLemmas
 pub mod Lists

@@ -1,5 +1,5 @@
 -- The maps of the tables as the lists that a store shows.
-use Rattle.std.proofs.Common.{◌≡◌, ℕ, ℤ, pos, Bool, true, false, cond, ◌||◌, List, [], ◌∷◌, map, length, Option, Some, None, is_some, IsTrue, refl, sym, ap, ◌∙◌}
+use Rattle.std.proofs.Common.{◌≡◌, ℕ, ℤ, Bool, true, false, cond, ◌||◌, List, [], ◌∷◌, map, length, Option, Some, None, is_some, refl, sym, ap, ◌∙◌}
 use Rattle.std.specs.declared.cmp.Ordering.{Ordering}
 use Rattle.std.specs.declared.cmp.Ordering.TheVariants.{Less, Equal, Greater}
 use Rattle.std.specs.Ordering.{eq_by_cmp, match_ordering}
@@ -9,7 +9,7 @@ use Rattle.std.proofs.lemmas.Map.Text.{is_eq-slice_cmp}
 use Rattle.std.specs.FinMap.{FinMap, IsAntisymmetric, empty, empty_of_len, from_sorted, len-entries, entries-from_sorted, find, get, insert, entries, put, get-entries, entries-insert, slice_cmp-IsAntisymmetric, nat_cmp-IsAntisymmetric}
 use Rattle.definitions.specs.Bytes as list
 use Rattle.definitions.specs.Bytes.{Bytes, bytes_cmp, same_bytes, is_any, placed}
-use Rattle.definitions.specs.Hosts.{HostRow, Hosts, row_cmp, watch_cmp, has_row, is_watch, after_store, Monitor, Watched}
+use Rattle.definitions.specs.Hosts.{HostRow, Hosts, row_cmp, watch_cmp, has_row, is_watch, after_store, Monitor}
 use Rattle.hosts_db.proofs.Orders.{watch_agrees}
 use Rattle.hosts_statements.specs.Maps.{Host, WatchKey, Rows, no_rows, key_cmp, host_row, watch_row, listed, made_now, with_host}
 use Rattle.sqlite_trees.specs.Tree.{Trees}

@@ -1,5 +1,5 @@
 -- What the statement of `monitor` does to the rows.
-use Rattle.std.proofs.Common.{◌≡◌, ◌⊎◌, inl, inr, ℕ, ℤ, pos, List, [], ◌∷◌, Bool, true, false, cond, not, ◌&&◌, None, Option, Ok, Err, Result, refl, sym, ap, subst, ◌∙◌, arith}
+use Rattle.std.proofs.Common.{◌≡◌, ◌⊎◌, inl, inr, ℕ, ℤ, pos, List, [], ◌∷◌, Bool, true, false, cond, not, ◌&&◌, None, Option, Ok, Err, Result, refl, sym, ap, subst, ◌∙◌}
 use Rattle.sqlite_value.specs.declared.value.Value.{Value}
 use Rattle.sqlite_value.specs.declared.value.Value.TheVariants.{Null, Int, Blob}
 use Rattle.sqlite_value.specs.Order.{Row}
@@ -18,9 +18,9 @@ use Rattle.sqlite.specs.declared.run.Mode.{Mode}
 use Rattle.sqlite.specs.Does.{Tally, Does}
 use Rattle.sqlite.specs.Rows.{Written}
 use Rattle.sqlite.specs.Effect.{Database}
-use Rattle.sqlite.proofs.Callers.{one_step}
-use Rattle.hosts_statements.specs.Tables.{hosts_table, host_schema}
+use Rattle.hosts_statements.specs.Tables.{Place, hosts_tree, hosts_at, hosts_table, host_schema}
 use Rattle.hosts_statements.specs.Maps.{Host}
+use Rattle.hosts_statements.proofs.Places.{at_hosts, on_table, one_change, stays, own_apart, watches_apart, catalog_apart}
 
 abbrev pub stored : Value → List ℕ → Host → Row
 stored id name host = id ∷ Blob name ∷ Int (pos host.epoch) ∷ Int host.seen ∷ Int (pos host.quota) ∷ []
@@ -32,9 +32,9 @@ abbrev pub params : List ℕ → Host → Row
 params name host = Blob name ∷ Int (pos host.epoch) ∷ Int host.seen ∷ Int (pos host.quota) ∷ []
 
 -- the table has one more row, and the other tables are as they were
-pub record Grown (row : Row) (old new : Trees) : Type 0 where
-  pub rows : new 1 ≡ put_row row (old 1)
-  pub fresh : is_taken (old 1) row ≡ false
+pub record Grown (place : Place) (row : Row) (old new : Trees) : Type 0 where
+  pub rows : new (hosts_tree place) ≡ put_row row (old (hosts_tree place))
+  pub fresh : is_taken (old (hosts_tree place)) row ≡ false
   pub own : new 0 ≡ old 0
   pub watches : new 3 ≡ old 3
   pub listed : new catalog_tree ≡ old catalog_tree
@@ -66,36 +66,40 @@ untaken false h = refl
 abbrev source : List ℕ → Host → Row
 source name host = Null ∷ params name host
 
-abbrev the_edit : Trees → List ℕ → Host → Edit
-the_edit db name host = edit_of db (hosts_table 1) [] Chosen 0 (source name host ∷ [])
+abbrev the_edit : ℕ → Trees → List ℕ → Host → Edit
+the_edit tree db name host = edit_of db (hosts_table tree) [] Chosen 0 (source name host ∷ [])
 
-news_is : (db : Trees) (name : List ℕ) (host : Host) → (the_edit db name host).news ≡ stored (Int (next_rowid (db 1))) name host ∷ []
-news_is db name host = rw (cast_null, cast_number (pos host.epoch), cast_number host.seen, cast_number (pos host.quota))
+news_is : (tree : ℕ) (db : Trees) (name : List ℕ) (host : Host) → (the_edit tree db name host).news ≡ stored (Int (next_rowid (db tree))) name host ∷ []
+news_is tree db name host = rw (cast_null, cast_number (pos host.epoch), cast_number host.seen, cast_number (pos host.quota))
 
-grown : (checks : List Term) (keys : Keys) (db next : Trees) (name : List ℕ) (host : Host) → Applies (host_schema checks) keys db (the_edit db name host) next
-    → Grown (stored (Int (next_rowid (db 1))) name host) db next
-grown checks keys db next name host a =
-    let news = news_is db name host in
-    let row = stored (Int (next_rowid (db 1))) name host in
+grown : (place : Place) (checks : List Term) (keys : Keys) (db next : Trees) (name : List ℕ) (host : Host) → Applies (host_schema place checks) keys db (the_edit (hosts_tree place) db name host) next
+    → Grown place (stored (Int (next_rowid (db (hosts_tree place)))) name host) db next
+grown place checks keys db next name host a =
+    let tree = hosts_tree place in
+    let news = news_is tree db name host in
+    let row = stored (Int (next_rowid (db tree))) name host in
+    let others = stays place checks keys db next (the_edit tree db name host) a in
     record {
-      rows = a.rows ∙ ap (λ all. edited db (record { table = hosts_table 1; gone = []; news = all })) news;
-      fresh = untaken (is_taken (db 1) row) (subst (λ all. are_fresh (db 1) all ≡ true) news a.fresh);
-      own = a.tables.0 (λ e. omega (arith, e));
-      watches = a.tables.1.1.0 (λ e. omega (arith, e));
-      listed = a.others catalog_tree (λ e. omega (arith, e)) ((λ e. omega (arith, e)), ((λ e. omega (arith, e)), tt));
+      rows = a.rows ∙ ap (λ all. edited db (record { table = hosts_table tree; gone = []; news = all })) news;
+      fresh = untaken (is_taken (db tree) row) (subst (λ all. are_fresh (db tree) all ≡ true) news a.fresh);
+      own = others.own (own_apart place);
+      watches = others.watches (watches_apart place);
+      listed = others.listed (catalog_apart place);
     }
 
-pub does_monitor : (limit : Option ℕ) (mode : Mode) (checks : List Term) (name : List ℕ) (host : Host) (db : Trees) (text : List ℕ) (tally : Tally) (after : Database)
-    → Does limit mode (params name host) (record { schema = host_schema checks; trees = db }) text None (Insert 1 (Values terms 5)) (Ok (tally, after))
-    → (after.schema ≡ host_schema checks) × Grown (stored (Int (next_rowid (db 1))) name host) db after.trees
-does_monitor limit mode checks name host db text tally after h =
-    let done = went h in
+pub does_monitor : (place : Place) (limit : Option ℕ) (mode : Mode) (checks : List Term) (name : List ℕ) (host : Host) (db : Trees) (text : List ℕ) (tally : Tally) (after : Database)
+    → Does limit mode (params name host) (record { schema = host_schema place checks; trees = db }) text None (Insert (hosts_at place) (Values terms 5)) (Ok (tally, after))
+    → (after.schema ≡ host_schema place checks) × Grown place (stored (Int (next_rowid (db (hosts_tree place)))) name host) db after.trees
+does_monitor place limit mode checks name host db text tally after h =
+    let tree = hosts_tree place in
+    let ran = on_table limit mode (params name host) (record { schema = host_schema place checks; trees = db }) (hosts_at place) (hosts_table tree) (Insert (hosts_at place) (Values terms 5)) (Ok (tally, after)) (at_hosts place checks) h in
+    let done = went ran in
     let now = ap (λ (p : Tally × Database). p.1) (same_value (went (went done.2).2).2) in
     let given = went done.1 in
     let written = went (went given.2).2 in
     let counted = went written.2 in
     let trees : done.0.trees ≡ written.0 = ap (λ (it : Written). it.trees) (same_value counted.2) ∙ same_value counted.1 in
-    let applied = one_step (host_schema checks) _ db written.0 (edit_of db (hosts_table 1) [] Chosen 0 given.0) refl written.1 in
+    let applied = one_change place checks _ db written.0 (edit_of db (hosts_table tree) [] Chosen 0 given.0) written.1 in
     let same : after.trees ≡ written.0 = ap (λ (d : Database). d.trees) now ∙ trees in
-    let exact = subst (λ all. Applies (host_schema checks) mode.keys db (edit_of db (hosts_table 1) [] Chosen 0 all) written.0) given.1.1 applied in
-    (ap (λ (d : Database). d.schema) now, subst (Grown (stored (Int (next_rowid (db 1))) name host) db) (sym same) (grown checks mode.keys db written.0 name host exact))
+    let exact = subst (λ all. Applies (host_schema place checks) mode.keys db (edit_of db (hosts_table tree) [] Chosen 0 all) written.0) given.1.1 applied in
+    (ap (λ (d : Database). d.schema) now, subst (Grown place (stored (Int (next_rowid (db tree))) name host) db) (sym same) (grown place checks mode.keys db written.0 name host exact))

@@ -1,5 +1,5 @@
 -- What a text that ran did.
-use Rattle.std.proofs.Common.{◌≡◌, ℕ, List, [], None, Option, Ok, Err, Result, refl, ◌∙◌}
+use Rattle.std.proofs.Common.{◌≡◌, ℕ, List, None, Option, Ok, Err, Result, refl, ◌∙◌}
 use Rattle.sqlite_value.specs.Order.{Row}
 use Rattle.sqlite_schema.specs.declared.command.Command.{Command}
 use Rattle.sqlite_schema.specs.declared.command.Command.TheVariants.{Insert, Update, Delete}
@@ -7,10 +7,10 @@ use Rattle.sqlite_resolve.specs.declared.compiled.Compiled.{Compiled}
 use Rattle.sqlite_resolve.specs.declared.error.CompileError.{CompileError}
 use Rattle.sqlite.specs.declared.run.Mode.{Mode}
 use Rattle.sqlite.specs.Does.{Tally, Does}
-use Rattle.sqlite.specs.Effect.{Database, IsDatabase}
+use Rattle.sqlite.specs.Effect.{IsDatabase}
 use Rattle.sqlite.specs.Listing.{understood}
 use Rattle.sqlite.specs.State.{State, Executes, Runs, mode_of}
-use Rattle.sqlite.proofs.Callers.{IsPlain, command_of, statement_of, runs_as}
+use Rattle.sqlite.proofs.Callers.{command_of, statement_of, runs_as}
 use Rattle.hosts_statements.specs.Reading.{command_in}
 use Rattle.hosts_statements.specs.Wrote.{IsRowWrite, Ran}
 

@@ -9,7 +9,7 @@ use Rattle.sqlite_tied.specs.Compute.{everything}
 use Rattle.sqlite.specs.Listing.{understood}
 use Rattle.sqlite.specs.Given.{IsPlain}
 use Rattle.hosts_statements.specs.Reading.{command_in}
-use Rattle.hosts_statements.specs.Tables.{own_text, hosts_text, watches_text, own_table, hosts_table, watches_table, own_checks, host_schema, monitor_text, watch_text}
+use Rattle.hosts_statements.specs.Tables.{Place, Fresh, Upgraded, hosts_at, own_text, hosts_text, watches_text, own_table, hosts_table, watches_table, own_checks, host_schema, monitor_text, watch_text}
 
 pub hosts_is : table_defined_by hosts_text ≡ Ok (hosts_table 0)
 unfolding everything
@@ -23,18 +23,22 @@ pub own_is : table_defined_by own_text ≡ Ok (own_table own_checks)
 unfolding everything
 own_is = refl
 
-pub monitor_is : (checks : List Term) → command_in (understood (host_schema checks) monitor_text) ≡ Insert 1 (Values (lit Null ∷ col 0 0 ∷ col 0 1 ∷ col 0 2 ∷ col 0 3 ∷ []) 5)
+pub monitor_is : (place : Place) (checks : List Term) → command_in (understood (host_schema place checks) monitor_text) ≡ Insert (hosts_at place) (Values (lit Null ∷ col 0 0 ∷ col 0 1 ∷ col 0 2 ∷ col 0 3 ∷ []) 5)
 unfolding understood everything
-monitor_is checks = refl
+monitor_is Fresh checks = refl
+monitor_is Upgraded checks = refl
 
-pub monitor_plain : (checks : List Term) → IsPlain (understood (host_schema checks) monitor_text)
+pub monitor_plain : (place : Place) (checks : List Term) → IsPlain (understood (host_schema place checks) monitor_text)
 unfolding understood everything
-monitor_plain checks = (refl, refl)
+monitor_plain Fresh checks = (refl, refl)
+monitor_plain Upgraded checks = (refl, refl)
 
-pub watch_is : (checks : List Term) → command_in (understood (host_schema checks) watch_text) ≡ Insert 2 (Values (lit Null ∷ col 0 0 ∷ col 0 1 ∷ col 0 2 ∷ col 0 3 ∷ col 0 4 ∷ col 0 5 ∷ []) 7)
+pub watch_is : (place : Place) (checks : List Term) → command_in (understood (host_schema place checks) watch_text) ≡ Insert 2 (Values (lit Null ∷ col 0 0 ∷ col 0 1 ∷ col 0 2 ∷ col 0 3 ∷ col 0 4 ∷ col 0 5 ∷ []) 7)
 unfolding understood everything
-watch_is checks = refl
+watch_is Fresh checks = refl
+watch_is Upgraded checks = refl
 
-pub watch_plain : (checks : List Term) → IsPlain (understood (host_schema checks) watch_text)
+pub watch_plain : (place : Place) (checks : List Term) → IsPlain (understood (host_schema place checks) watch_text)
 unfolding understood everything
-watch_plain checks = (refl, refl)
+watch_plain Fresh checks = (refl, refl)
+watch_plain Upgraded checks = (refl, refl)

@@ -1,5 +1,5 @@
 -- What setting the own state does, where its table has one row.
-use Rattle.std.proofs.Common.{◌≡◌, ℕ, pos, negsuc, List, [], ◌∷◌, map, filter, IsTrue, false, None, Option, Ok, refl, sym, ap, subst, ◌∙◌, arith}
+use Rattle.std.proofs.Common.{◌≡◌, ℕ, pos, negsuc, List, [], ◌∷◌, map, false, None, Option, Ok, refl, sym, ap, subst, ◌∙◌, arith}
 use Rattle.std.specs.declared.cmp.Ordering.TheVariants.{Equal}
 use Rattle.std.specs.List.Sorted.{IsPermutation}
 use Rattle.sqlite_value.specs.declared.value.Value.TheVariants.{Null, Int}
@@ -18,21 +18,20 @@ use Rattle.sqlite_tied.specs.Compute.{everything}
 use Rattle.sqlite.specs.declared.run.Mode.{Mode}
 use Rattle.sqlite.specs.Does.{Tally, Does}
 use Rattle.sqlite.specs.Rows.{Written}
-use Rattle.sqlite.specs.Effect.{Database, IsDatabase}
-use Rattle.sqlite.specs.State.{State, mode_of, IsUnchanged, Executes, CommitsBy, Writes}
-use Rattle.sqlite_catalog.specs.Listing.{IsSound, IsTableRow, is_table_row}
-use Rattle.std.specs.List.{AllZip}
+use Rattle.sqlite.specs.Effect.{Database}
 use Rattle.std.specs.FinMap.{from_entries}
 use Rattle.sqlite.specs.Listing.{understood}
 use Rattle.sqlite.specs.Given.{IsPlain}
-use Rattle.sqlite.proofs.Callers.{one_step, one_permutation}
+use Rattle.sqlite.proofs.Callers.{one_permutation}
 use Rattle.hosts_statements.specs.Own.{is_host, is_watched, AreOwn}
 use Rattle.hosts_statements.specs.Reading.{command_in}
 use Rattle.hosts_statements.specs.Maps.{with_own}
-use Rattle.hosts_statements.specs.Shown.{host_of, watch_of, shown, shown_in_tables}
-use Rattle.hosts_statements.specs.Wrote.{own_row_at, own_shown, number_at, checks_in, HasOwnRow, IsHostSchema, IsWhole, Ran}
+use Rattle.hosts_statements.specs.Shown.{host_of, watch_of, number_at, shown, shown_in_tables}
+use Rattle.hosts_statements.specs.Wrote.{own_row_at, own_shown, HasOwnRow, IsWhole, Ran}
+use Rattle.hosts_statements.specs.declared.tables.Version.TheVariants.{Second}
+use Rattle.hosts_statements.proofs.Places.{FirstStays, IsSecond, second, whole_second, at_own, on_table, one_change, stays, hosts_not_own}
 use Rattle.hosts_statements.proofs.Rows.{Makes, did_at, show_tables}
-use Rattle.hosts_statements.specs.Tables.{own_table, host_schema, set_own_text}
+use Rattle.hosts_statements.specs.Tables.{Place, Fresh, Upgraded, hosts_tree, own_table, host_schema, set_own_text}
 use Rattle.hosts_statements.proofs.Monitor.{cast_null, cast_number, went, same_value}
 
 abbrev pub query : Query
@@ -48,26 +47,29 @@ query = record {
   offset = lit (Int (pos 0));
 }
 
-pub set_own_is : (checks : List Term) → command_in (understood (host_schema checks) set_own_text) ≡ Update 0 (record { lets = []; body = query })
+pub set_own_is : (place : Place) (checks : List Term) → command_in (understood (host_schema place checks) set_own_text) ≡ Update 0 (record { lets = []; body = query })
 unfolding understood everything
-set_own_is checks = refl
+set_own_is Fresh checks = refl
+set_own_is Upgraded checks = refl
 
-pub set_own_plain : (checks : List Term) → IsPlain (understood (host_schema checks) set_own_text)
+pub set_own_plain : (place : Place) (checks : List Term) → IsPlain (understood (host_schema place checks) set_own_text)
 unfolding understood everything
-set_own_plain checks = (refl, refl)
+set_own_plain Fresh checks = (refl, refl)
+set_own_plain Upgraded checks = (refl, refl)
 
 -- the table has that one row, and the others are as they were
-pub record OwnIsPut (version own : ℕ) (old new : Trees) : Type 0 where
+pub record OwnIsPut (place : Place) (version own : ℕ) (old new : Trees) : Type 0 where
   pub rows : new 0 ≡ own_row_at version own ∷ []
-  pub hosts : new 1 ≡ old 1
+  pub hosts : new (hosts_tree place) ≡ old (hosts_tree place)
   pub watches : new 3 ≡ old 3
+  pub first : FirstStays place old new
   pub listed : new catalog_tree ≡ old catalog_tree
 
 -- a row with that id and that version
 abbrev pub IsOwn : ℕ → Row → Type 0
 IsOwn version row = (column row 0 ≡ Int (pos 1)) × (column row 2 ≡ Int (pos version))
 
-abbrev picked : ℕ → ℕ → Row
+abbrev pub picked : ℕ → ℕ → Row
 picked version own = Int (pos 1) ∷ own_row_at version own
 
 picks : (db : Trees) (version own : ℕ) (row : Row) (rows : List Row) → db 0 ≡ row ∷ [] → IsOwn version row → IsAnswer query (overlay db []) (Int (pos own) ∷ []) rows → rows ≡ picked version own ∷ []
@@ -84,57 +86,64 @@ same_id : value_cmp (Int (pos 1)) (Int (pos 1)) ≡ Equal
 unfolding value_cmp lib.Ieee.is_nan lib.Ieee.lt
 same_id = refl
 
-abbrev the_edit : List Term → Trees → ℕ → ℕ → Edit
-the_edit checks db version own = edit_of db (own_table checks) (ids_of (picked version own ∷ [])) Given 1 (picked version own ∷ [])
+abbrev pub own_edit : List Term → Trees → ℕ → ℕ → Edit
+own_edit checks db version own = edit_of db (own_table checks) (ids_of (picked version own ∷ [])) Given 1 (picked version own ∷ [])
 
-edited_is : (checks : List Term) (db : Trees) (version own : ℕ) (row : Row) → db 0 ≡ row ∷ [] → IsOwn version row → edited db (the_edit checks db version own) ≡ own_row_at version own ∷ []
-edited_is checks db version own row one is = rw (one, is.0, same_id, cast_null, cast_number (pos 1), cast_number (pos version), cast_number (pos own))
+edited_is : (checks : List Term) (db : Trees) (version own : ℕ) (row : Row) → db 0 ≡ row ∷ [] → column row 0 ≡ Int (pos 1) → edited db (own_edit checks db version own) ≡ own_row_at version own ∷ []
+edited_is checks db version own row one is = rw (one, is, same_id, cast_null, cast_number (pos 1), cast_number (pos version), cast_number (pos own))
 
-set_trees : (checks : List Term) (keys : Keys) (db next : Trees) (version own : ℕ) (row : Row) → db 0 ≡ row ∷ [] → IsOwn version row → Applies (host_schema checks) keys db (the_edit checks db version own) next → OwnIsPut version own db next
-set_trees checks keys db next version own row one is a = record {
-  rows = a.rows ∙ edited_is checks db version own row one is;
-  hosts = a.tables.1.0 (λ e. omega (arith, e));
-  watches = a.tables.1.1.0 (λ e. omega (arith, e));
-  listed = a.others catalog_tree (λ e. omega (arith, e)) ((λ e. omega (arith, e)), ((λ e. omega (arith, e)), tt));
-}
+pub set_trees : (place : Place) (checks : List Term) (keys : Keys) (db next : Trees) (version own : ℕ) (row : Row) → db 0 ≡ row ∷ [] → column row 0 ≡ Int (pos 1) → Applies (host_schema place checks) keys db (own_edit checks db version own) next → OwnIsPut place version own db next
+set_trees place checks keys db next version own row one is a =
+    let others = stays place checks keys db next (own_edit checks db version own) a in
+    record {
+      rows = a.rows ∙ edited_is checks db version own row one is;
+      hosts = others.hosts (hosts_not_own place);
+      watches = others.watches (λ e. omega (arith, e));
+      first = others.first (λ e. omega (arith, e));
+      listed = others.listed (λ e. omega (arith, e));
+    }
 
 -- the one row
-first_row : {P : Row → Type 0} (rows : List Row) (shown : Row) → map own_shown rows ≡ shown ∷ [] → ((row : Row) → own_shown row ≡ shown → P row) → (row : Row) × (rows ≡ row ∷ []) × P row
+pub first_row : {P : Row → Type 0} (rows : List Row) (shown : Row) → map own_shown rows ≡ shown ∷ [] → ((row : Row) → own_shown row ≡ shown → P row) → (row : Row) × (rows ≡ row ∷ []) × P row
 first_row [] shown one p = absurd cc
 first_row (row ∷ []) shown one p = (row, refl, p row cc)
 first_row (row ∷ next ∷ rows) shown one p = absurd cc
 
-pub does_set : (limit : Option ℕ) (mode : Mode) (checks : List Term) (version own : ℕ) (row : Row) (db : Trees) (text : List ℕ) (tally : Tally) (after : Database) → db 0 ≡ row ∷ [] → IsOwn version row
-    → Does limit mode (Int (pos own) ∷ []) (record { schema = host_schema checks; trees = db }) text None (Update 0 (record { lets = []; body = query })) (Ok (tally, after))
-    → (after.schema ≡ host_schema checks) × OwnIsPut version own db after.trees
-does_set limit mode checks version own row db text tally after one is h =
-    let done = went h in
+-- what an UPDATE of the own state does, whatever its query shows
+pub does_put : (place : Place) (limit : Option ℕ) (mode : Mode) (checks : List Term) (version own : ℕ) (row : Row) (q : Query) (db : Trees) (text : List ℕ) (tally : Tally) (after : Database) → db 0 ≡ row ∷ [] → column row 0 ≡ Int (pos 1)
+    → ((rows : List Row) → IsAnswer q (overlay db []) (Int (pos own) ∷ []) rows → rows ≡ picked version own ∷ [])
+    → Does limit mode (Int (pos own) ∷ []) (record { schema = host_schema place checks; trees = db }) text None (Update 0 (record { lets = []; body = q })) (Ok (tally, after))
+    → (after.schema ≡ host_schema place checks) × OwnIsPut place version own db after.trees
+does_put place limit mode checks version own row q db text tally after one is finds h =
+    let k = Update 0 (record { lets = []; body = q }) in
+    let done = went (on_table limit mode (Int (pos own) ∷ []) (record { schema = host_schema place checks; trees = db }) 0 (own_table checks) k (Ok (tally, after)) (at_own place checks) h) in
     let now = ap (λ (p : Tally × Database). p.1) (same_value (went (went done.2).2).2) in
     let queried = went done.1 in
-    let rows = picks db version own row queried.0 one is (queried.1.answer Null) in
+    let rows = finds queried.0 (queried.1.answer Null) in
     let wrote = went queried.2 in
     let trees : done.0.trees ≡ wrote.0 = ap (λ (it : Written). it.trees) (same_value wrote.2) in
-    let applied = one_step (host_schema checks) _ db wrote.0 (edit_of db (own_table checks) (ids_of queried.0) Given 1 queried.0) refl wrote.1 in
-    let exact = subst (λ all. Applies (host_schema checks) mode.keys db (edit_of db (own_table checks) (ids_of all) Given 1 all) wrote.0) rows applied in
+    let applied = one_change place checks _ db wrote.0 (edit_of db (own_table checks) (ids_of queried.0) Given 1 queried.0) wrote.1 in
+    let exact = subst (λ all. Applies (host_schema place checks) mode.keys db (edit_of db (own_table checks) (ids_of all) Given 1 all) wrote.0) rows applied in
     let same : after.trees ≡ wrote.0 = ap (λ (d : Database). d.trees) now ∙ trees in
-    (ap (λ (d : Database). d.schema) now, subst (OwnIsPut version own db) (sym same) (set_trees checks mode.keys db wrote.0 version own row one is exact))
+    (ap (λ (d : Database). d.schema) now, subst (OwnIsPut place version own db) (sym same) (set_trees place checks mode.keys db wrote.0 version own row one is exact))
 
-pub made_own : (own : ℕ) (from to : Database) → IsWhole from → Ran set_own_text (Int (pos own) ∷ []) from to → Makes (with_own own) from to
+pub made_own : (own : ℕ) (from to : Database) → IsWhole Second from → Ran set_own_text (Int (pos own) ∷ []) from to → Makes (with_own own) from to
 made_own own from to whole ran =
-    let checks = checks_in from.schema.tables in
-    let it = did_at set_own_text (Int (pos own) ∷ []) (Update 0 (record { lets = []; body = query })) from to whole.0.0 tt (set_own_is checks) (set_own_plain checks) ran in
-    let version = number_at (from.trees 0) 2 in
-    let first = first_row {P = IsOwn version} (from.trees 0) _ whole.0.1 (λ row same. (ap (λ r. column r 0) same, ap (λ r. column r 1) same)) in
-    let done = does_set it.1 it.2 checks version own first.0 from.trees it.0 it.3 to first.1 first.2 it.4 in
-    let shows = show_tables checks from to done.0 it.5 done.1.listed in
+    let w = second from whole in
+    let it = did_at (host_schema w.place w.checks) set_own_text (Int (pos own) ∷ []) (Update 0 (record { lets = []; body = query })) from to w.tables tt (set_own_is w.place w.checks) (set_own_plain w.place w.checks) ran in
+    let first = first_row {P = IsOwn 2} (from.trees 0) _ w.own (λ row same. (ap (λ r. column r 0) same, ap (λ r. column r 1) same)) in
+    let done = does_put w.place it.1 it.2 w.checks 2 own first.0 query from.trees it.0 it.3 to first.1 first.2.0 (λ rows. picks from.trees 2 own first.0 rows first.1 first.2) it.4 in
+    let after : IsSecond to = record {
+      place = w.place;
+      checks = w.checks;
+      tables = done.0;
+      own = subst (HasOwnRow 2) (sym done.1.rows) refl;
+      hosts = subst (AreOwn is_host) (sym done.1.hosts) w.hosts;
+      watches = subst (AreOwn is_watched) (sym done.1.watches) w.watches;
+    } in
+    let shows = show_tables w.place w.checks from to done.0 it.5 done.1.listed w.own after.own in
     let state = ap (λ rows. number_at rows 3) done.1.rows in
     let hosts = ap (λ rows. from_entries (map host_of rows)) done.1.hosts in
     let watches = ap (λ rows. from_entries (map watch_of rows)) done.1.watches in
-    let same : shown_in_tables to.trees ≡ with_own own (shown_in_tables from.trees) = λ i. record { own = state i; hosts = hosts i; watches = watches i } in
-    record {
-      whole = (
-        (subst IsHostSchema (sym (done.0 ∙ sym whole.0.0)) whole.0.0, subst HasOwnRow (sym done.1.rows) refl),
-        (subst (AreOwn is_host) (sym done.1.hosts) whole.1.0, subst (AreOwn is_watched) (sym done.1.watches) whole.1.1),
-      );
-      rows = shows.late ∙ same ∙ ap (with_own own) (sym shows.early);
-    }
+    let same : shown_in_tables w.place to.trees ≡ with_own own (shown_in_tables w.place from.trees) = λ i. record { own = state i; hosts = hosts i; watches = watches i } in
+    record { whole = whole_second to after; rows = shows.late ∙ same ∙ ap (with_own own) (sym shows.early) }

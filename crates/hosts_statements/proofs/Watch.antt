@@ -1,29 +1,29 @@
 -- What the statement of a new watch does to the rows.
-use Rattle.std.proofs.Common.{◌≡◌, ℕ, ℤ, List, [], ◌∷◌, map, true, false, None, Option, Ok, refl, sym, ap, subst, ◌∙◌, arith}
+use Rattle.std.proofs.Common.{◌≡◌, ℕ, ℤ, List, [], ◌∷◌, map, true, false, None, Option, Ok, sym, ap, subst, ◌∙◌, arith}
 use Rattle.std.specs.Cmp.{IsTotalOrder, on_total, then_total, int_cmp_total}
 use Rattle.std.specs.Cmp.Lexicographic.{nat_list_cmp_total}
 use Rattle.std.specs.FinMap.{IsAntisymmetric, get, get-from_entries, from_entries, insert, find, slice_cmp-IsAntisymmetric, nat_cmp-IsAntisymmetric}
 use Rattle.std.proofs.lemmas.Map.Lookups.{exact_pairs, exact_signed}
 use Rattle.sqlite_value.specs.declared.value.Value.{Value}
 use Rattle.sqlite_value.specs.declared.value.Value.TheVariants.{Null, Int, Blob}
-use Rattle.sqlite_value.specs.Order.{Row, column}
+use Rattle.sqlite_value.specs.Order.{Row}
 use Rattle.sqlite_sql.specs.Term.{Term, lit, col}
 use Rattle.sqlite_schema.specs.declared.schema.Keys.{Keys}
 use Rattle.sqlite_schema.specs.declared.command.Source.TheVariants.{Values}
 use Rattle.sqlite_schema.specs.declared.command.Command.TheVariants.{Insert}
 use Rattle.sqlite_trees.specs.Tree.{Trees, put_row}
-use Rattle.sqlite_trees.specs.Objects.{catalog_tree, number_in}
+use Rattle.sqlite_trees.specs.Objects.{catalog_tree}
 use Rattle.sqlite_rules.specs.Edit.{Edit, edit_of, edited, next_rowid, is_taken, are_fresh, Applies}
 use Rattle.sqlite_rules.specs.declared.error.Rowids.TheVariants.{Chosen}
 use Rattle.sqlite.specs.declared.run.Mode.{Mode}
 use Rattle.sqlite.specs.Does.{Tally, Does}
 use Rattle.sqlite.specs.Rows.{Written}
 use Rattle.sqlite.specs.Effect.{Database}
-use Rattle.sqlite.proofs.Callers.{one_step}
 use Rattle.hosts_statements.specs.Maps.{WatchKey, key_cmp, with_watch}
 use Rattle.definitions.specs.Nsm.{MyId}
-use Rattle.hosts_statements.specs.Tables.{watches_table, host_schema}
-use Rattle.hosts_statements.specs.Shown.{host_of, watch_of, shown_in_tables}
+use Rattle.hosts_statements.specs.Tables.{Place, hosts_tree, watches_table, host_schema}
+use Rattle.hosts_statements.specs.Shown.{host_of, watch_of, number_at, shown_in_tables}
+use Rattle.hosts_statements.proofs.Places.{at_watches, on_table, one_change, stays, hosts_not_watches}
 use Rattle.hosts_statements.proofs.PutLemmas.{put_is_insert}
 use Rattle.hosts_statements.proofs.Monitor.{cast_null, cast_number, went, same_value, untaken}
 
@@ -54,11 +54,11 @@ watch_terms = lit Null ∷ col 0 0 ∷ col 0 1 ∷ col 0 2 ∷ col 0 3 ∷ col 0
 abbrev pub watch_params : WatchKey → List ℕ → Row
 watch_params k private = Blob k.mon ∷ Blob k.my.my_name ∷ Int k.my.prog ∷ Int k.my.vers ∷ Int k.my.proc ∷ Blob private ∷ []
 
-pub record GrownWatches (row : Row) (old new : Trees) : Type 0 where
+pub record GrownWatches (place : Place) (row : Row) (old new : Trees) : Type 0 where
   pub rows : new 3 ≡ put_row row (old 3)
   pub fresh : is_taken (old 3) row ≡ false
   pub own : new 0 ≡ old 0
-  pub hosts : new 1 ≡ old 1
+  pub hosts : new (hosts_tree place) ≡ old (hosts_tree place)
   pub listed : new catalog_tree ≡ old catalog_tree
 
 abbrev the_edit : Trees → WatchKey → List ℕ → Edit
@@ -67,42 +67,44 @@ the_edit db k private = edit_of db (watches_table 3) [] Chosen 0 ((Null ∷ watc
 news_is : (db : Trees) (k : WatchKey) (private : List ℕ) → (the_edit db k private).news ≡ watch_row (Int (next_rowid (db 3))) k private ∷ []
 news_is db k private = rw (cast_null, cast_number k.my.prog, cast_number k.my.vers, cast_number k.my.proc)
 
-grown : (checks : List Term) (keys : Keys) (db next : Trees) (k : WatchKey) (private : List ℕ) → Applies (host_schema checks) keys db (the_edit db k private) next
-    → GrownWatches (watch_row (Int (next_rowid (db 3))) k private) db next
-grown checks keys db next k private a =
+grown : (place : Place) (checks : List Term) (keys : Keys) (db next : Trees) (k : WatchKey) (private : List ℕ) → Applies (host_schema place checks) keys db (the_edit db k private) next
+    → GrownWatches place (watch_row (Int (next_rowid (db 3))) k private) db next
+grown place checks keys db next k private a =
     let news = news_is db k private in
     let row = watch_row (Int (next_rowid (db 3))) k private in
+    let others = stays place checks keys db next (the_edit db k private) a in
     record {
       rows = a.rows ∙ ap (λ all. edited db (record { table = watches_table 3; gone = []; news = all })) news;
       fresh = untaken (is_taken (db 3) row) (subst (λ all. are_fresh (db 3) all ≡ true) news a.fresh);
-      own = a.tables.0 (λ e. omega (arith, e));
-      hosts = a.tables.1.0 (λ e. omega (arith, e));
-      listed = a.others catalog_tree (λ e. omega (arith, e)) ((λ e. omega (arith, e)), ((λ e. omega (arith, e)), tt));
+      own = others.own (λ e. omega (arith, e));
+      hosts = others.hosts (hosts_not_watches place);
+      listed = others.listed (λ e. omega (arith, e));
     }
 
-pub does_watch : (limit : Option ℕ) (mode : Mode) (checks : List Term) (k : WatchKey) (private : List ℕ) (db : Trees) (text : List ℕ) (tally : Tally) (after : Database)
-    → Does limit mode (watch_params k private) (record { schema = host_schema checks; trees = db }) text None (Insert 2 (Values watch_terms 7)) (Ok (tally, after))
-    → (after.schema ≡ host_schema checks) × GrownWatches (watch_row (Int (next_rowid (db 3))) k private) db after.trees
-does_watch limit mode checks k private db text tally after h =
-    let done = went h in
+pub does_watch : (place : Place) (limit : Option ℕ) (mode : Mode) (checks : List Term) (k : WatchKey) (private : List ℕ) (db : Trees) (text : List ℕ) (tally : Tally) (after : Database)
+    → Does limit mode (watch_params k private) (record { schema = host_schema place checks; trees = db }) text None (Insert 2 (Values watch_terms 7)) (Ok (tally, after))
+    → (after.schema ≡ host_schema place checks) × GrownWatches place (watch_row (Int (next_rowid (db 3))) k private) db after.trees
+does_watch place limit mode checks k private db text tally after h =
+    let ran = on_table limit mode (watch_params k private) (record { schema = host_schema place checks; trees = db }) 2 (watches_table 3) (Insert 2 (Values watch_terms 7)) (Ok (tally, after)) (at_watches place checks) h in
+    let done = went ran in
     let now = ap (λ (p : Tally × Database). p.1) (same_value (went (went done.2).2).2) in
     let given = went done.1 in
     let written = went (went given.2).2 in
     let counted = went written.2 in
     let trees : done.0.trees ≡ written.0 = ap (λ (it : Written). it.trees) (same_value counted.2) ∙ same_value counted.1 in
-    let applied = one_step (host_schema checks) _ db written.0 (edit_of db (watches_table 3) [] Chosen 0 given.0) refl written.1 in
+    let applied = one_change place checks _ db written.0 (edit_of db (watches_table 3) [] Chosen 0 given.0) written.1 in
     let same : after.trees ≡ written.0 = ap (λ (d : Database). d.trees) now ∙ trees in
-    let exact = subst (λ all. Applies (host_schema checks) mode.keys db (edit_of db (watches_table 3) [] Chosen 0 all) written.0) given.1.1 applied in
-    (ap (λ (d : Database). d.schema) now, subst (GrownWatches (watch_row (Int (next_rowid (db 3))) k private) db) (sym same) (grown checks mode.keys db written.0 k private exact))
+    let exact = subst (λ all. Applies (host_schema place checks) mode.keys db (edit_of db (watches_table 3) [] Chosen 0 all) written.0) given.1.1 applied in
+    (ap (λ (d : Database). d.schema) now, subst (GrownWatches place (watch_row (Int (next_rowid (db 3))) k private) db) (sym same) (grown place checks mode.keys db written.0 k private exact))
 
 -- one more row is one more watch
-pub grown_watches : (k : WatchKey) (private : List ℕ) (row : Row) (old new : Trees) → GrownWatches row old new → watch_of row ≡ (k, private)
-    → get (shown_in_tables old).watches k ≡ None → shown_in_tables new ≡ with_watch k private (shown_in_tables old)
-grown_watches k private row old new g is none =
+pub grown_watches : (place : Place) (k : WatchKey) (private : List ℕ) (row : Row) (old new : Trees) → GrownWatches place row old new → watch_of row ≡ (k, private)
+    → get (shown_in_tables place old).watches k ≡ None → shown_in_tables place new ≡ with_watch k private (shown_in_tables place old)
+grown_watches place k private row old new g is none =
     let key = ap (λ (p : WatchKey × List ℕ). p.0) is in
     let absent = subst (λ x. find key_cmp x (map watch_of (old 3)) ≡ None) (sym key) (sym (get-from_entries watch_total (map watch_of (old 3)) k) ∙ none) in
     let put = put_is_insert watch_total watch_exact watch_of (old 3) row g.fresh absent in
-    let watches = ap (λ rows. from_entries (map watch_of rows)) g.rows ∙ put ∙ ap (λ (p : WatchKey × List ℕ). insert (shown_in_tables old).watches p.0 p.1) is in
-    let own = ap (λ (rows : List Row). number_in (column (Rattle.std.specs.Prelude.slice_index_or rows 0 []) 3)) g.own in
+    let watches = ap (λ rows. from_entries (map watch_of rows)) g.rows ∙ put ∙ ap (λ (p : WatchKey × List ℕ). insert (shown_in_tables place old).watches p.0 p.1) is in
+    let own = ap (λ rows. number_at rows 3) g.own in
     let hosts = ap (λ rows. from_entries (map host_of rows)) g.hosts in
     λ i. record { own = own i; hosts = hosts i; watches = watches i }

@@ -25,8 +25,8 @@ abbrev pub Tells : List ℕ → Database → List Row → Type 0
 Tells sql db rows = (q : Program) (names : List (List ℕ)) → command_in (understood db.schema sql) ≡ Select q names → reads_listing db.schema sql ≡ false → Answers db q [] rows
 
 -- one row, of this version
-abbrev pub ShowsOwn : List Row → ℕ → Type 0
-ShowsOwn rows own = (row : Row) × (rows ≡ row ∷ []) × (column row 0 ≡ Int (pos 1)) × (column row 1 ≡ Int (pos 2)) × (column row 2 ≡ Int (pos own))
+abbrev pub ShowsOwn : ℕ → List Row → ℕ → Type 0
+ShowsOwn version rows own = (row : Row) × (rows ≡ row ∷ []) × (column row 0 ≡ Int (pos 1)) × (column row 1 ≡ Int (pos version)) × (column row 2 ≡ Int (pos own))
 
 -- no two have keys that tie
 abbrev pub AreApart : {K X : Type 0} → (K → K → Ordering) → List (K × X) → Type 0

@@ -1,4 +1,4 @@
--- The three tables, their indexes and their texts.
+-- The tables, their indexes and their texts.
 use Rattle.std.specs.Prelude.{ℕ, ◌+◌, true, false, [], ◌∷◌, Some, None, codes, List, pos}
 use Rattle.sqlite_value.specs.declared.value.Value.TheVariants.{Null, Int}
 use Rattle.sqlite_value.specs.declared.keys.Collation.TheVariants.{Binary}
@@ -89,17 +89,60 @@ own_table checks = record {
 abbrev pub own_checks : List Term
 own_checks = op2 (Compare Eq Binary) (col 1 0) (lit (Int (pos 1))) ∷ []
 
+-- the table of the hosts in schema 1
+abbrev pub first_hosts_columns : List Column
+first_hosts_columns = required (codes "name") Blob ∷ required (codes "epoch") Integer ∷ required (codes "seen") Integer ∷ []
+
+abbrev pub first_hosts_table : Table
+first_hosts_table = keyed (codes "hosts") 1 first_hosts_columns (1 ∷ []) one_key
+
 abbrev pub key_index : List ℕ → ℕ → List ℕ → Order → Index
 key_index name tree columns order = record { name = name; tree = tree + 1; table = tree; columns = columns; order = order; is_unique = true }
 
-abbrev pub host_tables : List Term → List Table
-host_tables checks = own_table checks ∷ hosts_table 1 ∷ watches_table 3 ∷ []
+abbrev pub watches_index : Index
+watches_index = key_index (codes "sqlite_autoindex_watches_1") 3 (1 ∷ 2 ∷ 3 ∷ 4 ∷ 5 ∷ []) five_keys
 
-abbrev pub host_indexes : List Index
-host_indexes = key_index (codes "sqlite_autoindex_hosts2_1") 1 (1 ∷ []) one_key ∷ key_index (codes "sqlite_autoindex_watches_1") 3 (1 ∷ 2 ∷ 3 ∷ 4 ∷ 5 ∷ []) five_keys ∷ []
+abbrev pub hosts_index : ℕ → Index
+hosts_index tree = key_index (codes "sqlite_autoindex_hosts2_1") tree (1 ∷ []) one_key
 
-abbrev pub host_schema : List Term → Schema
-host_schema checks = record { tables = host_tables checks; indexes = host_indexes; views = [] }
+abbrev pub first_hosts_index : Index
+first_hosts_index = key_index (codes "sqlite_autoindex_hosts_1") 1 (1 ∷ []) one_key
+
+-- where the hosts of schema 2 lie: in a file that began with it, and in one that began with schema 1
+pub data Place : Type 0 where
+  Fresh : Place
+  Upgraded : Place
+
+abbrev pub hosts_tree : Place → ℕ
+hosts_tree Fresh = 1
+hosts_tree Upgraded = 5
+
+-- the number of their table among the tables
+abbrev pub hosts_at : Place → ℕ
+hosts_at Fresh = 1
+hosts_at Upgraded = 3
+
+abbrev pub host_tables : Place → List Term → List Table
+host_tables Fresh checks = own_table checks ∷ hosts_table 1 ∷ watches_table 3 ∷ []
+host_tables Upgraded checks = own_table checks ∷ first_hosts_table ∷ watches_table 3 ∷ hosts_table 5 ∷ []
+
+abbrev pub host_indexes : Place → List Index
+host_indexes Fresh = hosts_index 1 ∷ watches_index ∷ []
+host_indexes Upgraded = first_hosts_index ∷ watches_index ∷ hosts_index 5 ∷ []
+
+-- schema 2
+abbrev pub host_schema : Place → List Term → Schema
+host_schema place checks = record { tables = host_tables place checks; indexes = host_indexes place; views = [] }
+
+-- schema 1
+abbrev pub first_tables : List Term → List Table
+first_tables checks = own_table checks ∷ first_hosts_table ∷ watches_table 3 ∷ []
+
+abbrev pub first_indexes : List Index
+first_indexes = first_hosts_index ∷ watches_index ∷ []
+
+abbrev pub first_schema : List Term → Schema
+first_schema checks = record { tables = first_tables checks; indexes = first_indexes; views = [] }
 
 abbrev pub no_schema : Schema
 no_schema = record { tables = []; indexes = []; views = [] }
@@ -133,3 +176,15 @@ delete_watch_text = codes "DELETE FROM watches WHERE mon = ?1 AND my = ?2 AND pr
 
 abbrev pub delete_watches_text : List ℕ
 delete_watches_text = codes "DELETE FROM watches WHERE my = ?1 AND prog = ?2 AND vers = ?3 AND proc = ?4"
+
+abbrev pub read_first_hosts_text : List ℕ
+read_first_hosts_text = codes "SELECT rowid, name, epoch, seen, 65536 FROM hosts ORDER BY rowid"
+
+abbrev pub copy_hosts_text : List ℕ
+copy_hosts_text = codes "INSERT INTO hosts2 (name, epoch, seen, quota) SELECT name, epoch, seen, 65536 FROM hosts"
+
+abbrev pub empty_hosts_text : List ℕ
+empty_hosts_text = codes "DELETE FROM hosts"
+
+abbrev pub second_own_text : List ℕ
+second_own_text = codes "UPDATE own SET version = 2, state = ?1"

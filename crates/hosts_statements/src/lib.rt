@@ -3,6 +3,6 @@
 
 pub mod loading;
 mod rowids;
-mod running;
+pub mod running;
 pub mod statements;
 pub mod tables;

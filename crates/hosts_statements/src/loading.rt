@@ -6,12 +6,13 @@ ghost use Rattle.sqlite.specs.State.{HasCleanDisk, IsLive, IsUnchanged, KeepsCom
 ghost use Rattle.sqlite.specs.Held.{state};
 ghost use Rattle.definitions.specs.Bytes.{bytes_cmp};
 ghost use Rattle.hosts_statements.specs.Maps.{host_row, watch_row, key_cmp};
-ghost use Rattle.hosts_statements.specs.Shown.{host_of, watch_of};
+ghost use Rattle.hosts_statements.specs.Shown.{host_of, number_at, watch_of};
 ghost use Rattle.hosts_statements.specs.Reading.{AreApart, ShowsOwn, Tells, hosts_of_tree, watches_of_tree};
 ghost use Rattle.hosts_statements.specs.Own.{is_host, is_watched, AreOwn};
-ghost use Rattle.hosts_statements.specs.Wrote.{HasOwnRow, IsHostSchema, IsWhole, number_at, hosts_in};
+ghost use Rattle.hosts_statements.specs.Wrote.{HasOwnRow, IsHostSchema, IsWhole, hosts_of, hosts_text, hosts_in, number};
 
 use crate::rowids::{are_own_hosts, are_own_watches};
+use crate::tables::Version;
 use hosts_db::{FULL_QUOTA, HostRow, HostRows, MOST_WATCHES, MyId, StoreError, Watch};
 use sqlite::{Alter, Connection, Error, ErrorCode, Row};
 use std::alloc::Global;
@@ -32,18 +33,18 @@ fn read<S: Alter>(conn: &mut Connection<S>, sql: &str) -> Result<Vec<Row>, Error
     Ok(rows)
 }
 
-fn own_in(rows: &[Row]) -> Result<u32, StoreError>
-    ensures ok { IfOk result (ShowsOwn rows.now) }
+fn own_in(rows: &[Row], version: Version) -> Result<u32, StoreError>
+    ensures ok { IfOk result (ShowsOwn (number version) rows.now) }
     ensures fits { IfOk result (λ own. own < 2147483648) }
 {
     let [row] = rows else {
         return Err(StoreError::StoreRefused);
     };
-    let (Ok(id), Ok(version), Ok(own)) = (row.get::<u32>(0), row.get::<u32>(1), row.get::<u32>(2))
+    let (Ok(id), Ok(found), Ok(own)) = (row.get::<u32>(0), row.get::<u32>(1), row.get::<u32>(2))
     else {
         return Err(StoreError::StoreRefused);
     };
-    if id != 1 || version != 2 || own >= 2_147_483_648 {
+    if id != 1 || found != version.number() || own >= 2_147_483_648 {
         return Err(StoreError::StoreRefused);
     }
     Ok(own)
@@ -82,9 +83,9 @@ fn keep_hosts(kept: &mut HostRows, rows: &[Row]) -> Result<(), StoreError>
     Ok(())
 }
 
-fn read_own<S: Alter>(conn: &mut Connection<S>) -> Result<u32, StoreError>
-    requires { HasCleanDisk (state S.Store conn.old) → IsTrue (state S.Store conn.old).is_open → IsHostSchema (state S.Store conn.old).committed.schema }
-    ensures row { HasCleanDisk (state S.Store conn.new) → OnOk result (HasOwnRow ((state S.Store conn.old).committed.trees 0)) }
+fn read_own<S: Alter>(conn: &mut Connection<S>, version: Version) -> Result<u32, StoreError>
+    requires { HasCleanDisk (state S.Store conn.old) → IsTrue (state S.Store conn.old).is_open → IsHostSchema version (state S.Store conn.old).committed.schema }
+    ensures row { HasCleanDisk (state S.Store conn.new) → OnOk result (HasOwnRow (number version) ((state S.Store conn.old).committed.trees 0)) }
     ensures state { HasCleanDisk (state S.Store conn.new) → IfOk result (λ own. number_at ((state S.Store conn.old).committed.trees 0) 3 ≡ own) }
     ensures fits { IfOk result (λ own. own < 2147483648) }
     ensures same { HasCleanDisk (state S.Store conn.new) → OnOk result (IsUnchanged (state S.Store conn.old) (state S.Store conn.new)) }
@@ -92,25 +93,36 @@ fn read_own<S: Alter>(conn: &mut Connection<S>) -> Result<u32, StoreError>
     ensures crash { Survives (state S.Store conn.old) (state S.Store conn.new) (λ _. ⊥) }
 {
     match read(conn, "SELECT id, version, state FROM own") {
-        Ok(rows) => own_in(&rows),
+        Ok(rows) => own_in(&rows, version),
         Err(_) => Err(StoreError::StoreRefused),
     }
 }
 
-fn read_hosts<S: Alter>(conn: &mut Connection<S>, kept: &mut HostRows) -> Result<(), StoreError>
-    requires tables { HasCleanDisk (state S.Store conn.old) → IsTrue (state S.Store conn.old).is_open → IsHostSchema (state S.Store conn.old).committed.schema }
+// A host of schema 1 shows the full quota.
+fn hosts_query(version: Version) -> &'static str
+    ensures { result.now ≡ hosts_text version }
+{
+    match version {
+        Version::First => "SELECT rowid, name, epoch, seen, 65536 FROM hosts ORDER BY rowid",
+        Version::Second => "SELECT rowid, name, epoch, seen, quota FROM hosts2 ORDER BY rowid",
+    }
+}
+
+fn read_hosts<S: Alter>(
+    conn: &mut Connection<S>,
+    version: Version,
+    kept: &mut HostRows,
+) -> Result<(), StoreError>
+    requires tables { HasCleanDisk (state S.Store conn.old) → IsTrue (state S.Store conn.old).is_open → IsHostSchema version (state S.Store conn.old).committed.schema }
     requires none { kept.old.rows ≡ [] }
-    ensures ok { HasCleanDisk (state S.Store conn.new) → OnOk result (kept.new ≡ record kept.old { rows = hosts_of_tree ((state S.Store conn.old).committed.trees 1) }) }
-    ensures own { HasCleanDisk (state S.Store conn.new) → OnOk result (AreOwn is_host ((state S.Store conn.old).committed.trees 1)) }
+    ensures ok { HasCleanDisk (state S.Store conn.new) → OnOk result (kept.new ≡ record kept.old { rows = hosts_of_tree (hosts_of version (state S.Store conn.old).committed) }) }
+    ensures own { HasCleanDisk (state S.Store conn.new) → OnOk result (AreOwn is_host (hosts_of version (state S.Store conn.old).committed)) }
     ensures watches { OnOk result (kept.new.watches ≡ kept.old.watches) }
     ensures same { HasCleanDisk (state S.Store conn.new) → OnOk result (IsUnchanged (state S.Store conn.old) (state S.Store conn.new)) }
     ensures kept { HasCleanDisk (state S.Store conn.new) → KeepsCommit (state S.Store conn.old) (state S.Store conn.new) }
     ensures crash { Survives (state S.Store conn.old) (state S.Store conn.new) (λ _. ⊥) }
 {
-    let Ok(rows) = read(
-        conn,
-        "SELECT rowid, name, epoch, seen, quota FROM hosts2 ORDER BY rowid",
-    ) else {
+    let Ok(rows) = read(conn, hosts_query(version)) else {
         return Err(StoreError::StoreRefused);
     };
     if !are_own_hosts(&rows) {
@@ -175,9 +187,10 @@ fn keep_watches(alloc: Global, kept: &mut HostRows, rows: &[Row]) -> Result<(), 
 fn read_watches<S: Alter>(
     alloc: Global,
     conn: &mut Connection<S>,
+    version: Version,
     kept: &mut HostRows,
 ) -> Result<(), StoreError>
-    requires tables { HasCleanDisk (state S.Store conn.old) → IsTrue (state S.Store conn.old).is_open → IsHostSchema (state S.Store conn.old).committed.schema }
+    requires tables { HasCleanDisk (state S.Store conn.old) → IsTrue (state S.Store conn.old).is_open → IsHostSchema version (state S.Store conn.old).committed.schema }
     requires none { kept.old.watches ≡ [] }
     ensures ok { HasCleanDisk (state S.Store conn.new) → OnOk result (kept.new ≡ record kept.old { watches = watches_of_tree ((state S.Store conn.old).committed.trees 3) }) }
     ensures own { HasCleanDisk (state S.Store conn.new) → OnOk result (AreOwn is_watched ((state S.Store conn.old).committed.trees 3)) }
@@ -197,24 +210,25 @@ fn read_watches<S: Alter>(
     keep_watches(alloc, kept, &rows)
 }
 
-/// Reads the rows of the last commit.
+/// Reads the rows of the last commit from the tables of a version. A host of schema 1 has the full quota.
 pub fn load<S: Alter>(
     alloc: Global,
     conn: &mut Connection<S>,
+    version: Version,
     kept: &mut HostRows,
 ) -> Result<(), StoreError>
     requires live { IsLive (state S.Store conn.old) }
-    requires tables { IsTrue (state S.Store conn.old).is_open → IsHostSchema (state S.Store conn.old).committed.schema }
+    requires tables { IsTrue (state S.Store conn.old).is_open → IsHostSchema version (state S.Store conn.old).committed.schema }
     requires none { kept.old ≡ record { own = 0; rows = []; watches = [] } }
-    ensures whole { HasCleanDisk (state S.Store conn.new) → OnOk result (IsWhole (state S.Store conn.old).committed) }
+    ensures whole { HasCleanDisk (state S.Store conn.new) → OnOk result (IsWhole version (state S.Store conn.old).committed) }
     ensures rows { HasCleanDisk (state S.Store conn.new) → OnOk result (hosts_in (state S.Store conn.old) ≡ kept.new) }
     ensures same { HasCleanDisk (state S.Store conn.new) → OnOk result (IsUnchanged (state S.Store conn.old) (state S.Store conn.new)) }
     ensures kept { HasCleanDisk (state S.Store conn.new) → KeepsCommit (state S.Store conn.old) (state S.Store conn.new) }
     ensures crash { Survives (state S.Store conn.old) (state S.Store conn.new) (λ _. ⊥) }
 {
-    let own = read_own(conn)?;
-    read_hosts(conn, kept)?;
-    read_watches(alloc, conn, kept)?;
+    let own = read_own(conn, version)?;
+    read_hosts(conn, version, kept)?;
+    read_watches(alloc, conn, version, kept)?;
     kept.set_own(own);
     Ok(())
 }

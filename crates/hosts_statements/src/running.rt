@@ -38,7 +38,8 @@ fn do_two<S: Alter>(
     do_one(tx, second, more)
 }
 
-fn do_three<S: Alter>(
+/// Runs three statements in a transaction that is open.
+pub fn do_three<S: Alter>(
     tx: &mut Transaction<'_, S>,
     first: &str,
     given: &[ValueRef<'_>],

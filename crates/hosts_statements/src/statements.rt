@@ -6,6 +6,7 @@ ghost use Rattle.definitions.specs.Bytes.{put, same_bytes, without};
 ghost use Rattle.definitions.specs.Hosts.{HostRow, has_row, row_cmp, watch_cmp, after_store, Monitor, Watched, Unwatched};
 ghost use Rattle.hosts_statements.specs.Tables.{no_schema};
 ghost use Rattle.hosts_statements.specs.Wrote.{HasMade, HasTables, IsFresh, MayWriteHosts, WroteHosts, hosts_in};
+ghost use Rattle.hosts_statements.specs.declared.tables.Version.TheVariants.{Second};
 
 use crate::running::{run_one, run_three, run_two};
 use hosts_db::MyId;
@@ -18,7 +19,7 @@ pub fn insert_host<S: Alter>(
     epoch: u32,
     seen: i32,
 ) -> Result<(), Error>
-    requires tables { HasTables (state S.Store conn.old) }
+    requires tables { HasTables Second (state S.Store conn.old) }
     requires new { HasCleanDisk (state S.Store conn.old) → IsTrue (state S.Store conn.old).is_open → has_row (hosts_in (state S.Store conn.old)) name.now ≡ false }
     requires own { HasCleanDisk (state S.Store conn.old) → IsTrue (state S.Store conn.old).is_open → (hosts_in (state S.Store conn.old)).own ≡ epoch }
     ensures ok { HasCleanDisk (state S.Store conn.new) → OnOk result (WroteHosts (λ h. after_store h (Monitor name.now seen)) (state S.Store conn.old) (state S.Store conn.new)) }
@@ -40,7 +41,7 @@ pub fn replace_host<S: Alter>(
     seen: i32,
     quota: u32,
 ) -> Result<(), Error>
-    requires tables { HasTables (state S.Store conn.old) }
+    requires tables { HasTables Second (state S.Store conn.old) }
     ensures ok { HasCleanDisk (state S.Store conn.new) → OnOk result (WroteHosts (λ h. record h { rows = put row_cmp (record { name = name.now; epoch = epoch; seen = seen; quota = quota }) h.rows }) (state S.Store conn.old) (state S.Store conn.new)) }
     ensures err { HasCleanDisk (state S.Store conn.new) → OnErr result (KeepsCommit (state S.Store conn.old) (state S.Store conn.new)) }
     ensures crash { Survives (state S.Store conn.old) (state S.Store conn.new) (MayWriteHosts (λ h. record h { rows = put row_cmp (record { name = name.now; epoch = epoch; seen = seen; quota = quota }) h.rows }) (state S.Store conn.old)) }
@@ -56,7 +57,7 @@ pub fn replace_host<S: Alter>(
 
 /// Takes out the row of a host.
 pub fn delete_host<S: Alter>(conn: &mut Connection<S>, name: &[u8]) -> Result<(), Error>
-    requires tables { HasTables (state S.Store conn.old) }
+    requires tables { HasTables Second (state S.Store conn.old) }
     ensures ok { HasCleanDisk (state S.Store conn.new) → OnOk result (WroteHosts (λ h. record h { rows = without (λ (r : HostRow). same_bytes r.name name.now) h.rows }) (state S.Store conn.old) (state S.Store conn.new)) }
     ensures err { HasCleanDisk (state S.Store conn.new) → OnErr result (KeepsCommit (state S.Store conn.old) (state S.Store conn.new)) }
     ensures crash { Survives (state S.Store conn.old) (state S.Store conn.new) (MayWriteHosts (λ h. record h { rows = without (λ (r : HostRow). same_bytes r.name name.now) h.rows }) (state S.Store conn.old)) }
@@ -71,7 +72,7 @@ pub fn put_watch<S: Alter>(
     my_id: &MyId<'_>,
     private: &[u8; 16],
 ) -> Result<(), Error>
-    requires tables { HasTables (state S.Store conn.old) }
+    requires tables { HasTables Second (state S.Store conn.old) }
     ensures ok { HasCleanDisk (state S.Store conn.new) → OnOk result (WroteHosts (λ h. record h { watches = put watch_cmp (record { mon_name = mon.now; my_id = my_id.now; private_bytes = private.now }) h.watches }) (state S.Store conn.old) (state S.Store conn.new)) }
     ensures err { HasCleanDisk (state S.Store conn.new) → OnErr result (KeepsCommit (state S.Store conn.old) (state S.Store conn.new)) }
     ensures crash { Survives (state S.Store conn.old) (state S.Store conn.new) (MayWriteHosts (λ h. record h { watches = put watch_cmp (record { mon_name = mon.now; my_id = my_id.now; private_bytes = private.now }) h.watches }) (state S.Store conn.old)) }
@@ -95,7 +96,7 @@ pub fn put_host_and_watch<S: Alter>(
     my_id: &MyId<'_>,
     private: &[u8; 16],
 ) -> Result<(), Error>
-    requires tables { HasTables (state S.Store conn.old) }
+    requires tables { HasTables Second (state S.Store conn.old) }
     requires new { HasCleanDisk (state S.Store conn.old) → IsTrue (state S.Store conn.old).is_open → has_row (hosts_in (state S.Store conn.old)) mon.now ≡ false }
     requires own { HasCleanDisk (state S.Store conn.old) → IsTrue (state S.Store conn.old).is_open → (hosts_in (state S.Store conn.old)).own ≡ epoch }
     ensures ok { HasCleanDisk (state S.Store conn.new) → OnOk result (WroteHosts (λ h. after_store h (Watched mon.now my_id.now private.now)) (state S.Store conn.old) (state S.Store conn.new)) }
@@ -121,7 +122,7 @@ pub fn delete_watch<S: Alter>(
     mon: &[u8],
     my_id: &MyId<'_>,
 ) -> Result<(), Error>
-    requires tables { HasTables (state S.Store conn.old) }
+    requires tables { HasTables Second (state S.Store conn.old) }
     ensures ok { HasCleanDisk (state S.Store conn.new) → OnOk result (WroteHosts (λ h. after_store h (Unwatched (Some mon.now) my_id.now)) (state S.Store conn.old) (state S.Store conn.new)) }
     ensures err { HasCleanDisk (state S.Store conn.new) → OnErr result (KeepsCommit (state S.Store conn.old) (state S.Store conn.new)) }
     ensures crash { Survives (state S.Store conn.old) (state S.Store conn.new) (MayWriteHosts (λ h. after_store h (Unwatched (Some mon.now) my_id.now)) (state S.Store conn.old)) }
@@ -137,7 +138,7 @@ pub fn delete_watch<S: Alter>(
 
 /// Takes out the watches of a watcher.
 pub fn delete_watches<S: Alter>(conn: &mut Connection<S>, my_id: &MyId<'_>) -> Result<(), Error>
-    requires tables { HasTables (state S.Store conn.old) }
+    requires tables { HasTables Second (state S.Store conn.old) }
     ensures ok { HasCleanDisk (state S.Store conn.new) → OnOk result (WroteHosts (λ h. after_store h (Unwatched None my_id.now)) (state S.Store conn.old) (state S.Store conn.new)) }
     ensures err { HasCleanDisk (state S.Store conn.new) → OnErr result (KeepsCommit (state S.Store conn.old) (state S.Store conn.new)) }
     ensures crash { Survives (state S.Store conn.old) (state S.Store conn.new) (MayWriteHosts (λ h. after_store h (Unwatched None my_id.now)) (state S.Store conn.old)) }
@@ -198,7 +199,7 @@ pub fn make_and_start<S: Alter>(conn: &mut Connection<S>, own: u32) -> Result<()
 
 /// Sets the own state, where the tables are there.
 pub fn set_own<S: Alter>(conn: &mut Connection<S>, own: u32) -> Result<(), Error>
-    requires { HasTables (state S.Store conn.old) }
+    requires { HasTables Second (state S.Store conn.old) }
     ensures ok { HasCleanDisk (state S.Store conn.new) → OnOk result (WroteHosts (λ h. record h { own = own }) (state S.Store conn.old) (state S.Store conn.new)) }
     ensures err { HasCleanDisk (state S.Store conn.new) → OnErr result (KeepsCommit (state S.Store conn.old) (state S.Store conn.new)) }
     ensures crash { Survives (state S.Store conn.old) (state S.Store conn.new) (MayWriteHosts (λ h. record h { own = own }) (state S.Store conn.old)) }

@@ -1,17 +1,37 @@
-//! Whether a schema is that of the three tables.
-ghost use Rattle.std.specs.Prelude.{◌≡◌, ◌<◌, [], ◌∷◌, IsTrue};
-ghost use Rattle.hosts_statements.specs.Wrote.{IsHostSchema, checks_in};
+//! Whether a schema is that of the tables, and of which version.
+ghost use Rattle.std.specs.Prelude.{◌≡◌, ◌<◌, [], ◌∷◌, IsTrue, IfSome};
+ghost use Rattle.hosts_statements.specs.Wrote.{IsHostSchema, checks_in, number};
 ghost use Rattle.sqlite_value.specs.declared.value.Value.TheVariants.{Null};
 ghost use Rattle.sqlite_value.specs.declared.keys.Collation.TheVariants.{Binary};
-ghost use Rattle.hosts_statements.specs.Tables.{host_indexes, host_tables, hosts_columns, id_column, key_index, keyed, no_schema, one_key, own_columns, own_table, required, watches_columns};
+ghost use Rattle.hosts_statements.specs.Tables.{Fresh, Upgraded, first_hosts_columns, first_hosts_table, first_indexes, first_tables, host_indexes, host_tables, hosts_columns, hosts_table, id_column, key_index, keyed, no_schema, one_key, own_columns, own_table, required, watches_columns, watches_index, watches_table};
 
 use sqlite::types::Value;
 use sqlite_schema::schema::{Column, Index, Kind, Schema, Stamps, Table};
 use sqlite_value::keys::{Collation, Order};
 
+/// The version of the tables: hosts have a quota from the second on.
+#[derive(Clone, Copy, Debug, PartialEq, Eq)]
+pub enum Version {
+    First,
+    Second,
+}
+
+impl Version {
+    /// The number that the table of the own state has.
+    pub fn number(self) -> u32
+        ensures { result ≡ number self }
+    {
+        match self {
+            Version::First => 1,
+            Version::Second => 2,
+        }
+    }
+}
+
 /// The schema has no object.
 pub fn is_none(schema: &Schema) -> bool
-    ensures { IsTrue result → schema.now ≡ no_schema }
+    ensures none { IsTrue result → schema.now ≡ no_schema }
+    ensures told { schema.now ≡ no_schema → IsTrue result }
 {
     schema.tables.is_empty() && schema.indexes.is_empty() && schema.views.is_empty()
 }
@@ -102,6 +122,19 @@ fn are_hosts_columns(columns: &[Column]) -> bool
     }
 }
 
+fn are_first_columns(columns: &[Column]) -> bool
+    ensures { IsTrue result → columns.now ≡ first_hosts_columns }
+{
+    match columns {
+        [a, b, c] => {
+            is_required(a, b"name", Kind::Blob)
+                && is_required(b, b"epoch", Kind::Integer)
+                && is_required(c, b"seen", Kind::Integer)
+        }
+        _ => false,
+    }
+}
+
 fn are_watches_columns(columns: &[Column]) -> bool
     ensures { IsTrue result → columns.now ≡ watches_columns }
 {
@@ -153,38 +186,120 @@ fn is_own_table(table: &Table, key: &[usize]) -> bool
         && !table.is_counted
 }
 
-fn are_host_tables(tables: &[Table]) -> bool
-    ensures { IsTrue result → tables.now ≡ host_tables (checks_in tables.now) }
+// The table of the hosts in schema 2.
+fn is_hosts_table(table: &Table, tree: u32) -> bool
+    ensures { IsTrue result → table.now ≡ hosts_table tree }
+{
+    is_keyed(table, b"hosts2", tree, &[1]) && are_hosts_columns(table.columns.as_slice())
+}
+
+// And in schema 1.
+fn is_first_hosts_table(table: &Table) -> bool
+    ensures { IsTrue result → table.now ≡ first_hosts_table }
+{
+    is_keyed(table, b"hosts", 1, &[1]) && are_first_columns(table.columns.as_slice())
+}
+
+fn is_watches_table(table: &Table) -> bool
+    ensures { IsTrue result → table.now ≡ watches_table 3 }
+{
+    is_keyed(table, b"watches", 3, &[1, 2, 3, 4, 5])
+        && are_watches_columns(table.columns.as_slice())
+}
+
+fn are_first_tables(tables: &[Table]) -> bool
+    ensures { IsTrue result → tables.now ≡ first_tables (checks_in tables.now) }
 {
     match tables {
         [own, hosts, watches] => {
-            is_own_table(own, &[0])
-                && is_keyed(hosts, b"hosts2", 1, &[1])
-                && are_hosts_columns(hosts.columns.as_slice())
-                && is_keyed(watches, b"watches", 3, &[1, 2, 3, 4, 5])
-                && are_watches_columns(watches.columns.as_slice())
+            is_own_table(own, &[0]) && is_first_hosts_table(hosts) && is_watches_table(watches)
         }
         _ => false,
     }
 }
 
-fn are_host_indexes(indexes: &[Index]) -> bool
-    ensures { IsTrue result → indexes.now ≡ host_indexes }
+fn are_fresh_tables(tables: &[Table]) -> bool
+    ensures { IsTrue result → tables.now ≡ host_tables Fresh (checks_in tables.now) }
+{
+    match tables {
+        [own, hosts, watches] => {
+            is_own_table(own, &[0]) && is_hosts_table(hosts, 1) && is_watches_table(watches)
+        }
+        _ => false,
+    }
+}
+
+fn are_upgraded_tables(tables: &[Table]) -> bool
+    ensures { IsTrue result → tables.now ≡ host_tables Upgraded (checks_in tables.now) }
+{
+    match tables {
+        [own, first, watches, hosts] => {
+            is_own_table(own, &[0])
+                && is_first_hosts_table(first)
+                && is_watches_table(watches)
+                && is_hosts_table(hosts, 5)
+        }
+        _ => false,
+    }
+}
+
+fn is_watches_index(index: &Index) -> bool
+    ensures { IsTrue result → index.now ≡ watches_index }
+{
+    is_index(index, b"sqlite_autoindex_watches_1", 3, &[1, 2, 3, 4, 5])
+}
+
+fn are_first_indexes(indexes: &[Index]) -> bool
+    ensures { IsTrue result → indexes.now ≡ first_indexes }
 {
     match indexes {
         [hosts, watches] => {
-            is_index(hosts, b"sqlite_autoindex_hosts2_1", 1, &[1])
-                && is_index(watches, b"sqlite_autoindex_watches_1", 3, &[1, 2, 3, 4, 5])
+            is_index(hosts, b"sqlite_autoindex_hosts_1", 1, &[1]) && is_watches_index(watches)
         }
         _ => false,
     }
 }
 
-/// The schema has the three tables, and no other object.
-pub fn is_host_schema(schema: &Schema) -> bool
-    ensures { IsTrue result → IsHostSchema schema.now }
+fn are_fresh_indexes(indexes: &[Index]) -> bool
+    ensures { IsTrue result → indexes.now ≡ host_indexes Fresh }
 {
-    are_host_tables(schema.tables.as_slice())
-        && are_host_indexes(schema.indexes.as_slice())
-        && schema.views.is_empty()
+    match indexes {
+        [hosts, watches] => {
+            is_index(hosts, b"sqlite_autoindex_hosts2_1", 1, &[1]) && is_watches_index(watches)
+        }
+        _ => false,
+    }
+}
+
+fn are_upgraded_indexes(indexes: &[Index]) -> bool
+    ensures { IsTrue result → indexes.now ≡ host_indexes Upgraded }
+{
+    match indexes {
+        [first, watches, hosts] => {
+            is_index(first, b"sqlite_autoindex_hosts_1", 1, &[1])
+                && is_watches_index(watches)
+                && is_index(hosts, b"sqlite_autoindex_hosts2_1", 5, &[1])
+        }
+        _ => false,
+    }
+}
+
+/// The version whose tables the schema has, if it has no other object. The tables of schema 2 lie as in a file that
+/// began with it, or as in one that was upgraded from schema 1, whose table of hosts stays.
+#[tactic(auto, using(crate::proofs::Schemas::first_is, crate::proofs::Schemas::fresh_is, crate::proofs::Schemas::upgraded_is))]
+pub fn version_of(schema: &Schema) -> Option<Version>
+    ensures { IfSome result (λ version. IsHostSchema version schema.now) }
+{
+    let (tables, indexes) = (schema.tables.as_slice(), schema.indexes.as_slice());
+    if !schema.views.is_empty() {
+        None
+    } else if are_first_tables(tables) && are_first_indexes(indexes) {
+        Some(Version::First)
+    } else if are_fresh_tables(tables) && are_fresh_indexes(indexes) {
+        Some(Version::Second)
+    } else if are_upgraded_tables(tables) && are_upgraded_indexes(indexes) {
+        Some(Version::Second)
+    } else {
+        None
+    }
 }

@@ -1,16 +1,17 @@
 -- What a plan says: what the store is asked, and what follows.
-use Rattle.std.specs.Prelude.{◌≡◌, ◌≢◌, ◌⊎◌, ℕ, ◌+◌, false, cond, [], Some, None}
+use Rattle.std.specs.Prelude.{◌≡◌, ◌≢◌, ◌⊎◌, ℕ, ◌+◌, Bool, true, false, [], Some, None}
+use Rattle.definitions.specs.Owners.{Owner}
 use Rattle.definitions.specs.Settings.{Setting}
 use Rattle.definitions.specs.Starts.{refuses}
 use Rattle.definitions.specs.Shares.{is_denied, has_no_room, with_share, without_share}
-use Rattle.definitions.specs.Hosts.{StoreCall, Monitor, StoreAnswer, NotAsked, Yes, Refused, has_row, after_store}
+use Rattle.definitions.specs.Hosts.{StoreCall, Monitor, StoreAnswer, NotAsked, Yes, Refused, has_row, after_store, is_past_limit}
 use Rattle.definitions.specs.World.{World, with_setting, with_hosts, without_host_of}
 use Rattle.definitions.specs.Rulings.{Ruling, decided}
 use Rattle.definitions.specs.Answer.{Answered, gives}
 use Rattle.owner_ids.specs.Said.{said}
 use Rattle.owner_ranges.specs.Same.{held_mode}
 use Rattle.call_outcome.specs.Values.{outcome_of}
-use Rattle.lock_world.specs.Seen.{Seen, Knows}
+use Rattle.lock_world.specs.Seen.{Seen, Knows, KeepsKnown, IsIdle}
 use Rattle.lock_service.specs.declared.plans.Range as range
 use Rattle.lock_service.specs.declared.plans.Row as row
 use Rattle.lock_service.specs.declared.plans.Change.{Change}
@@ -32,7 +33,7 @@ changed (change.Unshare s) w = record w { shares = without_share s w.shares }
 changed (change.DropHost name) w = without_host_of w name.items
 
 abbrev pub answered : answer.Answer → World → Answered
-answered a w = record { outcome = outcome_of a.outcome; due = []; world = changed a.change w }
+answered a w = record { outcome = outcome_of a.outcome.value; due = []; world = changed a.change w }
 
 abbrev pub asked : row.Row → StoreCall
 asked r = Monitor r.name r.state
@@ -48,10 +49,8 @@ planned (plan.Decided a) w = decided (answered a w)
 planned (plan.AfterRow r agreed refused) w = record {
   asks = Some (asked r);
   agreed = answered agreed (with_hosts w (after_store w.hosts (asked r)));
-  refused = gives w (outcome_of refused);
+  refused = gives w (outcome_of refused.value);
 }
-planned (plan.Unlock r granted refused) w =
-    decided (cond (refuses 65536 w.settings (setting_of r)) (gives w (outcome_of refused)) (gives (with_setting w (setting_of r)) (outcome_of granted)))
 
 -- the world once the store has answered
 abbrev pub stored : Plan → StoreAnswer → World → World
@@ -59,13 +58,21 @@ stored (plan.Decided a) store w = w
 stored (plan.AfterRow r agreed refused) NotAsked w = w
 stored (plan.AfterRow r agreed refused) Yes w = with_hosts w (after_store w.hosts (asked r))
 stored (plan.AfterRow r agreed refused) Refused w = w
-stored (plan.Unlock r granted refused) store w = w
 
 -- the store is asked exactly where the plan asks it
 abbrev pub IsAnswerTo : Plan → StoreAnswer → Type 0
 IsAnswerTo (plan.Decided a) store = store ≡ NotAsked
 IsAnswerTo (plan.AfterRow r agreed refused) store = store ≢ NotAsked
-IsAnswerTo (plan.Unlock r granted refused) store = store ≡ NotAsked
+
+-- the store says yes to no row that is past a limit
+abbrev pub IsWithin : Plan → StoreAnswer → World → Type 0
+IsWithin (plan.Decided a) store w = Unit {0}
+IsWithin (plan.AfterRow r agreed refused) store w = store ≡ Yes → is_past_limit 4096 1024 w.hosts (asked r) ≡ false
+
+-- the store is asked only where that is allowed
+abbrev pub AsksOnlyIf : Bool → Plan → Type 0
+AsksOnlyIf allowed (plan.Decided a) = Unit {0}
+AsksOnlyIf allowed (plan.AfterRow r agreed refused) = allowed ≡ true
 
 abbrev pub counted : StoreAnswer → ℕ → ℕ
 counted NotAsked refusals = refusals
@@ -85,13 +92,11 @@ FitsChange (change.DropHost name) w = Unit {0}
 abbrev pub Fits : Plan → World → Type 0
 Fits (plan.Decided a) w = FitsChange a.change w
 Fits (plan.AfterRow r agreed refused) w = FitsChange agreed.change w
-Fits (plan.Unlock r granted refused) w = Unit {0}
 
 -- the row that is stored is of a host that has none
 abbrev pub CanAsk : Plan → World → Type 0
 CanAsk (plan.Decided a) w = Unit {0}
 CanAsk (plan.AfterRow r agreed refused) w = has_row w.hosts r.name ≡ false
-CanAsk (plan.Unlock r granted refused) w = Unit {0}
 
 -- whoever is to hold a lock is known
 abbrev pub MayHold : range.Range → Seen → Type 0
@@ -107,7 +112,32 @@ IsReadyFor (change.DropHost name) s = Unit {0}
 abbrev pub IsReady : Plan → Seen → Type 0
 IsReady (plan.Decided a) s = IsReadyFor a.change s
 IsReady (plan.AfterRow r agreed refused) s = IsReadyFor agreed.change s
-IsReady (plan.Unlock r granted refused) s = MayHold r s
+
+-- ---- when a plan is given up
+
+-- who was to hold a lock, and holds nothing and waits for nothing in this world, has no number
+abbrev pub IsForgottenFor : Change → World → Seen → Type 0
+IsForgottenFor change.Nothing w s = Unit {0}
+IsForgottenFor (change.Set r) w s = IsIdle w (said r.owner) → Knows s (said r.owner) → ⊥
+IsForgottenFor (change.Share x) w s = Unit {0}
+IsForgottenFor (change.Unshare x) w s = Unit {0}
+IsForgottenFor (change.DropHost name) w s = Unit {0}
+
+abbrev pub IsForgotten : Plan → World → Seen → Type 0
+IsForgotten (plan.Decided a) w s = IsForgottenFor a.change w s
+IsForgotten (plan.AfterRow r agreed refused) w s = IsForgottenFor agreed.change w s
+
+-- everybody else who was known still is
+abbrev pub KeepsOthersFor : Change → Seen → Seen → Type 0
+KeepsOthersFor change.Nothing before after = KeepsKnown before after
+KeepsOthersFor (change.Set r) before after = (x : Owner) → x ≢ said r.owner → Knows before x → Knows after x
+KeepsOthersFor (change.Share x) before after = KeepsKnown before after
+KeepsOthersFor (change.Unshare x) before after = KeepsKnown before after
+KeepsOthersFor (change.DropHost name) before after = KeepsKnown before after
+
+abbrev pub KeepsOthers : Plan → Seen → Seen → Type 0
+KeepsOthers (plan.Decided a) before after = KeepsOthersFor a.change before after
+KeepsOthers (plan.AfterRow r agreed refused) before after = KeepsOthersFor agreed.change before after
 
 -- the plan is what the rules say of a call in this world
 pub record IsPlan (ruling : Ruling Answered) (w : World) (p : Plan) : Type 0 where

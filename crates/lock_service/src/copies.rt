@@ -1,5 +1,5 @@
 //! Copies of what a call says.
-ghost use Rattle.std.specs.Prelude.{◌≡◌, ◌≤◌, length, IfOk};
+ghost use Rattle.std.specs.Prelude.{◌≡◌, ◌≤◌, false, length, IfOk};
 ghost use Rattle.definitions.specs.Ranges.{owner_of as owner_said, mode_of as mode_said};
 ghost use Rattle.nlm4_types.specs.Lock.{view_of_lock};
 ghost use Rattle.nlm4_types.specs.Stat.{view_of_stat};
@@ -11,7 +11,7 @@ ghost use Rattle.definitions.specs.Answer.{res as res_said, by_reply};
 ghost use Rattle.definitions.specs.Replies.{Success, ResResult};
 ghost use Rattle.call_outcome.specs.Values.{outcome_of};
 ghost use Rattle.lock_world.specs.Whole.{IsShown};
-ghost use Rattle.lock_service.specs.Planned.{IsPlan};
+ghost use Rattle.lock_service.specs.Planned.{IsPlan, AsksOnlyIf};
 
 use crate::plans::{Answer, Change, Plan};
 use call_outcome::{CallResult, Outcome};
@@ -20,6 +20,7 @@ use nlm4_types::{Lock, Netobj, Stat, WIDE};
 use owner_ids::{Owner, Starved};
 use range_table::Mode;
 use std::alloc::Global;
+use std::sync::Arc;
 
 /// The owner that a call names.
 pub(crate) fn owner_of(alloc: Global, alock: &Lock<'_, WIDE>) -> Result<Owner, Starved>
@@ -50,17 +51,35 @@ pub(crate) fn cookie_of(alloc: Global, cookie: &Netobj<'_>) -> Result<ShortBytes
     Ok(ShortBytes::copy_of(alloc, cookie.bytes)?)
 }
 
+/// An outcome for all who will keep it.
+pub(crate) fn shared(alloc: Global, outcome: Outcome) -> Result<Arc<Outcome, Global>, Starved>
+    ensures { IfOk result (λ made. made.value ≡ outcome) }
+{
+    match Arc::new(alloc, outcome) {
+        Ok(made) => Ok(made),
+        Err(_) => Err(Starved),
+    }
+}
+
 /// The reply of a status.
-pub(crate) fn replied(alloc: Global, cookie: &Netobj<'_>, stat: Stat) -> Result<Outcome, Starved>
-    ensures { IfOk result (λ outcome. outcome_of outcome ≡ Success (ResResult (res_said cookie.now.bytes.now (view_of_stat stat)))) }
+pub(crate) fn replied(
+    alloc: Global,
+    cookie: &Netobj<'_>,
+    stat: Stat,
+) -> Result<Arc<Outcome, Global>, Starved>
+    ensures { IfOk result (λ made. outcome_of made.value ≡ Success (ResResult (res_said cookie.now.bytes.now (view_of_stat stat)))) }
 {
     let cookie = cookie_of(alloc, cookie)?;
-    Ok(Outcome::Success(CallResult::Res(Res { cookie, stat })))
+    shared(
+        alloc,
+        Outcome::Success(CallResult::Res(Res { cookie, stat })),
+    )
 }
 
 /// A status is told, and nothing changes.
 pub(crate) fn says(alloc: Global, cookie: &Netobj<'_>, stat: Stat) -> Result<Plan, Starved>
-    ensures { IfOk result (λ made. (w : SaidWorld) → IsPlan (by_reply cookie.now.bytes.now (stays w (view_of_stat stat))) w made) }
+    ensures plan { IfOk result (λ made. (w : SaidWorld) → IsPlan (by_reply cookie.now.bytes.now (stays w (view_of_stat stat))) w made) }
+    ensures asks { IfOk result (AsksOnlyIf false) }
 {
     Ok(Plan::Decided(Answer {
         outcome: replied(alloc, cookie, stat)?,

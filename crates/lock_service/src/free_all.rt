@@ -1,10 +1,11 @@
 //! FREE_ALL: all that a host has goes (XNFS, NLM_FREE_ALL). Its state is unused.
-ghost use Rattle.std.specs.Prelude.{IfOk};
+ghost use Rattle.std.specs.Prelude.{false, IfOk};
 ghost use Rattle.definitions.specs.Nlm as nlm;
 ghost use Rattle.definitions.specs.World.{World as SaidWorld, the_limits};
 ghost use Rattle.definitions.specs.Answer.{nlm_answer};
-ghost use Rattle.lock_service.specs.Planned.{IsPlan};
+ghost use Rattle.lock_service.specs.Planned.{IsPlan, AsksOnlyIf};
 
+use crate::copies::shared;
 use crate::plans::{Answer, Change, Plan};
 use call_outcome::{CallResult, Outcome};
 use nlm4_types::Notify;
@@ -12,10 +13,11 @@ use owner_ids::Starved;
 use std::alloc::Global;
 
 pub(crate) fn plan(alloc: Global, args: &Notify<'_>) -> Result<Plan, Starved>
-    ensures { IfOk result (λ made. (w : SaidWorld) (version : nlm.Version) → IsPlan (nlm_answer the_limits w version (nlm.FreeAll args.now.name.bytes.now args.now.state)) w made) }
+    ensures plan { IfOk result (λ made. (w : SaidWorld) (version : nlm.Version) → IsPlan (nlm_answer the_limits w version (nlm.FreeAll args.now.name.bytes.now args.now.state)) w made) }
+    ensures asks { IfOk result (AsksOnlyIf false) }
 {
     Ok(Plan::Decided(Answer {
-        outcome: Outcome::Success(CallResult::Nothing),
+        outcome: shared(alloc, Outcome::Success(CallResult::Nothing))?,
         change: Change::DropHost(Vec::from_slice(alloc, args.name.bytes)?),
     }))
 }

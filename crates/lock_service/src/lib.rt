@@ -9,6 +9,7 @@ mod free_all;
 mod lock;
 mod null;
 mod plans;
+mod readings;
 mod share;
 mod steps;
 mod test;

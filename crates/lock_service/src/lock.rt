@@ -8,7 +8,7 @@ ghost use Rattle.definitions.specs.LockRules.{row_asked, after_row};
 ghost use Rattle.definitions.specs.Answer.{nlm_answer, by_reply, caller_row};
 ghost use Rattle.nlm4_types.specs.Arguments.{view_of_lockargs};
 ghost use Rattle.lock_service.specs.Served.{unblocked};
-ghost use Rattle.lock_service.specs.Planned.{IsPlan, setting_of};
+ghost use Rattle.lock_service.specs.Planned.{IsPlan, AsksOnlyIf, setting_of};
 ghost use Rattle.lock_service.specs.Locking.{lock_call, row_if};
 
 use crate::checks::place_of;
@@ -28,7 +28,8 @@ pub(crate) fn plan<R: RangeTable, S: HostStore>(
     args: &LockArgs<'_, WIDE>,
     monitored: bool,
 ) -> Result<Plan, Starved>
-    ensures { IfOk result (λ made. (version : nlm.Version) → IsPlan (nlm_answer the_limits world.now.world version (lock_call monitored (unblocked (view_of_lockargs args.now)))) world.now.world made) }
+    ensures plan { IfOk result (λ made. (version : nlm.Version) → IsPlan (nlm_answer the_limits world.now.world version (lock_call monitored (unblocked (view_of_lockargs args.now)))) world.now.world made) }
+    ensures asks { IfOk result (AsksOnlyIf monitored) }
 {
     let alloc = world.alloc();
     let kind = CallKind::Locking {
@@ -71,7 +72,8 @@ fn grant<R: RangeTable, S: HostStore>(
     range: Range,
 ) -> Result<Plan, Starved>
     requires { is_short 65536 world.now.world.settings ≡ false }
-    ensures { IfOk result (λ made. IsPlan (by_reply args.now.cookie.bytes.now (after_row world.now.world (row_asked world.now.world (row_if monitored (view_of_lockargs args.now))) nlm.GRANTED (λ v. with_setting v (setting_of range)))) world.now.world made) }
+    ensures plan { IfOk result (λ made. IsPlan (by_reply args.now.cookie.bytes.now (after_row world.now.world (row_asked world.now.world (row_if monitored (view_of_lockargs args.now))) nlm.GRANTED (λ v. with_setting v (setting_of range)))) world.now.world made) }
+    ensures asks { IfOk result (AsksOnlyIf monitored) }
 {
     let alloc = world.alloc();
     let agreed = Answer {

@@ -8,6 +8,8 @@ use call_outcome::Outcome;
 use letters::ShortBytes;
 use owner_ids::Owner;
 use range_table::{FileId, Mode};
+use std::alloc::Global;
+use std::sync::Arc;
 
 /// What an owner is to hold from the first to the last byte: a mode, or nothing.
 #[derive(Drop)]
@@ -41,10 +43,10 @@ pub enum Change {
     DropHost(Vec<u8>),
 }
 
-/// What is answered, and what changes.
+/// What is answered, which whoever keeps the reply shares, and what changes.
 #[derive(Drop)]
 pub struct Answer {
-    pub outcome: Outcome,
+    pub outcome: Arc<Outcome, Global>,
     pub change: Change,
 }
 
@@ -57,13 +59,7 @@ pub enum Plan {
     AfterRow {
         row: Row,
         agreed: Answer,
-        refused: Outcome,
-    },
-    /// An unlock. Where the table refuses it for want of runs, nothing changes.
-    Unlock {
-        range: Range,
-        granted: Outcome,
-        refused: Outcome,
+        refused: Arc<Outcome, Global>,
     },
 }
 

@@ -1,5 +1,5 @@
 //! SHARE: an owner does something with a file and denies the others something (XNFS, NLM_SHARE).
-ghost use Rattle.std.specs.Prelude.{◌≡◌, IfOk};
+ghost use Rattle.std.specs.Prelude.{◌≡◌, false, IfOk};
 ghost use Rattle.definitions.specs.Nlm as nlm;
 ghost use Rattle.definitions.specs.World.{World as SaidWorld, the_limits};
 ghost use Rattle.definitions.specs.Answer.{nlm_answer, share_told, share_of as share_said};
@@ -7,10 +7,10 @@ ghost use Rattle.definitions.specs.Rulings.{decided};
 ghost use Rattle.nlm4_types.specs.Stat.{view_of_stat};
 ghost use Rattle.nlm4_types.specs.Access.{view_of_access};
 ghost use Rattle.nlm4_types.specs.Share.{view_of_shareargs};
-ghost use Rattle.lock_service.specs.Planned.{IsPlan, FitsChange, changed};
+ghost use Rattle.lock_service.specs.Planned.{IsPlan, AsksOnlyIf, FitsChange, changed};
 
 use crate::checks::check_file;
-use crate::copies::cookie_of;
+use crate::copies::{cookie_of, shared};
 use crate::plans::{Answer, Change, Plan};
 use call_outcome::{CallResult, Outcome, ShareRes};
 use dos_shares::{Access, Share, ShareError};
@@ -26,7 +26,8 @@ pub(crate) fn plan<R: RangeTable, S: HostStore>(
     world: &World<R, S>,
     args: &ShareArgs<'_>,
 ) -> Result<Plan, Starved>
-    ensures { IfOk result (λ made. (version : nlm.Version) → IsPlan (nlm_answer the_limits world.now.world version (nlm.ShareCall (view_of_shareargs args.now))) world.now.world made) }
+    ensures plan { IfOk result (λ made. (version : nlm.Version) → IsPlan (nlm_answer the_limits world.now.world version (nlm.ShareCall (view_of_shareargs args.now))) world.now.world made) }
+    ensures asks { IfOk result (AsksOnlyIf false) }
 {
     let alloc = world.alloc();
     let kind = CallKind::Sharing {
@@ -50,7 +51,8 @@ pub(crate) fn told(
     stat: Stat,
     change: Change,
 ) -> Result<Plan, Starved>
-    ensures { IfOk result (λ made. (w : SaidWorld) → FitsChange change w → IsPlan (decided (share_told (view_of_shareargs args.now) (record { says = view_of_stat stat; world = changed change w }))) w made) }
+    ensures plan { IfOk result (λ made. (w : SaidWorld) → FitsChange change w → IsPlan (decided (share_told (view_of_shareargs args.now) (record { says = view_of_stat stat; world = changed change w }))) w made) }
+    ensures asks { IfOk result (AsksOnlyIf false) }
 {
     let cookie = cookie_of(alloc, &args.cookie)?;
     let res = ShareRes {
@@ -59,7 +61,7 @@ pub(crate) fn told(
         sequence: 0,
     };
     Ok(Plan::Decided(Answer {
-        outcome: Outcome::Success(CallResult::ShareRes(res)),
+        outcome: shared(alloc, Outcome::Success(CallResult::ShareRes(res)))?,
         change,
     }))
 }

@@ -5,10 +5,11 @@ ghost use Rattle.definitions.specs.World.{World as SaidWorld, the_limits, settle
 ghost use Rattle.definitions.specs.Starts.{refuses};
 ghost use Rattle.definitions.specs.Rulings.{ruled};
 ghost use Rattle.definitions.specs.Answer.{ruling};
+ghost use Rattle.definitions.specs.Replay.{may_leave_row};
 ghost use Rattle.call_outcome.specs.Values.{outcome_of};
 ghost use Rattle.lock_world.specs.Seen.{KeepsKnown};
 ghost use Rattle.lock_service.specs.Served.{call_of};
-ghost use Rattle.lock_service.specs.Planned.{answer_of, stored, counted, planned, IsAnswerTo, IsPlan, Fits, FitsChange, CanAsk, IsReady, IsReadyFor, MayHold, changed, setting_of};
+ghost use Rattle.lock_service.specs.Planned.{answer_of, stored, counted, planned, IsAnswerTo, IsWithin, AsksOnlyIf, IsPlan, Fits, FitsChange, CanAsk, IsReady, IsReadyFor, MayHold, IsForgotten, IsForgottenFor, KeepsOthers, KeepsOthersFor, changed, setting_of};
 
 use crate::call::{Call, Procedure};
 use crate::plans::{Change, Plan, Range, StoreAnswer};
@@ -18,6 +19,8 @@ use hosts_db::{HostStore, StoreError};
 use lock_world::World;
 use owner_ids::Starved;
 use range_table::{NoRuns, RangeTable};
+use std::alloc::Global;
+use std::sync::Arc;
 
 /// What is to be done for a call, by the rules of its procedure, whether its peer is local or not. Changes nothing.
 pub fn plan<R: RangeTable, S: HostStore>(
@@ -25,11 +28,12 @@ pub fn plan<R: RangeTable, S: HostStore>(
     local: bool,
     call: &Call<'_>,
 ) -> Result<Plan, Starved>
-    ensures { IfOk result (λ made. IsPlan (ruling the_limits world.now.world local (call_of call.now)) world.now.world made) }
+    ensures plan { IfOk result (λ made. IsPlan (ruling the_limits world.now.world local (call_of call.now)) world.now.world made) }
+    ensures asks { IfOk result (AsksOnlyIf (may_leave_row (call_of call.now))) }
 {
     let _unused = local;
     match &call.procedure {
-        Procedure::Null => Ok(null::plan()),
+        Procedure::Null => null::plan(world.alloc()),
         Procedure::Test(args) => test::plan(world, call.version, args),
         Procedure::Lock(args) => lock::plan(world, args, true),
         Procedure::Unlock(args) => unlock::plan(world, args),
@@ -54,7 +58,6 @@ pub fn prepare<R: RangeTable, S: HostStore>(
     match plan {
         Plan::Decided(answer) => prepare_change(world, &answer.change),
         Plan::AfterRow { agreed, .. } => prepare_change(world, &agreed.change),
-        Plan::Unlock { range, .. } => prepare_range(world, range),
     }
 }
 
@@ -93,11 +96,12 @@ fn prepare_range<R: RangeTable, S: HostStore>(
 pub fn abandon<R: RangeTable, S: HostStore>(world: &mut World<R, S>, plan: &Plan)
     ensures world { world.new.world ≡ world.old.world }
     ensures refusals { world.new.refusals ≡ world.old.refusals }
+    ensures forgotten { IsForgotten plan.now world.old.world world.new }
+    ensures others { KeepsOthers plan.now world.old world.new }
 {
     match plan {
         Plan::Decided(answer) => forget(world, &answer.change),
         Plan::AfterRow { agreed, .. } => forget(world, &agreed.change),
-        Plan::Unlock { range, .. } => world.forget_idle(&range.owner),
     }
 }
 
@@ -105,6 +109,8 @@ pub fn abandon<R: RangeTable, S: HostStore>(world: &mut World<R, S>, plan: &Plan
 fn forget<R: RangeTable, S: HostStore>(world: &mut World<R, S>, change: &Change)
     ensures world { world.new.world ≡ world.old.world }
     ensures refusals { world.new.refusals ≡ world.old.refusals }
+    ensures forgotten { IsForgottenFor change.now world.old.world world.new }
+    ensures others { KeepsOthersFor change.now world.old world.new }
 {
     if let Change::Set(range) = change {
         world.forget_idle(&range.owner);
@@ -120,13 +126,14 @@ pub fn ask<R: RangeTable, S: HostStore>(
     requires { CanAsk plan.now world.old.world }
     ensures answer { IfOk result (λ answer. IsAnswerTo plan.now (answer_of answer)) }
     ensures world { IfOk result (λ answer. world.new.world ≡ stored plan.now (answer_of answer) world.old.world) }
+    ensures limit { IfOk result (λ answer. IsWithin plan.now (answer_of answer) world.old.world) }
     ensures refusals { IfOk result (λ answer. world.new.refusals ≡ counted (answer_of answer) world.old.refusals) }
     ensures starved { OnErr result (world.new ≡ world.old) }
     ensures fits { Fits plan.now world.old.world → Fits plan.now world.new.world }
     ensures ready { IsReady plan.now world.old → IsReady plan.now world.new }
 {
     match plan {
-        Plan::Decided(_) | Plan::Unlock { .. } => Ok(StoreAnswer::NotAsked),
+        Plan::Decided(_) => Ok(StoreAnswer::NotAsked),
         Plan::AfterRow { row, .. } => match world.monitor(row.name.as_slice(), row.state) {
             Ok(()) => Ok(StoreAnswer::Yes),
             Err(StoreError::StoreRefused) => Ok(StoreAnswer::Refused),
@@ -141,10 +148,10 @@ pub fn commit<R: RangeTable, S: HostStore>(
     world: &mut World<R, S>,
     plan: Plan,
     store: StoreAnswer,
-) -> Outcome
+) -> Arc<Outcome, Global>
     requires fits { Fits plan world.old.world }
     requires ready { IsReady plan world.old }
-    ensures answer { (w : SaidWorld) → world.old.world ≡ stored plan (answer_of store) w → record { outcome = outcome_of result; due = []; world = world.new.world } ≡ ruled (answer_of store) (planned plan w) }
+    ensures answer { (w : SaidWorld) → world.old.world ≡ stored plan (answer_of store) w → record { outcome = outcome_of result.value; due = []; world = world.new.world } ≡ ruled (answer_of store) (planned plan w) }
     ensures refusals { world.new.refusals ≡ world.old.refusals }
 {
     match (plan, store) {
@@ -167,21 +174,6 @@ pub fn commit<R: RangeTable, S: HostStore>(
             forget(world, &agreed.change);
             refused
         }
-        (
-            Plan::Unlock {
-                range,
-                granted,
-                refused,
-            },
-            _,
-        ) => {
-            let done = set(world, &range);
-            world.forget_idle(&range.owner);
-            match done {
-                Ok(()) => granted,
-                Err(NoRuns) => refused,
-            }
-        }
     }
 }
 
@@ -192,13 +184,7 @@ fn set<R: RangeTable, S: HostStore>(world: &mut World<R, S>, range: &Range) -> R
     ensures err { OnErr result (world.new.world ≡ world.old.world) }
     ensures refusals { world.new.refusals ≡ world.old.refusals }
 {
-    world.set(&held_locks::Change {
-        file: range.file,
-        owner: &range.owner,
-        first: range.first,
-        last: range.last,
-        mode: range.mode,
-    })
+    world.set(&range.change())
 }
 
 fn change<R: RangeTable, S: HostStore>(world: &mut World<R, S>, change: Change)
@@ -211,6 +197,9 @@ fn change<R: RangeTable, S: HostStore>(world: &mut World<R, S>, change: Change)
         Change::Nothing => {}
         Change::Set(range) => {
             let _ = set(world, &range);
+            if range.mode.is_none() {
+                world.forget_idle(&range.owner);
+            }
         }
         Change::Share(share) => {
             let _ = world.share(share);
@@ -226,8 +215,8 @@ pub fn answer<R: RangeTable, S: HostStore>(
     world: &mut World<R, S>,
     local: bool,
     call: &Call<'_>,
-) -> Result<(Outcome, StoreAnswer), Starved>
-    ensures reply { IfOk result (λ told. outcome_of told.0 ≡ (ruled (answer_of told.1) (ruling the_limits world.old.world local (call_of call.now))).outcome) }
+) -> Result<(Arc<Outcome, Global>, StoreAnswer), Starved>
+    ensures reply { IfOk result (λ told. outcome_of told.0.value ≡ (ruled (answer_of told.1) (ruling the_limits world.old.world local (call_of call.now))).outcome) }
     ensures world { IfOk result (λ told. world.new.world ≡ settled the_limits (ruled (answer_of told.1) (ruling the_limits world.old.world local (call_of call.now))).world) }
     ensures err { OnErr result (world.new.world ≡ world.old.world) }
 {

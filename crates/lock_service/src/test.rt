@@ -12,10 +12,10 @@ ghost use Rattle.owner_ranges.specs.Same.{mode_of as held_mode_of};
 ghost use Rattle.letters.specs.Meanings.{test_res_of, holder_of as holder_told};
 ghost use Rattle.held_locks.specs.Asked.{shown};
 ghost use Rattle.lock_world.specs.Whole.{IsShown};
-ghost use Rattle.lock_service.specs.Planned.{IsPlan};
+ghost use Rattle.lock_service.specs.Planned.{IsPlan, AsksOnlyIf};
 
 use crate::checks::place_of;
-use crate::copies::{cookie_of, mode_of, owner_of};
+use crate::copies::{cookie_of, mode_of, owner_of, shared};
 use crate::plans::{Answer, Change, Plan};
 use call_outcome::{CallResult, Outcome};
 use grace::CallKind;
@@ -35,11 +35,15 @@ pub(crate) fn plan<R: RangeTable, S: HostStore>(
     version: Version,
     args: &TestArgs<'_, WIDE>,
 ) -> Result<Plan, Starved>
-    ensures { IfOk result (λ made. IsPlan (nlm_answer the_limits world.now.world (view_of_version version) (nlm.Test (view_of_testargs args.now))) world.now.world made) }
+    ensures plan { IfOk result (λ made. IsPlan (nlm_answer the_limits world.now.world (view_of_version version) (nlm.Test (view_of_testargs args.now))) world.now.world made) }
+    ensures asks { IfOk result (AsksOnlyIf false) }
 {
     let res = test_res(world, args)?;
     Ok(Plan::Decided(Answer {
-        outcome: Outcome::Success(CallResult::TestRes(version, res)),
+        outcome: shared(
+            world.alloc(),
+            Outcome::Success(CallResult::TestRes(version, res)),
+        )?,
         change: Change::Nothing,
     }))
 }

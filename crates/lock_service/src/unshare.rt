@@ -1,10 +1,10 @@
 //! UNSHARE: an owner's share of a file goes (XNFS, NLM_UNSHARE).
-ghost use Rattle.std.specs.Prelude.{IfOk};
+ghost use Rattle.std.specs.Prelude.{false, IfOk};
 ghost use Rattle.definitions.specs.Nlm as nlm;
 ghost use Rattle.definitions.specs.World.{the_limits};
 ghost use Rattle.definitions.specs.Answer.{nlm_answer};
 ghost use Rattle.nlm4_types.specs.Share.{view_of_shareargs};
-ghost use Rattle.lock_service.specs.Planned.{IsPlan};
+ghost use Rattle.lock_service.specs.Planned.{IsPlan, AsksOnlyIf};
 
 use crate::checks::check_file;
 use crate::plans::{Change, Plan};
@@ -20,7 +20,8 @@ pub(crate) fn plan<R: RangeTable, S: HostStore>(
     world: &World<R, S>,
     args: &ShareArgs<'_>,
 ) -> Result<Plan, Starved>
-    ensures { IfOk result (λ made. (version : nlm.Version) → IsPlan (nlm_answer the_limits world.now.world version (nlm.Unshare (view_of_shareargs args.now))) world.now.world made) }
+    ensures plan { IfOk result (λ made. (version : nlm.Version) → IsPlan (nlm_answer the_limits world.now.world version (nlm.Unshare (view_of_shareargs args.now))) world.now.world made) }
+    ensures asks { IfOk result (AsksOnlyIf false) }
 {
     let alloc = world.alloc();
     if let Err(stat) = check_file(world, CallKind::Unsharing, args.fh.bytes) {

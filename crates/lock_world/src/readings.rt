@@ -1,14 +1,14 @@
 //! What the locks show.
 ghost use Rattle.std.specs.Prelude.{◌≡◌, ◌≤◌, ◌<◌, ◌^◌, IfSome};
-ghost use Rattle.definitions.specs.Starts.{first_conflict, is_short};
+ghost use Rattle.definitions.specs.Starts.{first_conflict, is_short, refuses};
 ghost use Rattle.definitions.specs.Conflict.{conflicts};
 ghost use Rattle.definitions.specs.Hosts.{has_row};
 ghost use Rattle.owner_ids.specs.Said.{said};
-ghost use Rattle.held_locks.specs.Asked.{asked, shown_found};
+ghost use Rattle.held_locks.specs.Asked.{asked, changed, shown_found};
 ghost use Rattle.lock_world.specs.Whole.{IsShown};
 
 use crate::world::World;
-use held_locks::{Holder, Request};
+use held_locks::{Change, Holder, Request};
 use hosts_db::HostStore;
 use range_table::RangeTable;
 
@@ -37,6 +37,15 @@ impl<R: RangeTable, S: HostStore> World<R, S> {
         ensures { result ≡ is_short 65536 self.now.world.settings }
     {
         self.locks.is_short()
+    }
+
+    /// Whether `set` would refuse the change, also of an owner who isn't known. Changes nothing.
+    pub fn refuses(&self, change: &Change<'_>) -> bool
+        requires ordered { change.now.first ≤ change.now.last }
+        requires inside { change.now.last < 2 ^ 63 }
+        ensures { result ≡ refuses 65536 self.now.world.settings (changed change.now) }
+    {
+        self.locks.refuses(change)
     }
 
     /// Whether the host has a row.

@@ -1,2 +1,3 @@
 pub mod WrittenLemmas
 pub mod PipeLemmas
+pub mod Beginnings

@@ -1,16 +1,17 @@
 -- One stream from a reader to a writer, as a run of the daemon.
-use Rattle.std.specs.Prelude.{◌≡◌, ℕ, ◌≤◌, ◌⊎◌, List, [], ◌∷◌, ◌++◌, replicate, Option, Result, Ok, Err}
+use Rattle.std.specs.Prelude.{◌≡◌, ℕ, ◌≤◌, ◌⊎◌, List, [], ◌∷◌, ◌++◌, replicate, take, Option, Some, None, Result, Ok, Err}
 use Rattle.std.specs.List.{flat_map}
 use Rattle.std.specs.Option.{option_to_list}
-use Rattle.std.specs.Io.KnownBytes.{Appends, Consumes, IsAtEnd}
+use Rattle.std.specs.Io.KnownBytes.{Appends, Keeps, Consumes, IsAtEnd}
 use Rattle.daemon_core.specs.declared.event.Event.{Event}
-use Rattle.daemon_core.specs.declared.event.Event.TheVariants.{Connect, Piece, Disconnect, Take}
-use Rattle.daemon_core.specs.declared.event.Outputs.{Outputs}
+use Rattle.daemon_core.specs.declared.event.Event.TheVariants.{Connect, Piece, Disconnect, Take, GraceOver, Restart}
+use Rattle.daemon_core.specs.declared.outputs.Outputs.{Outputs}
 use Rattle.daemon_core.specs.declared.event.Refusal.{Refusal}
 use Rattle.kept_replies.specs.declared.key.Peer.{Peer}
-use Rattle.daemon_core.specs.Hub.{Hub, opening, place_of, Waits, HubStep, Run, all_bytes_sent}
+use Rattle.daemon_core.specs.Hub.{Hub, place_of, Waits, HubStep, Run, all_bytes_sent}
 use Rattle.lockd_main.specs.declared.fault.Fault.{Fault}
-use Rattle.lockd_main.specs.declared.fault.Fault.TheVariants.{Starved, RecordTooLong, ReadFault, WriteFault}
+use Rattle.lockd_main.specs.declared.fault.Fault.TheVariants.{Starved, RecordTooLong, StoreRefused, ReadFault, WriteFault}
+use Rattle.lockd_main.specs.FaultOf.{fault_of}
 use Rattle.lockd_main.specs.Written.{WroteFront}
 
 -- the event brings these bytes to the pipe's connection, which has the number 0
@@ -19,6 +20,8 @@ IsPiece (Piece number v) bytes = (number ≡ 0) × (v.items ≡ bytes)
 IsPiece (Connect number peer) bytes = ⊥
 IsPiece (Disconnect number) bytes = ⊥
 IsPiece (Take number i) bytes = ⊥
+IsPiece GraceOver bytes = ⊥
+IsPiece Restart bytes = ⊥
 
 -- the oldest record that was not taken is answered, so many times
 abbrev pub takes : ℕ → List Event
@@ -44,26 +47,36 @@ pub record Turn (old : Hub) (bytes : List ℕ) (outs : List Outputs) (new : Hub)
   pub some : SomeTurn old bytes outs new
   pub all : some.count ≡ some.whole
 
-abbrev pub Turns : Hub → List (List ℕ) → List Outputs → Hub → Type 0
-Turns old [] outs new = (new ≡ old) × (outs ≡ [])
-Turns old (piece ∷ pieces) outs new =
-    (mid : Hub) × (first : List Outputs) × (rest : List Outputs) × Turn old piece first mid × Turns mid pieces rest new × (outs ≡ first ++ rest)
+-- what the piece was refused
+abbrev pub met_by : Outputs → List Refusal
+met_by out = option_to_list out.refusal
 
--- the pipe's connection begins, and then come these pieces
-pub record PipeRun (pipe : Peer) (pieces : List (List ℕ)) (outs : List Outputs) (end : Hub) : Type 0 where
-  pub begun : Hub
-  pub beginning : Outputs
-  pub connects : HubStep opening (Connect 0 pipe) beginning begun
-  pub rest : List Outputs
-  pub turns : Turns begun pieces rest end
-  pub all : outs ≡ beginning ∷ rest
+abbrev pub Turns : Hub → List (List ℕ) → List Outputs → List Refusal → Hub → Type 0
+Turns old [] outs met new = (new ≡ old) × (outs ≡ []) × (met ≡ [])
+Turns old (piece ∷ pieces) outs met new =
+    (mid : Hub) × (first : List Outputs) × (rest : List Outputs) × (later : List Refusal) × (turn : Turn old piece first mid) × Turns mid pieces rest later new
+    × (outs ≡ first ++ rest) × (met ≡ met_by turn.some.heard ++ later)
 
-abbrev pub joined : List (List ℕ) → List ℕ
-joined pieces = flat_map (λ p. p) pieces
+-- the server begins anew, its grace period is over, and the pipe's connection begins
+abbrev pub beginning : Peer → List Event
+beginning pipe = Restart ∷ GraceOver ∷ Connect 0 pipe ∷ []
 
 -- what the events were refused
 abbrev pub refusals : List Outputs → List Refusal
 refusals outs = flat_map (λ (o : Outputs). option_to_list o.refusal) outs
+
+-- so it begins, and then come these pieces
+pub record PipeRun (pipe : Peer) (start : Hub) (pieces : List (List ℕ)) (outs : List Outputs) (met : List Refusal) (end : Hub) : Type 0 where
+  pub begun : Hub
+  pub firsts : List Outputs
+  pub begins : Run start (beginning pipe) firsts begun
+  pub agreed : refusals firsts ≡ []
+  pub rest : List Outputs
+  pub turns : Turns begun pieces rest met end
+  pub all : outs ≡ firsts ++ rest
+
+abbrev pub joined : List (List ℕ) → List ℕ
+joined pieces = flat_map (λ p. p) pieces
 
 -- ---- the takes after a piece
 
@@ -95,7 +108,7 @@ pub record WholeTurn (old new : Hub) (bytes : List ℕ) (before after : Option (
   pub outs : List Outputs
   pub turn : Turn old bytes outs new
   pub wrote : Appends before after (all_bytes_sent outs)
-  pub met_is : refusals outs ≡ met
+  pub met_is : met_by turn.some.heard ≡ met
 
 pub record BrokenTurn (old new : Hub) (bytes : List ℕ) (before after : Option (List ℕ)) : Type 0 where
   pub outs : List Outputs
@@ -106,29 +119,52 @@ abbrev pub TurnEnds : Result (Unit {0}) Fault → Hub → Hub → List ℕ → O
 TurnEnds (Ok done) old new bytes before after = WholeTurn old new bytes before after []
 TurnEnds (Err Starved) old new bytes before after = WholeTurn old new bytes before after (Refusal.Starved ∷ [])
 TurnEnds (Err RecordTooLong) old new bytes before after = WholeTurn old new bytes before after (Refusal.RecordTooLong ∷ [])
+TurnEnds (Err StoreRefused) old new bytes before after = ⊥
 TurnEnds (Err WriteFault) old new bytes before after = BrokenTurn old new bytes before after
 TurnEnds (Err ReadFault) old new bytes before after = ⊥
+
+-- ---- the beginning
+
+-- an event that sends nothing and is not refused; or it is, and that is the fault
+abbrev pub Passes : Result (Unit {0}) Fault → Event → Hub → Hub → Type 0
+Passes (Ok done) event old new = (out : Outputs) × HubStep old event out new × (out.refusal ≡ None)
+Passes (Err fault) event old new = (out : Outputs) × HubStep old event out new × (why : Refusal) × (out.refusal ≡ Some why) × (fault ≡ fault_of why)
+
+pub record BeginsAll (pipe : Peer) (old new : Hub) : Type 0 where
+  pub outs : List Outputs
+  pub run : Run old (beginning pipe) outs new
+  pub agreed : refusals outs ≡ []
+
+-- an event of the beginning is refused, and nothing comes after it
+pub record BeginsSome (pipe : Peer) (why : Refusal) (old new : Hub) : Type 0 where
+  pub count : ℕ
+  pub outs : List Outputs
+  pub run : Run old (take count (beginning pipe)) outs new
+  pub met_is : refusals outs ≡ why ∷ []
+
+abbrev pub Begins : Peer → Result (Unit {0}) Fault → Hub → Hub → Type 0
+Begins pipe (Ok done) old new = BeginsAll pipe old new
+Begins pipe (Err fault) old new = (why : Refusal) × (fault ≡ fault_of why) × BeginsSome pipe why old new
 
 -- ---- the whole loop
 
 -- what was read came as these pieces, all that is sent for them was written, and nothing else
-pub record EndsAt (pipe : Peer) (unread left before after : Option (List ℕ)) (met : List Refusal) (hub : Hub) : Type 0 where
+pub record EndsAt (pipe : Peer) (start : Hub) (unread left before after : Option (List ℕ)) (met : List Refusal) (hub : Hub) : Type 0 where
   pub pieces : List (List ℕ)
   pub outs : List Outputs
-  pub run : PipeRun pipe pieces outs hub
+  pub run : PipeRun pipe start pieces outs met hub
   pub read : Consumes unread left (joined pieces)
   pub wrote : Appends before after (all_bytes_sent outs)
-  pub met_is : refusals outs ≡ met
 
-abbrev pub WholePipe : Peer → Option (List ℕ) → Option (List ℕ) → Option (List ℕ) → Option (List ℕ) → List Refusal → Type 0
-WholePipe pipe unread left before after met = (hub : Hub) × EndsAt pipe unread left before after met hub
+abbrev pub WholePipe : Peer → Hub → Option (List ℕ) → Option (List ℕ) → Option (List ℕ) → Option (List ℕ) → List Refusal → Type 0
+WholePipe pipe start unread left before after met = (hub : Hub) × EndsAt pipe start unread left before after met hub
 
 -- a write failed after the last piece: a front of what is sent was written
-pub record BrokenPipe (pipe : Peer) (unread left before after : Option (List ℕ)) : Type 0 where
+pub record BrokenPipe (pipe : Peer) (start : Hub) (unread left before after : Option (List ℕ)) : Type 0 where
   pub pieces : List (List ℕ)
   pub outs : List Outputs
   pub mid : Hub
-  pub run : PipeRun pipe pieces outs mid
+  pub run : PipeRun pipe start pieces outs [] mid
   pub last : List ℕ
   pub more : List Outputs
   pub end : Hub
@@ -136,10 +172,28 @@ pub record BrokenPipe (pipe : Peer) (unread left before after : Option (List ℕ
   pub read : Consumes unread left (joined pieces ++ last)
   pub wrote : WroteFront before after (all_bytes_sent (outs ++ more))
 
--- memory is wanted for a place of a piece before it is read, or by an event
-abbrev pub PipeEnds : Peer → Result (Unit {0}) Fault → Option (List ℕ) → Option (List ℕ) → Option (List ℕ) → Option (List ℕ) → Type 0
-PipeEnds pipe (Ok done) unread left before after = WholePipe pipe unread left before after [] × IsAtEnd left
-PipeEnds pipe (Err ReadFault) unread left before after = WholePipe pipe unread left before after []
-PipeEnds pipe (Err RecordTooLong) unread left before after = WholePipe pipe unread left before after (Refusal.RecordTooLong ∷ [])
-PipeEnds pipe (Err Starved) unread left before after = WholePipe pipe unread left before after [] ⊎ WholePipe pipe unread left before after (Refusal.Starved ∷ [])
-PipeEnds pipe (Err WriteFault) unread left before after = BrokenPipe pipe unread left before after
+-- nothing was read or written
+pub record Untouched (unread left before after : Option (List ℕ)) : Type 0 where
+  pub read : Keeps unread left
+  pub wrote : Keeps before after
+
+-- the beginning was refused
+pub record Unbegun (pipe : Peer) (start : Hub) (why : Refusal) (unread left before after : Option (List ℕ)) : Type 0 where
+  pub end : Hub
+  pub some : BeginsSome pipe why start end
+  pub untouched : Untouched unread left before after
+
+-- memory is wanted for the daemon, by its beginning, for a place of a piece before it is read, or by a piece
+abbrev pub PipeStarves : Peer → Hub → Option (List ℕ) → Option (List ℕ) → Option (List ℕ) → Option (List ℕ) → Type 0
+PipeStarves pipe start unread left before after =
+    (Untouched unread left before after ⊎ Unbegun pipe start Refusal.Starved unread left before after)
+    ⊎ (WholePipe pipe start unread left before after [] ⊎ WholePipe pipe start unread left before after (Refusal.Starved ∷ []))
+
+abbrev pub PipeEnds : Peer → Hub → Result (Unit {0}) Fault → Option (List ℕ) → Option (List ℕ) → Option (List ℕ) → Option (List ℕ) → Type 0
+PipeEnds pipe start (Ok done) unread left before after = WholePipe pipe start unread left before after [] × IsAtEnd left
+PipeEnds pipe start (Err ReadFault) unread left before after = WholePipe pipe start unread left before after []
+PipeEnds pipe start (Err RecordTooLong) unread left before after =
+    Unbegun pipe start Refusal.RecordTooLong unread left before after ⊎ WholePipe pipe start unread left before after (Refusal.RecordTooLong ∷ [])
+PipeEnds pipe start (Err Starved) unread left before after = PipeStarves pipe start unread left before after
+PipeEnds pipe start (Err StoreRefused) unread left before after = Unbegun pipe start Refusal.StoreRefused unread left before after
+PipeEnds pipe start (Err WriteFault) unread left before after = BrokenPipe pipe start unread left before after

@@ -3,7 +3,7 @@ use Rattle.std.specs.Prelude.{◌≡◌, List, [], ℕ, ◌++◌, Option, Result
 use Rattle.std.specs.Io.KnownBytes.{Appends, Keeps, Consumes, IsAtEnd}
 use Rattle.std.specs.declared.vec.Vec.{Vec}
 use Rattle.lockd_main.specs.declared.fault.Fault.{Fault}
-use Rattle.lockd_main.specs.declared.fault.Fault.TheVariants.{Starved, RecordTooLong, ReadFault, WriteFault}
+use Rattle.lockd_main.specs.declared.fault.Fault.TheVariants.{Starved, RecordTooLong, StoreRefused, ReadFault, WriteFault}
 
 -- a front of the bytes was appended
 pub record WroteFront (old new : Option (List ℕ)) (bytes : List ℕ) : Type 0 where
@@ -22,6 +22,7 @@ abbrev pub FailsToRead : Option (List ℕ) → Option (List ℕ) → Fault → T
 FailsToRead old new Starved = Keeps old new
 FailsToRead old new ReadFault = Keeps old new
 FailsToRead old new RecordTooLong = ⊥
+FailsToRead old new StoreRefused = ⊥
 FailsToRead old new WriteFault = ⊥
 
 -- a piece of what is left to read, none only at its end; or nothing

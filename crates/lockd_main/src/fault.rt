@@ -3,6 +3,7 @@
 ghost use Rattle.std.specs.Prelude.{◌≡◌};
 
 use daemon_core::Refusal;
+use owner_ids::Starved;
 use thiserror::Error;
 
 /// What ends a loop before its input does. It is printed by number and name.
@@ -14,6 +15,9 @@ pub enum Fault {
     /// The stream has a record that would be longer than 8,192 bytes (RFC 5531, section 11).
     #[error("10 RecordTooLong")]
     RecordTooLong,
+    /// The store of hosts refused.
+    #[error("19 StoreRefused")]
+    StoreRefused,
     /// A read failed, or there were too many.
     #[error("23 ReadFault")]
     ReadFault,
@@ -31,6 +35,17 @@ impl From<Refusal> for Fault {
         match refusal {
             Refusal::Starved => Fault::Starved,
             Refusal::RecordTooLong => Fault::RecordTooLong,
+            Refusal::StoreRefused => Fault::StoreRefused,
         }
+    }
+}
+
+impl From<Starved> for Fault {
+    ghost use Rattle.lockd_main.specs.FaultOf.{starved};
+
+    ghost from_gives = { λ s f. f ≡ starved };
+
+    fn from(_starved: Starved) -> Fault {
+        Fault::Starved
     }
 }

@@ -11,12 +11,19 @@ mod words;
 use crate::fault::Fault;
 use crate::pipe::pipe_loop;
 use crate::words::is_pipe;
+use hosts_db::{MemHosts, StoreError};
+use letters::ShortBytes;
+use range_table::FlatTable;
+use std::alloc::Global;
 use std::env;
 use std::io::{self, BufWriter};
 use std::process::ExitCode;
 
 /// The most reads of a reader loop.
 const MAX_READS: u64 = 1_000_000_000;
+
+/// The server's own name, as it tells it to others.
+const OWN_NAME: &[u8] = b"server";
 
 /// The exit status of a command line that is refused.
 const REFUSED: u8 = 2;
@@ -33,6 +40,22 @@ fn arguments(rt: &HostRuntime) -> io::Result<Vec<String>> {
     Ok(words)
 }
 
+/// A store of no hosts, in memory.
+fn no_hosts(alloc: Global) -> Result<MemHosts, Fault> {
+    match MemHosts::new(alloc, 0, Vec::new(alloc), Vec::new(alloc)) {
+        Ok(store) => Ok(store),
+        Err(StoreError::Starved) => Err(Fault::Starved),
+        Err(StoreError::StoreRefused) => Err(Fault::StoreRefused),
+    }
+}
+
+fn own_name(alloc: Global) -> Result<ShortBytes, Fault> {
+    match ShortBytes::copy_of(alloc, OWN_NAME) {
+        Ok(name) => Ok(name),
+        Err(_) => Err(Fault::Starved),
+    }
+}
+
 fn run_pipe(rt: &HostRuntime) -> Result<(), Fault> {
     let alloc = rt.alloc();
     let mut reader = rt.reader();
@@ -40,7 +63,17 @@ fn run_pipe(rt: &HostRuntime) -> Result<(), Fault> {
         Ok(writer) => writer,
         Err(_) => return Err(Fault::Starved),
     };
-    pipe_loop(alloc, &mut reader, &mut writer, MAX_READS)
+    let table = FlatTable::new(alloc)?;
+    let store = no_hosts(alloc)?;
+    pipe_loop(
+        alloc,
+        table,
+        store,
+        own_name(alloc)?,
+        &mut reader,
+        &mut writer,
+        MAX_READS,
+    )
 }
 
 fn main(rt: HostRuntime) -> ExitCode {

@@ -3,11 +3,15 @@
 ghost use Rattle.std.specs.Prelude.{◌≡◌, ℕ, List, [], Option};
 ghost use Rattle.kept_replies.specs.declared.key.Peer.{Peer};
 ghost use Rattle.lockd_main.specs.Written.{ReadsPiece};
-ghost use Rattle.lockd_main.specs.Pipe.{AnswersWaiting, TurnEnds, EndsAt, PipeEnds};
+ghost use Rattle.daemon_core.specs.Hub.{Hub, opening};
+ghost use Rattle.lockd_main.specs.Pipe.{AnswersWaiting, TurnEnds, EndsAt, Passes, Begins, PipeEnds};
 
 use crate::fault::Fault;
 use crate::output::write_outputs;
-use daemon_core::{Daemon, Event, Outcome, Peer};
+use daemon_core::{Daemon, Event, Peer};
+use hosts_db::HostStore;
+use letters::ShortBytes;
+use range_table::RangeTable;
 use std::alloc::Global;
 use std::io::{Read, Write};
 
@@ -35,7 +39,10 @@ fn read_piece<R: Read>(alloc: Global, reader: &mut R) -> Result<Vec<u8>, Fault>
 }
 
 /// Answers each record that is whole, in order.
-fn answer_waiting<W: Write>(daemon: &mut Daemon, writer: &mut W) -> Result<(), Fault>
+fn answer_waiting<T: RangeTable, S: HostStore, W: Write>(
+    daemon: &mut Daemon<T, S>,
+    writer: &mut W,
+) -> Result<(), Fault>
     ensures { AnswersWaiting result daemon.old daemon.new (W.contents writer.old) (W.contents writer.new) }
 {
     for _answered in 0..daemon.waiting(CONNECTION) {
@@ -47,30 +54,36 @@ fn answer_waiting<W: Write>(daemon: &mut Daemon, writer: &mut W) -> Result<(), F
 
 /// Hands in a piece and answers the records that are whole then. A fault of the stream is told after
 /// the answers to the records before it.
-fn turn<W: Write>(daemon: &mut Daemon, writer: &mut W, piece: Vec<u8>) -> Result<(), Fault>
+fn turn<T: RangeTable, S: HostStore, W: Write>(
+    daemon: &mut Daemon<T, S>,
+    writer: &mut W,
+    piece: Vec<u8>,
+) -> Result<(), Fault>
     ensures { TurnEnds result daemon.old daemon.new piece.items (W.contents writer.old) (W.contents writer.new) }
 {
     let heard = daemon.step(Event::Piece(CONNECTION, piece));
+    let refused = heard.refusal;
+    drop(heard);
     answer_waiting(daemon, writer)?;
     if writer.flush().is_err() {
         return Err(Fault::WriteFault);
     }
-    match heard.refusal {
+    match refused {
         None => Ok(()),
         Some(refusal) => Err(Fault::from(refusal)),
     }
 }
 
 /// Reads to the end, and answers each piece as it comes.
-fn answer_pieces<R: Read, W: Write>(
+fn answer_pieces<T: RangeTable, S: HostStore, R: Read, W: Write>(
     alloc: Global,
-    daemon: &mut Daemon,
+    daemon: &mut Daemon<T, S>,
     reader: &mut R,
     writer: &mut W,
     bound: u64,
 ) -> Result<(), Fault>
-    ensures { (pipe : Peer) (unread before : Option (List ℕ)) → EndsAt pipe unread (R.remaining reader.old) before (W.contents writer.old) [] daemon.old
-        → PipeEnds pipe result unread (R.remaining reader.new) before (W.contents writer.new) }
+    ensures { (pipe : Peer) (start : Hub) (unread before : Option (List ℕ)) → EndsAt pipe start unread (R.remaining reader.old) before (W.contents writer.old) [] daemon.old
+        → PipeEnds pipe start result unread (R.remaining reader.new) before (W.contents writer.new) }
 {
     for _ in 0..bound {
         let piece = read_piece(alloc, reader)?;
@@ -82,21 +95,56 @@ fn answer_pieces<R: Read, W: Write>(
     Err(Fault::ReadFault)
 }
 
-/// Reads a stream to its end, and writes what each whole record is answered, in order, and nothing
-/// else. An end inside a record is no fault. After `bound` reads that were not the end it gives up
-/// with `ReadFault`.
-pub(crate) fn pipe_loop<R: Read, W: Write>(
+/// Does an event that nobody asked for. It ends the program where it is refused.
+fn pass<T: RangeTable, S: HostStore>(daemon: &mut Daemon<T, S>, event: Event) -> Result<(), Fault>
+    ensures { Passes result event daemon.old daemon.new }
+{
+    match daemon.step(event).refusal {
+        None => Ok(()),
+        Some(refusal) => Err(Fault::from(refusal)),
+    }
+}
+
+/// The server begins anew, its grace period is over, and the pipe's connection begins.
+fn begin<T: RangeTable, S: HostStore>(daemon: &mut Daemon<T, S>) -> Result<(), Fault>
+    ensures { Begins Peer.PIPE result daemon.old daemon.new }
+{
+    pass(daemon, Event::Restart)?;
+    pass(daemon, Event::GraceOver)?;
+    pass(daemon, Event::Connect(CONNECTION, Peer::PIPE))
+}
+
+/// Begins, reads a stream to its end, and writes what each whole record is answered, in order, and nothing else.
+fn answer_stream<T: RangeTable, S: HostStore, R: Read, W: Write>(
     alloc: Global,
+    daemon: &mut Daemon<T, S>,
     reader: &mut R,
     writer: &mut W,
     bound: u64,
 ) -> Result<(), Fault>
-    ensures { PipeEnds Peer.PIPE result (R.remaining reader.old) (R.remaining reader.new) (W.contents writer.old) (W.contents writer.new) }
+    ensures { PipeEnds Peer.PIPE daemon.old result (R.remaining reader.old) (R.remaining reader.new) (W.contents writer.old) (W.contents writer.new) }
 {
-    let mut daemon = Daemon::new(alloc);
-    let beginning = daemon.step(Event::Connect(CONNECTION, Peer::PIPE));
-    match beginning.outcome {
-        Outcome::Applied => answer_pieces(alloc, &mut daemon, reader, writer, bound),
-        Outcome::Starved => Err(Fault::Starved),
-    }
+    begin(daemon)?;
+    answer_pieces(alloc, daemon, reader, writer, bound)
+}
+
+/// A daemon with this table, which has no runs, and this store, begins, reads a stream to its end, and writes what each
+/// whole record is answered, in order, and nothing else. An end inside a record is no fault. After `bound` reads that were
+/// not the end it gives up with `ReadFault`.
+pub(crate) fn pipe_loop<T: RangeTable + Drop, S: HostStore + Drop, R: Read, W: Write>(
+    alloc: Global,
+    table: T,
+    store: S,
+    own_name: ShortBytes,
+    reader: &mut R,
+    writer: &mut W,
+    bound: u64,
+) -> Result<(), Fault>
+    requires { T.settings table ≡ [] }
+    ensures { PipeEnds Peer.PIPE (opening own_name (S.rows store) (S.refusals store)) result (R.remaining reader.old) (R.remaining reader.new) (W.contents writer.old) (W.contents writer.new) }
+{
+    let mut daemon = Daemon::new(alloc, table, store, own_name)?;
+    let ended = answer_stream(alloc, &mut daemon, reader, writer, bound);
+    drop(daemon);
+    ended
 }

@@ -1,5 +1,7 @@
 use crate::fault::Fault;
 use crate::pipe::pipe_loop;
+use crate::{no_hosts, own_name};
+use range_table::FlatTable;
 use std::alloc::Global;
 use std::io::{self, Error, ErrorKind, Read, Write};
 use std::test::*;
@@ -70,6 +72,13 @@ impl Write for Sink {
     }
 }
 
+/// A daemon of no hosts answers what the source gives.
+fn serve(alloc: Global, source: &mut Source<'_>, sink: &mut Sink) -> Result<(), Fault> {
+    let table = FlatTable::new(alloc)?;
+    let store = no_hosts(alloc)?;
+    pipe_loop(alloc, table, store, own_name(alloc)?, source, sink, 1_000)
+}
+
 /// What is written for the bytes, read by so many at once.
 fn piped(alloc: Global, input: &[u8], most: usize) -> (Vec<u8>, Result<(), Fault>) {
     let mut source = Source {
@@ -81,7 +90,7 @@ fn piped(alloc: Global, input: &[u8], most: usize) -> (Vec<u8>, Result<(), Fault
         held: Vec::new(alloc),
         room: 4096,
     };
-    let ended = pipe_loop(alloc, &mut source, &mut sink, 1000);
+    let ended = serve(alloc, &mut source, &mut sink);
     (sink.held, ended)
 }
 
@@ -91,6 +100,101 @@ fn null(rt: HostRuntime) -> Result<(), Fail> {
     let (written, ended) = piped(alloc, &record(alloc, &NULL)?, 8192);
     assert_eq!(rt; &written[..], &words(alloc, &NULL_REPLY)?[..]);
     assert_eq!(rt; ended, Ok(()));
+    Ok(())
+}
+
+const LOCK: [u32; 27] = [
+    2,
+    0,
+    2,
+    100021,
+    4,
+    2,
+    0,
+    0,
+    0,
+    0,
+    4,
+    2,
+    0,
+    1,
+    1,
+    0x6100_0000,
+    4,
+    0x0102_0304,
+    1,
+    0x4100_0000,
+    7,
+    0,
+    0,
+    0,
+    10,
+    0,
+    3,
+];
+
+const LOCK_REPLY: [u32; 10] = [0x8000_0024, 2, 1, 0, 0, 0, 0, 4, 2, 0];
+
+const TEST: [u32; 24] = [
+    3,
+    0,
+    2,
+    100021,
+    4,
+    1,
+    0,
+    0,
+    0,
+    0,
+    4,
+    3,
+    1,
+    1,
+    0x6200_0000,
+    4,
+    0x0102_0304,
+    1,
+    0x4200_0000,
+    8,
+    0,
+    0,
+    0,
+    0,
+];
+
+const TEST_REPLY: [u32; 18] = [
+    0x8000_0044,
+    3,
+    1,
+    0,
+    0,
+    0,
+    0,
+    4,
+    3,
+    1,
+    1,
+    7,
+    1,
+    0x4100_0000,
+    0,
+    0,
+    0,
+    10,
+];
+
+#[test]
+fn test_after_lock(rt: HostRuntime) -> Result<(), Fail> {
+    let alloc = rt.alloc();
+    let mut input = record(alloc, &LOCK)?;
+    input.extend_from_slice(&record(alloc, &TEST)?)?;
+    let mut want = words(alloc, &LOCK_REPLY)?;
+    want.extend_from_slice(&words(alloc, &TEST_REPLY)?)?;
+    for most in [1, 7, 8192] {
+        let (written, ended) = piped(alloc, &input, most);
+        assert_eq!(rt; &written[..], &want[..], "by {most}");
+        assert_eq!(rt; ended, Ok(()));
+    }
     Ok(())
 }
 
@@ -240,10 +344,7 @@ fn failing_ends(rt: HostRuntime) -> Result<(), Fail> {
             held: Vec::new(alloc),
             room: 4096,
         };
-        assert_eq!(rt;
-            pipe_loop(alloc, &mut source, &mut sink, 1000),
-            Err(Fault::ReadFault)
-        );
+        assert_eq!(rt; serve(alloc, &mut source, &mut sink), Err(Fault::ReadFault));
         assert_eq!(rt; sink.held.len(), 28 * (reads / 4), "after {reads} reads");
     }
     for room in 0..want.len() {
@@ -257,7 +358,7 @@ fn failing_ends(rt: HostRuntime) -> Result<(), Fail> {
             room,
         };
         assert_eq!(rt;
-            pipe_loop(alloc, &mut source, &mut sink, 1000),
+            serve(alloc, &mut source, &mut sink),
             Err(Fault::WriteFault)
         );
         assert_eq!(rt; &sink.held[..], &want[..room], "with {room}");
@@ -278,15 +379,13 @@ fn endless_zeros(rt: HostRuntime) -> Result<(), Fail> {
         held: Vec::new(alloc),
         room: 4096,
     };
-    assert_eq!(rt;
-        pipe_loop(alloc, &mut source, &mut sink, 1000),
-        Err(Fault::ReadFault)
-    );
+    assert_eq!(rt; serve(alloc, &mut source, &mut sink), Err(Fault::ReadFault));
     assert_eq!(rt; sink.held.len(), 0);
     let mut names = String::new(alloc);
     for fault in [
         Fault::Starved,
         Fault::RecordTooLong,
+        Fault::StoreRefused,
         Fault::ReadFault,
         Fault::WriteFault,
     ] {
@@ -294,7 +393,7 @@ fn endless_zeros(rt: HostRuntime) -> Result<(), Fail> {
     }
     assert_eq!(rt;
         names.as_str(),
-        "1 Starved10 RecordTooLong23 ReadFault24 WriteFault"
+        "1 Starved10 RecordTooLong19 StoreRefused23 ReadFault24 WriteFault"
     );
     Ok(())
 }

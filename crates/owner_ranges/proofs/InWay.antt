@@ -1,5 +1,5 @@
 -- An owner is in the way by number where it is by value.
-use Rattle.std.proofs.Common.{◌≡◌, ◌≢◌, ℕ, ◌≤◌, Bool, true, false, ◌==◌, refl, sym, ap, ◌∙◌, Option, Some, None, List, arith}
+use Rattle.std.proofs.Common.{◌≡◌, ℕ, ◌≤◌, Bool, false, ◌==◌, refl, sym, ap, ◌∙◌, Some, List, arith}
 use Rattle.std.specs.Bool.{Decides}
 use Rattle.std.specs.Cmp.{both_ways}
 use Rattle.definitions.specs.Owners.{Owner, same_owner}

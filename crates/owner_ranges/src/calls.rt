@@ -93,6 +93,22 @@ pub fn is_short<T: RangeTable>(table: &T, owners: &Owners) -> bool
     used(table, owners) > 65_534
 }
 
+/// Whether `set` would refuse the setting. Changes nothing.
+pub fn refuses<T: RangeTable>(table: &T, owners: &Owners, setting: &Setting) -> bool
+    requires ordered { setting.now.first ≤ setting.now.last }
+    requires inside { setting.now.last < 2 ^ 63 }
+    ensures { (settings : List OwnerSetting) (t : OwnerSetting) → Stands (named owners.now) (mode_at (T.settings table.now)) settings → IsSameSetting (named owners.now) setting.now t → result ≡ refuses 65536 settings t }
+{
+    let _owners = owners;
+    table.refuses(
+        &setting.file,
+        setting.owner,
+        setting.first,
+        setting.last,
+        setting.mode,
+    )
+}
+
 /// Refused where the owners' settings refuse it, and then unchanged; else set on both sides.
 pub fn set<T: RangeTable>(table: &mut T, owners: &Owners, setting: &Setting) -> Result<(), NoRuns>
     requires ordered { setting.now.first ≤ setting.now.last }

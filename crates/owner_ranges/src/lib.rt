@@ -7,7 +7,7 @@ mod numbers;
 
 pub use calls::{
     clear, conflicts, conflicts_with, drop_host, drop_owner_on_file, first_conflict, is_short,
-    runs, set, used, used_after, used_of,
+    refuses, runs, set, used, used_after, used_of,
 };
 pub use numbers::{holds_nothing, intern, release};
 

@@ -233,6 +233,14 @@ fn is_full(runs: &RunList, part: Part, setting: &Setting) -> bool
     setting.mode.is_some() || is_split(runs, part, setting)
 }
 
+pub(crate) fn refuses(runs: &RunList, setting: &Setting) -> bool
+    requires ordered { setting.now.first ≤ setting.now.last }
+    requires listed { IsRunList runs.now }
+    ensures { result ≡ is_full setting.now runs.now }
+{
+    is_full(runs, part_of(runs, &setting.file), setting)
+}
+
 /// In place, in room that is there.
 pub(crate) fn set(runs: &mut RunList, setting: &Setting) -> Result<(), NoRuns>
     requires ordered { setting.now.first ≤ setting.now.last }

@@ -3,8 +3,8 @@ ghost use Rattle.std.specs.Prelude.{◌≡◌, ◌≤◌, ◌<◌, ◌^◌};
 ghost use Rattle.range_table.specs.Settings.{setting};
 
 use crate::{
-    clear, drop_owner_on_file, first_conflict, holds_nothing, intern, release, runs, set, used,
-    used_after, used_of,
+    clear, drop_owner_on_file, first_conflict, holds_nothing, intern, refuses, release, runs, set,
+    used, used_after, used_of,
 };
 use owner_ids::{Host, HostOf, Owner, OwnerId, Owners};
 use range_table::{FileId, FlatTable, Mode, NoRuns, RangeTable, Run, Setting};
@@ -165,6 +165,7 @@ fn table_full(rt: HostRuntime) -> Result<(), Fail> {
     fill(&mut table, &owners, a)?;
     assert_eq!(rt; used(&table, &owners), 65_535);
     assert!(rt; set(&mut table, &owners, &of(b, 200_000, 200_000, WRITE)).is_err());
+    assert!(rt; refuses(&table, &owners, &of(a, 1, 1, None)));
     assert!(rt; set(&mut table, &owners, &of(a, 1, 1, None)).is_err());
     assert!(rt; in_the_way(&table, &owners, b, 1, 1) == Some((a, 0, 2)));
     set(&mut table, &owners, &of(a, 4, 4, None))?;

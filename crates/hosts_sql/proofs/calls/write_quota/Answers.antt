@@ -4,11 +4,11 @@ use mir.Val.{SFits}
 use Rattle.sqlite.specs.State.{HasCleanDisk}
 use Rattle.sqlite.specs.Held.{state}
 use Rattle.definitions.specs.Bytes.{IsAscending, put, same_bytes, without}
-use Rattle.definitions.specs.Hosts.{Hosts, HostRow, row_cmp, row_of, has_row, after_store, Seen, Acked}
+use Rattle.definitions.specs.Hosts.{Hosts, HostRow, row_cmp, row_of, has_row}
 use Rattle.hosts_db.specs.Quotas.{after_quota}
 use Rattle.hosts_statements.specs.Wrote.{WroteHosts}
 use Rattle.hosts_statements.proofs.Permuted.{on_then}
-use Rattle.hosts_sql.proofs.AsKept.{kept_wrote, kept_survives, unseen, unacked, unset, seen_at, acked_at, set_at}
+use Rattle.hosts_sql.proofs.AsKept.{kept_wrote, kept_survives, unset, set_at}
 use Rattle.hosts_sql.proofs.calls.write_quota.Goals as goal
 
 pub returns-in_default-clause-ok : goal.returns-in_default-clause-ok

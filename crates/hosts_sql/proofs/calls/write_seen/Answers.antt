@@ -1,14 +1,12 @@
 use Rattle.std.proofs.Common.{w32, ◌≡◌, false, Some, sym, arith, rules}
 use Rattle.std.proofs.lemmas.Int.{to_z-of_z}
-use mir.Val.{SFits}
 use Rattle.sqlite.specs.State.{HasCleanDisk}
 use Rattle.sqlite.specs.Held.{state}
 use Rattle.definitions.specs.Bytes.{IsAscending, put, same_bytes, without}
-use Rattle.definitions.specs.Hosts.{Hosts, HostRow, row_cmp, row_of, has_row, after_store, Seen, Acked}
-use Rattle.hosts_db.specs.Quotas.{after_quota}
+use Rattle.definitions.specs.Hosts.{Hosts, HostRow, row_cmp, row_of, has_row, after_store, Seen}
 use Rattle.hosts_statements.specs.Wrote.{WroteHosts}
 use Rattle.hosts_statements.proofs.Permuted.{on_then}
-use Rattle.hosts_sql.proofs.AsKept.{kept_wrote, kept_survives, unseen, unacked, unset, seen_at, acked_at, set_at}
+use Rattle.hosts_sql.proofs.AsKept.{kept_wrote, kept_survives, unseen, seen_at}
 use Rattle.hosts_sql.proofs.calls.write_seen.Goals as goal
 
 pub returns-in_default-clause-ok : goal.returns-in_default-clause-ok

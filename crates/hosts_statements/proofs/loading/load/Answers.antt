@@ -4,6 +4,7 @@ use Rattle.definitions.specs.Hosts.{Hosts}
 use Rattle.sqlite.specs.Effect.{Database}
 use Rattle.sqlite.specs.State.{HasCleanDisk, IsUnchanged}
 use Rattle.sqlite.specs.Held.{state}
+use Rattle.hosts_statements.specs.Wrote.{hosts_of}
 use Rattle.hosts_statements.specs.Maps.{listed}
 use Rattle.hosts_statements.specs.Reading.{hosts_of_tree, watches_of_tree}
 use Rattle.hosts_statements.proofs.Reading.{all_shown}
@@ -20,10 +21,10 @@ returns-clause-rows g c clean =
     let two : IsUnchanged first second = c.in_ok-read_hosts.ensures.same late in
     let open_now = one.0.was_open in
     let own = c.in_ok-own.ensures.state early in
-    let hosts = c.in_ok-read_hosts.ensures.ok late ∙ ap (λ (d : Database). record c.args.kept.now { rows = hosts_of_tree (d.trees 1) }) one.0.committed_is in
+    let hosts = c.in_ok-read_hosts.ensures.ok late ∙ ap (λ (d : Database). record c.args.kept.now { rows = hosts_of_tree (hosts_of c.args.version d) }) one.0.committed_is in
     let watches = c.in_ok-read_watches.ensures.ok clean ∙ ap (λ (d : Database). record c.read_hosts.new.kept { watches = watches_of_tree (d.trees 3) }) (two.0.committed_is ∙ one.0.committed_is) in
-    let shown = ap listed (all_shown old.committed (c.requires.tables open_now) (c.requires.live open_now).1 c.in_ok-own.own own) in
-    shown ∙ sym (c.set_own.ensures ∙ ap (λ (h : Hosts). record h { own = c.in_ok-own.own }) (watches ∙ ap (λ (h : Hosts). record h { watches = watches_of_tree (old.committed.trees 3) }) (hosts ∙ ap (λ (h : Hosts). record h { rows = hosts_of_tree (old.committed.trees 1) }) c.requires.none)))
+    let shown = ap listed (all_shown c.args.version old.committed (c.requires.tables open_now) (c.requires.live open_now).1 (c.in_ok-own.ensures.row early) c.in_ok-own.own own) in
+    shown ∙ sym (c.set_own.ensures ∙ ap (λ (h : Hosts). record h { own = c.in_ok-own.own }) (watches ∙ ap (λ (h : Hosts). record h { watches = watches_of_tree (old.committed.trees 3) }) (hosts ∙ ap (λ (h : Hosts). record h { rows = hosts_of_tree (hosts_of c.args.version old.committed) }) c.requires.none)))
 
 pub returns-clause-whole : goal.returns-clause-whole
 returns-clause-whole g c clean =
@@ -35,5 +36,5 @@ returns-clause-whole g c clean =
     let one : IsUnchanged old first = c.in_ok-own.ensures.same early in
     let two : IsUnchanged first second = c.in_ok-read_hosts.ensures.same late in (
       (c.requires.tables one.0.was_open, c.in_ok-own.ensures.row early),
-      (subst (λ (d : Database). AreOwn is_host (d.trees 1)) one.0.committed_is (c.in_ok-read_hosts.ensures.own late), subst (λ (d : Database). AreOwn is_watched (d.trees 3)) (two.0.committed_is ∙ one.0.committed_is) (c.in_ok-read_watches.ensures.own clean)),
+      (subst (λ (d : Database). AreOwn is_host (hosts_of c.args.version d)) one.0.committed_is (c.in_ok-read_hosts.ensures.own late), subst (λ (d : Database). AreOwn is_watched (d.trees 3)) (two.0.committed_is ∙ one.0.committed_is) (c.in_ok-read_watches.ensures.own clean)),
     )

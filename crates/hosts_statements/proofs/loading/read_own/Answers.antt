@@ -8,7 +8,7 @@ use Rattle.hosts_statements.proofs.Reading.{own_plain_at, own_from}
 use Rattle.hosts_statements.proofs.loading.read_own.Goals as goal
 
 pub read-requires : goal.read-requires
-read-requires g c = record { plain = λ clean open_now. own_plain_at (state g.S.Store c.args.conn.now).committed (c.requires clean open_now) }
+read-requires g c = record { plain = λ clean open_now. own_plain_at c.args.version (state g.S.Store c.args.conn.now).committed (c.requires clean open_now) }
 
 pub returns-in-Ok-clause-row : goal.returns-in-Ok-clause-row
 returns-in-Ok-clause-row g c clean =
@@ -16,7 +16,7 @@ returns-in-Ok-clause-row g c clean =
     let first : HasCleanDisk old = omega (arith, clean, c.read.ensures.crash.clean) in
     let is = c.requires first (c.in-Ok.ensures.same clean).0.was_open in
     let shown = subst (Tells read_own_text old.committed) (sym c.deref.ensures.value) (c.in-Ok.ensures.ok clean) in
-    on_if c.own_in.result c.own_in.ensures.ok (λ own shows. (own_from old.committed c.deref.result.now own is shown shows).0)
+    on_if c.own_in.result c.own_in.ensures.ok (λ own shows. (own_from c.args.version old.committed c.deref.result.now own is shown shows).0)
 
 pub returns-in-Ok-clause-state : goal.returns-in-Ok-clause-state
 returns-in-Ok-clause-state g c clean =
@@ -24,4 +24,4 @@ returns-in-Ok-clause-state g c clean =
     let first : HasCleanDisk old = omega (arith, clean, c.read.ensures.crash.clean) in
     let is = c.requires first (c.in-Ok.ensures.same clean).0.was_open in
     let shown = subst (Tells read_own_text old.committed) (sym c.deref.ensures.value) (c.in-Ok.ensures.ok clean) in
-    if_then c.own_in.result c.own_in.ensures.ok (λ own shows. (own_from old.committed c.deref.result.now own is shown shows).1)
+    if_then c.own_in.result c.own_in.ensures.ok (λ own shows. (own_from c.args.version old.committed c.deref.result.now own is shown shows).1)

@@ -11,6 +11,7 @@ use Rattle.definitions.specs.Hosts.{Hosts}
 use Rattle.hosts_statements.specs.Tables.{first_own_text}
 use Rattle.hosts_statements.specs.Shown.{shown}
 use Rattle.hosts_statements.specs.Wrote.{IsWhole, HasMade, MayWriteHosts, WroteHosts, rows_in}
+use Rattle.hosts_statements.specs.declared.tables.Version.TheVariants.{Second}
 use Rattle.hosts_statements.proofs.Create.{shown_first, shown_fresh}
 use Rattle.hosts_statements.proofs.statements.make_and_start.Goals as goal
 
@@ -35,7 +36,7 @@ returns-clause-ok g c clean =
     let fresh = shown_fresh (state g.S.Store old).now (ap (λ (d : Database). d.schema) settled ∙ c.requires before has.was_open) (c.schema-schema.ensures.live has.was_open).0 in
     let shows = shown_first c.args.own (state g.S.Store mid) (state g.S.Store last) _ has.made first in
     let none = ap (λ (d : Database). shown d.trees) (sym settled) ∙ fresh in
-    let all : IsTrue (state g.S.Store old).is_open × (IsWhole (state g.S.Store last).now) × (shown (state g.S.Store last).now.trees ≡ change (rows_in (state g.S.Store old)))
+    let all : IsTrue (state g.S.Store old).is_open × (IsWhole Second (state g.S.Store last).now) × (shown (state g.S.Store last).now.trees ≡ change (rows_in (state g.S.Store old)))
     = (has.was_open, shows.0, shows.1 ∙ ap change (sym none)) in all in
     let late : HasCleanDisk (state g.S.Store end) = search rules in
     let facts = ran (omega (arith, late, c.commit.ensures.survives.clean)) in
@@ -43,7 +44,7 @@ returns-clause-ok g c clean =
     subst (λ h. WroteHosts gives (state g.S.Store old) (state g.S.Store h)) same (record {
       was_open = facts.0;
       is_open = done.is_open;
-      whole = subst IsWhole (sym done.committed_is) facts.1;
+      whole = subst (IsWhole Second) (sym done.committed_is) facts.1;
       rows = ap listed (ap (λ (d : Database). shown d.trees) done.committed_is ∙ facts.2);
     })
 
@@ -68,7 +69,7 @@ returns-clause-crash g c =
     let fresh = shown_fresh (state g.S.Store old).now (ap (λ (d : Database). d.schema) settled ∙ c.requires before has.was_open) (c.schema-schema.ensures.live has.was_open).0 in
     let shows = shown_first c.args.own (state g.S.Store mid) (state g.S.Store last) _ has.made first in
     let none = ap (λ (d : Database). shown d.trees) (sym settled) ∙ fresh in
-    let all : IsTrue (state g.S.Store old).is_open × (IsWhole (state g.S.Store last).now) × (shown (state g.S.Store last).now.trees ≡ change (rows_in (state g.S.Store old)))
+    let all : IsTrue (state g.S.Store old).is_open × (IsWhole Second (state g.S.Store last).now) × (shown (state g.S.Store last).now.trees ≡ change (rows_in (state g.S.Store old)))
     = (has.was_open, shows.0, shows.1 ∙ ap change (sym none)) in all in
     let inside = survives_then (state g.S.Store c.transaction-tx.result.conn.now) (state g.S.Store mid) (state g.S.Store last) _ _ (λ _. ⊥) (λ _ db none. none) (λ _ db none. none) c.make_tables.ensures.survives c.execute.ensures.survives in
     let P : Trees → Type 0 = MayWriteHosts gives (state g.S.Store old) in
@@ -97,7 +98,7 @@ returns-in_err-commit-clause-crash g c =
     let fresh = shown_fresh (state g.S.Store old).now (ap (λ (d : Database). d.schema) settled ∙ c.requires before has.was_open) (c.schema-schema.ensures.live has.was_open).0 in
     let shows = shown_first c.args.own (state g.S.Store mid) (state g.S.Store last) _ has.made first in
     let none = ap (λ (d : Database). shown d.trees) (sym settled) ∙ fresh in
-    let all : IsTrue (state g.S.Store old).is_open × (IsWhole (state g.S.Store last).now) × (shown (state g.S.Store last).now.trees ≡ change (rows_in (state g.S.Store old)))
+    let all : IsTrue (state g.S.Store old).is_open × (IsWhole Second (state g.S.Store last).now) × (shown (state g.S.Store last).now.trees ≡ change (rows_in (state g.S.Store old)))
     = (has.was_open, shows.0, shows.1 ∙ ap change (sym none)) in all in
     let inside = survives_then (state g.S.Store c.transaction-tx.result.conn.now) (state g.S.Store mid) (state g.S.Store last) _ _ (λ _. ⊥) (λ _ db none. none) (λ _ db none. none) c.make_tables.ensures.survives c.execute.ensures.survives in
     let P : Trees → Type 0 = MayWriteHosts gives (state g.S.Store old) in

@@ -1,25 +1,19 @@
-use Rattle.std.proofs.Common.{w32, ◌≡◌, pos, Some, None, sym, ap, ◌∙◌, arith, [], ◌∷◌}
+use Rattle.std.proofs.Common.{w32, arith}
 use Rattle.std.proofs.lemmas.Int.{to_z-of_z}
-use mir.Val.{SFits}
-use Rattle.sqlite_value.specs.declared.value.Value.TheVariants.{Int}
 use Rattle.sqlite.specs.Effect.{Database}
 use Rattle.sqlite.specs.State.{HasCleanDisk}
 use Rattle.sqlite.specs.Held.{state}
 use Rattle.sqlite.proofs.StateLemmas.{survives_weaker}
-use Rattle.definitions.specs.Bytes.{put, same_bytes, without}
-use Rattle.definitions.specs.Hosts.{Hosts, HostRow, row_cmp, watch_cmp, after_store, Monitor, Watched, Unwatched}
-use Rattle.hosts_statements.specs.Maps.{Host, WatchKey, Rows, made_now, with_own, with_host, with_watch, without_host, without_watches}
-use Rattle.hosts_statements.specs.Tables.{monitor_text, watch_text, delete_host_text, delete_watch_text, delete_watches_text, set_own_text}
-use Rattle.hosts_statements.specs.Wrote.{Committed, MayWork, Ran, RanTwo, RanThree, WroteHosts, MayWriteHosts, rows_in}
+use Rattle.definitions.specs.Bytes.{put}
+use Rattle.definitions.specs.Hosts.{Hosts, row_cmp}
+use Rattle.hosts_statements.specs.Maps.{Host, Rows, with_host, without_host}
+use Rattle.hosts_statements.specs.Tables.{monitor_text, delete_host_text}
+use Rattle.hosts_statements.specs.Wrote.{Committed, MayWork, RanTwo, WroteHosts, MayWriteHosts, rows_in}
 use Rattle.hosts_statements.proofs.Permuted.{on_then}
 use Rattle.hosts_statements.proofs.Monitor.{params}
-use Rattle.hosts_statements.proofs.Watch.{watch_params}
-use Rattle.hosts_statements.proofs.Rows.{made_host}
-use Rattle.hosts_statements.proofs.Update.{made_own}
-use Rattle.hosts_statements.proofs.Fewer.{host_given, my_given, watch_given, made_without_host, made_without_watch, made_without_watches}
-use Rattle.hosts_statements.proofs.Listed.{no_host, monitored_at, wrote, may_write}
-use Rattle.hosts_statements.proofs.Changed.{replaced_host, replaced_watch, host_and_watch_put, host_replaced, watch_replaced, host_and_watch_listed, host_gone, watches_gone}
-use Rattle.std.proofs.Common.{refl}
+use Rattle.hosts_statements.proofs.Fewer.{host_given}
+use Rattle.hosts_statements.proofs.Listed.{wrote, may_write}
+use Rattle.hosts_statements.proofs.Changed.{replaced_host, host_replaced}
 use Rattle.hosts_statements.proofs.statements.replace_host.Goals as goal
 
 pub returns-clause-ok : goal.returns-clause-ok

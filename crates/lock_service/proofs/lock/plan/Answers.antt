@@ -14,8 +14,8 @@ use Rattle.lock_service.specs.Locking.{lock_call, row_if}
 use Rattle.lock_service.proofs.Locking.{granted_by, same_request, for_all}
 use Rattle.lock_service.proofs.lock.plan.Goals as goal
 
-pub returns : goal.returns
-returns g c =
+pub returns-clause-plan : goal.returns-clause-plan
+returns-clause-plan g c =
     let w = c.args.world.now.world in
     let args = c.args.args.now in
     let a = view_of_lockargs args in
@@ -29,4 +29,4 @@ returns g c =
     for_all c.grant.result w
     (by_reply a.cookie (after_row w (row_asked w (row_if c.args.monitored a)) nlm.GRANTED (λ v. with_setting v (setting_of r))))
     (λ (version : nlm.Version). nlm_answer the_limits w version (lock_call c.args.monitored (unblocked a)))
-    (λ version. granted_by w version c.args.monitored a r ok.0 same free room) c.grant.ensures
+    (λ version. granted_by w version c.args.monitored a r ok.0 same free room) c.grant.ensures.plan

@@ -1,6 +1,5 @@
 use Rattle.std.proofs.Common.{◌≡◌, length, ap, ◌∙◌, arith}
 use Rattle.std.proofs.lemmas.Result.{err_from_is_err_and}
-use Rattle.rpc_msg.specs.Reply.{written_reply}
 use Rattle.record_mark.specs.Sent.{mark_of_last}
 use Rattle.lockd_main.proofs.WrittenLemmas.{WroteFront-longer, Wrote-after, on_ok}
 use Rattle.lockd_main.proofs.output.write_record.Goals as goal
@@ -8,16 +7,16 @@ use Rattle.lockd_main.proofs.output.write_record.Goals as goal
 pub returns-in_err-write_whole : goal.returns-in_err-write_whole
 returns-in_err-write_whole g c =
     let p = err_from_is_err_and c.from_residual.result c.from_residual.ensures.1 in
-    let message = written_reply c.args.sent.now.reply in
-    let frame : c.put.new.f ≡ message = rw c.new-frame.ensures at (on_ok c.put.result _ (c.put.ensures.room.1 (rw c.new-frame.ensures (omega (arith, c.put.ensures.size)))) c.put.ensures.ok) in
+    let message = c.args.sent.now.bytes in
+    let frame : c.put.new.f ≡ message = rw c.new-frame.ensures at (on_ok c.put.result _ (c.put.ensures.fits (rw c.new-frame.ensures (omega arith))) c.put.ensures.ok) in
     let mark : c.last_mark.result ≡ mark_of_last (length message) = c.last_mark.ensures ∙ ap mark_of_last (c.len.ensures.value ∙ ap length frame) in
     let failed = rw mark at c.in_err-write_whole.ensures in
     rw (p.1, p.2) (failed.0, WroteFront-longer _ _ (mark_of_last (length message)) message failed.1)
 
 pub returns : goal.returns
 returns g c =
-    let message = written_reply c.args.sent.now.reply in
-    let frame : c.put.new.f ≡ message = rw c.new-frame.ensures at (on_ok c.put.result _ (c.put.ensures.room.1 (rw c.new-frame.ensures (omega (arith, c.put.ensures.size)))) c.put.ensures.ok) in
+    let message = c.args.sent.now.bytes in
+    let frame : c.put.new.f ≡ message = rw c.new-frame.ensures at (on_ok c.put.result _ (c.put.ensures.fits (rw c.new-frame.ensures (omega arith))) c.put.ensures.ok) in
     let mark : c.last_mark.result ≡ mark_of_last (length message) = c.last_mark.ensures ∙ ap mark_of_last (c.len.ensures.value ∙ ap length frame) in
     let first = rw mark at c.in_ok-write_whole.ensures in
     let second = rw (c.as_slice.ensures, frame) at c.write_whole-2.ensures in

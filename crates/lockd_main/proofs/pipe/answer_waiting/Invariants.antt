@@ -1,6 +1,6 @@
 use Rattle.std.proofs.Common.{List}
 use Rattle.std.specs.Io.KnownBytes.{Appends}
-use Rattle.daemon_core.specs.declared.event.Outputs.{Outputs}
+use Rattle.daemon_core.specs.declared.outputs.Outputs.{Outputs}
 use Rattle.daemon_core.specs.Hub.{Run, all_bytes_sent}
 use Rattle.lockd_main.specs.Pipe.{takes}
 use Rattle.lockd_main.proofs.pipe.answer_waiting.Given as goal

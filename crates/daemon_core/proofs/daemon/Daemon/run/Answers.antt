@@ -4,7 +4,7 @@ use Rattle.daemon_core.proofs.HubLemmas.{Run-more}
 use Rattle.daemon_core.proofs.daemon.Daemon.run.Goals as goal
 
 pub loop-event-preserved : goal.loop-event-preserved
-loop-event-preserved c =
+loop-event-preserved g c =
     let before = c.loop-event.invariant in
     let next = c.in-Some.ensures.steps in (
       tt,

@@ -4,9 +4,9 @@ use Rattle.daemon_core.specs.Hub.{Run}
 use Rattle.daemon_core.proofs.daemon.Daemon.run.Given as goal
 
 abbrev pub invariant-loop-event : goal.invariant-loop-event
-invariant-loop-event l =
-    goal.iterator-loop-event.can_next l.event-iterator
-    × goal.iterator-loop-event.is_finite l.event-iterator
+invariant-loop-event g l =
+    (goal.iterator-loop-event g).can_next l.event-iterator
+    × (goal.iterator-loop-event g).is_finite l.event-iterator
     × Run l.fn.self l.yielded l.outs.items l.self
     × (l.yielded ++ into_iter_items l.event-iterator ≡ l.fn.events.items)
     × (vec_len l.outs ≡ length l.yielded)

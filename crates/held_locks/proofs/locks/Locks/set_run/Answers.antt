@@ -1,4 +1,4 @@
-use Rattle.std.proofs.Common.{◌≡◌, ℕ, Some, sym, subst, true, false, refl, List, Option}
+use Rattle.std.proofs.Common.{◌≡◌, Some, sym, subst, true, false, refl, List, Option}
 use Rattle.definitions.specs.Owners.{Owner}
 use Rattle.owner_ids.specs.Names.{named}
 use Rattle.range_table.specs.Settings.{mode_at}

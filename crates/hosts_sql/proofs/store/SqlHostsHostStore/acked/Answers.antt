@@ -1,8 +1,5 @@
-use Rattle.std.proofs.Common.{w32, ◌≡◌, sym, ap, ◌∙◌, arith}
-use Rattle.std.proofs.lemmas.Int.{to_z-of_z}
-use Rattle.std.specs.Option.{option_copied}
-use Rattle.definitions.specs.Hosts.{Hosts, Monitor, Seen, Acked, Watched, Unwatched, after_store}
-use Rattle.hosts_db.specs.Quotas.{after_quota}
+use Rattle.std.proofs.Common.{◌≡◌, sym, ap, ◌∙◌, arith}
+use Rattle.definitions.specs.Hosts.{Hosts, Acked, after_store}
 use Rattle.sqlite_trees.specs.Tree.{Trees}
 use Rattle.sqlite.specs.State.{HasCleanDisk}
 use Rattle.sqlite.specs.Held.{state}

@@ -1,0 +1,201 @@
+//! Calls and replies in their words (RFC 4506, RFC 5531; RFC 1813, appendix II), written by hand and not by the daemon's own
+//! codec.
+use std::alloc::{AllocError, Global};
+
+/// An owner of locks, whose host it names.
+#[derive(Clone, Copy)]
+pub(crate) enum Who {
+    A,
+    B,
+}
+
+impl Who {
+    // One byte of name, with its residual bytes.
+    fn name(self) -> u32 {
+        match self {
+            Who::A => 0x6100_0000,
+            Who::B => 0x6200_0000,
+        }
+    }
+
+    fn oh(self) -> u32 {
+        match self {
+            Who::A => 0x4100_0000,
+            Who::B => 0x4200_0000,
+        }
+    }
+
+    fn svid(self) -> u32 {
+        match self {
+            Who::A => 7,
+            Who::B => 8,
+        }
+    }
+}
+
+/// What is asked. Offset and length stand behind who asks.
+#[derive(Clone, Copy)]
+pub(crate) enum Asks {
+    Null,
+    Locks(Who, u64, u64),
+    Reclaims(Who, u64, u64),
+    NmLocks(Who, u64, u64),
+    /// One byte of the file with this handle, and not of the file 01020304.
+    LocksIn(u32, Who, u64),
+    Tests(Who, u64, u64),
+    Unlocks(Who, u64, u64),
+    /// What it denies the others, and what it does.
+    Shares(Who, u32, u32),
+    Unshares(Who),
+    FreesAll(Who),
+}
+
+/// What is replied to a call of this xid.
+#[derive(Clone, Copy)]
+pub(crate) enum Told {
+    /// A SUCCESS with nothing behind it.
+    Done,
+    /// A SUCCESS with the cookie and this status.
+    Stat(u32),
+    /// The same, of a share.
+    ShareStat(u32),
+    /// DENIED, with the lock of this owner in the way: its first byte and its length.
+    Held(Who, u64, u64),
+}
+
+fn put(bytes: &mut Vec<u8>, words: &[u32]) -> Result<(), AllocError> {
+    for word in words {
+        bytes.extend_from_slice(word.to_be_bytes().as_slice())?;
+    }
+    Ok(())
+}
+
+fn put_long(bytes: &mut Vec<u8>, number: u64) -> Result<(), AllocError> {
+    bytes.extend_from_slice(number.to_be_bytes().as_slice())
+}
+
+fn put_alock_in(
+    bytes: &mut Vec<u8>,
+    fh: u32,
+    (who, offset, len): (Who, u64, u64),
+) -> Result<(), AllocError> {
+    put(bytes, &[1, who.name(), 4, fh, 1, who.oh(), who.svid()])?;
+    put_long(bytes, offset)?;
+    put_long(bytes, len)
+}
+
+fn put_alock(bytes: &mut Vec<u8>, who: Who, offset: u64, len: u64) -> Result<(), AllocError> {
+    put_alock_in(bytes, 0x0102_0304, (who, offset, len))
+}
+
+fn put_lock(
+    bytes: &mut Vec<u8>,
+    xid: u32,
+    (who, offset, len): (Who, u64, u64),
+    reclaim: u32,
+) -> Result<(), AllocError> {
+    put(bytes, &[4, xid, 0, 1])?;
+    put_alock(bytes, who, offset, len)?;
+    put(bytes, &[reclaim, 3])
+}
+
+fn put_share(
+    bytes: &mut Vec<u8>,
+    xid: u32,
+    who: Who,
+    (deny, access): (u32, u32),
+) -> Result<(), AllocError> {
+    put(
+        bytes,
+        &[
+            4,
+            xid,
+            1,
+            who.name(),
+            4,
+            0x0102_0304,
+            1,
+            who.oh(),
+            deny,
+            access,
+            0,
+        ],
+    )
+}
+
+impl Asks {
+    fn procedure(self) -> u32 {
+        match self {
+            Asks::Null => 0,
+            Asks::Tests(..) => 1,
+            Asks::Locks(..) | Asks::Reclaims(..) | Asks::LocksIn(..) => 2,
+            Asks::Unlocks(..) => 4,
+            Asks::Shares(..) => 20,
+            Asks::Unshares(_) => 21,
+            Asks::NmLocks(..) => 22,
+            Asks::FreesAll(_) => 23,
+        }
+    }
+
+    fn put_arguments(self, bytes: &mut Vec<u8>, xid: u32) -> Result<(), AllocError> {
+        match self {
+            Asks::Null => Ok(()),
+            Asks::Locks(who, offset, len) | Asks::NmLocks(who, offset, len) => {
+                put_lock(bytes, xid, (who, offset, len), 0)
+            }
+            Asks::Reclaims(who, offset, len) => put_lock(bytes, xid, (who, offset, len), 1),
+            Asks::LocksIn(fh, who, offset) => {
+                put(bytes, &[4, xid, 0, 1])?;
+                put_alock_in(bytes, fh, (who, offset, 1))?;
+                put(bytes, &[0, 3])
+            }
+            Asks::Tests(who, offset, len) => {
+                put(bytes, &[4, xid, 1])?;
+                put_alock(bytes, who, offset, len)
+            }
+            Asks::Unlocks(who, offset, len) => {
+                put(bytes, &[4, xid])?;
+                put_alock(bytes, who, offset, len)
+            }
+            Asks::Shares(who, deny, access) => put_share(bytes, xid, who, (deny, access)),
+            Asks::Unshares(who) => put_share(bytes, xid, who, (0, 1)),
+            Asks::FreesAll(who) => put(bytes, &[1, who.name(), 5]),
+        }
+    }
+
+    /// The record of a call of this xid.
+    pub(crate) fn record(self, alloc: Global, xid: u32) -> Result<Vec<u8>, AllocError> {
+        let mut bytes = Vec::new(alloc);
+        put(
+            &mut bytes,
+            &[xid, 0, 2, 100_021, 4, self.procedure(), 0, 0, 0, 0],
+        )?;
+        self.put_arguments(&mut bytes, xid)?;
+        Ok(bytes)
+    }
+}
+
+impl Told {
+    /// The record of the reply to the call of this xid.
+    pub(crate) fn record(self, alloc: Global, xid: u32) -> Result<Vec<u8>, AllocError> {
+        let mut bytes = Vec::new(alloc);
+        put(&mut bytes, &[xid, 1, 0, 0, 0, 0])?;
+        match self {
+            Told::Done => {}
+            Told::Stat(stat) => put(&mut bytes, &[4, xid, stat])?,
+            Told::ShareStat(stat) => put(&mut bytes, &[4, xid, stat, 0])?,
+            Told::Held(who, offset, len) => {
+                put(&mut bytes, &[4, xid, 1, 1, who.svid(), 1, who.oh()])?;
+                put_long(&mut bytes, offset)?;
+                put_long(&mut bytes, len)?;
+            }
+        }
+        Ok(bytes)
+    }
+}
+
+/// Appends a record as one fragment (RFC 5531, section 11).
+pub(crate) fn put_fragment(stream: &mut Vec<u8>, record: &[u8]) -> Result<(), AllocError> {
+    put(stream, &[0x8000_0000 | (record.len() % 8_193) as u32])?;
+    stream.extend_from_slice(record)
+}

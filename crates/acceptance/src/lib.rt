@@ -1,0 +1,15 @@
+//! The worked rows of the calls that wait for nobody, from bytes to bytes: what a client sends, and what it is sent.
+//! Each runs through `Daemon::run`, which cuts streams into records, reads them, does them in the book and writes what each
+//! is answered.
+#![tactic(auto)]
+
+#[cfg(test)]
+mod calls;
+#[cfg(test)]
+mod limits;
+#[cfg(test)]
+mod repeats;
+#[cfg(test)]
+mod rows;
+#[cfg(test)]
+mod server;

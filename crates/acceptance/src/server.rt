@@ -1,0 +1,212 @@
+//! A daemon over a flat table and hosts in memory, and what it sends. All but what makes it is generic, and so cheap to
+//! prove.
+use crate::calls::{Asks, Told, Who, put_fragment};
+use daemon_core::{Daemon, Event, Outputs, Peer};
+use hosts_db::{FULL_QUOTA, HostRow, HostStore, MemHosts};
+use letters::ShortBytes;
+use range_table::{FlatTable, RangeTable};
+use std::alloc::Global;
+use std::test::*;
+use xdr_core::Frame;
+
+/// A call of this xid, and its reply.
+pub(crate) type Line = (u32, Asks, Told);
+
+const CONNECTION: u64 = 5;
+
+/// What comes to a server, one after another.
+#[derive(Clone, Copy)]
+pub(crate) enum Part<'a> {
+    /// It begins anew, its grace period ends where that is so, and the pipe's connection begins.
+    Begins { is_over: bool },
+    /// The connection of another peer takes its place.
+    OtherPeer,
+    /// These calls come in pieces of so many bytes, and get these replies.
+    Calls(&'a [Line], usize),
+    /// Each second of 128 bytes of so many files is locked.
+    Fills(u32),
+}
+
+fn opened(alloc: Global, hosts: Vec<HostRow>) -> Result<Daemon<FlatTable, MemHosts>, Fail> {
+    let store = MemHosts::new(alloc, 0, hosts, Vec::new(alloc))?;
+    let table = FlatTable::new(alloc)?;
+    let name = ShortBytes::copy_of(alloc, b"server")?;
+    Ok(Daemon::new(alloc, table, store, name)?)
+}
+
+/// As many hosts as a store has.
+pub(crate) fn all_hosts(alloc: Global) -> Result<Vec<HostRow>, Fail> {
+    let mut hosts = Vec::new(alloc);
+    for number in 0..4_096u32 {
+        let name = Vec::from_slice(alloc, number.to_be_bytes().as_slice())?;
+        hosts.push(HostRow::new(name, 1, 0, FULL_QUOTA))?;
+    }
+    Ok(hosts)
+}
+
+// The stream of these calls.
+fn asked(alloc: Global, lines: &[Line]) -> Result<Vec<u8>, Fail> {
+    let mut stream = Vec::new(alloc);
+    for (xid, asks, _) in lines {
+        put_fragment(&mut stream, &asks.record(alloc, *xid)?)?;
+    }
+    Ok(stream)
+}
+
+// The stream of their replies.
+fn replied(alloc: Global, lines: &[Line]) -> Result<Vec<u8>, Fail> {
+    let mut stream = Vec::new(alloc);
+    for (xid, _, told) in lines {
+        put_fragment(&mut stream, &told.record(alloc, *xid)?)?;
+    }
+    Ok(stream)
+}
+
+fn put_sent(stream: &mut Vec<u8>, outputs: &Outputs) -> Result<(), Fail> {
+    if let Some(sent) = &outputs.sent {
+        let mut frame = Frame::new();
+        let _ = sent.put(&mut frame);
+        put_fragment(stream, frame.as_slice())?;
+    }
+    Ok(())
+}
+
+// All that is sent for these events, in order.
+fn sent_for<T: RangeTable, S: HostStore>(
+    alloc: Global,
+    daemon: &mut Daemon<T, S>,
+    events: Vec<Event>,
+) -> Result<Vec<u8>, Fail> {
+    let mut stream = Vec::new(alloc);
+    for outputs in &daemon.run(events)? {
+        put_sent(&mut stream, outputs)?;
+    }
+    Ok(stream)
+}
+
+fn begun(alloc: Global, is_over: bool) -> Result<Vec<Event>, Fail> {
+    let mut events = Vec::new(alloc);
+    events.push(Event::Restart)?;
+    if is_over {
+        events.push(Event::GraceOver)?;
+    }
+    events.push(Event::Connect(CONNECTION, Peer::PIPE))?;
+    Ok(events)
+}
+
+fn other_peer(alloc: Global) -> Result<Vec<Event>, Fail> {
+    let peer = Peer {
+        is_local: false,
+        ..Peer::PIPE
+    };
+    let mut events = Vec::new(alloc);
+    events.push(Event::Disconnect(CONNECTION))?;
+    events.push(Event::Connect(CONNECTION, peer))?;
+    Ok(events)
+}
+
+// The calls come in pieces of so many bytes, and are taken once all are there.
+fn come(alloc: Global, lines: &[Line], most: usize) -> Result<Vec<Event>, Fail> {
+    let mut events = Vec::new(alloc);
+    for piece in asked(alloc, lines)?.chunks(most.max(1)) {
+        events.push(Event::Piece(CONNECTION, Vec::from_slice(alloc, piece)?))?;
+    }
+    for _record in 0..lines.len() {
+        events.push(Event::Take(CONNECTION, 0))?;
+    }
+    Ok(events)
+}
+
+fn is_replied<T: RangeTable, S: HostStore>(
+    alloc: Global,
+    daemon: &mut Daemon<T, S>,
+    lines: &[Line],
+    most: usize,
+) -> Result<bool, Fail> {
+    let sent = sent_for(alloc, daemon, come(alloc, lines, most)?)?;
+    Ok(sent.as_slice() == replied(alloc, lines)?.as_slice())
+}
+
+fn locks_of(alloc: Global, fh: u32) -> Result<Vec<Line>, Fail> {
+    let mut lines = Vec::new(alloc);
+    for number in 0..64u32 {
+        let asks = Asks::LocksIn(fh, Who::A, number as u64 * 2);
+        lines.push((1_000 + number, asks, Told::Stat(0)))?;
+    }
+    Ok(lines)
+}
+
+fn is_filled<T: RangeTable, S: HostStore>(
+    alloc: Global,
+    daemon: &mut Daemon<T, S>,
+    files: u32,
+) -> Result<bool, Fail> {
+    for fh in 0..files {
+        if !is_replied(alloc, daemon, &locks_of(alloc, fh)?, 8_192)? {
+            return Ok(false);
+        }
+    }
+    Ok(true)
+}
+
+fn goes<T: RangeTable, S: HostStore>(
+    alloc: Global,
+    daemon: &mut Daemon<T, S>,
+    part: Part<'_>,
+) -> Result<bool, Fail> {
+    match part {
+        Part::Begins { is_over } => {
+            Ok(sent_for(alloc, daemon, begun(alloc, is_over)?)?.is_empty())
+        }
+        Part::OtherPeer => Ok(sent_for(alloc, daemon, other_peer(alloc)?)?.is_empty()),
+        Part::Calls(lines, most) => is_replied(alloc, daemon, lines, most),
+        Part::Fills(files) => is_filled(alloc, daemon, files),
+    }
+}
+
+fn go<T: RangeTable, S: HostStore>(
+    alloc: Global,
+    daemon: &mut Daemon<T, S>,
+    parts: &[Part<'_>],
+) -> Result<bool, Fail> {
+    for part in parts {
+        if !goes(alloc, daemon, *part)? {
+            return Ok(false);
+        }
+    }
+    Ok(true)
+}
+
+/// Whether a server of these hosts sends just the replies of these parts, byte for byte.
+pub(crate) fn plays(alloc: Global, hosts: Vec<HostRow>, parts: &[Part<'_>]) -> Result<bool, Fail> {
+    let mut daemon = opened(alloc, hosts)?;
+    let went = go(alloc, &mut daemon, parts);
+    drop(daemon);
+    went
+}
+
+fn send<T: RangeTable, S: HostStore>(
+    alloc: Global,
+    daemon: &mut Daemon<T, S>,
+    lines: &[Line],
+    most: usize,
+) -> Result<Vec<u8>, Fail> {
+    sent_for(alloc, daemon, begun(alloc, true)?)?;
+    sent_for(alloc, daemon, come(alloc, lines, most)?)
+}
+
+/// What a server sends for calls that come in pieces of so many bytes.
+pub(crate) fn sent_by(alloc: Global, lines: &[Line], most: usize) -> Result<Vec<u8>, Fail> {
+    let mut daemon = opened(alloc, Vec::new(alloc))?;
+    let sent = send(alloc, &mut daemon, lines, most);
+    drop(daemon);
+    sent
+}
+
+/// Whether a server replies so after its grace period, however the stream is cut.
+pub(crate) fn is_row(alloc: Global, lines: &[Line]) -> Result<bool, Fail> {
+    let begins = Part::Begins { is_over: true };
+    let whole = plays(alloc, Vec::new(alloc), &[begins, Part::Calls(lines, 8_192)])?;
+    let cut = plays(alloc, Vec::new(alloc), &[begins, Part::Calls(lines, 5)])?;
+    Ok(whole && cut)
+}

@@ -1,0 +1,80 @@
+-- What a call comes to whose reply isn't kept.
+use Rattle.std.proofs.Common.{◌≡◌, ◌≢◌, ℕ, Bool, true, false, Option, Some, None, refl, sym, ap, ◌∙◌, true≢false}
+use Rattle.definitions.specs.Bytes.{Bytes}
+use Rattle.definitions.specs.Nlm.{Locks, LockMsg}
+use Rattle.definitions.specs.Hosts.{StoreCall, StoreAnswer, NotAsked, Yes, Refused, after_store}
+use Rattle.definitions.specs.Replies.{Call, Nlm, Asks, SystemErr}
+use Rattle.definitions.specs.World.{the_limits, settled, with_hosts}
+use Rattle.definitions.specs.Rulings.{Ruling, ruled}
+use Rattle.definitions.specs.Answer.{Answered, ruling}
+use Rattle.definitions.specs.Step.{Peer, KeptPair, State, Take, Applied, Starved, Replies, with_world, look, store_call, asked_unless_kept, with_row_stored, kept_after}
+use Rattle.definitions.specs.Replay.{fits, may_leave_row}
+use Rattle.definitions.proofs.AskingLaws.{starved_law}
+use Rattle.lock_service.specs.declared.call.Call.{Call as Called}
+use Rattle.lock_service.specs.declared.plans.Plan.{Plan}
+use Rattle.lock_service.specs.declared.plans.Plan.TheVariants as plan
+use Rattle.lock_service.specs.Served.{call_of}
+use Rattle.lock_service.specs.Planned.{planned, stored, asked, IsPlan, IsAnswerTo, IsWithin, AsksOnlyIf}
+use Rattle.book.specs.Notes.{IsStep}
+
+agrees : StoreAnswer → Bool
+agrees NotAsked = false
+agrees Yes = true
+agrees Refused = false
+
+not_asked : NotAsked ≢ Yes
+unfolding agrees
+not_asked e = true≢false (sym (ap agrees e))
+
+refused_is_no_yes : Refused ≢ Yes
+unfolding agrees
+refused_is_no_yes e = true≢false (sym (ap agrees e))
+
+row_stored : (s : State) (call : Call) (store : StoreCall) → may_leave_row call ≡ true → with_row_stored s call (Some store) Yes ≡ with_world s (with_hosts s.world (after_store s.world.hosts store))
+row_stored s (Nlm version (Locks a)) store h = refl
+row_stored s (Nlm version (LockMsg a)) store h = refl
+row_stored s _ store h = absurd (true≢false (sym h))
+
+-- nobody was asked yet
+pub starved_early : (s : State) (peer : Peer) (bytes : Bytes) (xid : ℕ) (call : Call) → IsStep s (Take peer bytes (Asks xid call)) Starved NotAsked (Replies xid SystemErr) s
+starved_early s peer bytes xid call = record {
+  gives = refl;
+  leaves = starved_law.unless_agreed the_limits s (Take peer bytes (Asks xid call)) NotAsked not_asked;
+  fits = refl;
+}
+
+module _ (s : State) (peer : Peer) (bytes : Bytes) (xid : ℕ) (called : Called) (none : look s peer bytes ≡ None) where
+  abbrev call : Call
+  call = call_of called
+
+  asks_as : (p : Plan) → IsPlan (ruling the_limits s.world peer.local call) s.world p → store_call the_limits s (Take peer bytes (Asks xid call)) ≡ (planned p s.world).asks
+  asks_as p is = ap (λ (o : Option KeptPair). asked_unless_kept the_limits s peer call o) none ∙ ap (λ (r : Ruling Answered). r.asks) (sym is.ruled)
+
+  -- the store had answered, and then memory was wanting
+  pub starved_late : (p : Plan) (store : StoreAnswer) → IsPlan (ruling the_limits s.world peer.local call) s.world p → AsksOnlyIf (may_leave_row call) p → IsAnswerTo p store → IsWithin p store s.world → IsStep s (Take peer bytes (Asks xid call)) Starved store (Replies xid SystemErr) (with_world s (stored p store s.world))
+  starved_late (plan.Decided a) store is only answer within = rw answer (starved_early s peer bytes xid call)
+  starved_late (plan.AfterRow r agreed refused) NotAsked is only answer within = absurd (answer refl)
+  starved_late (plan.AfterRow r agreed refused) Refused is only answer within = record {
+    gives = refl;
+    leaves = starved_law.unless_agreed the_limits s (Take peer bytes (Asks xid call)) Refused refused_is_no_yes;
+    fits = rw (asks_as (plan.AfterRow r agreed refused) is) refl;
+  }
+  starved_late (plan.AfterRow r agreed refused) Yes is only answer within = record {
+    gives = refl;
+    leaves = rw (asks_as (plan.AfterRow r agreed refused) is) (row_stored s call (asked r) only);
+    fits = rw (only, asks_as (plan.AfterRow r agreed refused) is, within refl) refl;
+  }
+
+  answer_fits : (p : Plan) (store : StoreAnswer) → IsPlan (ruling the_limits s.world peer.local call) s.world p → IsAnswerTo p store → IsWithin p store s.world → fits the_limits s (record { event = Take peer bytes (Asks xid call); doing = Applied; store = store }) ≡ true
+  answer_fits (plan.Decided a) store is answer within = rw (answer, asks_as (plan.Decided a) is) refl
+  answer_fits (plan.AfterRow r agreed refused) NotAsked is answer within = absurd (answer refl)
+  answer_fits (plan.AfterRow r agreed refused) Yes is answer within = rw (asks_as (plan.AfterRow r agreed refused) is, within refl) refl
+  answer_fits (plan.AfterRow r agreed refused) Refused is answer within = rw (asks_as (plan.AfterRow r agreed refused) is) refl
+
+  -- it was done
+  pub done : (p : Plan) (store : StoreAnswer) (a : Answered) → IsPlan (ruling the_limits s.world peer.local call) s.world p → a ≡ ruled store (planned p s.world) → IsAnswerTo p store → IsWithin p store s.world → IsStep s (Take peer bytes (Asks xid call)) Applied store (Replies xid a.outcome) (record { world = settled the_limits a.world; kept = kept_after the_limits peer bytes xid call a s.kept })
+  done p store a is ruling answer within = record {
+    gives = rw (none, ← is.ruled, ← ruling) refl;
+    leaves = rw (none, ← is.ruled, ← ruling) refl;
+    fits = answer_fits p store is answer within;
+  }

@@ -1,0 +1,31 @@
+-- An event that met want of memory before it began.
+use Rattle.std.proofs.Common.{◌≡◌, refl, ap, Option, Some, None}
+use Rattle.definitions.specs.Bytes.{Bytes}
+use Rattle.definitions.specs.Hosts.{NotAsked}
+use Rattle.definitions.specs.Replies.{Call, Reading, Ignored, Turned, Asks}
+use Rattle.definitions.specs.Step.{Peer, State, Take, GraceOver, Restart, Starved, IsStarved}
+use Rattle.record_reading.specs.Readings.{IsReading}
+use Rattle.lock_service.specs.Served.{served}
+use Rattle.book.specs.Readings.{served_reading, asks_served, refusal_of}
+use Rattle.book.specs.Given.{starved_reading}
+use Rattle.book.specs.Notes.{Takes, GraceEnds, BeginsAnew, IsStep, Steps}
+use Rattle.book.proofs.Calls.{starved_early}
+
+module _ (s : State) (peer : Peer) (bytes : Bytes) where
+  by_reading : (whole said : Reading) → IsReading bytes whole → said ≡ served_reading whole → IsStep s (Take peer bytes said) Starved NotAsked (starved_reading whole) s → Steps s (Takes peer bytes) Starved NotAsked (starved_reading whole) s
+  by_reading whole said read is step = record { said = Take peer bytes said; reads = (said, record { whole = whole; read = read; is = is }, refl); step = step }
+
+  asked : (xid : _) (call : Call) → IsReading bytes (Asks xid call) → (o : Option Call) → o ≡ served call → Steps s (Takes peer bytes) Starved NotAsked (starved_reading (Asks xid call)) s
+  asked xid call read (Some known) is = by_reading (Asks xid call) (Asks xid known) read (ap (λ (o : Option Call). asks_served xid call o) is) (starved_early s peer bytes xid known)
+  asked xid call read None is = by_reading (Asks xid call) (Turned xid (refusal_of call)) read (ap (λ (o : Option Call). asks_served xid call o) is) (record { gives = refl; leaves = refl; fits = refl })
+
+  pub taken : (whole : Reading) → IsReading bytes whole → Steps s (Takes peer bytes) Starved NotAsked (starved_reading whole) s
+  taken Ignored read = by_reading Ignored Ignored read refl (record { gives = refl; leaves = refl; fits = refl })
+  taken (Turned xid why) read = by_reading (Turned xid why) (Turned xid why) read refl (record { gives = refl; leaves = refl; fits = refl })
+  taken (Asks xid call) read = asked xid call read (served call) refl
+
+pub grace : (s : State) → Steps s GraceEnds Starved NotAsked IsStarved s
+grace s = record { said = GraceOver; reads = refl; step = record { gives = refl; leaves = refl; fits = refl } }
+
+pub anew : (s : State) → Steps s BeginsAnew Starved NotAsked IsStarved s
+anew s = record { said = Restart; reads = refl; step = record { gives = refl; leaves = refl; fits = refl } }

@@ -1,0 +1,6 @@
+pub mod Journals
+pub mod Records
+pub mod Calls
+pub mod Receipted
+pub mod Same
+pub mod Early

@@ -1,0 +1,27 @@
+-- A step is fixed by its event, what became of it and the store's answer.
+use Rattle.std.proofs.Common.{◌≡◌, sym, ap, ◌∙◌}
+use Rattle.definitions.specs.Bytes.{Bytes}
+use Rattle.definitions.specs.Replies.{Reading}
+use Rattle.definitions.specs.World.{the_limits}
+use Rattle.definitions.specs.Step.{Event, Take}
+use Rattle.definitions.specs.Replay.{Done, after}
+use Rattle.record_reading.specs.Readings.{OneReading}
+use Rattle.book.specs.Readings.{IsServed, served_reading}
+use Rattle.book.specs.Notes.{Happening, Takes, GraceEnds, BeginsAnew, Reads, OneStep}
+
+module _ (one : OneReading) where
+  same_reading : (bytes : Bytes) (a b : Reading) → IsServed bytes a → IsServed bytes b → a ≡ b
+  same_reading bytes a b x y = x.is ∙ ap served_reading (one bytes x.whole y.whole x.read y.read) ∙ sym y.is
+
+  same_event : (event : Happening) (a b : Event) → Reads event a → Reads event b → a ≡ b
+  same_event (Takes peer asked) a b x y = x.2 ∙ ap (λ (r : Reading). Take peer asked r) (same_reading asked x.0 y.0 x.1 y.1) ∙ sym y.2
+  same_event GraceEnds a b x y = x ∙ sym y
+  same_event BeginsAnew a b x y = x ∙ sym y
+
+  pub one_step : OneStep
+  one_step old new end event doing store given other a b =
+      let same = same_event event a.said b.said a.reads b.reads in
+      let done : Event → Done = λ e. record { event = e; doing = doing; store = store } in (
+        sym a.step.gives ∙ ap (λ (e : Event). (after the_limits old (done e)).given) same ∙ b.step.gives,
+        sym a.step.leaves ∙ ap (λ (e : Event). (after the_limits old (done e)).state) same ∙ b.step.leaves,
+      )

@@ -1,0 +1,38 @@
+-- What events give, as the definitions have it.
+use Rattle.std.specs.Prelude.{[]}
+use Rattle.definitions.specs.Bytes.{Bytes}
+use Rattle.definitions.specs.Replies.{Refuses, SystemErr, Reading, Ignored, Turned, Asks}
+use Rattle.definitions.specs.Step.{Doing, Applied, Starved, Given, Nothing, Replies, Says, Sends, IsStarved, IsRefused}
+use Rattle.record_reading.specs.Values.{view_of_refusal}
+use Rattle.call_outcome.specs.Values.{outcome_of}
+use Rattle.call_outcome.specs.Replies.{reply_bytes}
+use Rattle.book.specs.declared.reply.Reply.{Reply}
+use Rattle.book.specs.declared.reply.Reply.TheVariants as reply
+
+abbrev pub given_of : Reply → Given
+given_of reply.Nothing = Nothing
+given_of (reply.Answers xid outcome) = Replies xid (outcome_of outcome.value)
+given_of (reply.Refuses xid why) = Replies xid (Refuses (view_of_refusal why))
+given_of (reply.SystemErr xid) = Replies xid SystemErr
+given_of reply.Starved = IsStarved
+given_of reply.StoreRefused = IsRefused
+
+-- a restart that was not made: the store refused it, or memory was wanting
+abbrev pub unbegun : Doing → Given
+unbegun Applied = IsRefused
+unbegun Starved = IsStarved
+
+-- the record of the reply that a client gets (RFC 5531, section 9); no bytes where no reply is given
+abbrev pub record_of : Given → Bytes
+record_of (Replies xid outcome) = reply_bytes xid outcome
+record_of Nothing = []
+record_of (Says line) = []
+record_of (Sends number letter) = []
+record_of IsStarved = []
+record_of IsRefused = []
+
+-- what a record gets that was taken and for which there was no memory
+abbrev pub starved_reading : Reading → Given
+starved_reading Ignored = IsStarved
+starved_reading (Turned xid why) = Replies xid SystemErr
+starved_reading (Asks xid call) = Replies xid SystemErr

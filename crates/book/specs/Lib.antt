@@ -1,0 +1,7 @@
+pub mod Readings
+pub mod Given
+pub mod Notes
+pub mod Shared
+pub mod Journal
+pub mod Kept
+pub mod Receipts

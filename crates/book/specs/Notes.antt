@@ -1,0 +1,64 @@
+-- What an entry of the journal notes: the event with the bytes of its record, what became of it, and what it gave.
+use Rattle.std.specs.Prelude.{◌≡◌, ℕ, true}
+use Rattle.definitions.specs.Bytes.{Bytes}
+use Rattle.definitions.specs.Hosts.{StoreAnswer}
+use Rattle.definitions.specs.Replies.{Reading}
+use Rattle.definitions.specs.World.{the_limits}
+use Rattle.definitions.specs.Step.{Peer, Event, Take, GraceOver, Restart, Doing, Applied, Starved, Given, State}
+use Rattle.definitions.specs.Replay.{after, fits}
+use Rattle.kept_replies.specs.Pairs.{asker}
+use Rattle.lock_service.specs.Planned.{answer_of}
+use Rattle.book.specs.declared.event.BookEvent.{BookEvent}
+use Rattle.book.specs.declared.event.BookEvent.TheVariants as event
+use Rattle.book.specs.declared.entry.Doing.{Doing as Became}
+use Rattle.book.specs.declared.entry.Doing.TheVariants as doing
+use Rattle.book.specs.declared.entry.Entry.{Entry}
+use Rattle.book.specs.Given.{given_of}
+use Rattle.book.specs.Readings.{IsServed}
+
+pub data Happening : Type 0 where
+  Takes : Peer → Bytes → Happening
+  GraceEnds : Happening
+  BeginsAnew : Happening
+
+pub record Note : Type 0 where
+  pub number : ℕ
+  pub event : Happening
+  pub doing : Doing
+  pub store : StoreAnswer
+  pub given : Given
+
+abbrev pub happening_of : BookEvent → Happening
+happening_of (event.Take peer bytes) = Takes (asker peer) bytes
+happening_of event.GraceOver = GraceEnds
+happening_of event.Restart = BeginsAnew
+
+abbrev pub doing_of : Became → Doing
+doing_of doing.Applied = Applied
+doing_of doing.Starved = Starved
+
+abbrev pub note_of : Entry → Note
+note_of e = record { number = e.number; event = happening_of e.event; doing = doing_of e.doing; store = answer_of e.store; given = given_of e.reply }
+
+-- the event of the definitions, whose record has its reading
+abbrev pub Reads : Happening → Event → Type 0
+Reads (Takes peer asked) e = (reading : Reading) × IsServed asked reading × (e ≡ Take peer asked reading)
+Reads GraceEnds e = e ≡ GraceOver
+Reads BeginsAnew e = e ≡ Restart
+
+-- one step of the definitions, by an event that is read
+pub record IsStep (old : State) (said : Event) (doing : Doing) (store : StoreAnswer) (given : Given) (new : State) : Type 0 where
+  pub gives : (after the_limits old (record { event = said; doing = doing; store = store })).given ≡ given
+  pub leaves : (after the_limits old (record { event = said; doing = doing; store = store })).state ≡ new
+  pub fits : fits the_limits old (record { event = said; doing = doing; store = store }) ≡ true
+
+pub record Steps (old : State) (event : Happening) (doing : Doing) (store : StoreAnswer) (given : Given) (new : State) : Type 0 where
+  pub said : Event
+  pub reads : Reads event said
+  pub step : IsStep old said doing store given new
+
+-- what an event gives and leaves is fixed by what became of it and the store's answer: a record has one reading
+abbrev pub OneStep : Type 0
+OneStep =
+    (old new end : State) (event : Happening) (doing : Doing) (store : StoreAnswer) (given other : Given) → Steps old event doing store given new → Steps old event doing store other end
+    → (given ≡ other) × (new ≡ end)

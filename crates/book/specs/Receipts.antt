@@ -1,0 +1,47 @@
+-- What a receipt tells of an entry.
+use Rattle.std.specs.Prelude.{ℕ, Bool, true, false, ◌&&◌, ◌==◌, cond, not, List, ◌-◌, length, slice_get, Option, Some, None, option_map}
+use Rattle.std.specs.Borrow.{Bor}
+use Rattle.definitions.specs.Bytes.{Bytes, same_bytes, is_any}
+use Rattle.definitions.specs.Step.{Peer}
+use Rattle.book.specs.Given.{record_of}
+use Rattle.book.specs.declared.entry.Entry.{Entry}
+use Rattle.book.specs.Notes.{Happening, Takes, GraceEnds, BeginsAnew, Note, note_of}
+
+-- the entry's number, its event, and the record that its client got
+pub record Receipt : Type 0 where
+  pub number : ℕ
+  pub event : Happening
+  pub reply : Bytes
+
+abbrev pub receipt_of : Note → Receipt
+receipt_of n = record { number = n.number; event = n.event; reply = record_of n.given }
+
+abbrev pub newest : List Note → Option Note
+newest notes = slice_get notes (length notes - 1)
+
+-- what an entry that is lent notes
+abbrev pub noted_by : Option (Bor Entry) → Option Note
+noted_by None = None
+noted_by (Some e) = Some (note_of e.now)
+
+abbrev pub newest_event : List Note → Option Happening
+newest_event notes = option_map (λ (n : Note). n.event) (newest notes)
+
+abbrev pub newest_receipt : List Note → Option Receipt
+newest_receipt notes = option_map receipt_of (newest notes)
+
+abbrev pub same_peer : Peer → Peer → Bool
+same_peer a b = same_bytes a.address b.address && cond a.local b.local (not b.local)
+
+abbrev pub same_event : Happening → Happening → Bool
+same_event (Takes peer asked) (Takes other bytes) = same_peer peer other && same_bytes asked bytes
+same_event GraceEnds GraceEnds = true
+same_event BeginsAnew BeginsAnew = true
+same_event _ _ = false
+
+abbrev pub same_receipt : Receipt → Receipt → Bool
+same_receipt a b = (a.number == b.number) && (same_event a.event b.event && same_bytes a.reply b.reply)
+
+-- the receipt's number stands among the entries, with its call and its reply
+abbrev pub is_noted : Receipt → List Note → Bool
+is_noted r notes = is_any (λ (n : Note). same_receipt (receipt_of n) r) notes

@@ -1,0 +1,164 @@
+//! The shared state and the segment of the journal that leads to it.
+ghost use Rattle.std.specs.Prelude.{◌≡◌, ◌-◌, ◌<◌, [], length, Some, IfOk};
+ghost use Rattle.kept_replies.specs.Pairs.{asker};
+ghost use Rattle.definitions.specs.Step.{opening_state};
+ghost use Rattle.book.specs.Given.{given_of};
+ghost use Rattle.book.specs.Notes.{happening_of, Takes};
+ghost use Rattle.book.specs.Receipts.{newest, newest_event, newest_receipt, noted_by, is_noted};
+ghost use Rattle.book.specs.Journal.{begun, next_of, room_of, Enters, IsLegal};
+
+use crate::entry::{Entry, SEGMENT};
+use crate::event::BookEvent;
+use crate::receipt::{Receipt, Taken};
+use crate::reply::Reply;
+use crate::segment::{Closed, Segment};
+use crate::shared::Shared;
+use hosts_db::HostStore;
+use letters::ShortBytes;
+use owner_ids::Starved;
+use range_table::RangeTable;
+use std::alloc::Global;
+use std::marker::Model;
+use std::mem;
+use std::snapshot::Snapshot;
+
+/// The world, the kept replies, and the journal of this segment. Contracts see the journal, whose end is the state, and how
+/// often the store has refused.
+#[derive(Drop)]
+pub struct Book<R: RangeTable, S: HostStore> {
+    shared: Shared<R, S>,
+    base: Snapshot<Shared<R, S>>,
+    entries: Vec<Entry>,
+    /// The number of the next entry.
+    next: u64,
+}
+
+impl<R: RangeTable, S: HostStore> Model for Book<R, S> {
+    ghost use Rattle.book.specs.Journal.{Book};
+    ghost use Rattle.book.specs.Kept.{journal_of, IsKept};
+
+    ghost Value = { Book };
+
+    ghost view = { λ b. record { journal = journal_of b.next b.base.value.state b.entries b.shared.state; refusals = b.shared.refusals } };
+
+    ghost invariant = { λ b. IsKept b.next b.base.value.state b.entries b.shared.state };
+}
+
+impl<R: RangeTable + Drop, S: HostStore + Drop> Book<R, S> {
+    /// The store's rows and nothing else, in grace, and an empty segment whose first number is 1. The table has no runs, and
+    /// the name is the server's own. Starved: there is no memory for it, and table, store and name are dropped.
+    pub fn new(
+        alloc: Global,
+        table: R,
+        store: S,
+        own_name: ShortBytes,
+    ) -> Result<Book<R, S>, Starved>
+        requires { R.settings table ≡ [] }
+        ensures begins { IfOk result (λ book. book ≡ record { journal = begun 1 (opening_state own_name (S.rows store)); refusals = S.refusals store }) }
+    {
+        let segment = Segment::new(alloc)?;
+        let shared = Shared::new(alloc, table, store, own_name)?;
+        let base = Snapshot::of(&shared);
+        Ok(Book {
+            shared,
+            base,
+            entries: segment.entries,
+            next: 1,
+        })
+    }
+
+    /// Closes the last segment.
+    pub fn close(self) -> Closed<R, S>
+        ensures closed { result ≡ self.journal }
+        ensures legal { IsLegal result }
+    {
+        let end = Snapshot::of(&self.shared);
+        let first = first_of(self.next, &self.entries);
+        Closed {
+            first,
+            base: self.base,
+            entries: self.entries,
+            end,
+        }
+    }
+}
+
+impl<R: RangeTable, S: HostStore> Book<R, S> {
+    /// For how many more entries this segment has room. The last number is never given.
+    pub fn room(&self) -> u64
+        ensures room { result ≡ room_of self.now.journal }
+        ensures legal { IsLegal self.now.journal }
+    {
+        let next = self.next;
+        let left = SEGMENT - self.entries.len();
+        (u64::MAX - next).min(left as u64)
+    }
+
+    /// One event: one step of the shared state, and one entry of the journal, which tells what it gave.
+    pub fn apply(&mut self, event: BookEvent) -> Reply
+        requires { 0 < room_of self.old.journal }
+        ensures enters { Enters self.old (happening_of event) (given_of result) self.new }
+        ensures legal { IsLegal self.new.journal }
+    {
+        let number = self.next;
+        let said = self.shared.apply(&event);
+        self.entries.push_reserved(Entry {
+            number,
+            event,
+            doing: said.doing,
+            store: said.store,
+            reply: said.noted,
+        });
+        self.next += 1;
+        said.reply
+    }
+
+    /// Closes the segment, and begins the next one where it ends.
+    pub fn rotate(&mut self, fresh: Segment) -> Closed<R, S>
+        ensures closed { result ≡ self.old.journal }
+        ensures legal { IsLegal result }
+        ensures next { self.new ≡ record self.old { journal = begun (next_of self.old.journal) self.old.journal.end } }
+    {
+        let end = Snapshot::of(&self.shared);
+        let base = mem::replace(&mut self.base, Snapshot::of(&self.shared));
+        let first = first_of(self.next, &self.entries);
+        let entries = mem::replace(&mut self.entries, fresh.entries);
+        Closed {
+            first,
+            base,
+            entries,
+            end,
+        }
+    }
+
+    /// This segment's newest entry, if it has one.
+    pub fn newest(&self) -> Option<&Entry>
+        ensures { noted_by result ≡ newest self.now.journal.notes }
+    {
+        self.entries.last()
+    }
+
+    /// The receipt of this segment's newest entry, which took this call.
+    pub fn receipt(&self, taken: Taken) -> Receipt
+        requires { newest_event self.now.journal.notes ≡ Some (Takes (asker taken.peer) taken.record) }
+        ensures { Some result ≡ newest_receipt self.now.journal.notes }
+    {
+        let newest = self.entries.len() - 1;
+        Receipt::of(&self.entries[newest], taken)
+    }
+
+    /// Whether the receipt's number stands in this segment, with its call and its reply.
+    pub fn check(&self, receipt: &Receipt) -> bool
+        ensures { result ≡ is_noted receipt.now self.now.journal.notes }
+    {
+        self.entries.iter().any(|entry| receipt.is_of(entry))
+    }
+}
+
+// The number of the first entry, where this is the number of the next.
+fn first_of(next: u64, entries: &[Entry]) -> u64
+    requires { length entries.now < next }
+    ensures { result ≡ next - length entries.now }
+{
+    next - entries.len() as u64
+}

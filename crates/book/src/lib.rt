@@ -1,0 +1,28 @@
+//! The shared state with its journal: one entry for each event, in the order in which they took the book.
+#![tactic(auto)]
+
+mod book;
+mod entry;
+mod event;
+mod fresh;
+mod kept;
+mod law;
+mod receipt;
+mod repeat;
+mod reply;
+mod said;
+mod segment;
+mod shared;
+mod starved;
+mod take;
+
+pub use book::Book;
+pub use entry::{Doing, Entry, SEGMENT};
+pub use event::BookEvent;
+pub use kept_replies::Peer;
+pub use law::one_step;
+pub use lock_service::StoreAnswer;
+pub use owner_ids::Starved;
+pub use receipt::{Receipt, Taken};
+pub use reply::Reply;
+pub use segment::{Closed, Segment};

@@ -1,0 +1,92 @@
+//! Receipts: what whoever sends a reply holds of its entry.
+ghost use Rattle.std.specs.Prelude.{◌≡◌};
+ghost use Rattle.kept_replies.specs.Pairs.{asker};
+ghost use Rattle.book.specs.Notes.{Takes, note_of};
+ghost use Rattle.book.specs.Receipts.{receipt_of, same_receipt};
+
+use crate::entry::Entry;
+use crate::event::BookEvent;
+use bytes::Bytes;
+use kept_replies::Peer;
+use std::marker::Model;
+use xdr_core::Frame;
+
+/// A call: its peer, and its whole record, which shares the bytes that were received.
+#[derive(Debug, PartialEq, Eq, Drop)]
+pub struct Taken {
+    pub peer: Peer,
+    pub record: Bytes,
+}
+
+/// The number of a call's entry, the call, and its reply. `Book::receipt` alone makes one.
+#[derive(Drop)]
+pub struct Receipt {
+    number: u64,
+    taken: Taken,
+    reply: Frame,
+}
+
+impl Model for Receipt {
+    ghost use Rattle.kept_replies.specs.Pairs.{asker};
+    ghost use Rattle.book.specs.Notes.{Takes};
+    ghost use Rattle.book.specs.Receipts.{Receipt};
+
+    ghost Value = { Receipt };
+
+    ghost view = { λ r. record { number = r.number; event = Takes (asker r.taken.peer) r.taken.record; reply = r.reply } };
+}
+
+impl Receipt {
+    // Of an entry that took this call.
+    pub(crate) fn of(entry: &Entry, taken: Taken) -> Receipt
+        requires { (note_of entry.now).event ≡ Takes (asker taken.peer) taken.record }
+        ensures { result ≡ receipt_of (note_of entry.now) }
+    {
+        let mut reply = Frame::new();
+        let _ = entry.reply.put(&mut reply);
+        Receipt {
+            number: entry.number,
+            taken,
+            reply,
+        }
+    }
+
+    /// The number of the entry, over all segments.
+    pub fn number(&self) -> u64
+        ensures { result ≡ self.now.number }
+    {
+        self.number
+    }
+
+    /// The call that was taken.
+    pub fn taken(&self) -> &Taken
+        ensures { Takes (asker result.now.peer) result.now.record ≡ self.now.event }
+    {
+        &self.taken
+    }
+
+    /// The record of the reply, which is empty where there is none.
+    pub fn reply(&self) -> &[u8]
+        ensures { result.now ≡ self.now.reply }
+    {
+        self.reply.as_slice()
+    }
+
+    // Whether it is this entry's.
+    pub(crate) fn is_of(&self, entry: &Entry) -> bool
+        ensures { result ≡ same_receipt (receipt_of (note_of entry.now)) self.now }
+    {
+        if entry.number != self.number {
+            return false;
+        }
+        let BookEvent::Take { peer, record } = &entry.event else {
+            return false;
+        };
+        if *peer != self.taken.peer || *record != self.taken.record {
+            return false;
+        }
+        let mut reply = Frame::new();
+        let _ = entry.reply.put(&mut reply);
+        reply.as_slice() == self.reply.as_slice()
+    }
+}

@@ -1,0 +1,39 @@
+//! A call that comes again.
+ghost use Rattle.std.specs.Prelude.{◌≡◌, ℕ, None, IfOk, IfSome, IfNone, OnErr};
+ghost use Rattle.definitions.specs.Hosts.{NotAsked};
+ghost use Rattle.definitions.specs.Replies.{Call as Asked, Asks};
+ghost use Rattle.definitions.specs.Step.{Take};
+ghost use Rattle.kept_replies.specs.Pairs.{asker, at_key};
+ghost use Rattle.lock_service.specs.Planned.{answer_of};
+ghost use Rattle.book.specs.Given.{given_of};
+ghost use Rattle.book.specs.Notes.{doing_of, IsStep};
+
+use crate::said::Said;
+use crate::shared::Shared;
+use hosts_db::HostStore;
+use kept_replies::Key;
+use lock_service::StoreAnswer;
+use owner_ids::Starved;
+use range_table::RangeTable;
+use std::sync::Arc;
+
+impl<R: RangeTable, S: HostStore> Shared<R, S> {
+    /// The reply that is kept under the key, which is now the newest use; whatever the call asks, nothing else changes.
+    /// Starved: nothing has changed.
+    pub(crate) fn repeat(&mut self, key: &Key) -> Result<Option<Said>, Starved>
+        ensures found { IfOk result (λ found. IfSome found (λ said. (xid : ℕ) (call : Asked) → IsStep self.old.state (Take (asker key.now.peer) key.now.record (Asks xid call)) (doing_of said.doing) (answer_of said.store) (given_of said.reply) self.new.state)) }
+        ensures counts { self.new.refusals ≡ self.old.refusals }
+        ensures unasked { IfOk result (λ found. IfSome found (λ said. answer_of said.store ≡ NotAsked)) }
+        ensures none { IfOk result (λ found. IfNone found ((at_key key.now self.old.state.kept ≡ None) × (self.new ≡ self.old))) }
+        ensures err { OnErr result (self.new ≡ self.old) }
+    {
+        let Some(kept) = self.kept.look(key) else {
+            return Ok(None);
+        };
+        let xid = kept.xid;
+        let outcome = Arc::try_clone(&kept.outcome)?;
+        let noted = Arc::try_clone(&kept.outcome)?;
+        let _ = self.kept.find(key);
+        Ok(Some(Said::answers(StoreAnswer::NotAsked, xid, outcome, noted)))
+    }
+}

@@ -1,0 +1,54 @@
+//! What events give.
+ghost use Rattle.std.specs.Prelude.{◌≡◌, ◌+◌, ◌≤◌, ◌++◌, ◌↔◌, length, IfOk, IsOk, OnOk, OnErr};
+ghost use Rattle.book.specs.Given.{given_of, record_of};
+
+use call_outcome::Outcome;
+use owner_ids::Starved;
+use record_reading::Refusal;
+use std::alloc::Global;
+use std::sync::Arc;
+use xdr_core::{Frame, FrameFull};
+
+/// What an event gives.
+#[derive(Drop)]
+pub enum Reply {
+    /// Nobody is answered: the record was no call, or the event is none of a client's.
+    Nothing,
+    /// The call of this xid was given to its procedure. The journal, the kept replies and whoever sends it share it.
+    Answers {
+        xid: u32,
+        outcome: Arc<Outcome, Global>,
+    },
+    /// The call of this xid was not given to its procedure.
+    Refuses {
+        xid: u32,
+        refusal: Refusal,
+    },
+    /// The call of this xid could not be done (RFC 5531, section 9: SYSTEM_ERR).
+    SystemErr {
+        xid: u32,
+    },
+    /// An event that has nobody to answer met want of memory.
+    Starved,
+    /// The store refused an event that has nobody to answer.
+    StoreRefused,
+}
+
+impl Reply {
+    /// Appends the record of the reply that a client gets, and nothing where there is none. It is written whole or not at
+    /// all: `FrameFull` exactly where it doesn't fit, and the frame is unchanged then. It fits behind 40 bytes, so it does in
+    /// an empty frame.
+    pub fn put(&self, f: &mut Frame) -> Result<(), FrameFull>
+        ensures fits { length f.old ≤ 40 → IsOk result }
+        ensures room { IsOk result ↔ (length f.old + length (record_of (given_of self.now)) ≤ 4096) }
+        ensures ok { OnOk result (f.new ≡ f.old ++ record_of (given_of self.now)) }
+        ensures err { OnErr result (f.new ≡ f.old) }
+    {
+        match self {
+            Reply::Answers { xid, outcome } => outcome.reply(*xid, f),
+            Reply::Refuses { xid, refusal } => Outcome::Refuses(*refusal).reply(*xid, f),
+            Reply::SystemErr { xid } => Outcome::SystemErr.reply(*xid, f),
+            Reply::Nothing | Reply::Starved | Reply::StoreRefused => f.append(&[]),
+        }
+    }
+}

@@ -1,0 +1,32 @@
+//! An event for whose entry there is no memory.
+ghost use Rattle.std.specs.Prelude.{◌≡◌};
+ghost use Rattle.definitions.specs.Hosts.{NotAsked};
+ghost use Rattle.definitions.specs.Step.{State, Starved};
+ghost use Rattle.record_reading.specs.Values.{view_of_reading};
+ghost use Rattle.book.specs.Given.{given_of, starved_reading};
+ghost use Rattle.book.specs.Notes.{happening_of, Steps};
+
+use crate::event::BookEvent;
+use crate::reply::Reply;
+use record_reading::Reading;
+
+impl BookEvent {
+    /// What the event gives where there was no memory for it before it began: a call gets SYSTEM_ERR, and nothing changes.
+    pub fn starved(&self) -> Reply
+        ensures { (s : State) → Steps s (happening_of self.now) Starved NotAsked (given_of result) s }
+    {
+        match self {
+            BookEvent::Take { record, .. } => starved_by(&Reading::read(record)),
+            BookEvent::GraceOver | BookEvent::Restart => Reply::Starved,
+        }
+    }
+}
+
+fn starved_by(reading: &Reading<'_>) -> Reply
+    ensures { given_of result ≡ starved_reading (view_of_reading reading.now) }
+{
+    match reading {
+        Reading::Ignored => Reply::Starved,
+        Reading::Turned { xid, .. } | Reading::Asks { xid, .. } => Reply::SystemErr { xid: *xid },
+    }
+}

@@ -1,0 +1,36 @@
+use Rattle.std.proofs.Common.{◌≡◌, ◌≢◌, ℕ, false, Option, Some, None, is_some, refl, sym, ap, ◌∙◌}
+use Rattle.std.specs.Cmp.{both_ways}
+use Rattle.definitions.specs.Starts.{refuses}
+use Rattle.owner_ids.specs.Said.{said}
+use Rattle.owner_ids.specs.Names.{named}
+use Rattle.range_table.specs.Settings.{mode_at}
+use Rattle.owner_ranges.proofs.Counting.{refusal_over}
+use Rattle.owner_ranges.specs.Same.{held_mode}
+use Rattle.held_locks.specs.Asked.{changed, change_by_number}
+use Rattle.held_locks.proofs.Ties.{stranger_is_not_refused, same_change}
+use Rattle.held_locks.proofs.locks.Locks.refuses.Goals as goal
+
+none_some : {A : Type 0} (x : A) → None ≡ Some x → ⊥
+none_some x e = cc
+
+no_mode : {A : Type 0} (m : Option A) → is_some m ≡ false → m ≡ None
+no_mode None e = refl
+no_mode (Some m) e = cc
+
+pub returns-in-Some : goal.returns-in-Some
+returns-in-Some g c =
+    let names = named c.self.inside.owners in
+    let n = c.in-Some.number in
+    let change = c.args.change.now in
+    let settings = c.self.inside.settings.items in
+    let over = refusal_over names (mode_at (g.R.RangeTable.settings c.self.inside.table)) settings (change_by_number n change) (changed change) c.self.invariant.stands (same_change c.self.inside.owners n change c.in-Some.ensures.found) in
+    rw (← c.self.view_is) (both_ways c.refuses.result (refuses 65536 settings (changed change)) (λ t. over.0 (c.refuses.ensures.0 t)) (λ t. c.refuses.ensures.1 (over.1 t)))
+
+pub returns-else-is_some : goal.returns-else-is_some
+returns-else-is_some g c =
+    let change = c.args.change.now in
+    let names = named c.self.inside.owners in
+    let fresh : (k : ℕ) → names k ≢ Some (said change.owner.now) = λ k e. none_some k (c.in-None.ensures.known k e) in
+    let none = no_mode change.mode (sym c.is_some.ensures ∙ c.if-is_some.false) in
+    let held = mode_at (g.R.RangeTable.settings c.self.inside.table) in
+    rw (← c.self.view_is) (c.if-is_some.false ∙ sym (stranger_is_not_refused names held c.self.inside.settings.items c.self.invariant.stands (said change.owner.now) fresh (changed change) refl (ap held_mode none)))

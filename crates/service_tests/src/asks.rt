@@ -1,0 +1,207 @@
+//! What clients ask, and what they are told.
+ghost use Rattle.std.specs.Prelude.{◌≤◌, length};
+
+use call_outcome::{CallResult, Outcome};
+use letters::TestRes;
+use lock_service::Procedure;
+use nlm4_types::{
+    Access, Lock, LockArgs, Netobj, Notify, ShareArgs, Stat, TestArgs, UnlockArgs, WIDE,
+};
+use xdr_core::Opaque;
+
+static FILE: [u8; 4] = [1, 2, 3, 4];
+
+static LONG: [u8; 65] = [5; 65];
+
+#[derive(Clone, Copy)]
+pub(crate) enum Who {
+    A,
+    B,
+}
+
+impl Who {
+    pub(crate) fn name(self) -> &'static [u8]
+        ensures { length result.now ≤ 1 }
+    {
+        match self {
+            Who::A => b"a",
+            Who::B => b"b",
+        }
+    }
+
+    fn oh(self) -> &'static [u8]
+        ensures { length result.now ≤ 1 }
+    {
+        match self {
+            Who::A => b"A",
+            Who::B => b"B",
+        }
+    }
+
+    fn svid(self) -> i32 {
+        match self {
+            Who::A => 7,
+            Who::B => 8,
+        }
+    }
+}
+
+/// One step of a row. Offset and length stand behind who asks.
+#[derive(Clone, Copy)]
+pub(crate) enum Step {
+    GraceOver,
+    Null,
+    Locks(Who, u64, u64),
+    LocksLongHandle(Who),
+    Reclaims(Who, u64, u64),
+    NmLocks(Who, u64, u64),
+    Unlocks(Who, u64, u64),
+    /// Of a lock on the whole file.
+    Tests(Who),
+    /// The mode, which denies the others something, and the access.
+    Shares(Who, Access, Access),
+    Unshares(Who),
+    FreesAll(Who),
+    /// Is told how many owners have a number.
+    CountsKnown,
+    /// Is told whether the host has a row.
+    HasRow(Who),
+}
+
+/// What a step is told.
+#[derive(Clone, Copy, Debug, PartialEq, Eq)]
+pub(crate) enum Told {
+    Nothing,
+    Stat(Stat),
+    InTheWay { svid: i32, offset: u64, len: u64 },
+    Count(u32),
+    Is(bool),
+}
+
+pub(crate) const GRANTED: Told = Told::Stat(Stat::Granted);
+
+pub(crate) const DENIED: Told = Told::Stat(Stat::Denied);
+
+pub(crate) const NO_LOCKS: Told = Told::Stat(Stat::DeniedNolocks);
+
+pub(crate) const IN_GRACE: Told = Told::Stat(Stat::DeniedGracePeriod);
+
+/// A lock of A that is in the way.
+pub(crate) fn held(offset: u64, len: u64) -> Told {
+    Told::InTheWay {
+        svid: 7,
+        offset,
+        len,
+    }
+}
+
+impl Told {
+    pub(crate) fn by(outcome: &Outcome) -> Told {
+        match outcome {
+            Outcome::Success(CallResult::Res(res)) => Told::Stat(res.stat),
+            Outcome::Success(CallResult::ShareRes(res)) => Told::Stat(res.stat),
+            Outcome::Success(CallResult::TestRes(_, res)) => Told::by_test(res),
+            _ => Told::Nothing,
+        }
+    }
+
+    fn by_test(res: &TestRes) -> Told {
+        match &res.holder {
+            Some(holder) => Told::InTheWay {
+                svid: holder.svid,
+                offset: holder.l_offset,
+                len: holder.l_len,
+            },
+            None => Told::Stat(res.stat),
+        }
+    }
+}
+
+fn short(bytes: &[u8]) -> Netobj<'_>
+    requires { length bytes.now ≤ 1024 }
+{
+    Opaque { bytes }
+}
+
+fn alock(who: Who, fh: &[u8], offset: u64, len: u64) -> Lock<'_, WIDE>
+    requires { length fh.now ≤ 1024 }
+{
+    Lock {
+        caller_name: short(who.name()),
+        fh: short(fh),
+        oh: short(who.oh()),
+        svid: who.svid(),
+        l_offset: offset,
+        l_len: len,
+    }
+}
+
+/// An exclusive lock on a file.
+pub(crate) fn lock(who: Who, fh: &[u8], offset: u64, len: u64) -> LockArgs<'_, WIDE>
+    requires { length fh.now ≤ 1024 }
+{
+    LockArgs {
+        cookie: short(&[7]),
+        block: false,
+        exclusive: true,
+        alock: alock(who, fh, offset, len),
+        reclaim: false,
+        state: 3,
+    }
+}
+
+fn reclaim(who: Who, offset: u64, len: u64) -> LockArgs<'static, WIDE> {
+    LockArgs {
+        reclaim: true,
+        ..lock(who, &FILE, offset, len)
+    }
+}
+
+fn unlock(who: Who, offset: u64, len: u64) -> UnlockArgs<'static, WIDE> {
+    UnlockArgs {
+        cookie: short(&[7]),
+        alock: alock(who, &FILE, offset, len),
+    }
+}
+
+fn test(who: Who) -> TestArgs<'static, WIDE> {
+    TestArgs {
+        cookie: short(&[7]),
+        exclusive: true,
+        alock: alock(who, &FILE, 0, 0),
+    }
+}
+
+fn share(who: Who, mode: Access, access: Access) -> ShareArgs<'static> {
+    ShareArgs {
+        cookie: short(&[7]),
+        caller_name: short(who.name()),
+        fh: short(&FILE),
+        oh: short(who.oh()),
+        mode,
+        access,
+        reclaim: false,
+    }
+}
+
+impl Step {
+    /// The procedure that a client calls, or none.
+    pub(crate) fn procedure(self) -> Option<Procedure<'static>> {
+        Some(match self {
+            Step::GraceOver | Step::CountsKnown | Step::HasRow(_) => return None,
+            Step::Null => Procedure::Null,
+            Step::Locks(who, offset, len) => Procedure::Lock(lock(who, &FILE, offset, len)),
+            Step::LocksLongHandle(who) => Procedure::Lock(lock(who, &LONG, 0, 1)),
+            Step::Reclaims(who, offset, len) => Procedure::Lock(reclaim(who, offset, len)),
+            Step::NmLocks(who, offset, len) => Procedure::NmLock(lock(who, &FILE, offset, len)),
+            Step::Unlocks(who, offset, len) => Procedure::Unlock(unlock(who, offset, len)),
+            Step::Tests(who) => Procedure::Test(test(who)),
+            Step::Shares(who, mode, access) => Procedure::Share(share(who, mode, access)),
+            Step::Unshares(who) => Procedure::Unshare(share(who, Access::None, Access::Read)),
+            Step::FreesAll(who) => Procedure::FreeAll(Notify {
+                name: Opaque { bytes: who.name() },
+                state: 5,
+            }),
+        })
+    }
+}

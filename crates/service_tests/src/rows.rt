@@ -1,0 +1,7 @@
+//! Worked rows.
+mod absence;
+mod locks;
+mod phases;
+mod room;
+mod shares;
+mod stored;

@@ -1,0 +1,16 @@
+//! The stored rows of hosts.
+use crate::asks::{GRANTED, NO_LOCKS, Step, Told, Who};
+use crate::server::{Hosts, first_wrong};
+use std::test::*;
+
+#[test]
+fn refused_host(rt: HostRuntime) -> Result<(), Fail> {
+    let row = [
+        (Step::GraceOver, Told::Nothing),
+        (Step::Locks(Who::B, 0, 1), NO_LOCKS),
+        (Step::Tests(Who::A), GRANTED),
+        (Step::CountsKnown, Told::Count(0)),
+    ];
+    assert_eq!(rt; first_wrong(rt.alloc(), Hosts::All, &row)?, None);
+    Ok(())
+}
