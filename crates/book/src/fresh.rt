@@ -5,7 +5,7 @@ ghost use Rattle.definitions.specs.Replies.{Asks};
 ghost use Rattle.definitions.specs.Step.{Take, is_success, is_kept_kind};
 ghost use Rattle.kept_replies.specs.Pairs.{asker, at_key};
 ghost use Rattle.call_outcome.specs.Values.{outcome_of};
-ghost use Rattle.lock_service.specs.Planned.{answer_of, counted, stored, Fits, CanAsk, IsReady, IsAnswerTo, IsWithin};
+ghost use Rattle.lock_service.specs.Planned.{answer_of, counted};
 ghost use Rattle.lock_service.specs.Served.{call_of};
 ghost use Rattle.book.specs.Given.{given_of};
 ghost use Rattle.book.specs.Shared.{with_reply};
@@ -17,7 +17,7 @@ use crate::shared::Shared;
 use call_outcome::Outcome;
 use hosts_db::HostStore;
 use kept_replies::{KeptReplies, Key};
-use lock_service::{Call, Plan, Procedure, StoreAnswer, abandon, ask, commit, plan, prepare};
+use lock_service::{Call, Procedure, StoreAnswer, abandon, agree, commit, plan};
 use lock_world::World;
 use owner_ids::Starved;
 use range_table::RangeTable;
@@ -83,29 +83,4 @@ fn is_kept(call: &Call<'_>, outcome: &Outcome) -> bool
         Procedure::Null | Procedure::Test(_) => false,
         _ => is_done,
     }
-}
-
-// Gets all memory that the plan takes, and asks the store. Starved: the plan is given up, and the world stays.
-fn agree<R: RangeTable, S: HostStore>(
-    world: &mut World<R, S>,
-    plan: &Plan,
-) -> Result<StoreAnswer, Starved>
-    requires fits { Fits plan.now world.old.world }
-    requires asks { CanAsk plan.now world.old.world }
-    ensures answer { IfOk result (λ answer. IsAnswerTo plan.now (answer_of answer)) }
-    ensures limit { IfOk result (λ answer. IsWithin plan.now (answer_of answer) world.old.world) }
-    ensures world { IfOk result (λ answer. world.new.world ≡ stored plan.now (answer_of answer) world.old.world) }
-    ensures counts { IfOk result (λ answer. world.new.refusals ≡ counted (answer_of answer) world.old.refusals) }
-    ensures fits { OnOk result (Fits plan.now world.new.world) }
-    ensures ready { OnOk result (IsReady plan.now world.new) }
-    ensures err { OnErr result ((world.new.world ≡ world.old.world) × (world.new.refusals ≡ world.old.refusals)) }
-{
-    let agreed = match prepare(world, plan) {
-        Ok(()) => ask(world, plan),
-        Err(starved) => Err(starved),
-    };
-    if agreed.is_err() {
-        abandon(world, plan);
-    }
-    agreed
 }

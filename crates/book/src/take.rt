@@ -1,45 +1,36 @@
 //! A record is answered.
-ghost use Rattle.std.specs.Prelude.{◌≡◌, ◌&&◌, Some, None, IfOk, IfSome, IfNone, OnOk, OnErr};
+ghost use Rattle.std.specs.Prelude.{◌≡◌, Some, None};
 ghost use Rattle.definitions.specs.Replies.{Asks};
-ghost use Rattle.definitions.specs.Step.{Take, is_success, is_kept_kind};
-ghost use Rattle.kept_replies.specs.Pairs.{asker, at_key};
-ghost use Rattle.call_outcome.specs.Values.{outcome_of};
+ghost use Rattle.definitions.specs.Step.{Take};
+ghost use Rattle.kept_replies.specs.Pairs.{asker};
 ghost use Rattle.record_reading.specs.Values.{view_of_call, view_of_refusal};
-ghost use Rattle.lock_service.specs.Planned.{answer_of, counted, Fits, CanAsk, IsReady, IsAnswerTo, stored};
+ghost use Rattle.lock_service.specs.Planned.{answer_of, counted};
 ghost use Rattle.lock_service.specs.Served.{call_of, served};
 ghost use Rattle.book.specs.Given.{given_of};
-ghost use Rattle.book.specs.Shared.{with_reply};
 ghost use Rattle.book.specs.Notes.{doing_of, IsStep, Steps, Takes};
 ghost use Rattle.book.specs.Readings.{refusal_of};
 
-use crate::entry::Doing;
-use crate::kept::KeptReply;
-use crate::reply::Reply;
 use crate::said::Said;
 use crate::shared::Shared;
 use bytes::Bytes;
-use call_outcome::Outcome;
 use hosts_db::HostStore;
 use kept_replies::{Key, Peer};
-use lock_service::{Call, Plan, Procedure, StoreAnswer, abandon, ask, commit, plan, prepare};
-use lock_world::World;
+use lock_service::{Call, StoreAnswer};
 use owner_ids::Starved;
 use range_table::RangeTable;
 use record_reading::{Call as AnyCall, Reading, Refusal};
-use std::alloc::Global;
-use std::sync::Arc;
 
 impl<R: RangeTable, S: HostStore> Shared<R, S> {
     /// A record of a peer: it is ignored, turned away, or given to its procedure, unless its reply is kept.
-    pub(crate) fn take(&mut self, peer: Peer, record: &Bytes) -> Said
-        ensures step { Steps self.old.state (Takes (asker peer) record.now) (doing_of result.doing) (answer_of result.store) (given_of result.reply) self.new.state }
+    pub(crate) fn take(&mut self, peer: Peer, bytes: &Bytes) -> Said
+        ensures step { Steps self.old.state (Takes (asker peer) bytes.now) (doing_of result.doing) (answer_of result.store) (given_of result.reply) self.new.state }
         ensures counts { self.new.refusals ≡ counted (answer_of result.store) self.old.refusals }
     {
-        match Reading::read(record) {
+        match Reading::read(bytes) {
             Reading::Ignored => Said::nothing(StoreAnswer::NotAsked),
             Reading::Turned { xid, refusal } => Said::refuses(xid, refusal),
             Reading::Asks { xid, call } => match Call::served(&call) {
-                Some(call) => self.called(peer, record, xid, &call),
+                Some(call) => self.called(peer, bytes, xid, &call),
                 None => Said::refuses(xid, unserved(&call)),
             },
         }

@@ -14,3 +14,5 @@ mod limits;
 mod refused;
 #[cfg(test)]
 mod stops;
+#[cfg(test)]
+mod upgrades;

@@ -9,11 +9,11 @@ use std::alloc::Global;
 use std::test::*;
 
 // More than a file has in any run.
-const MOST_CALLS: u64 = 500;
+pub(crate) const MOST_CALLS: u64 = 500;
 
 /// Which file stops.
 #[derive(Clone, Copy)]
-enum Stop {
+pub(crate) enum Stop {
     Log,
     Database,
 }
@@ -61,7 +61,11 @@ fn holds_either<S: Alter + Drop>(
 
 // Makes the calls up to the stop. How many were answered by Ok, and the files after a crash, which takes what no sync
 // has kept.
-fn stopped<D: Crash + Drop>(alloc: Global, files: Files<D>, script: &[Call]) -> (usize, Files<D>) {
+pub(crate) fn stopped<D: Crash + Drop>(
+    alloc: Global,
+    files: Files<D>,
+    script: &[Call],
+) -> (usize, Files<D>) {
     let (done, mut files) = match opened(alloc, files) {
         Ok(conn) => {
             let (done, store) = run_over(alloc, conn, script);
@@ -75,7 +79,7 @@ fn stopped<D: Crash + Drop>(alloc: Global, files: Files<D>, script: &[Call]) -> 
 }
 
 // Whether the files open again, and hold what one of the models holds.
-fn leaves_either<D: Disk + Drop>(
+pub(crate) fn leaves_either<D: Disk + Drop>(
     alloc: Global,
     files: Files<D>,
     before: &MemHosts,

@@ -1,8 +1,7 @@
 //! What a call is refused for before the rules of its procedure: its file handle, its range, the phase.
 ghost use Rattle.std.specs.Prelude.{◌≡◌, ◌≤◌, ◌<◌, ◌^◌, true, false, Some, None, IfSome, IfNone, IfOk, IfErr};
-ghost use Rattle.definitions.specs.Phases.{admits as is_admitted};
 ghost use Rattle.definitions.specs.Ranges.{is_stale, is_too_far, last_of as last_byte, range_refusal, file_refusal};
-ghost use Rattle.grace.specs.Meanings.{phase_of, kind_of};
+ghost use Rattle.grace.specs.Meanings.{kind_of};
 ghost use Rattle.nlm4_types.specs.Lock.{view_of_lock};
 ghost use Rattle.nlm4_types.specs.Stat.{view_of_stat, is_denied};
 

@@ -19,4 +19,4 @@ mod unshare;
 pub use call::{Call, Procedure};
 pub use owner_ids::Starved;
 pub use plans::{Answer, Change, Plan, Range, Row, StoreAnswer};
-pub use steps::{abandon, answer, ask, commit, plan, prepare};
+pub use steps::{abandon, agree, answer, ask, commit, plan, prepare};

@@ -1,11 +1,10 @@
 //! LOCK and NM_LOCK, where nobody waits (XNFS, NLM_LOCK and NLM_NM_LOCK).
-ghost use Rattle.std.specs.Prelude.{◌≡◌, true, false, Some, IfOk};
+ghost use Rattle.std.specs.Prelude.{◌≡◌, false, Some, IfOk};
 ghost use Rattle.definitions.specs.Nlm as nlm;
-ghost use Rattle.definitions.specs.Hosts.{StoreAnswer as Told};
-ghost use Rattle.definitions.specs.World.{World as SaidWorld, the_limits, with_setting};
+ghost use Rattle.definitions.specs.World.{the_limits, with_setting};
 ghost use Rattle.definitions.specs.Starts.{is_short};
 ghost use Rattle.definitions.specs.LockRules.{row_asked, after_row};
-ghost use Rattle.definitions.specs.Answer.{nlm_answer, by_reply, caller_row};
+ghost use Rattle.definitions.specs.Answer.{nlm_answer, by_reply};
 ghost use Rattle.nlm4_types.specs.Arguments.{view_of_lockargs};
 ghost use Rattle.lock_service.specs.Served.{unblocked};
 ghost use Rattle.lock_service.specs.Planned.{IsPlan, AsksOnlyIf, setting_of};

@@ -1,6 +1,5 @@
 //! The four steps in which a call is answered.
 ghost use Rattle.std.specs.Prelude.{◌≡◌, ◌↔◌, [], IfOk, OnOk, OnErr, IsErr, IsTrue};
-ghost use Rattle.definitions.specs.Replies.{Call as Asked};
 ghost use Rattle.definitions.specs.World.{World as SaidWorld, the_limits, settled, with_setting};
 ghost use Rattle.definitions.specs.Starts.{refuses};
 ghost use Rattle.definitions.specs.Rulings.{ruled};
@@ -221,31 +220,33 @@ pub fn answer<R: RangeTable, S: HostStore>(
     ensures err { OnErr result (world.new.world ≡ world.old.world) }
 {
     let plan = plan(world, local, call)?;
-    match agree(world, &plan) {
-        Ok(store) => {
-            let outcome = commit(world, plan, store);
-            world.settle();
-            Ok((outcome, store))
-        }
-        Err(starved) => {
-            abandon(world, &plan);
-            Err(starved)
-        }
-    }
+    let store = agree(world, &plan)?;
+    let outcome = commit(world, plan, store);
+    world.settle();
+    Ok((outcome, store))
 }
 
-// Prepares a plan, and asks the store.
-fn agree<R: RangeTable, S: HostStore>(
+/// Gets all memory that the plan takes, and asks the store. Starved: the plan is given up, and the world stays.
+pub fn agree<R: RangeTable, S: HostStore>(
     world: &mut World<R, S>,
     plan: &Plan,
 ) -> Result<StoreAnswer, Starved>
     requires fits { Fits plan.now world.old.world }
     requires asks { CanAsk plan.now world.old.world }
+    ensures answer { IfOk result (λ answer. IsAnswerTo plan.now (answer_of answer)) }
+    ensures limit { IfOk result (λ answer. IsWithin plan.now (answer_of answer) world.old.world) }
     ensures world { IfOk result (λ answer. world.new.world ≡ stored plan.now (answer_of answer) world.old.world) }
-    ensures fits { Fits plan.now world.new.world }
+    ensures counts { IfOk result (λ answer. world.new.refusals ≡ counted (answer_of answer) world.old.refusals) }
+    ensures fits { OnOk result (Fits plan.now world.new.world) }
     ensures ready { OnOk result (IsReady plan.now world.new) }
-    ensures err { OnErr result (world.new.world ≡ world.old.world) }
+    ensures err { OnErr result ((world.new.world ≡ world.old.world) × (world.new.refusals ≡ world.old.refusals)) }
 {
-    prepare(world, plan)?;
-    ask(world, plan)
+    let agreed = match prepare(world, plan) {
+        Ok(()) => ask(world, plan),
+        Err(starved) => Err(starved),
+    };
+    if agreed.is_err() {
+        abandon(world, plan);
+    }
+    agreed
 }

@@ -2,13 +2,12 @@
 ghost use Rattle.std.specs.Prelude.{◌≡◌, ◌<◌, ◌^◌, false, None, IfOk};
 ghost use Rattle.definitions.specs.Nlm as nlm;
 ghost use Rattle.definitions.specs.World.{the_limits};
-ghost use Rattle.definitions.specs.Ranges.{holder_of as holder_said, shown_oh as oh_said, shown_svid as svid_said, shown_len as len_said, top, is_exclusive};
+ghost use Rattle.definitions.specs.Ranges.{holder_of as holder_said, shown_oh as oh_said, shown_svid as svid_said, shown_len as len_said};
 ghost use Rattle.definitions.specs.Answer.{nlm_answer, test_answer, test_res as test_res_said};
 ghost use Rattle.nlm4_types.specs.Version.{view_of_version};
 ghost use Rattle.nlm4_types.specs.Arguments.{view_of_testargs};
 ghost use Rattle.nlm4_types.specs.Stat.{view_of_stat, is_denied};
 ghost use Rattle.owner_ids.specs.Said.{said};
-ghost use Rattle.owner_ranges.specs.Same.{mode_of as held_mode_of};
 ghost use Rattle.letters.specs.Meanings.{test_res_of, holder_of as holder_told};
 ghost use Rattle.held_locks.specs.Asked.{shown};
 ghost use Rattle.lock_world.specs.Whole.{IsShown};
