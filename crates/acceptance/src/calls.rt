@@ -42,6 +42,8 @@ pub(crate) enum Asks {
     NmLocks(Who, u64, u64),
     /// One byte of the file with this handle, and not of the file 01020304.
     LocksIn(u32, Who, u64),
+    /// One byte of a file whose handle has 65 bytes.
+    LocksLongHandle(Who),
     Tests(Who, u64, u64),
     Unlocks(Who, u64, u64),
     /// What it denies the others, and what it does.
@@ -128,7 +130,8 @@ impl Asks {
         match self {
             Asks::Null => 0,
             Asks::Tests(..) => 1,
-            Asks::Locks(..) | Asks::Reclaims(..) | Asks::LocksIn(..) => 2,
+            Asks::Locks(..) | Asks::Reclaims(..) | Asks::LocksIn(..) | Asks::LocksLongHandle(_) =>
+                2,
             Asks::Unlocks(..) => 4,
             Asks::Shares(..) => 20,
             Asks::Unshares(_) => 21,
@@ -148,6 +151,11 @@ impl Asks {
                 put(bytes, &[4, xid, 0, 1])?;
                 put_alock_in(bytes, fh, (who, offset, 1))?;
                 put(bytes, &[0, 3])
+            }
+            Asks::LocksLongHandle(who) => {
+                put(bytes, &[4, xid, 0, 1, 1, who.name(), 65])?;
+                bytes.extend_from_slice(&[5; 68])?;
+                put(bytes, &[1, who.oh(), who.svid(), 0, 0, 0, 1, 0, 3])
             }
             Asks::Tests(who, offset, len) => {
                 put(bytes, &[4, xid, 1])?;

@@ -8,8 +8,12 @@ mod calls;
 #[cfg(test)]
 mod limits;
 #[cfg(test)]
+mod notices;
+#[cfg(test)]
 mod repeats;
 #[cfg(test)]
 mod rows;
 #[cfg(test)]
 mod server;
+#[cfg(test)]
+mod streams;

@@ -34,13 +34,19 @@ fn kept_reply(rt: HostRuntime) -> Result<(), Fail> {
 
 #[test]
 fn same_xid_other_bytes(rt: HostRuntime) -> Result<(), Fail> {
-    let row = [
+    let longer = [
+        (140, Asks::Locks(Who::A, 0, 1), GRANTED),
+        (140, Asks::Locks(Who::A, 0, 2), GRANTED),
+        (141, Asks::Tests(Who::B, 1, 1), Told::Held(Who::A, 0, 2)),
+    ];
+    assert!(rt; is_row(rt.alloc(), &longer)?);
+    let elsewhere = [
         LOCKED,
         UNLOCKED,
         (20, Asks::Locks(Who::A, 20, 1), GRANTED),
         (24, Asks::Tests(Who::B, 0, 0), Told::Held(Who::A, 20, 1)),
     ];
-    assert!(rt; is_row(rt.alloc(), &row)?);
+    assert!(rt; is_row(rt.alloc(), &elsewhere)?);
     Ok(())
 }
 
@@ -83,6 +89,18 @@ fn restart(rt: HostRuntime) -> Result<(), Fail> {
         begins,
         Part::Calls(&after, 64),
     ];
+    assert!(rt; plays(rt.alloc(), Vec::new(rt.alloc()), &parts)?);
+    Ok(())
+}
+
+// One call more than a segment of the journal has entries, with no event before them.
+#[test]
+fn journal_rotation(rt: HostRuntime) -> Result<(), Fail> {
+    let mut nulls = Vec::new(rt.alloc());
+    for xid in 1..=1_025 {
+        nulls.push((xid, Asks::Null, Told::Done))?;
+    }
+    let parts = [Part::Connects, Part::Calls(&nulls, 8_192)];
     assert!(rt; plays(rt.alloc(), Vec::new(rt.alloc()), &parts)?);
     Ok(())
 }

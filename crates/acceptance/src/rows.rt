@@ -1,6 +1,6 @@
 //! The rows, under their own names.
 use crate::calls::{Asks, Told, Who};
-use crate::server::{Part, is_row, plays};
+use crate::server::{Part, all_hosts, is_row, plays};
 use std::test::*;
 
 const GRANTED: Told = Told::Stat(0);
@@ -10,6 +10,8 @@ const DENIED: Told = Told::Stat(1);
 const NO_LOCKS: Told = Told::Stat(2);
 
 const IN_GRACE: Told = Told::Stat(4);
+
+const STALE_FH: Told = Told::Stat(7);
 
 const FBIG: Told = Told::Stat(8);
 
@@ -40,6 +42,7 @@ fn ends_of_file(rt: HostRuntime) -> Result<(), Fail> {
         (7, Asks::Locks(Who::A, END, 2), FBIG),
         (8, Asks::Locks(Who::A, END, 0), GRANTED),
         (9, Asks::Tests(Who::B, 0, 0), Told::Held(Who::A, END, 0)),
+        (10, Asks::LocksLongHandle(Who::A), STALE_FH),
     ];
     assert!(rt; is_row(rt.alloc(), &row)?);
     Ok(())
@@ -65,10 +68,14 @@ fn grace(rt: HostRuntime) -> Result<(), Fail> {
         (31, Asks::Reclaims(Who::A, 0, 10), GRANTED),
         (32, Asks::Tests(Who::B, 0, 0), IN_GRACE),
     ];
-    let parts = [Part::Begins { is_over: false }, Part::Calls(&row, 64)];
-    assert!(rt; plays(rt.alloc(), Vec::new(rt.alloc()), &parts)?);
     let after = [(33, Asks::Reclaims(Who::A, 0, 10), IN_GRACE)];
-    assert!(rt; is_row(rt.alloc(), &after)?);
+    let parts = [
+        Part::Begins { is_over: false },
+        Part::Calls(&row, 64),
+        Part::GraceEnds,
+        Part::Calls(&after, 64),
+    ];
+    assert!(rt; plays(rt.alloc(), Vec::new(rt.alloc()), &parts)?);
     Ok(())
 }
 
@@ -100,5 +107,22 @@ fn share_replaced(rt: HostRuntime) -> Result<(), Fail> {
         (21, Asks::Shares(Who::B, 0, 2), Told::ShareStat(1)),
     ];
     assert!(rt; is_row(rt.alloc(), &row)?);
+    Ok(())
+}
+
+// A store that has all its hosts refuses the row of one more.
+#[test]
+fn share_conflict(rt: HostRuntime) -> Result<(), Fail> {
+    let row = [
+        (46, Asks::Shares(Who::A, 2, 1), Told::ShareStat(0)),
+        (47, Asks::Shares(Who::B, 0, 2), Told::ShareStat(1)),
+    ];
+    assert!(rt; is_row(rt.alloc(), &row)?);
+    let refused = [
+        (48, Asks::Locks(Who::B, 0, 1), NO_LOCKS),
+        (49, Asks::Tests(Who::A, 0, 0), GRANTED),
+    ];
+    let parts = [Part::Begins { is_over: true }, Part::Calls(&refused, 64)];
+    assert!(rt; plays(rt.alloc(), all_hosts(rt.alloc())?, &parts)?);
     Ok(())
 }

@@ -1,7 +1,7 @@
 //! A daemon over a flat table and hosts in memory, and what it sends. All but what makes it is generic, and so cheap to
 //! prove.
 use crate::calls::{Asks, Told, Who, put_fragment};
-use daemon_core::{Daemon, Event, Outputs, Peer};
+use daemon_core::{Daemon, Event, Outputs, Peer, Refusal};
 use hosts_db::{FULL_QUOTA, HostRow, HostStore, MemHosts};
 use letters::ShortBytes;
 use range_table::{FlatTable, RangeTable};
@@ -17,15 +17,31 @@ const CONNECTION: u64 = 5;
 /// What comes to a server, one after another.
 #[derive(Clone, Copy)]
 pub(crate) enum Part<'a> {
+    /// The pipe's connection begins.
+    Connects,
     /// It begins anew, its grace period ends where that is so, and the pipe's connection begins.
     Begins { is_over: bool },
+    /// Its grace period ends.
+    GraceEnds,
     /// The connection of another peer takes its place.
     OtherPeer,
     /// These calls come in pieces of so many bytes, and get these replies.
     Calls(&'a [Line], usize),
     /// Each second of 128 bytes of so many files is locked.
     Fills(u32),
+    /// These bytes come in pieces of so many, and get what stands beside them.
+    Bytes(&'a [u8], usize, Heard<'a>),
 }
+
+/// What a stream gets: the bytes that are sent, and the refusal of its last piece.
+#[derive(Clone, Copy)]
+pub(crate) struct Heard<'a> {
+    pub(crate) sent: &'a [u8],
+    pub(crate) refusal: Option<Refusal>,
+}
+
+// As many records as any stream of bytes has.
+const MOST_RECORDS: usize = 2;
 
 fn opened(alloc: Global, hosts: Vec<HostRow>) -> Result<Daemon<FlatTable, MemHosts>, Fail> {
     let store = MemHosts::new(alloc, 0, hosts, Vec::new(alloc))?;
@@ -94,6 +110,18 @@ fn begun(alloc: Global, is_over: bool) -> Result<Vec<Event>, Fail> {
     Ok(events)
 }
 
+fn connected(alloc: Global) -> Result<Vec<Event>, Fail> {
+    let mut events = Vec::new(alloc);
+    events.push(Event::Connect(CONNECTION, Peer::PIPE))?;
+    Ok(events)
+}
+
+fn grace_ends(alloc: Global) -> Result<Vec<Event>, Fail> {
+    let mut events = Vec::new(alloc);
+    events.push(Event::GraceOver)?;
+    Ok(events)
+}
+
 fn other_peer(alloc: Global) -> Result<Vec<Event>, Fail> {
     let peer = Peer {
         is_local: false,
@@ -105,16 +133,33 @@ fn other_peer(alloc: Global) -> Result<Vec<Event>, Fail> {
     Ok(events)
 }
 
-// The calls come in pieces of so many bytes, and are taken once all are there.
-fn come(alloc: Global, lines: &[Line], most: usize) -> Result<Vec<Event>, Fail> {
+// The bytes come in pieces of so many.
+fn pieces(alloc: Global, stream: &[u8], most: usize) -> Result<Vec<Event>, Fail> {
     let mut events = Vec::new(alloc);
-    for piece in asked(alloc, lines)?.chunks(most.max(1)) {
+    for piece in stream.chunks(most.max(1)) {
         events.push(Event::Piece(CONNECTION, Vec::from_slice(alloc, piece)?))?;
     }
-    for _record in 0..lines.len() {
+    Ok(events)
+}
+
+fn takes(alloc: Global, count: usize) -> Result<Vec<Event>, Fail> {
+    let mut events = Vec::new(alloc);
+    for _record in 0..count {
         events.push(Event::Take(CONNECTION, 0))?;
     }
     Ok(events)
+}
+
+// What is sent where the bytes come in pieces of so many, and so many records are taken once all are there.
+fn sent_of<T: RangeTable, S: HostStore>(
+    alloc: Global,
+    daemon: &mut Daemon<T, S>,
+    (stream, most): (&[u8], usize),
+    count: usize,
+) -> Result<Vec<u8>, Fail> {
+    let mut sent = sent_for(alloc, daemon, pieces(alloc, stream, most)?)?;
+    sent.extend_from_slice(&sent_for(alloc, daemon, takes(alloc, count)?)?)?;
+    Ok(sent)
 }
 
 fn is_replied<T: RangeTable, S: HostStore>(
@@ -123,8 +168,21 @@ fn is_replied<T: RangeTable, S: HostStore>(
     lines: &[Line],
     most: usize,
 ) -> Result<bool, Fail> {
-    let sent = sent_for(alloc, daemon, come(alloc, lines, most)?)?;
+    let sent = sent_of(alloc, daemon, (&asked(alloc, lines)?, most), lines.len())?;
     Ok(sent.as_slice() == replied(alloc, lines)?.as_slice())
+}
+
+fn is_heard<T: RangeTable, S: HostStore>(
+    alloc: Global,
+    daemon: &mut Daemon<T, S>,
+    (stream, most): (&[u8], usize),
+    heard: Heard<'_>,
+) -> Result<bool, Fail> {
+    let outputs = daemon.run(pieces(alloc, stream, most)?)?;
+    let refusal = outputs.last().and_then(|last| last.refusal);
+    let is_silent = outputs.iter().all(|outputs| outputs.sent.is_none());
+    let sent = sent_for(alloc, daemon, takes(alloc, MOST_RECORDS)?)?;
+    Ok(is_silent && refusal == heard.refusal && sent.as_slice() == heard.sent)
 }
 
 fn locks_of(alloc: Global, fh: u32) -> Result<Vec<Line>, Fail> {
@@ -155,12 +213,15 @@ fn goes<T: RangeTable, S: HostStore>(
     part: Part<'_>,
 ) -> Result<bool, Fail> {
     match part {
+        Part::Connects => Ok(sent_for(alloc, daemon, connected(alloc)?)?.is_empty()),
         Part::Begins { is_over } => {
             Ok(sent_for(alloc, daemon, begun(alloc, is_over)?)?.is_empty())
         }
+        Part::GraceEnds => Ok(sent_for(alloc, daemon, grace_ends(alloc)?)?.is_empty()),
         Part::OtherPeer => Ok(sent_for(alloc, daemon, other_peer(alloc)?)?.is_empty()),
         Part::Calls(lines, most) => is_replied(alloc, daemon, lines, most),
         Part::Fills(files) => is_filled(alloc, daemon, files),
+        Part::Bytes(stream, most, heard) => is_heard(alloc, daemon, (stream, most), heard),
     }
 }
 
@@ -192,7 +253,7 @@ fn send<T: RangeTable, S: HostStore>(
     most: usize,
 ) -> Result<Vec<u8>, Fail> {
     sent_for(alloc, daemon, begun(alloc, true)?)?;
-    sent_for(alloc, daemon, come(alloc, lines, most)?)
+    sent_of(alloc, daemon, (&asked(alloc, lines)?, most), lines.len())
 }
 
 /// What a server sends for calls that come in pieces of so many bytes.
@@ -209,4 +270,16 @@ pub(crate) fn is_row(alloc: Global, lines: &[Line]) -> Result<bool, Fail> {
     let whole = plays(alloc, Vec::new(alloc), &[begins, Part::Calls(lines, 8_192)])?;
     let cut = plays(alloc, Vec::new(alloc), &[begins, Part::Calls(lines, 5)])?;
     Ok(whole && cut)
+}
+
+/// Whether this is heard after the grace period of a stream that comes whole, and of one that comes byte by byte.
+pub(crate) fn is_stream<'a>(
+    alloc: Global,
+    stream: &'a [u8],
+    heard: Heard<'a>,
+) -> Result<bool, Fail> {
+    let begins = Part::Begins { is_over: true };
+    let whole = [begins, Part::Bytes(stream, 8_192, heard)];
+    let bytes = [begins, Part::Bytes(stream, 1, heard)];
+    Ok(plays(alloc, Vec::new(alloc), &whole)? && plays(alloc, Vec::new(alloc), &bytes)?)
 }

@@ -1,14 +1,15 @@
 -- An event that met want of memory before it began.
-use Rattle.std.proofs.Common.{◌≡◌, refl, ap, Option, Some, None}
+use Rattle.std.proofs.Common.{◌≡◌, ℕ, refl, ap, Option, Some, None}
 use Rattle.definitions.specs.Bytes.{Bytes}
 use Rattle.definitions.specs.Hosts.{NotAsked}
-use Rattle.definitions.specs.Replies.{Call, Reading, Ignored, Turned, Asks}
-use Rattle.definitions.specs.Step.{Peer, State, Take, GraceOver, Restart, Starved, IsStarved}
+use Rattle.definitions.specs.Replies.{Call, Reading, Ignored, Turned, Asks, AnswerReading, BadLine, LineStarved}
+use Rattle.definitions.specs.Step.{Peer, State, Take, Answer, Local, Silent, GraceOver, Restart, Starved, IsStarved, Says}
 use Rattle.record_reading.specs.Readings.{IsReading}
+use Rattle.record_reading.specs.Answers.{IsAnswerReading}
 use Rattle.lock_service.specs.Served.{served}
 use Rattle.book.specs.Readings.{served_reading, asks_served, refusal_of}
 use Rattle.book.specs.Given.{starved_reading}
-use Rattle.book.specs.Notes.{Takes, GraceEnds, BeginsAnew, IsStep, Steps}
+use Rattle.book.specs.Notes.{Takes, HearsAnswer, AsksLine, FallsSilent, GraceEnds, BeginsAnew, IsStep, Steps}
 use Rattle.book.proofs.Calls.{starved_early}
 
 module _ (s : State) (peer : Peer) (bytes : Bytes) where
@@ -23,6 +24,15 @@ module _ (s : State) (peer : Peer) (bytes : Bytes) where
   taken Ignored read = by_reading Ignored Ignored read refl (record { gives = refl; leaves = refl; fits = refl })
   taken (Turned xid why) read = by_reading (Turned xid why) (Turned xid why) read refl (record { gives = refl; leaves = refl; fits = refl })
   taken (Asks xid call) read = asked xid call read (served call) refl
+
+pub answer : (s : State) (bytes : Bytes) (reading : AnswerReading) → IsAnswerReading bytes reading → Steps s (HearsAnswer bytes) Starved NotAsked IsStarved s
+answer s bytes reading read = record { said = Answer reading; reads = (reading, read, refl); step = record { gives = refl; leaves = refl; fits = refl } }
+
+pub line : (s : State) (l : ℕ) (bytes : Bytes) → Steps s (AsksLine l bytes) Starved NotAsked (Says LineStarved) s
+line s l bytes = record { said = Local l BadLine; reads = refl; step = record { gives = refl; leaves = refl; fits = refl } }
+
+pub silent : (s : State) (number : ℕ) → Steps s (FallsSilent number) Starved NotAsked IsStarved s
+silent s number = record { said = Silent number; reads = refl; step = record { gives = refl; leaves = refl; fits = refl } }
 
 pub grace : (s : State) → Steps s GraceEnds Starved NotAsked IsStarved s
 grace s = record { said = GraceOver; reads = refl; step = record { gives = refl; leaves = refl; fits = refl } }

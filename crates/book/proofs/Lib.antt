@@ -1,4 +1,5 @@
 pub mod Journals
+pub mod Entered
 pub mod Records
 pub mod Calls
 pub mod Receipted

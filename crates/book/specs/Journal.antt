@@ -1,11 +1,16 @@
 -- A segment of the journal, and when it is legal.
-use Rattle.std.specs.Prelude.{◌≡◌, ℕ, ◌+◌, ◌-◌, ◌^◌, List, [], ◌∷◌, ◌++◌, length, min}
-use Rattle.definitions.specs.Hosts.{StoreAnswer}
+use Rattle.std.specs.Prelude.{◌≡◌, ℕ, ◌+◌, ◌-◌, ◌^◌, List, [], ◌∷◌, ◌++◌, length, min, Option, None, Some}
+use Rattle.definitions.specs.Bytes.{Bytes}
+use Rattle.definitions.specs.Outgoing.{Letter, next_due}
+use Rattle.definitions.specs.Hosts.{StoreAnswer, NotAsked}
 use Rattle.definitions.specs.World.{the_limits}
-use Rattle.definitions.specs.Step.{State, Doing, Given}
+use Rattle.definitions.specs.Step.{State, Doing, Applied, Given, Sends}
 use Rattle.definitions.specs.Replay.{Entry, IsLegal as IsLegalFrom}
 use Rattle.lock_service.specs.Planned.{counted}
-use Rattle.book.specs.Notes.{Note, Happening, Reads, Steps}
+use Rattle.call_records.specs.declared.dest.Dest.{Dest}
+use Rattle.call_records.specs.Dests.{dest_of}
+use Rattle.book.specs.Given.{record_of}
+use Rattle.book.specs.Notes.{Note, Happening, SendsNext, Reads, Steps}
 
 -- the number of the first entry, the state before it, what each notes, and the state after the last
 pub record Journal : Type 0 where
@@ -59,3 +64,8 @@ pub record Enters (old : Book) (event : Happening) (given : Given) (new : Book) 
   pub steps : Steps old.journal.end event doing store given new.journal.end
   pub journal : new.journal ≡ noted old.journal (record { number = next_of old.journal; event = event; doing = doing; store = store; given = given }) new.journal.end
   pub refusals : new.refusals ≡ counted store old.refusals
+
+-- the call that is due first is sent, with its number, to whom it is for, and its record; or none is due, and nothing happens
+abbrev pub IsNext : Book → Option (ℕ × Dest × Bytes) → Book → Type 0
+IsNext old None new = (next_due old.journal.end.world.calls ≡ None) × (new ≡ old)
+IsNext old (Some (number, to, bytes)) new = (letter : Letter) × (dest_of to ≡ letter.to) × (bytes ≡ record_of (Sends number letter)) × ((e : Enters old SendsNext (Sends number letter) new) × (e.doing ≡ Applied) × (e.store ≡ NotAsked))

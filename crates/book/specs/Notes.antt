@@ -2,9 +2,9 @@
 use Rattle.std.specs.Prelude.{◌≡◌, ℕ, true}
 use Rattle.definitions.specs.Bytes.{Bytes}
 use Rattle.definitions.specs.Hosts.{StoreAnswer}
-use Rattle.definitions.specs.Replies.{Reading}
+use Rattle.definitions.specs.Replies.{Reading, AnswerReading, BadLine}
 use Rattle.definitions.specs.World.{the_limits}
-use Rattle.definitions.specs.Step.{Peer, Event, Take, GraceOver, Restart, Doing, Applied, Starved, Given, State}
+use Rattle.definitions.specs.Step.{Peer, Event, Take, Send, Answer, Local, Silent, GraceOver, Restart, Doing, Applied, Starved, Given, Sends, State}
 use Rattle.definitions.specs.Replay.{after, fits}
 use Rattle.kept_replies.specs.Pairs.{asker}
 use Rattle.lock_service.specs.Planned.{answer_of}
@@ -12,12 +12,19 @@ use Rattle.book.specs.declared.event.BookEvent.{BookEvent}
 use Rattle.book.specs.declared.event.BookEvent.TheVariants as event
 use Rattle.book.specs.declared.entry.Doing.{Doing as Became}
 use Rattle.book.specs.declared.entry.Doing.TheVariants as doing
+use Rattle.book.specs.declared.entry.Act.{Act}
+use Rattle.book.specs.declared.entry.Act.TheVariants as act
 use Rattle.book.specs.declared.entry.Entry.{Entry}
 use Rattle.book.specs.Given.{given_of}
+use Rattle.record_reading.specs.Answers.{IsAnswerReading}
 use Rattle.book.specs.Readings.{IsServed}
 
 pub data Happening : Type 0 where
   Takes : Peer → Bytes → Happening
+  SendsNext : Happening
+  HearsAnswer : Bytes → Happening
+  AsksLine : ℕ → Bytes → Happening
+  FallsSilent : ℕ → Happening
   GraceEnds : Happening
   BeginsAnew : Happening
 
@@ -30,6 +37,9 @@ pub record Note : Type 0 where
 
 abbrev pub happening_of : BookEvent → Happening
 happening_of (event.Take peer bytes) = Takes (asker peer) bytes
+happening_of (event.Answer bytes) = HearsAnswer bytes.items
+happening_of (event.Local l line) = AsksLine l line.items
+happening_of (event.Silent number) = FallsSilent number
 happening_of event.GraceOver = GraceEnds
 happening_of event.Restart = BeginsAnew
 
@@ -37,12 +47,24 @@ abbrev pub doing_of : Became → Doing
 doing_of doing.Applied = Applied
 doing_of doing.Starved = Starved
 
-abbrev pub note_of : Entry → Note
-note_of e = record { number = e.number; event = happening_of e.event; doing = doing_of e.doing; store = answer_of e.store; given = given_of e.reply }
+abbrev pub happened : Act → Happening
+happened (act.Event event reply) = happening_of event
+happened (act.Sent number letter) = SendsNext
 
--- the event of the definitions, whose record has its reading
+abbrev pub gave : Act → Given
+gave (act.Event event reply) = given_of reply
+gave (act.Sent number letter) = Sends number letter.value
+
+abbrev pub note_of : Entry → Note
+note_of e = record { number = e.number; event = happened e.act; doing = doing_of e.doing; store = answer_of e.store; given = gave e.act }
+
+-- the event of the definitions, whose record or answer has its reading. No line is served yet: each is read as one that is none of the protocol
 abbrev pub Reads : Happening → Event → Type 0
 Reads (Takes peer asked) e = (reading : Reading) × IsServed asked reading × (e ≡ Take peer asked reading)
+Reads SendsNext e = e ≡ Send
+Reads (HearsAnswer bytes) e = (reading : AnswerReading) × IsAnswerReading bytes reading × (e ≡ Answer reading)
+Reads (AsksLine l line) e = e ≡ Local l BadLine
+Reads (FallsSilent number) e = e ≡ Silent number
 Reads GraceEnds e = e ≡ GraceOver
 Reads BeginsAnew e = e ≡ Restart
 

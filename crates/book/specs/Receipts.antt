@@ -5,7 +5,7 @@ use Rattle.definitions.specs.Bytes.{Bytes, same_bytes, is_any}
 use Rattle.definitions.specs.Step.{Peer}
 use Rattle.book.specs.Given.{record_of}
 use Rattle.book.specs.declared.entry.Entry.{Entry}
-use Rattle.book.specs.Notes.{Happening, Takes, GraceEnds, BeginsAnew, Note, note_of}
+use Rattle.book.specs.Notes.{Happening, Takes, SendsNext, HearsAnswer, AsksLine, FallsSilent, GraceEnds, BeginsAnew, Note, note_of}
 
 -- the entry's number, its event, and the record that its client got
 pub record Receipt : Type 0 where
@@ -35,6 +35,10 @@ same_peer a b = same_bytes a.address b.address && cond a.local b.local (not b.lo
 
 abbrev pub same_event : Happening → Happening → Bool
 same_event (Takes peer asked) (Takes other bytes) = same_peer peer other && same_bytes asked bytes
+same_event SendsNext SendsNext = true
+same_event (HearsAnswer bytes) (HearsAnswer others) = same_bytes bytes others
+same_event (AsksLine l line) (AsksLine m other) = (l == m) && same_bytes line other
+same_event (FallsSilent number) (FallsSilent other) = number == other
 same_event GraceEnds GraceEnds = true
 same_event BeginsAnew BeginsAnew = true
 same_event _ _ = false

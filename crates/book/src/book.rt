@@ -1,26 +1,29 @@
 //! The shared state and the segment of the journal that leads to it.
-ghost use Rattle.std.specs.Prelude.{◌≡◌, ◌-◌, ◌<◌, [], length, Some, IfOk};
+ghost use Rattle.std.specs.Prelude.{◌≡◌, ◌+◌, ◌-◌, ◌<◌, ◌^◌, [], ◌∷◌, ◌++◌, length, vec_len, vec_capacity, Some, IfOk};
 ghost use Rattle.kept_replies.specs.Pairs.{asker};
 ghost use Rattle.definitions.specs.Step.{opening_state};
 ghost use Rattle.book.specs.Given.{given_of};
 ghost use Rattle.book.specs.Notes.{happening_of, Takes};
 ghost use Rattle.book.specs.Receipts.{newest, newest_event, newest_receipt, noted_by, is_noted};
-ghost use Rattle.book.specs.Journal.{begun, next_of, room_of, Enters, IsLegal};
+ghost use Rattle.book.specs.Journal.{begun, next_of, room_of, Enters, IsLegal, IsNext};
 
-use crate::entry::{Entry, SEGMENT};
+use crate::entry::{Act, Doing, Entry, SEGMENT};
 use crate::event::BookEvent;
 use crate::receipt::{Receipt, Taken};
 use crate::reply::Reply;
 use crate::segment::{Closed, Segment};
 use crate::shared::Shared;
+use call_records::Dest;
 use hosts_db::HostStore;
 use letters::ShortBytes;
+use lock_service::StoreAnswer;
 use owner_ids::Starved;
 use range_table::RangeTable;
 use std::alloc::Global;
 use std::marker::Model;
 use std::mem;
 use std::snapshot::Snapshot;
+use xdr_core::Frame;
 
 /// The world, the kept replies, and the journal of this segment. Contracts see the journal, whose end is the state, and how
 /// often the store has refused.
@@ -100,17 +103,37 @@ impl<R: RangeTable, S: HostStore> Book<R, S> {
         ensures enters { Enters self.old (happening_of event) (given_of result) self.new }
         ensures legal { IsLegal self.new.journal }
     {
-        let number = self.next;
         let said = self.shared.apply(&event);
-        self.entries.push_reserved(Entry {
-            number,
+        let act = Act::Event {
             event,
-            doing: said.doing,
-            store: said.store,
             reply: said.noted,
-        });
-        self.next += 1;
+        };
+        enter(
+            &mut self.entries,
+            &mut self.next,
+            act,
+            said.doing,
+            said.store,
+        );
         said.reply
+    }
+
+    /// Sends the call of the server's own that is due first: one step of the shared state, and one entry of the journal. It
+    /// gives the call's number, whom it is for, and its record. Where none is due nothing changes, and nothing is noted. It
+    /// takes no memory.
+    pub fn next_call(&mut self) -> Option<(u64, Dest, Frame)>
+        requires { 0 < room_of self.old.journal }
+        ensures sends { IsNext self.old result self.new }
+        ensures legal { IsLegal self.new.journal }
+    {
+        let sending = self.shared.send()?;
+        let act = Act::Sent {
+            number: sending.number,
+            letter: sending.letter,
+        };
+        let (doing, store) = (Doing::Applied, StoreAnswer::NotAsked);
+        enter(&mut self.entries, &mut self.next, act, doing, store);
+        Some((sending.number, sending.to, sending.frame))
     }
 
     /// Closes the segment, and begins the next one where it ends.
@@ -161,4 +184,21 @@ fn first_of(next: u64, entries: &[Entry]) -> u64
     ensures { result ≡ next - length entries.now }
 {
     next - entries.len() as u64
+}
+
+// One entry more, under the next number.
+fn enter(entries: &mut Vec<Entry>, next: &mut u64, act: Act, doing: Doing, store: StoreAnswer)
+    requires room { vec_len entries.old < vec_capacity entries.old }
+    requires number { next.old < 2 ^ 64 - 1 }
+    ensures entries { entries.new.items ≡ entries.old.items ++ record { number = next.old; act = act; doing = doing; store = store } ∷ [] }
+    ensures room { vec_capacity entries.new ≡ vec_capacity entries.old }
+    ensures next { next.new ≡ next.old + 1 }
+{
+    entries.push_reserved(Entry {
+        number: *next,
+        act,
+        doing,
+        store,
+    });
+    *next += 1;
 }

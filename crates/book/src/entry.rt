@@ -1,7 +1,9 @@
 //! Entries of the journal.
 use crate::event::BookEvent;
 use crate::reply::Reply;
+use letters::Letter;
 use lock_service::StoreAnswer;
+use std::snapshot::Snapshot;
 
 /// The most entries of a segment.
 pub const SEGMENT: usize = 1_024;
@@ -13,12 +15,27 @@ pub enum Doing {
     Starved,
 }
 
-/// One event of the journal: its number over all segments, from 1 on, what became of it, and what it gave.
+/// What an entry notes.
+#[derive(Drop)]
+pub enum Act {
+    /// An event, and what it gave.
+    Event {
+        event: BookEvent,
+        reply: Reply,
+    },
+    /// The server's own call of this number was sent. Contracts see its letter.
+    Sent {
+        number: u64,
+        letter: Snapshot<Letter>,
+    },
+}
+
+/// One entry of the journal: its number over all segments, from 1 on, what it notes, what became of it, and what the store
+/// answered.
 #[derive(Drop)]
 pub struct Entry {
     pub number: u64,
-    pub event: BookEvent,
+    pub act: Act,
     pub doing: Doing,
     pub store: StoreAnswer,
-    pub reply: Reply,
 }

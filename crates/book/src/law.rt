@@ -1,11 +1,12 @@
 //! What is true of every step.
 ghost use Rattle.book.specs.Notes.{OneStep};
 
-use record_reading::one_reading;
+use record_reading::{one_answer_reading, one_reading};
 
 /// An event, what became of it and the store's answer fix what it gives and the state after it.
 pub fn one_step()
     ensures { OneStep }
 {
     one_reading();
+    one_answer_reading();
 }

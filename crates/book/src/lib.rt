@@ -12,12 +12,14 @@ mod repeat;
 mod reply;
 mod said;
 mod segment;
+mod send;
 mod shared;
 mod starved;
 mod take;
 
 pub use book::Book;
-pub use entry::{Doing, Entry, SEGMENT};
+pub use call_records::{Dest, HostName};
+pub use entry::{Act, Doing, Entry, SEGMENT};
 pub use event::BookEvent;
 pub use kept_replies::Peer;
 pub use law::one_step;

@@ -4,7 +4,7 @@ ghost use Rattle.kept_replies.specs.Pairs.{asker};
 ghost use Rattle.book.specs.Notes.{Takes, note_of};
 ghost use Rattle.book.specs.Receipts.{receipt_of, same_receipt};
 
-use crate::entry::Entry;
+use crate::entry::{Act, Entry};
 use crate::event::BookEvent;
 use bytes::Bytes;
 use kept_replies::Peer;
@@ -43,7 +43,9 @@ impl Receipt {
         ensures { result ≡ receipt_of (note_of entry.now) }
     {
         let mut reply = Frame::new();
-        let _ = entry.reply.put(&mut reply);
+        if let Act::Event { reply: said, .. } = &entry.act {
+            let _ = said.put(&mut reply);
+        }
         Receipt {
             number: entry.number,
             taken,
@@ -79,14 +81,17 @@ impl Receipt {
         if entry.number != self.number {
             return false;
         }
-        let BookEvent::Take { peer, record } = &entry.event else {
+        let Act::Event { event, reply: said } = &entry.act else {
+            return false;
+        };
+        let BookEvent::Take { peer, record } = event else {
             return false;
         };
         if *peer != self.taken.peer || *record != self.taken.record {
             return false;
         }
         let mut reply = Frame::new();
-        let _ = entry.reply.put(&mut reply);
+        let _ = said.put(&mut reply);
         reply.as_slice() == self.reply.as_slice()
     }
 }

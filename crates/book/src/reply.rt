@@ -28,6 +28,10 @@ pub enum Reply {
     SystemErr {
         xid: u32,
     },
+    /// A local program's line is none of the protocol.
+    BadLine,
+    /// There was no memory for a local program's line.
+    StarvedLine,
     /// An event that has nobody to answer met want of memory.
     Starved,
     /// The store refused an event that has nobody to answer.
@@ -35,7 +39,8 @@ pub enum Reply {
 }
 
 impl Reply {
-    /// Appends the record of the reply that a client gets, and nothing where there is none. It is written whole or not at
+    /// Appends the record of the reply that a client gets, or the line that a local program gets, and nothing where there
+    /// is none. It is written whole or not at
     /// all: `FrameFull` exactly where it doesn't fit, and the frame is unchanged then. It fits behind 40 bytes, so it does in
     /// an empty frame.
     pub fn put(&self, f: &mut Frame) -> Result<(), FrameFull>
@@ -48,6 +53,8 @@ impl Reply {
             Reply::Answers { xid, outcome } => outcome.reply(*xid, f),
             Reply::Refuses { xid, refusal } => Outcome::Refuses(*refusal).reply(*xid, f),
             Reply::SystemErr { xid } => Outcome::SystemErr.reply(*xid, f),
+            Reply::BadLine => f.append(b"bad\n"),
+            Reply::StarvedLine => f.append(b"starved\n"),
             Reply::Nothing | Reply::Starved | Reply::StoreRefused => f.append(&[]),
         }
     }

@@ -1,8 +1,8 @@
 //! What an event comes to.
 ghost use Rattle.std.specs.Prelude.{◌≡◌};
 ghost use Rattle.definitions.specs.Hosts.{NotAsked};
-ghost use Rattle.definitions.specs.Step.{Applied, Starved as IsStarved, Nothing, Replies};
-ghost use Rattle.definitions.specs.Replies.{SystemErr, Refuses};
+ghost use Rattle.definitions.specs.Step.{Applied, Starved as IsStarved, Nothing, Replies, Says};
+ghost use Rattle.definitions.specs.Replies.{SystemErr, Refuses, LineBad};
 ghost use Rattle.call_outcome.specs.Values.{outcome_of};
 ghost use Rattle.record_reading.specs.Values.{view_of_refusal};
 ghost use Rattle.lock_service.specs.Planned.{answer_of};
@@ -40,6 +40,20 @@ impl Said {
             store,
             reply: Reply::Nothing,
             noted: Reply::Nothing,
+        }
+    }
+
+    // A line is none of the protocol.
+    pub(crate) fn bad_line() -> Said
+        ensures doing { doing_of result.doing ≡ Applied }
+        ensures store { answer_of result.store ≡ NotAsked }
+        ensures given { given_of result.reply ≡ Says LineBad }
+    {
+        Said {
+            doing: Doing::Applied,
+            store: StoreAnswer::NotAsked,
+            reply: Reply::BadLine,
+            noted: Reply::BadLine,
         }
     }
 

@@ -1,9 +1,10 @@
 //! The shared state: the world and the kept replies.
-ghost use Rattle.std.specs.Prelude.{◌≡◌, [], IfOk};
-ghost use Rattle.definitions.specs.Step.{opening_state, GraceOver, Restart};
+ghost use Rattle.std.specs.Prelude.{◌≡◌, ℕ, [], IfOk};
+ghost use Rattle.definitions.specs.Replies.{BadLine};
+ghost use Rattle.definitions.specs.Step.{opening_state, Local, Silent, GraceOver, Restart};
 ghost use Rattle.lock_service.specs.Planned.{answer_of, counted};
 ghost use Rattle.book.specs.Given.{given_of, unbegun};
-ghost use Rattle.book.specs.Notes.{doing_of, happening_of, IsStep, Steps};
+ghost use Rattle.book.specs.Notes.{doing_of, happening_of, HearsAnswer, IsStep, Steps};
 
 use crate::entry::Doing;
 use crate::event::BookEvent;
@@ -13,10 +14,11 @@ use crate::said::Said;
 use hosts_db::{HostStore, StoreError};
 use kept_replies::KeptReplies;
 use letters::ShortBytes;
-use lock_service::StoreAnswer;
+use lock_service::{StoreAnswer, answered};
 use lock_world::World;
 use owner_ids::Starved;
 use range_table::RangeTable;
+use record_reading::AnswerReading;
 use std::alloc::Global;
 use std::marker::Model;
 
@@ -61,9 +63,37 @@ impl<R: RangeTable, S: HostStore> Shared<R, S> {
     {
         match event {
             BookEvent::Take { peer, record } => self.take(*peer, record),
+            BookEvent::Answer { bytes } => self.answer(bytes),
+            BookEvent::Local { .. } => self.line(),
+            BookEvent::Silent { number } => self.silent(*number),
             BookEvent::GraceOver => self.grace_over(),
             BookEvent::Restart => self.restart(),
         }
+    }
+
+    fn answer(&mut self, bytes: &[u8]) -> Said
+        ensures step { Steps self.old.state (HearsAnswer bytes.now) (doing_of result.doing) (answer_of result.store) (given_of result.reply) self.new.state }
+        ensures counts { self.new.refusals ≡ counted (answer_of result.store) self.old.refusals }
+    {
+        let reading = AnswerReading::read(bytes);
+        Said::nothing(answered(&mut self.world, &reading))
+    }
+
+    // No line is served yet.
+    fn line(&mut self) -> Said
+        ensures step { (l : ℕ) → IsStep self.old.state (Local l BadLine) (doing_of result.doing) (answer_of result.store) (given_of result.reply) self.new.state }
+        ensures counts { self.new.refusals ≡ counted (answer_of result.store) self.old.refusals }
+    {
+        self.world.settle();
+        Said::bad_line()
+    }
+
+    fn silent(&mut self, number: u64) -> Said
+        ensures step { IsStep self.old.state (Silent number) (doing_of result.doing) (answer_of result.store) (given_of result.reply) self.new.state }
+        ensures counts { self.new.refusals ≡ counted (answer_of result.store) self.old.refusals }
+    {
+        self.world.silent(number);
+        Said::nothing(StoreAnswer::NotAsked)
     }
 
     fn grace_over(&mut self) -> Said

@@ -8,7 +8,7 @@ ghost use Rattle.book.specs.Notes.{happening_of, Steps};
 
 use crate::event::BookEvent;
 use crate::reply::Reply;
-use record_reading::Reading;
+use record_reading::{AnswerReading, Reading};
 
 impl BookEvent {
     /// What the event gives where there was no memory for it before it began: a call gets SYSTEM_ERR, and nothing changes.
@@ -17,7 +17,13 @@ impl BookEvent {
     {
         match self {
             BookEvent::Take { record, .. } => starved_by(&Reading::read(record)),
-            BookEvent::GraceOver | BookEvent::Restart => Reply::Starved,
+            BookEvent::Answer { bytes } => {
+                // Whatever its reading is, it changes nothing.
+                let _reading = AnswerReading::read(bytes);
+                Reply::Starved
+            }
+            BookEvent::Local { .. } => Reply::StarvedLine,
+            BookEvent::Silent { .. } | BookEvent::GraceOver | BookEvent::Restart => Reply::Starved,
         }
     }
 }

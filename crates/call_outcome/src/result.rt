@@ -1,15 +1,13 @@
 //! The results of procedures.
 ghost use Rattle.std.specs.Prelude.{◌≡◌, ◌+◌, ◌≤◌, ◌++◌, ◌↔◌, length, IsOk, OnOk, OnErr};
-ghost use Rattle.letters.specs.Meanings.{res_of, holder_of, test_res_of};
-ghost use Rattle.nlm4_types.specs.Results.{view_of_res, view_of_holder, view_of_testres};
 ghost use Rattle.nlm4_types.specs.Share.{view_of_shareres};
 ghost use Rattle.call_outcome.specs.Values.{result_of, share_res_of};
 ghost use Rattle.call_outcome.specs.Replies.{result_bytes};
 
-use letters::{Holder, Res, ShortBytes, TestRes};
-use nlm4_types::{Stat, Version, WIDE};
+use letters::{Res, ShortBytes, TestRes};
+use nlm4_types::{Stat, Version};
 use nsm_types::{NsmResult, SmStat, SmStatRes};
-use xdr_core::{Frame, FrameFull, Opaque};
+use xdr_core::{Frame, FrameFull};
 
 /// The result of SHARE and UNSHARE (RFC 1813, appendix II, nlm4_shareres).
 #[derive(Drop)]
@@ -47,8 +45,8 @@ impl CallResult {
     {
         match self {
             CallResult::Nothing => f.append(&[]),
-            CallResult::Res(res) => lent_res(res).put_in(Version::V4, f),
-            CallResult::TestRes(version, res) => lent_test_res(res).put_in(*version, f),
+            CallResult::Res(res) => res.lent().put_in(Version::V4, f),
+            CallResult::TestRes(version, res) => res.lent().put_in(*version, f),
             CallResult::ShareRes(res) => lent_share_res(res).put_in(Version::V4, f),
             CallResult::Monitor(res) => NsmResult::StatRes(*res).put(f),
             CallResult::State(res) => NsmResult::Stat(*res).put(f),
@@ -56,55 +54,12 @@ impl CallResult {
     }
 }
 
-fn lent_res(res: &Res) -> nlm4_types::Res<'_>
-    ensures { view_of_res result ≡ res_of res.now }
-{
-    nlm4_types::Res {
-        cookie: lent(&res.cookie),
-        stat: res.stat,
-    }
-}
-
-fn lent_test_res(res: &TestRes) -> nlm4_types::TestRes<'_, WIDE>
-    ensures { view_of_testres result ≡ test_res_of res.now }
-{
-    let holder = match &res.holder {
-        Some(holder) => Some(lent_holder(holder)),
-        None => None,
-    };
-    nlm4_types::TestRes {
-        cookie: lent(&res.cookie),
-        stat: res.stat,
-        holder,
-    }
-}
-
-fn lent_holder(holder: &Holder) -> nlm4_types::Holder<'_, WIDE>
-    ensures { view_of_holder result ≡ holder_of holder.now }
-{
-    nlm4_types::Holder {
-        exclusive: holder.exclusive,
-        svid: holder.svid,
-        oh: lent(&holder.oh),
-        l_offset: holder.l_offset,
-        l_len: holder.l_len,
-    }
-}
-
 fn lent_share_res(res: &ShareRes) -> nlm4_types::ShareRes<'_>
     ensures { view_of_shareres result ≡ share_res_of res.now }
 {
     nlm4_types::ShareRes {
-        cookie: lent(&res.cookie),
+        cookie: res.cookie.lent(),
         stat: res.stat,
         sequence: res.sequence,
-    }
-}
-
-fn lent(bytes: &ShortBytes) -> Opaque<'_, 1024>
-    ensures { result.bytes.now ≡ bytes.now }
-{
-    Opaque {
-        bytes: bytes.as_slice(),
     }
 }

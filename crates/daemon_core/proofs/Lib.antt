@@ -1,4 +1,5 @@
 pub mod UntakenLemmas
 pub mod HubLemmas
+pub mod Sends
 pub mod SameRun
 pub mod Replays

@@ -14,7 +14,7 @@ use Rattle.book.specs.declared.entry.Doing.TheVariants.{Applied, Starved}
 use Rattle.book.specs.Notes.{Happening, Steps}
 use Rattle.kept_replies.specs.declared.key.Peer.{Peer}
 use Rattle.daemon_core.specs.declared.event.Event.{Event}
-use Rattle.daemon_core.specs.declared.event.Event.TheVariants.{Connect, Piece, Disconnect, Take, GraceOver, Restart}
+use Rattle.daemon_core.specs.declared.event.Event.TheVariants.{Connect, Piece, Disconnect, Take, Send, Answer, Local, Silent, GraceOver, Restart}
 use Rattle.daemon_core.specs.declared.outputs.Outputs.{Outputs}
 use Rattle.definitions.proofs.RunLaws.{run_is_sound}
 use Rattle.definitions.proofs.GraceLaws.{grace_grants_law}
@@ -57,6 +57,10 @@ hub_step old new (Connect number peer) out h = connects (place_of number old.lin
 hub_step old new (Piece number v) out h = pieces (place_of number old.links) v.items old new out h
 hub_step old new (Disconnect number) out h = disconnects (place_of number old.links) old new out h
 hub_step old new (Take number i) out h = takes (place_of number old.links) i old new out h
+hub_step old new Send out h = by_step old.state new.state _ _ _ h.given h.step
+hub_step old new (Answer bytes) out h = by_step old.state new.state _ _ _ h.given h.step
+hub_step old new (Local l line) out h = by_step old.state new.state _ _ _ h.given h.step
+hub_step old new (Silent number) out h = by_step old.state new.state _ _ _ h.given h.step
 hub_step old new GraceOver out h = by_step old.state new.state _ _ _ h.given h.step
 hub_step old new Restart out h = by_step old.state new.state _ _ _ h.given h.step
 

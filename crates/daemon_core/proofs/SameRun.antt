@@ -8,11 +8,11 @@ use Rattle.lock_service.specs.declared.plans.StoreAnswer.{StoreAnswer}
 use Rattle.lock_service.specs.Planned.{answer_of, counted}
 use Rattle.book.specs.declared.entry.Doing.{Doing}
 use Rattle.book.specs.declared.entry.Doing.TheVariants.{Applied, Starved}
-use Rattle.book.specs.Notes.{Happening, Takes, GraceEnds, BeginsAnew, doing_of, Steps, OneStep}
+use Rattle.book.specs.Notes.{Happening, Takes, SendsNext, HearsAnswer, AsksLine, FallsSilent, GraceEnds, BeginsAnew, doing_of, Steps, OneStep}
 use Rattle.daemon_core.specs.declared.event.Event.{Event}
-use Rattle.daemon_core.specs.declared.event.Event.TheVariants.{Connect, Piece, Disconnect, Take, GraceOver, Restart}
+use Rattle.daemon_core.specs.declared.event.Event.TheVariants.{Connect, Piece, Disconnect, Take, Send, Answer, Local, Silent, GraceOver, Restart}
 use Rattle.daemon_core.specs.declared.outputs.Outputs.{Outputs}
-use Rattle.daemon_core.specs.Outputs.{marked_by, told, told_to}
+use Rattle.daemon_core.specs.Outputs.{marked_by, told, told_call, told_line, told_to}
 use Rattle.daemon_core.specs.Untaken.{AreRecords, untaken}
 use Rattle.daemon_core.specs.Link.{Link, Hears, Receives, with_taken}
 use Rattle.daemon_core.specs.Hub.{Hub, with_links, place_of, IsQuiet, Connects, Disconnects, Pieces, Answers, HasNone, TakesAt, links_after, Happens, HubStep, Run, HasOneRun}
@@ -102,10 +102,10 @@ Answers-same one step place i old new new' out out' e f h h' =
       same-hub new new' same.1 (h.refusals ∙ ap (λ (a : StoreAnswer). counted (answer_of a) old.refusals) f ∙ sym h'.refusals) links,
     )
 
-Happens-same : OneStep → (event : Happening) (old new new' : Hub) (out out' : Outputs) → out.outcome ≡ out'.outcome → out.store ≡ out'.store → Happens event old out new → Happens event old out' new' → Same out out' new new'
-Happens-same step event old new new' out out' e f h h' =
+Happens-same : OneStep → (tell : Doing → StoreAnswer → Given → Outputs) (event : Happening) (old new new' : Hub) (out out' : Outputs) → out.outcome ≡ out'.outcome → out.store ≡ out'.store → Happens tell event old out new → Happens tell event old out' new' → Same out out' new new'
+Happens-same step tell event old new new' out out' e f h h' =
     let same = same-step step old.state new.state new'.state event out.outcome out'.outcome out.store out'.store h.given h'.given e f h.step h'.step in (
-      h.outputs ∙ ap (λ (o : Doing). told o out.store h.given) e ∙ ap (λ (a : StoreAnswer). told out'.outcome a h.given) f ∙ ap (λ (x : Given). told out'.outcome out'.store x) same.0 ∙ sym h'.outputs,
+      h.outputs ∙ ap (λ (o : Doing). tell o out.store h.given) e ∙ ap (λ (a : StoreAnswer). tell out'.outcome a h.given) f ∙ ap (λ (x : Given). tell out'.outcome out'.store x) same.0 ∙ sym h'.outputs,
       same-hub new new' same.1 (h.refusals ∙ ap (λ (a : StoreAnswer). counted (answer_of a) old.refusals) f ∙ sym h'.refusals) (h.links ∙ ap (λ (a : StoreAnswer). links_after event a old.links) f ∙ sym h'.links),
     )
 
@@ -130,8 +130,12 @@ HubStep-same one step old new new' (Connect number peer) out out' h h' e f = Con
 HubStep-same one step old new new' (Piece number bytes) out out' h h' e f = Pieces-same one (place_of number old.links) bytes.items old new new' out out' e h h'
 HubStep-same one step old new new' (Disconnect number) out out' h h' e f = Disconnects-same (place_of number old.links) old new new' out out' h h'
 HubStep-same one step old new new' (Take number i) out out' h h' e f = TakesAt-same one step (place_of number old.links) i old new new' out out' e f h h'
-HubStep-same one step old new new' GraceOver out out' h h' e f = Happens-same step GraceEnds old new new' out out' e f h h'
-HubStep-same one step old new new' Restart out out' h h' e f = Happens-same step BeginsAnew old new new' out out' e f h h'
+HubStep-same one step old new new' Send out out' h h' e f = Happens-same step told_call SendsNext old new new' out out' e f h h'
+HubStep-same one step old new new' (Answer bytes) out out' h h' e f = Happens-same step told (HearsAnswer bytes.items) old new new' out out' e f h h'
+HubStep-same one step old new new' (Local l line) out out' h h' e f = Happens-same step (told_line l) (AsksLine l line.items) old new new' out out' e f h h'
+HubStep-same one step old new new' (Silent number) out out' h h' e f = Happens-same step told (FallsSilent number) old new new' out out' e f h h'
+HubStep-same one step old new new' GraceOver out out' h h' e f = Happens-same step told GraceEnds old new new' out out' e f h h'
+HubStep-same one step old new new' Restart out out' h h' e f = Happens-same step told BeginsAnew old new new' out out' e f h h'
 
 pub Run-same : HasOneReading → OneStep → HasOneRun
 Run-same one step old new new' [] [] [] h h' alike = (refl, h ∙ sym h')

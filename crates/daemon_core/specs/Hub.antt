@@ -11,11 +11,11 @@ use Rattle.lock_service.specs.declared.plans.StoreAnswer.TheVariants.{NotAsked, 
 use Rattle.lock_service.specs.Planned.{answer_of, counted}
 use Rattle.book.specs.declared.entry.Doing.{Doing}
 use Rattle.book.specs.declared.entry.Doing.TheVariants.{Applied, Starved}
-use Rattle.book.specs.Notes.{Happening, Takes, GraceEnds, BeginsAnew, doing_of, Steps}
+use Rattle.book.specs.Notes.{Happening, Takes, SendsNext, HearsAnswer, AsksLine, FallsSilent, GraceEnds, BeginsAnew, doing_of, Steps}
 use Rattle.daemon_core.specs.declared.event.Event.{Event}
-use Rattle.daemon_core.specs.declared.event.Event.TheVariants.{Connect, Piece, Disconnect, Take, GraceOver, Restart}
+use Rattle.daemon_core.specs.declared.event.Event.TheVariants.{Connect, Piece, Disconnect, Take, Send, Answer, Local, Silent, GraceOver, Restart}
 use Rattle.daemon_core.specs.declared.outputs.Outputs.{Outputs}
-use Rattle.daemon_core.specs.Outputs.{quiet, starved, told, told_to, bytes_sent}
+use Rattle.daemon_core.specs.Outputs.{quiet, starved, told, told_call, told_line, told_to, bytes_sent}
 use Rattle.daemon_core.specs.Untaken.{AreRecords, untaken}
 use Rattle.daemon_core.specs.Link.{Link, fresh, with_taken, Receives}
 
@@ -105,15 +105,19 @@ links_after BeginsAnew Yes links = []
 links_after BeginsAnew NotAsked links = links
 links_after BeginsAnew Refused links = links
 links_after (Takes peer bytes) store links = links
+links_after SendsNext store links = links
+links_after (HearsAnswer bytes) store links = links
+links_after (AsksLine l line) store links = links
+links_after (FallsSilent number) store links = links
 links_after GraceEnds store links = links
 
--- an event of the shared state that nobody asked for
-pub record Happens (event : Happening) (old : Hub) (out : Outputs) (new : Hub) : Type 0 where
+-- an event of the shared state, and what is told of it
+pub record Happens (tell : Doing → StoreAnswer → Given → Outputs) (event : Happening) (old : Hub) (out : Outputs) (new : Hub) : Type 0 where
   pub given : Given
   pub step : Steps old.state event (doing_of out.outcome) (answer_of out.store) given new.state
   pub refusals : new.refusals ≡ counted (answer_of out.store) old.refusals
   pub links : new.links ≡ links_after event out.store old.links
-  pub outputs : out ≡ told out.outcome out.store given
+  pub outputs : out ≡ tell out.outcome out.store given
 
 -- one event
 abbrev pub HubStep : Hub → Event → Outputs → Hub → Type 0
@@ -121,8 +125,12 @@ HubStep old (Connect number peer) out new = Connects (place_of number old.links)
 HubStep old (Piece number bytes) out new = Pieces (place_of number old.links) bytes.items old out new
 HubStep old (Disconnect number) out new = Disconnects (place_of number old.links) old out new
 HubStep old (Take number i) out new = TakesAt (place_of number old.links) i old out new
-HubStep old GraceOver out new = Happens GraceEnds old out new
-HubStep old Restart out new = Happens BeginsAnew old out new
+HubStep old Send out new = Happens told_call SendsNext old out new
+HubStep old (Answer bytes) out new = Happens told (HearsAnswer bytes.items) old out new
+HubStep old (Local l line) out new = Happens (told_line l) (AsksLine l line.items) old out new
+HubStep old (Silent number) out new = Happens told (FallsSilent number) old out new
+HubStep old GraceOver out new = Happens told GraceEnds old out new
+HubStep old Restart out new = Happens told BeginsAnew old out new
 
 -- all events, one after another
 abbrev pub Run : Hub → List Event → List Outputs → Hub → Type 0

@@ -1,4 +1,5 @@
 pub mod Sending
+pub mod Addressed
 pub mod Outputs
 pub mod Untaken
 pub mod Link

@@ -1,5 +1,5 @@
 -- What comes of an event.
-use Rattle.std.specs.Prelude.{ℕ, List, [], Bool, true, false, Option, Some, None}
+use Rattle.std.specs.Prelude.{ℕ, List, [], Bool, true, false, cond, Option, Some, None}
 use Rattle.definitions.specs.Step.{Given, Nothing, Replies, Says, Sends, IsStarved, IsRefused}
 use Rattle.record_mark.specs.Sent.{marked}
 use Rattle.book.specs.declared.entry.Doing.{Doing}
@@ -7,7 +7,7 @@ use Rattle.book.specs.declared.entry.Doing.TheVariants.{Applied, Starved}
 use Rattle.lock_service.specs.declared.plans.StoreAnswer.{StoreAnswer}
 use Rattle.lock_service.specs.declared.plans.StoreAnswer.TheVariants.{NotAsked}
 use Rattle.book.specs.Given.{record_of}
-use Rattle.daemon_core.specs.Sending.{Sending}
+use Rattle.daemon_core.specs.Sending.{Sending, ToClient, ToLocal, addressee, gets_records}
 use Rattle.daemon_core.specs.declared.outputs.Outputs.{Outputs}
 use Rattle.daemon_core.specs.declared.event.Refusal.{Refusal}
 
@@ -25,13 +25,32 @@ abbrev pub marked_by : Bool → Outputs
 marked_by false = quiet
 marked_by true = heard (Some Refusal.RecordTooLong)
 
-abbrev pub sent_of : ℕ → Given → Option Sending
-sent_of number (Replies xid outcome) = Some (record { to = number; bytes = record_of (Replies xid outcome) })
-sent_of number Nothing = None
-sent_of number (Says line) = None
-sent_of number (Sends call letter) = None
-sent_of number IsStarved = None
-sent_of number IsRefused = None
+-- a reply goes to the connection that asked
+abbrev pub reply_to : ℕ → Given → Option Sending
+reply_to number (Replies xid outcome) = Some (record { to = ToClient number; bytes = record_of (Replies xid outcome) })
+reply_to number Nothing = None
+reply_to number (Says line) = None
+reply_to number (Sends call letter) = None
+reply_to number IsStarved = None
+reply_to number IsRefused = None
+
+-- a call goes where its letter says
+abbrev pub sent_on : Given → Option Sending
+sent_on (Sends call letter) = Some (record { to = addressee letter.to; bytes = record_of (Sends call letter) })
+sent_on (Replies xid outcome) = None
+sent_on Nothing = None
+sent_on (Says line) = None
+sent_on IsStarved = None
+sent_on IsRefused = None
+
+-- the answer to a line goes to its connection
+abbrev pub line_to : ℕ → Given → Option Sending
+line_to l (Says line) = Some (record { to = ToLocal l; bytes = record_of (Says line) })
+line_to l (Replies xid outcome) = None
+line_to l Nothing = None
+line_to l (Sends call letter) = None
+line_to l IsStarved = None
+line_to l IsRefused = None
 
 abbrev pub refusal_of : Given → Option Refusal
 refusal_of IsStarved = Some Refusal.Starved
@@ -41,15 +60,23 @@ refusal_of (Replies xid outcome) = None
 refusal_of (Says line) = None
 refusal_of (Sends call letter) = None
 
--- of an event that nobody asked for
+-- of an event that sends nothing
 abbrev pub told : Doing → StoreAnswer → Given → Outputs
 told doing store given = record { outcome = doing; store = store; sent = None; refusal = refusal_of given }
 
+-- of the sending of a call
+abbrev pub told_call : Doing → StoreAnswer → Given → Outputs
+told_call doing store given = record { outcome = doing; store = store; sent = sent_on given; refusal = refusal_of given }
+
+-- of a line that came on a local connection
+abbrev pub told_line : ℕ → Doing → StoreAnswer → Given → Outputs
+told_line l doing store given = record { outcome = doing; store = store; sent = line_to l given; refusal = refusal_of given }
+
 -- of a record that came on a connection
 abbrev pub told_to : ℕ → Doing → StoreAnswer → Given → Outputs
-told_to number doing store given = record { outcome = doing; store = store; sent = sent_of number given; refusal = refusal_of given }
+told_to number doing store given = record { outcome = doing; store = store; sent = reply_to number given; refusal = refusal_of given }
 
--- the bytes that are sent: the reply as a record of one fragment
+-- the bytes that are sent: a record as one fragment, and a line as it is
 abbrev pub bytes_sent : Option Sending → List ℕ
 bytes_sent None = []
-bytes_sent (Some sent) = marked sent.bytes
+bytes_sent (Some sent) = cond (gets_records sent.to) (marked sent.bytes) sent.bytes

@@ -1,13 +1,14 @@
 //! The connections of a daemon, the state that they share, and what they are answered.
 
 ghost use Rattle.std.specs.Prelude.{◌≡◌, [], IfOk, OnErr};
-ghost use Rattle.book.specs.Notes.{GraceEnds, BeginsAnew};
+ghost use Rattle.book.specs.Notes.{SendsNext, HearsAnswer, AsksLine, FallsSilent, GraceEnds, BeginsAnew};
+ghost use Rattle.daemon_core.specs.Outputs.{told, told_call, told_line};
 ghost use Rattle.daemon_core.specs.Hub.{Hub, opening, place_of, Connects, Disconnects, Pieces, TakesAt, Happens, Waits, HubStep, Run};
 
 use crate::connection::Connection;
 use crate::event::Event;
-use crate::noted::note;
-use crate::outputs::{Outputs, make_quiet, make_starved, tell, tell_to};
+use crate::noted::{has_room, note};
+use crate::outputs::{Outputs, make_quiet, make_sent, make_starved, tell, tell_line, tell_to};
 use book::{Book, BookEvent, StoreAnswer};
 use hosts_db::HostStore;
 use kept_replies::Peer;
@@ -114,14 +115,45 @@ impl<R: RangeTable, S: HostStore> Daemon<R, S> {
         tell_to(number, noted)
     }
 
+    fn send(&mut self) -> Outputs
+        ensures { Happens told_call SendsNext self.old result self.new }
+    {
+        if !has_room(self.alloc, &mut self.book) {
+            return make_starved();
+        }
+        let Some((_, to, frame)) = self.book.next_call() else {
+            return make_quiet();
+        };
+        make_sent(to, frame)
+    }
+
+    fn answer(&mut self, bytes: Vec<u8>) -> Outputs
+        ensures { Happens told (HearsAnswer bytes.items) self.old result self.new }
+    {
+        tell(note(self.alloc, &mut self.book, BookEvent::Answer { bytes }))
+    }
+
+    fn local(&mut self, connection: u64, line: Vec<u8>) -> Outputs
+        ensures { Happens (told_line connection) (AsksLine connection line.items) self.old result self.new }
+    {
+        let event = BookEvent::Local { connection, line };
+        tell_line(connection, note(self.alloc, &mut self.book, event))
+    }
+
+    fn silent(&mut self, number: u64) -> Outputs
+        ensures { Happens told (FallsSilent number) self.old result self.new }
+    {
+        tell(note(self.alloc, &mut self.book, BookEvent::Silent { number }))
+    }
+
     fn grace_over(&mut self) -> Outputs
-        ensures { Happens GraceEnds self.old result self.new }
+        ensures { Happens told GraceEnds self.old result self.new }
     {
         tell(note(self.alloc, &mut self.book, BookEvent::GraceOver))
     }
 
     fn restart(&mut self) -> Outputs
-        ensures { Happens BeginsAnew self.old result self.new }
+        ensures { Happens told BeginsAnew self.old result self.new }
     {
         let noted = note(self.alloc, &mut self.book, BookEvent::Restart);
         if let StoreAnswer::Yes = noted.store {
@@ -149,6 +181,10 @@ impl<R: RangeTable, S: HostStore> Daemon<R, S> {
             Event::Piece(number, bytes) => self.receive(number, &bytes),
             Event::Disconnect(number) => self.disconnect(number),
             Event::Take(number, index) => self.take(number, index),
+            Event::Send => self.send(),
+            Event::Answer(bytes) => self.answer(bytes),
+            Event::Local(connection, line) => self.local(connection, line),
+            Event::Silent(number) => self.silent(number),
             Event::GraceOver => self.grace_over(),
             Event::Restart => self.restart(),
         }

@@ -3,8 +3,9 @@
 use kept_replies::Peer;
 use thiserror::Error;
 
-/// What may happen. The first number of an event names its connection; an event about a connection
-/// that isn't there gives nothing, and so does a `Connect` of a number in use.
+/// What may happen. The first number of Connect, Piece, Disconnect and Take names a connection that brings records; an event
+/// about one that isn't there gives nothing, and so does a `Connect` of a number in use. Local connections are numbered by
+/// whoever has them.
 #[derive(Drop)]
 pub enum Event {
     /// A connection begins, from this peer.
@@ -15,6 +16,15 @@ pub enum Event {
     Disconnect(u64),
     /// The record at this place among its whole records that were not yet taken is answered.
     Take(u64, usize),
+    /// The server's own call that became due first is sent, if one is due.
+    Send,
+    /// An answer came to one of the server's own calls. One that belongs to none changes nothing.
+    Answer(Vec<u8>),
+    /// A local program's line, without its line feed, on its connection of this number. It is answered there.
+    Local(u64, Vec<u8>),
+    /// Nothing answered the server's own call of this number. It is due again, or forgotten after three sendings; nothing
+    /// changes where it is due now, or where there is none.
+    Silent(u64),
     /// The grace period ends (XNFS, NLM: recovery).
     GraceOver,
     /// The server begins anew, with the store's rows, and in grace. Where the store agrees, all connections end.

@@ -14,6 +14,6 @@ pub use crate::daemon::Daemon;
 pub use crate::event::{Event, Refusal};
 pub use crate::law::{grace_grants_reclaims_only, one_run, runs_are_sound};
 pub use crate::outputs::Outputs;
-pub use crate::sent::Sent;
-pub use book::{Doing, StoreAnswer};
+pub use crate::sent::{Addressee, Sent};
+pub use book::{Doing, HostName, StoreAnswer};
 pub use kept_replies::Peer;

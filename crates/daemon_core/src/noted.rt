@@ -47,7 +47,7 @@ pub(crate) fn note<R: RangeTable, S: HostStore>(
 }
 
 // Whether there is room for one entry more, in this segment or in a fresh one.
-fn has_room<R: RangeTable, S: HostStore>(alloc: Global, book: &mut Book<R, S>) -> bool
+pub(crate) fn has_room<R: RangeTable, S: HostStore>(alloc: Global, book: &mut Book<R, S>) -> bool
     ensures end { book.new.journal.end ≡ book.old.journal.end }
     ensures refusals { book.new.refusals ≡ book.old.refusals }
     ensures room { result ≡ true → 0 < room_of book.new.journal }

@@ -1,1 +1,4 @@
+pub mod Callers
+pub mod Grants
+pub mod Locals
 pub mod Meanings

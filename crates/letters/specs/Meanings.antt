@@ -1,4 +1,6 @@
 -- What is sent, as the definitions have it.
+use Rattle.std.specs.Prelude.{Option, Some, None}
+use Rattle.std.specs.Borrow.{Bor}
 use Rattle.std.specs.Option.{option_map}
 use Rattle.definitions.specs.Nlm as nlm
 use Rattle.definitions.specs.Nsm as nsm
@@ -19,7 +21,18 @@ use Rattle.letters.specs.declared.letter.Destination.{Destination}
 use Rattle.letters.specs.declared.letter.Destination.TheVariants as destination
 
 abbrev pub lock_of : lock_declared.Lock → nlm.Lock
-lock_of l = record { caller_name = l.caller_name; fh = l.fh; oh = l.oh; svid = l.svid; l_offset = l.l_offset; l_len = l.l_len }
+lock_of l = record {
+  caller_name = l.caller.name;
+  fh = l.fh;
+  oh = l.caller.oh;
+  svid = l.caller.svid;
+  l_offset = l.l_offset;
+  l_len = l.l_len;
+}
+
+abbrev pub found_lock : Option (Bor lock_declared.Lock) → Option nlm.Lock
+found_lock None = None
+found_lock (Some l) = Some (lock_of l.now)
 
 abbrev pub local_lock_of : local_declared.LocalLock → outgoing.LocalLock
 local_lock_of l = record { owner = said l.owner; file = l.file; offset = l.offset; len = l.len }

@@ -1,6 +1,8 @@
 //! A message and whom it is for.
 ghost use Rattle.std.specs.Prelude.{◌≡◌, ◌&&◌};
 ghost use Rattle.definitions.specs.Outgoing.{is_to_host, is_grant};
+ghost use Rattle.std.specs.Option.{option_copied};
+ghost use Rattle.letters.specs.Grants.{host_of};
 ghost use Rattle.letters.specs.Meanings.{destination_of, message_of};
 
 use crate::message::Message;
@@ -24,6 +26,16 @@ impl Destination {
         match self {
             Destination::Host(host) => host.as_slice() == name,
             Destination::Connection(_) => false,
+        }
+    }
+
+    /// The name of the host.
+    pub fn host(&self) -> Option<&[u8]>
+        ensures { option_copied result ≡ host_of (destination_of self.now) }
+    {
+        match self {
+            Destination::Host(host) => Some(host.as_slice()),
+            Destination::Connection(_) => None,
         }
     }
 }

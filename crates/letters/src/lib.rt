@@ -2,6 +2,8 @@
 //! values that own their bytes.
 #![tactic(auto)]
 
+mod caller;
+mod lent;
 mod letter;
 mod lock;
 mod message;
@@ -10,6 +12,7 @@ mod short;
 #[cfg(test)]
 mod tests;
 
+pub use caller::Caller;
 pub use letter::{Destination, Letter};
 pub use lock::{LocalLock, Lock};
 pub use message::{Message, MyId};

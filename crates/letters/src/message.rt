@@ -1,7 +1,8 @@
 //! What a call of the server says.
 ghost use Rattle.std.specs.Prelude.{◌≡◌};
 ghost use Rattle.definitions.specs.Outgoing.{ends_when_sent, is_grant, is_granted_msg};
-ghost use Rattle.letters.specs.Meanings.{message_of};
+ghost use Rattle.letters.specs.Grants.{granted_lock};
+ghost use Rattle.letters.specs.Meanings.{message_of, found_lock};
 
 use crate::lock::{LocalLock, Lock};
 use crate::results::{Res, TestRes};
@@ -121,6 +122,22 @@ impl Message {
             | Message::UnlockResult { .. }
             | Message::Status { .. }
             | Message::Notify { .. } => false,
+        }
+    }
+
+    /// The lock that it grants: of GRANTED or GRANTED_MSG.
+    pub fn granted_lock(&self) -> Option<&Lock>
+        ensures { found_lock result ≡ granted_lock (message_of self.now) }
+    {
+        match self {
+            Message::Granted { lock, .. } | Message::GrantedMsg { lock, .. } => Some(lock),
+            Message::GrantedLine { .. }
+            | Message::TestResult { .. }
+            | Message::LockResult { .. }
+            | Message::CancelResult { .. }
+            | Message::UnlockResult { .. }
+            | Message::Status { .. }
+            | Message::Notify { .. } => None,
         }
     }
 }

@@ -8,10 +8,8 @@ use std::test::*;
 
 fn lock(alloc: Global) -> Result<Lock, AllocError> {
     Ok(Lock {
-        caller_name: ShortBytes::copy_of(alloc, b"b")?,
+        caller: Caller::copy_of(alloc, b"b", 8, b"B")?,
         fh: ShortBytes::copy_of(alloc, &[1, 2, 3, 4])?,
-        oh: ShortBytes::copy_of(alloc, b"B")?,
-        svid: 8,
         l_offset: 0,
         l_len: 10,
     })
@@ -42,6 +40,27 @@ fn a_granted_msg(rt: HostRuntime) -> Result<(), Fail> {
     };
     let letter = to_host(rt.alloc(), message)?;
     assert_eq!(rt; told(&letter), (true, true, true, false));
+    assert_eq!(rt; letter.to().host().ok_or("no host")?, b"b".as_slice());
+    let granted = letter.message().granted_lock().ok_or("no lock")?;
+    assert_eq!(rt; granted.caller.oh(), b"B".as_slice());
+    Ok(())
+}
+
+#[test]
+fn a_lock(rt: HostRuntime) -> Result<(), Fail> {
+    let some = lock(rt.alloc())?;
+    assert_eq!(rt; some.caller.name(), b"b".as_slice());
+    assert_eq!(rt; some.caller.svid(), 8);
+    assert!(rt; some.caller.owner().is_of_host(b"b"));
+    assert_eq!(rt; some.file().as_bytes(), [1, 2, 3, 4].as_slice());
+    assert_eq!(rt; some.last(), 9);
+    let all = Lock {
+        caller: some.caller,
+        fh: some.fh,
+        l_offset: 5,
+        l_len: 0,
+    };
+    assert_eq!(rt; all.last(), 0x7fff_ffff_ffff_ffff);
     Ok(())
 }
 
@@ -71,5 +90,6 @@ fn a_line(rt: HostRuntime) -> Result<(), Fail> {
         Message::GrantedLine { mode, lock },
     );
     assert_eq!(rt; told(&letter), (false, false, false, true));
+    assert!(rt; letter.to().host().is_none() && letter.message().granted_lock().is_none());
     Ok(())
 }

@@ -80,7 +80,7 @@ fn file_of(fh: &[u8]) -> Option<FileId>
 }
 
 // The last byte of a range that a file can have.
-fn last_of(offset: u64, len: u64) -> Option<u64>
+pub(crate) fn last_of(offset: u64, len: u64) -> Option<u64>
     ensures some { IfSome result (λ last. (is_too_far offset len ≡ false) × (last ≡ last_byte offset len) × (offset ≤ last) × (last < 2 ^ 63)) }
     ensures none { IfNone result (is_too_far offset len ≡ true) }
 {

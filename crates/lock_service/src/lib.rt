@@ -2,10 +2,12 @@
 //! nothing; then all memory is got; then the store is asked, at most once; and then the plan is done, without memory.
 #![tactic(auto)]
 
+mod answers;
 mod call;
 mod checks;
 mod copies;
 mod free_all;
+mod local;
 mod lock;
 mod null;
 mod plans;
@@ -16,7 +18,9 @@ mod test;
 mod unlock;
 mod unshare;
 
+pub use answers::{answered, granted_res};
 pub use call::{Call, Procedure};
+pub use local::{LinePlan, close_file, get_lock, plan_set, set_lock};
 pub use owner_ids::Starved;
 pub use plans::{Answer, Change, Plan, Range, Row, StoreAnswer};
 pub use steps::{abandon, agree, answer, ask, commit, plan, prepare};

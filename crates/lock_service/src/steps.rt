@@ -60,7 +60,7 @@ pub fn prepare<R: RangeTable, S: HostStore>(
     }
 }
 
-fn prepare_change<R: RangeTable, S: HostStore>(
+pub(crate) fn prepare_change<R: RangeTable, S: HostStore>(
     world: &mut World<R, S>,
     change: &Change,
 ) -> Result<(), Starved>
@@ -186,7 +186,7 @@ fn set<R: RangeTable, S: HostStore>(world: &mut World<R, S>, range: &Range) -> R
     world.set(&range.change())
 }
 
-fn change<R: RangeTable, S: HostStore>(world: &mut World<R, S>, change: Change)
+pub(crate) fn change<R: RangeTable, S: HostStore>(world: &mut World<R, S>, change: Change)
     requires fits { FitsChange change world.old.world }
     requires ready { IsReadyFor change world.old }
     ensures world { world.new.world ≡ changed change world.old.world }

@@ -124,7 +124,7 @@ fn shown_oh(alloc: Global, owner: &Owner) -> Result<ShortBytes, Starved>
     })
 }
 
-fn shown_len(first: u64, last: u64) -> u64
+pub(crate) fn shown_len(first: u64, last: u64) -> u64
     requires { last < 2 ^ 63 }
     ensures { result ≡ len_said first last }
 {

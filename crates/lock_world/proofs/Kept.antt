@@ -16,7 +16,7 @@ use Rattle.blocked_list.specs.Waiting.{Waiting, Taken, AreNamed, owner_at, waite
 use Rattle.lock_world.specs.Whole.{IsWhole, AreWaitersShown}
 use Rattle.lock_world.proofs.Shown.{none_passes, shown_without, waiters_without}
 
-some_of : {X : Type 0} (o : Option X) → IsSome o → (x : X) × (o ≡ Some x)
+pub some_of : {X : Type 0} (o : Option X) → IsSome o → (x : X) × (o ≡ Some x)
 some_of None h = absurd (none_is h)
   where
     none_is : false ≡ true → ⊥

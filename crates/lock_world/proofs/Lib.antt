@@ -5,3 +5,4 @@ pub mod OneProof
 pub mod Granting
 pub mod Sendings
 pub mod Notices
+pub mod Closed

@@ -32,3 +32,12 @@ no_more_silent number calls = at (first_that (is_numbered number) calls) refl
     at : (o : Option Outgoing) → first_that (is_numbered number) calls ≡ o → length (after_silence_at o calls) ≤ length calls
     at None e = omega arith
     at (Some c) e = go c c.is_due (leb 3 c.sendings) (less number calls c e)
+
+-- nor does an answer
+pub no_more_answered : (number : ℕ) (calls : List Outgoing) → length (without_call number calls) ≤ length calls
+no_more_answered number [] = omega arith
+no_more_answered number (c ∷ calls) = go (is_numbered number c) (no_more_answered number calls)
+  where
+    go : (b : Bool) → length (without_call number calls) ≤ length calls → length (cond b calls (c ∷ without_call number calls)) ≤ length (c ∷ calls)
+    go true more = omega arith
+    go false more = omega arith

@@ -72,8 +72,8 @@ impl<R: RangeTable, S: HostStore> World<R, S> {
         self.next = first_number(own);
     }
 
-    // The calls become due, in their order.
-    fn tell(&mut self, letters: Vec<Letter>)
+    /// The calls become due, in their order, under the next numbers. As many places are free.
+    pub fn tell(&mut self, letters: Vec<Letter>)
         requires { length self.old.world.waiters + length self.old.world.calls + length letters.items ≤ 8192 }
         ensures world { self.new.world ≡ with_all_due self.old.world letters.items }
         ensures refusals { self.new.refusals ≡ self.old.refusals }

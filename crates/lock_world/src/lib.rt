@@ -3,11 +3,14 @@
 #![tactic(auto)]
 
 mod anew;
+mod answers;
 mod changes;
+mod closing;
 mod readings;
 mod sends;
 mod settle;
 mod world;
 
+pub use answers::AnswerKey;
 pub use owner_ids::Starved;
 pub use world::World;

@@ -1,7 +1,7 @@
 //! What the server itself calls, and when.
 ghost use Rattle.std.specs.Prelude.{◌≡◌};
 ghost use Rattle.definitions.specs.Outgoing.{next_due, after_sending, after_silence};
-ghost use Rattle.definitions.specs.World.{with_calls};
+ghost use Rattle.definitions.specs.World.{with_calls, slots_free, the_limits};
 ghost use Rattle.out_calls.specs.Found.{found};
 
 use crate::world::World;
@@ -10,6 +10,13 @@ use out_calls::Call;
 use range_table::RangeTable;
 
 impl<R: RangeTable, S: HostStore> World<R, S> {
+    /// How many places are free, of the 8,192 that waiters and the server's own calls share.
+    pub fn free_slots(&self) -> usize
+        ensures { result ≡ slots_free the_limits self.now.world }
+    {
+        self.slots.free()
+    }
+
     /// The call that is to be sent next.
     pub fn next_call(&self) -> Option<&Call>
         ensures { found result ≡ next_due self.now.world.calls }

@@ -52,11 +52,7 @@ pieces-send (Some place) bytes old new out h = receives-sends h.link.receives h.
 
 piece-sends : (old new : Hub) (event : Event) (bytes : List ℕ) (out : Outputs) → IsPiece event bytes → HubStep old event out new → out.sent ≡ None
 piece-sends old new (Piece number v) bytes out is h = pieces-send (place_of number old.links) v.items old new out h
-piece-sends old new (Connect number peer) bytes out is h = absurd is
-piece-sends old new (Disconnect number) bytes out is h = absurd is
-piece-sends old new (Take number i) bytes out is h = absurd is
-piece-sends old new GraceOver bytes out is h = absurd is
-piece-sends old new Restart bytes out is h = absurd is
+piece-sends old new _ bytes out is h = absurd is
 
 -- ---- turns
 
@@ -102,11 +98,7 @@ pieces-at-agreed (Some place) bytes old new out h e = receives-agreed h.link.rec
 
 pieces-agreed : (old new : Hub) (event : Event) (bytes : List ℕ) (out : Outputs) → IsPiece event bytes → HubStep old event out new → out.refusal ≡ Some Refusal.StoreRefused → ⊥
 pieces-agreed old new (Piece number v) bytes out is h e = pieces-at-agreed (place_of number old.links) v.items old new out h e
-pieces-agreed old new (Connect number peer) bytes out is h e = absurd is
-pieces-agreed old new (Disconnect number) bytes out is h e = absurd is
-pieces-agreed old new (Take number i) bytes out is h e = absurd is
-pieces-agreed old new GraceOver bytes out is h e = absurd is
-pieces-agreed old new Restart bytes out is h e = absurd is
+pieces-agreed old new _ bytes out is h e = absurd is
 
 -- a piece that was refused
 pub refused-turn : (old mid new : Hub) (piece : Event) (bytes : List ℕ) (heard : Outputs) → IsPiece piece bytes → HubStep old piece heard mid → (before after : Option (List ℕ)) (r : Refusal) → heard.refusal ≡ Some r

@@ -4,7 +4,7 @@ use Rattle.std.specs.List.{flat_map}
 use Rattle.std.specs.Option.{option_to_list}
 use Rattle.std.specs.Io.KnownBytes.{Appends, Keeps, Consumes, IsAtEnd}
 use Rattle.daemon_core.specs.declared.event.Event.{Event}
-use Rattle.daemon_core.specs.declared.event.Event.TheVariants.{Connect, Piece, Disconnect, Take, GraceOver, Restart}
+use Rattle.daemon_core.specs.declared.event.Event.TheVariants.{Connect, Piece, Take, GraceOver, Restart}
 use Rattle.daemon_core.specs.declared.outputs.Outputs.{Outputs}
 use Rattle.daemon_core.specs.declared.event.Refusal.{Refusal}
 use Rattle.kept_replies.specs.declared.key.Peer.{Peer}
@@ -17,11 +17,7 @@ use Rattle.lockd_main.specs.Written.{WroteFront}
 -- the event brings these bytes to the pipe's connection, which has the number 0
 abbrev pub IsPiece : Event → List ℕ → Type 0
 IsPiece (Piece number v) bytes = (number ≡ 0) × (v.items ≡ bytes)
-IsPiece (Connect number peer) bytes = ⊥
-IsPiece (Disconnect number) bytes = ⊥
-IsPiece (Take number i) bytes = ⊥
-IsPiece GraceOver bytes = ⊥
-IsPiece Restart bytes = ⊥
+IsPiece _ bytes = ⊥
 
 -- the oldest record that was not taken is answered, so many times
 abbrev pub takes : ℕ → List Event

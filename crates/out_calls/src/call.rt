@@ -62,6 +62,13 @@ impl Call {
         &self.letter
     }
 
+    /// Gives up what it says, and to whom.
+    pub fn into_letter(self) -> Letter
+        ensures { result ≡ self.letter }
+    {
+        self.letter
+    }
+
     pub fn is_due(&self) -> bool
         ensures { result ≡ self.now.is_due }
     {

@@ -119,13 +119,13 @@ impl OutCalls {
         oldest
     }
 
-    /// An answer ends the call of this number. Where there is none nothing changes.
-    pub fn answered(&mut self, number: u64)
-        ensures { self.new ≡ without_call number self.old }
+    /// An answer ends the call of this number, which is given back. Where there is none nothing changes.
+    pub fn answered(&mut self, number: u64) -> Option<Call>
+        ensures call { result ≡ first_that (is_numbered number) self.old }
+        ensures calls { self.new ≡ without_call number self.old }
     {
-        if let Some(place) = self.place_of(number) {
-            drop(self.calls.remove(place));
-        }
+        let place = self.place_of(number)?;
+        Some(self.calls.remove(place))
     }
 
     /// Nothing answered the call of this number. It becomes due again, behind the others, or is forgotten once it was

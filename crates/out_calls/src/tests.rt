@@ -1,7 +1,7 @@
 //! Worked rows, a full table, and a random script beside a plain list.
 use super::*;
 use blocked_list::MOST_SLOTS;
-use letters::{Destination, Letter, Lock, Message, ShortBytes};
+use letters::{Caller, Destination, Letter, Lock, Message, ShortBytes};
 use nlm4_types::Version;
 use std::alloc::{AllocError, Global};
 use std::test::*;
@@ -19,10 +19,8 @@ enum Kind {
 
 fn lock(alloc: Global, name: u8) -> Result<Lock, AllocError> {
     Ok(Lock {
-        caller_name: ShortBytes::copy_of(alloc, &[name])?,
+        caller: Caller::copy_of(alloc, &[name], 8, b"B")?,
         fh: ShortBytes::copy_of(alloc, &[1, 2, 3, 4])?,
-        oh: ShortBytes::copy_of(alloc, b"B")?,
-        svid: 8,
         l_offset: 0,
         l_len: 10,
     })
@@ -92,8 +90,10 @@ fn grant_refused(rt: HostRuntime) -> Result<(), Fail> {
     calls.sent();
     assert_eq!(rt; next(&calls), 0);
     assert!(rt; calls.of_xid(1).is_some() && calls.of_xid(2).is_none());
-    calls.answered(FIRST);
+    let call = calls.answered(FIRST).ok_or("no call")?;
     assert!(rt; calls.is_empty());
+    assert!(rt; call.into_letter().is_grant_to(b"b"));
+    assert!(rt; calls.answered(FIRST).is_none());
     make_due(
         &mut calls,
         FIRST + 1,

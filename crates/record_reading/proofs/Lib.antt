@@ -1,1 +1,2 @@
 pub mod OneReadings
+pub mod OneAnswers

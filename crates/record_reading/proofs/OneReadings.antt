@@ -1,5 +1,5 @@
 -- A record has one reading.
-use Rattle.std.proofs.Common.{◌≡◌, ℕ, ◌==◌, Bool, true, false, ◌⊎◌, inl, inr, refl, sym, ap, ◌∙◌, subst, List}
+use Rattle.std.proofs.Common.{◌≡◌, ℕ, ◌==◌, Bool, true, false, inl, inr, sym, ap, ◌∙◌, subst, List}
 use Rattle.xdr_core.specs.Codec.{Codec}
 use Rattle.xdr_core.proofs.Meaning.{front_one}
 use Rattle.definitions.specs.Nlm as nlm
@@ -8,7 +8,7 @@ use Rattle.rpc_msg.specs.declared.header.Header.{Header}
 use Rattle.rpc_msg.proofs.OneVerdict.{has_one_verdict}
 use Rattle.nlm4_types.specs.Call as nlm_call
 use Rattle.nsm_types.specs.Call as nsm_call
-use Rattle.record_reading.specs.Readings.{reading_of_refused, IsArguments, IsAsked, in_version, OneReading, IsReading, IsCalled, IsTurned}
+use Rattle.record_reading.specs.Readings.{reading_of_refused, IsArguments, IsAsked, in_version, OneReading}
 
 both : {X : Type 0} (x y z : X) → x ≡ z → y ≡ z → x ≡ y
 both x y z p q = p ∙ sym q

@@ -1,9 +1,8 @@
 -- What a record says, by what a front of it spells: header, program, version, procedure, arguments, in this order (RFC 5531, section 9).
-use Rattle.std.specs.Prelude.{ℕ, ◌≡◌, ◌⊎◌, Bool, true, false, cond, ◌==◌, List}
+use Rattle.std.specs.Prelude.{ℕ, ◌≡◌, ◌⊎◌, Bool, true, false, ◌==◌, List}
 use Rattle.xdr_core.specs.Codec.{Codec, Front}
 use Rattle.definitions.specs.Nlm as nlm
-use Rattle.definitions.specs.Nsm as nsm
-use Rattle.definitions.specs.Replies.{Call, Nlm, Nsm, Refusal, RpcMismatch, BadCredential, ProgUnavail, ProgMismatch, ProcUnavail, GarbageArgs, Reading, Ignored, Turned, Asks}
+use Rattle.definitions.specs.Replies.{Call, Nlm, Nsm, RpcMismatch, BadCredential, ProgUnavail, ProgMismatch, ProcUnavail, GarbageArgs, Reading, Ignored, Turned, Asks}
 use Rattle.rpc_msg.specs.declared.header.Header.{Header}
 use Rattle.rpc_msg.specs.declared.header.HeaderError.{HeaderError}
 use Rattle.rpc_msg.specs.declared.header.HeaderError.TheVariants.{NotACall, BadHeader, RpcVersion, BadCred}

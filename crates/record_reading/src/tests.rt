@@ -1,6 +1,6 @@
 //! Headers and arguments in turn.
 use super::*;
-use nlm4_types::{NlmCall, Version};
+use nlm4_types::{NlmCall, Stat, Version};
 use nsm_types::NsmCall;
 use std::alloc::{AllocError, Global};
 use std::test::*;
@@ -102,5 +102,38 @@ fn calls_with_bytes_behind_them(rt: HostRuntime) -> Result<(), Fail> {
     )?;
     let expected = Some((8, b"h5".as_slice(), 3));
     assert_eq!(rt; free_all(&Reading::read(bytes.as_slice())), expected);
+    Ok(())
+}
+
+#[test]
+fn answers_by_what_they_say(rt: HostRuntime) -> Result<(), Fail> {
+    let done = |stat| AnswerReading::AcceptedSuccess { xid: 5, stat };
+    let other = AnswerReading::OtherAnswer { xid: 5 };
+    let answers: [(&[u32], AnswerReading); 9] = [
+        (
+            &[5, 1, 0, 0, 0, 0, 2, 0x0809_0000, 0],
+            done(Some(Stat::Granted)),
+        ),
+        (&[5, 1, 0, 0, 0, 0, 0, 1, 7], done(Some(Stat::Denied))),
+        (
+            &[5, 1, 0, 0, 0, 0, 0, 4],
+            done(Some(Stat::DeniedGracePeriod)),
+        ),
+        // no status has the word 10
+        (&[5, 1, 0, 0, 0, 0, 0, 10], done(None)),
+        (&[5, 1, 0, 0, 0, 0], done(None)),
+        // PROG_UNAVAIL, PROG_MISMATCH without its bounds, and MSG_DENIED
+        (&[5, 1, 0, 0, 0, 1], other),
+        (&[5, 1, 0, 0, 0, 2], other),
+        (&[5, 1, 1, 1], other),
+        (&[5, 0, 2, 100_021, 4, 0], AnswerReading::Unreadable),
+    ];
+    for (answer, expected) in answers {
+        let bytes = words(rt.alloc(), answer)?;
+        assert_eq!(rt; AnswerReading::read(bytes.as_slice()), expected);
+    }
+    assert_eq!(rt; AnswerReading::read(&[0, 0, 0]), AnswerReading::Unreadable);
+    one_answer_reading();
+    one_reading();
     Ok(())
 }

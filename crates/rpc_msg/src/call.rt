@@ -80,6 +80,7 @@ pub fn put_call(f: &mut Frame, xid: u32, prog: u32, vers: u32, proc: u32) -> Res
     ensures room { IsOk result ↔ (length f.old + 40 ≤ 4096) }
     ensures ok { OnOk result (f.new ≡ f.old ++ written_call xid prog vers proc) }
     ensures err { OnErr result (f.new ≡ f.old) }
+    ensures size { length (written_call xid prog vers proc) ≡ 40 }
 {
     let none = OpaqueAuth::none();
     let start = CallStart {

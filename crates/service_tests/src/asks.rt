@@ -1,9 +1,10 @@
 //! What clients ask, and what they are told.
 ghost use Rattle.std.specs.Prelude.{◌≤◌, length};
 
+use crate::calls::CallStep;
 use call_outcome::{CallResult, Outcome};
 use letters::TestRes;
-use lock_service::Procedure;
+use lock_service::{Procedure, StoreAnswer};
 use nlm4_types::{
     Access, Lock, LockArgs, Netobj, Notify, ShareArgs, Stat, TestArgs, UnlockArgs, WIDE,
 };
@@ -29,7 +30,7 @@ impl Who {
         }
     }
 
-    fn oh(self) -> &'static [u8]
+    pub(crate) fn oh(self) -> &'static [u8]
         ensures { length result.now ≤ 1 }
     {
         match self {
@@ -38,7 +39,7 @@ impl Who {
         }
     }
 
-    fn svid(self) -> i32 {
+    pub(crate) fn svid(self) -> i32 {
         match self {
             Who::A => 7,
             Who::B => 8,
@@ -66,6 +67,8 @@ pub(crate) enum Step {
     CountsKnown,
     /// Is told whether the host has a row.
     HasRow(Who),
+    /// Of the server's own calls.
+    Calls(CallStep),
 }
 
 /// What a step is told.
@@ -76,6 +79,7 @@ pub(crate) enum Told {
     InTheWay { svid: i32, offset: u64, len: u64 },
     Count(u32),
     Is(bool),
+    Store(StoreAnswer),
 }
 
 pub(crate) const GRANTED: Told = Told::Stat(Stat::Granted);
@@ -188,7 +192,7 @@ impl Step {
     /// The procedure that a client calls, or none.
     pub(crate) fn procedure(self) -> Option<Procedure<'static>> {
         Some(match self {
-            Step::GraceOver | Step::CountsKnown | Step::HasRow(_) => return None,
+            Step::GraceOver | Step::CountsKnown | Step::HasRow(_) | Step::Calls(_) => return None,
             Step::Null => Procedure::Null,
             Step::Locks(who, offset, len) => Procedure::Lock(lock(who, &FILE, offset, len)),
             Step::LocksLongHandle(who) => Procedure::Lock(lock(who, &LONG, 0, 1)),

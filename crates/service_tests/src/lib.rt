@@ -4,6 +4,10 @@
 #[cfg(test)]
 mod asks;
 #[cfg(test)]
+mod calls;
+#[cfg(test)]
+mod lines;
+#[cfg(test)]
 mod rows;
 #[cfg(test)]
 mod server;

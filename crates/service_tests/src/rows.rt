@@ -1,5 +1,6 @@
 //! Worked rows.
 mod absence;
+mod answers;
 mod locks;
 mod phases;
 mod room;

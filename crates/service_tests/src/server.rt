@@ -1,5 +1,6 @@
 //! A server over a flat table and hosts in memory.
 use crate::asks::{GRANTED, Step, Told, Who, lock};
+use crate::calls;
 use hosts_db::{FULL_QUOTA, HostRow, MemHosts};
 use letters::ShortBytes;
 use lock_service::{Call, Procedure, answer};
@@ -12,6 +13,8 @@ use std::alloc::{AllocError, Global};
 #[derive(Clone, Copy)]
 pub(crate) enum Hosts {
     None,
+    /// `a` and `b`.
+    Two,
     /// As many as a store has.
     All,
 }
@@ -87,19 +90,20 @@ impl Server {
     fn told(&mut self, step: Step) -> Result<Told, Starved> {
         match step.procedure() {
             Some(procedure) => self.asked(procedure),
-            None => Ok(self.shown(step)),
+            None => self.shown(step),
         }
     }
 
-    fn shown(&mut self, step: Step) -> Told {
-        match step {
+    fn shown(&mut self, step: Step) -> Result<Told, Starved> {
+        Ok(match step {
             Step::CountsKnown => Told::Count(self.known()),
             Step::HasRow(who) => Told::Is(self.world.has_row(who.name())),
+            Step::Calls(step) => return calls::told(&mut self.world, step),
             _ => {
                 self.world.grace_over();
                 Told::Nothing
             }
-        }
+        })
     }
 
     // Of the few owners that a row has.
@@ -173,12 +177,21 @@ impl Server {
 fn store(alloc: Global, hosts: Hosts) -> Result<MemHosts, Starved> {
     let rows = match hosts {
         Hosts::None => Vec::new(alloc),
+        Hosts::Two => two_hosts(alloc)?,
         Hosts::All => all_hosts(alloc)?,
     };
     match MemHosts::new(alloc, 1, rows, Vec::new(alloc)) {
         Ok(store) => Ok(store),
         Err(_) => Err(Starved),
     }
+}
+
+fn two_hosts(alloc: Global) -> Result<Vec<HostRow>, AllocError> {
+    let mut rows = Vec::with_capacity(alloc, 2)?;
+    for who in [Who::A, Who::B] {
+        rows.push(HostRow::new(Vec::from_slice(alloc, who.name())?, 1, 0, FULL_QUOTA))?;
+    }
+    Ok(rows)
 }
 
 fn all_hosts(alloc: Global) -> Result<Vec<HostRow>, AllocError> {

@@ -1,23 +1,21 @@
-use Rattle.std.proofs.Common.{◌≡◌, length, ap, ◌∙◌, arith}
+use Rattle.std.proofs.Common.{◌≡◌, length, ap, ◌∙◌}
 use Rattle.std.proofs.lemmas.Result.{err_from_is_err_and}
 use Rattle.record_mark.specs.Sent.{mark_of_last}
-use Rattle.lockd_main.proofs.WrittenLemmas.{WroteFront-longer, Wrote-after, on_ok}
+use Rattle.lockd_main.proofs.WrittenLemmas.{WroteFront-longer, Wrote-after}
 use Rattle.lockd_main.proofs.output.write_record.Goals as goal
 
 pub returns-in_err-write_whole : goal.returns-in_err-write_whole
 returns-in_err-write_whole g c =
     let p = err_from_is_err_and c.from_residual.result c.from_residual.ensures.1 in
-    let message = c.args.sent.now.bytes in
-    let frame : c.put.new.f ≡ message = rw c.new-frame.ensures at (on_ok c.put.result _ (c.put.ensures.fits (rw c.new-frame.ensures (omega arith))) c.put.ensures.ok) in
-    let mark : c.last_mark.result ≡ mark_of_last (length message) = c.last_mark.ensures ∙ ap mark_of_last (c.len.ensures.value ∙ ap length frame) in
+    let bytes = c.args.frame.now in
+    let mark : c.last_mark.result ≡ mark_of_last (length bytes) = c.last_mark.ensures ∙ ap mark_of_last c.len.ensures.value in
     let failed = rw mark at c.in_err-write_whole.ensures in
-    rw (p.1, p.2) (failed.0, WroteFront-longer _ _ (mark_of_last (length message)) message failed.1)
+    rw (p.1, p.2) (failed.0, WroteFront-longer _ _ (mark_of_last (length bytes)) bytes failed.1)
 
 pub returns : goal.returns
 returns g c =
-    let message = c.args.sent.now.bytes in
-    let frame : c.put.new.f ≡ message = rw c.new-frame.ensures at (on_ok c.put.result _ (c.put.ensures.fits (rw c.new-frame.ensures (omega arith))) c.put.ensures.ok) in
-    let mark : c.last_mark.result ≡ mark_of_last (length message) = c.last_mark.ensures ∙ ap mark_of_last (c.len.ensures.value ∙ ap length frame) in
+    let bytes = c.args.frame.now in
+    let mark : c.last_mark.result ≡ mark_of_last (length bytes) = c.last_mark.ensures ∙ ap mark_of_last c.len.ensures.value in
     let first = rw mark at c.in_ok-write_whole.ensures in
-    let second = rw (c.as_slice.ensures, frame) at c.write_whole-2.ensures in
-    Wrote-after _ _ _ c.write_whole-2.result (mark_of_last (length message)) message first second
+    let second = rw c.as_slice.ensures at c.write_whole-2.ensures in
+    Wrote-after _ _ _ c.write_whole-2.result (mark_of_last (length bytes)) bytes first second

@@ -1,12 +1,20 @@
 use Rattle.std.proofs.Common.{sym, ◌∙◌}
 use Rattle.definitions.specs.Outgoing.{is_numbered}
-use Rattle.blocked_list.proofs.Firsts.{without_first-at, without_first-none}
+use Rattle.blocked_list.proofs.Firsts.{first_that-none, found_at, without_first-at, without_first-none}
 use Rattle.out_calls.proofs.calls.OutCalls.answered.Goals as goal
 
-pub returns-in-Some : goal.returns-in-Some
-returns-in-Some c =
-    let gone = rw c.self.view_is at c.remove.ensures.items in
-    gone ∙ sym (without_first-at (is_numbered c.args.number) c.args.self.now c.in-Some.place c.in-Some.ensures)
+pub returns-in_err-place-clause-call : goal.returns-in_err-place-clause-call
+returns-in_err-place-clause-call c = c.from_residual.ensures ∙ sym (first_that-none (is_numbered c.args.number) c.args.self.now c.in_err-place.ensures)
 
-pub returns-in_default : goal.returns-in_default
-returns-in_default c = sym (without_first-none (is_numbered c.args.number) c.args.self.now c.in_default.ensures)
+pub returns-in_err-place-clause-calls : goal.returns-in_err-place-clause-calls
+returns-in_err-place-clause-calls c = sym (without_first-none (is_numbered c.args.number) c.args.self.now c.in_err-place.ensures)
+
+pub returns-clause-call : goal.returns-clause-call
+returns-clause-call c =
+    let there = rw c.self.view_is at c.remove.ensures.value in
+    found_at (is_numbered c.args.number) c.args.self.now c.in_ok-place.place c.remove.result c.in_ok-place.ensures there
+
+pub returns-clause-calls : goal.returns-clause-calls
+returns-clause-calls c =
+    let gone = rw c.self.view_is at c.remove.ensures.items in
+    gone ∙ sym (without_first-at (is_numbered c.args.number) c.args.self.now c.in_ok-place.place c.in_ok-place.ensures)

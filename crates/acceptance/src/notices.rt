@@ -1,0 +1,161 @@
+//! What the server itself calls once it has begun anew.
+use daemon_core::{Addressee, Daemon, Event, Outputs};
+use hosts_db::{FULL_QUOTA, HostRow, HostStore, MemHosts};
+use letters::ShortBytes;
+use range_table::{FlatTable, RangeTable};
+use std::alloc::Global;
+use std::test::*;
+use xdr_core::Frame;
+
+/// The number of the first call under the own state 3.
+const FIRST: u64 = (3 << 32) + 1;
+
+fn host(alloc: Global, name: &[u8]) -> Result<HostRow, Fail> {
+    Ok(HostRow::new(Vec::from_slice(alloc, name)?, 1, 3, FULL_QUOTA))
+}
+
+/// In the own state 1, with rows of `a` and `b`.
+fn opened(alloc: Global) -> Result<Daemon<FlatTable, MemHosts>, Fail> {
+    let mut hosts = Vec::new(alloc);
+    hosts.push(host(alloc, b"a")?)?;
+    hosts.push(host(alloc, b"b")?)?;
+    let store = MemHosts::new(alloc, 1, hosts, Vec::new(alloc))?;
+    let name = ShortBytes::copy_of(alloc, b"server")?;
+    Ok(Daemon::new(alloc, FlatTable::new(alloc)?, store, name)?)
+}
+
+/// SM_NOTIFY of the own state 3 from `server`, under this xid.
+fn notice(xid: u32) -> Frame {
+    let mut f = Frame::new();
+    let words = [
+        xid,
+        0,
+        2,
+        100_024,
+        1,
+        6,
+        0,
+        0,
+        0,
+        0,
+        6,
+        0x7365_7276,
+        0x6572_0000,
+        3,
+    ];
+    for word in words {
+        let _ = f.append(&word.to_be_bytes());
+    }
+    f
+}
+
+/// Whether this is the notice of this xid, to this host.
+fn is_notice(outputs: &Outputs, name: &[u8], xid: u32) -> bool {
+    let Some(sent) = &outputs.sent else {
+        return false;
+    };
+    let Addressee::Host(to) = sent.to() else {
+        return false;
+    };
+    let mut record = Frame::new();
+    let want = notice(xid);
+    to.as_slice() == name && sent.put(&mut record).is_ok() && record.as_slice() == want.as_slice()
+}
+
+fn sends<T: RangeTable, S: HostStore>(daemon: &mut Daemon<T, S>, name: &[u8], xid: u32) -> bool {
+    is_notice(&daemon.step(Event::Send), name, xid)
+}
+
+fn is_quiet<T: RangeTable, S: HostStore>(daemon: &mut Daemon<T, S>, event: Event) -> bool {
+    let outputs = daemon.step(event);
+    outputs.sent.is_none() && outputs.refusal.is_none()
+}
+
+// Each host is told once, in order of name, and then nothing is due.
+fn tells_each<T: RangeTable, S: HostStore>(daemon: &mut Daemon<T, S>) -> bool {
+    is_quiet(daemon, Event::Restart)
+        && sends(daemon, b"a", 1)
+        && sends(daemon, b"b", 2)
+        && is_quiet(daemon, Event::Send)
+}
+
+// A notice that nobody answers is sent three times, with the same bytes, and then forgotten. One of no call changes nothing.
+fn falls_silent<T: RangeTable, S: HostStore>(daemon: &mut Daemon<T, S>) -> bool {
+    is_quiet(daemon, Event::Silent(FIRST + 7))
+        && is_quiet(daemon, Event::Silent(FIRST))
+        && is_quiet(daemon, Event::Silent(FIRST))
+        && sends(daemon, b"a", 1)
+        && is_quiet(daemon, Event::Silent(FIRST))
+        && sends(daemon, b"a", 1)
+        && is_quiet(daemon, Event::Silent(FIRST))
+        && is_quiet(daemon, Event::Send)
+}
+
+/// A reply of SUCCESS to the call of this xid, or a front of one.
+fn success(alloc: Global, xid: u32, most: usize) -> Result<Event, Fail> {
+    let mut bytes = Vec::new(alloc);
+    for word in [xid, 1, 0, 0, 0, 0] {
+        bytes.extend_from_slice(word.to_be_bytes().as_slice())?;
+    }
+    bytes.truncate(most);
+    Ok(Event::Answer(bytes))
+}
+
+// An answer that belongs to no call that was sent changes nothing; one that does ends its call.
+fn is_answered<T: RangeTable, S: HostStore>(
+    alloc: Global,
+    daemon: &mut Daemon<T, S>,
+) -> Result<bool, Fail> {
+    let is_told = is_quiet(daemon, Event::Restart) && sends(daemon, b"a", 1);
+    let stray = is_quiet(daemon, success(alloc, 9, 24)?) && is_quiet(daemon, success(alloc, 1, 3)?);
+    let heard = is_quiet(daemon, success(alloc, 1, 24)?) && is_quiet(daemon, Event::Silent(FIRST));
+    Ok(is_told && stray && heard && sends(daemon, b"b", 2) && is_quiet(daemon, Event::Send))
+}
+
+// No line is served yet: each is answered `bad` on its own connection.
+fn is_bad_line<T: RangeTable, S: HostStore>(
+    alloc: Global,
+    daemon: &mut Daemon<T, S>,
+) -> Result<bool, Fail> {
+    let line = Vec::from_slice(alloc, b"getlk p1 aa r 0 0".as_slice())?;
+    let outputs = daemon.step(Event::Local(7, line));
+    let Some(sent) = &outputs.sent else {
+        return Ok(false);
+    };
+    let mut text = Frame::new();
+    let is_put = sent.put(&mut text).is_ok();
+    Ok(is_put && matches!(sent.to(), Addressee::Local(7)) && text.as_slice() == b"bad\n".as_slice())
+}
+
+fn hears_each<T: RangeTable, S: HostStore>(
+    alloc: Global,
+    daemon: &mut Daemon<T, S>,
+) -> Result<bool, Fail> {
+    Ok(is_answered(alloc, daemon)? && is_bad_line(alloc, daemon)?)
+}
+
+fn plays(alloc: Global) -> Result<bool, Fail> {
+    let mut daemon = opened(alloc)?;
+    let is_played = tells_each(&mut daemon) && falls_silent(&mut daemon);
+    drop(daemon);
+    Ok(is_played)
+}
+
+fn hears(alloc: Global) -> Result<bool, Fail> {
+    let mut daemon = opened(alloc)?;
+    let is_heard = hears_each(alloc, &mut daemon);
+    drop(daemon);
+    is_heard
+}
+
+#[test]
+fn notices(rt: HostRuntime) -> Result<(), Fail> {
+    assert!(rt; plays(rt.alloc())?);
+    Ok(())
+}
+
+#[test]
+fn answers_and_lines(rt: HostRuntime) -> Result<(), Fail> {
+    assert!(rt; hears(rt.alloc())?);
+    Ok(())
+}

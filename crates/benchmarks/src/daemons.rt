@@ -1,0 +1,76 @@
+//! The daemon, from bytes to bytes: `null`, or `mixed`: a LOCK, a TEST and an UNLOCK by turns, of 16 owners over 64 files.
+//! The answer is how many calls were granted.
+use crate::asked::{Asked, Procedure, is_granted};
+use anyhow::{Result, anyhow};
+use daemon_core::{Daemon, Event, Peer};
+use hosts_db::{HostStore, MemHosts};
+use letters::ShortBytes;
+use range_table::{FlatTable, RangeTable};
+use std::alloc::Global;
+use xdr_core::Frame;
+
+fn opened(alloc: Global) -> Option<Daemon<FlatTable, MemHosts>> {
+    let store = MemHosts::new(alloc, 0, Vec::new(alloc), Vec::new(alloc)).ok()?;
+    let table = FlatTable::new(alloc).ok()?;
+    let name = ShortBytes::copy_of(alloc, b"server").ok()?;
+    Daemon::new(alloc, table, store, name).ok()
+}
+
+// The call of a round, by turns of procedures, owners and files.
+fn call(is_null: bool, round: u32) -> Asked {
+    let turn = round / 3;
+    let procedure = match round % 3 {
+        _ if is_null => Procedure::Null,
+        0 => Procedure::Lock,
+        1 => Procedure::Test,
+        _ => Procedure::Unlock,
+    };
+    Asked {
+        xid: round,
+        procedure,
+        who: turn % 16,
+        fh: turn % 64,
+        offset: turn % 128,
+    }
+}
+
+fn is_answered<T: RangeTable, S: HostStore>(
+    alloc: Global,
+    daemon: &mut Daemon<T, S>,
+    asked: Asked,
+) -> Result<bool> {
+    daemon.step(Event::Piece(0, asked.fragment(alloc)?));
+    let outputs = daemon.step(Event::Take(0, 0));
+    let mut frame = Frame::new();
+    if let Some(sent) = &outputs.sent {
+        let _ = sent.put(&mut frame);
+    }
+    Ok(is_granted(frame.as_slice()))
+}
+
+fn run<T: RangeTable, S: HostStore>(
+    alloc: Global,
+    daemon: &mut Daemon<T, S>,
+    is_null: bool,
+    calls: u32,
+) -> Result<u32> {
+    daemon.step(Event::GraceOver);
+    daemon.step(Event::Connect(0, Peer::PIPE));
+    let mut granted = 0u32;
+    for round in 0..calls {
+        if is_answered(alloc, daemon, call(is_null, round))? {
+            granted = granted.wrapping_add(1);
+        }
+    }
+    Ok(granted)
+}
+
+/// Answers so many calls.
+pub(crate) fn answered(alloc: Global, what: &str, calls: u32) -> Result<u32> {
+    let Some(mut daemon) = opened(alloc) else {
+        return Err(anyhow!("no memory"));
+    };
+    let granted = run(alloc, &mut daemon, what == "null", calls);
+    drop(daemon);
+    granted
+}

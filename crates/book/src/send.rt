@@ -1,0 +1,52 @@
+//! The server's own calls are sent.
+ghost use Rattle.std.specs.Prelude.{◌≡◌, None, IfSome, IfNone};
+ghost use Rattle.definitions.specs.Hosts.{NotAsked};
+ghost use Rattle.definitions.specs.Outgoing.{next_due};
+ghost use Rattle.definitions.specs.Step.{Applied, Send, Sends};
+ghost use Rattle.call_records.specs.Dests.{dest_of};
+ghost use Rattle.call_records.specs.Records.{call_record};
+ghost use Rattle.book.specs.Notes.{IsStep};
+
+use crate::shared::Shared;
+use call_records::{Dest, put_record};
+use hosts_db::HostStore;
+use letters::Letter;
+use range_table::RangeTable;
+use std::snapshot::Snapshot;
+use xdr_core::Frame;
+
+/// A call that is sent: its number, whom it is for, its record, and its letter, which contracts see.
+#[derive(Drop)]
+pub(crate) struct Sending {
+    pub(crate) number: u64,
+    pub(crate) to: Dest,
+    pub(crate) frame: Frame,
+    pub(crate) letter: Snapshot<Letter>,
+    pub(crate) ghost goes: { dest_of to ≡ letter.value.to },
+    pub(crate) ghost says: { frame ≡ call_record number letter.value.message },
+}
+
+impl<R: RangeTable, S: HostStore> Shared<R, S> {
+    /// The call that is due first is sent, if one is due.
+    pub(crate) fn send(&mut self) -> Option<Sending>
+        ensures step { IfSome result (λ s. IsStep self.old.state Send Applied NotAsked (Sends s.number s.letter.value) self.new.state) }
+        ensures none { IfNone result ((next_due self.old.state.world.calls ≡ None) × (self.new ≡ self.old)) }
+        ensures refusals { self.new.refusals ≡ self.old.refusals }
+    {
+        let call = self.world.next_call()?;
+        let number = call.number();
+        let letter = call.letter();
+        let to = Dest::of(letter.to());
+        let mut frame = Frame::new();
+        // An empty frame has room for each record.
+        let _ = put_record(number, letter.message(), &mut frame);
+        let letter = Snapshot::of(letter);
+        self.world.sent();
+        Some(Sending {
+            number,
+            to,
+            frame,
+            letter,
+        })
+    }
+}

@@ -1,0 +1,113 @@
+//! What is called, and with what.
+ghost use Rattle.std.specs.Prelude.{◌≡◌, ◌+◌, ◌≤◌, ◌++◌, ◌↔◌, length, IsOk, OnOk, OnErr};
+ghost use Rattle.nlm4_types.specs.Version.{view_of_version};
+ghost use Rattle.letters.specs.Meanings.{my_id_of};
+ghost use Rattle.call_records.specs.Records.{lock_manager, record_to, status_monitor, version_number, watcher};
+ghost use Rattle.call_records.specs.Parts.{arguments_bytes};
+
+use letters::MyId;
+use nlm4_types::{NlmMessage, Version};
+use nsm_types::NsmMessage;
+use rpc_msg::put_call;
+use xdr_core::{Frame, FrameFull};
+
+/// The lock manager's program (XNFS; RFC 1813, appendix II).
+const NLM_PROGRAM: u32 = 100_021;
+
+/// The status monitor's program (XNFS), its only version, and the procedure that tells it of a restart.
+const NSM_PROGRAM: u32 = 100_024;
+
+const NSM_VERSION: u32 = 1;
+
+const SM_NOTIFY: u32 = 6;
+
+/// A procedure of a program's version (RFC 5531, section 8.1).
+#[derive(Clone, Copy)]
+pub(crate) struct Callee {
+    program: u32,
+    version: u32,
+    procedure: u32,
+}
+
+impl Callee {
+    /// A procedure of a client's lock manager.
+    pub(crate) fn lock_manager(version: Version, procedure: u32) -> Callee
+        ensures { result ≡ lock_manager (view_of_version version) procedure }
+    {
+        Callee {
+            program: NLM_PROGRAM,
+            version: number_of(version),
+            procedure,
+        }
+    }
+
+    /// SM_NOTIFY of a client's status monitor.
+    pub(crate) fn status_monitor() -> Callee
+        ensures { result ≡ status_monitor }
+    {
+        Callee {
+            program: NSM_PROGRAM,
+            version: NSM_VERSION,
+            procedure: SM_NOTIFY,
+        }
+    }
+
+    /// What a watcher named, each number as the word of its two's complement.
+    pub(crate) fn watcher(named: &MyId) -> Callee
+        ensures { result ≡ watcher (my_id_of named.now) }
+    {
+        Callee {
+            program: named.prog.cast_unsigned(),
+            version: named.vers.cast_unsigned(),
+            procedure: named.proc.cast_unsigned(),
+        }
+    }
+}
+
+fn number_of(version: Version) -> u32
+    ensures { result ≡ version_number (view_of_version version) }
+{
+    match version {
+        Version::V1 => 1,
+        Version::V3 => 3,
+        Version::V4 => 4,
+    }
+}
+
+/// The arguments of a call.
+#[derive(Clone, Copy)]
+pub(crate) enum Arguments<'r> {
+    Nlm(Version, NlmMessage<'r>),
+    Nsm(NsmMessage<'r>),
+}
+
+impl<'r> Arguments<'r> {
+    fn put(&self, f: &mut Frame) -> Result<(), FrameFull>
+        ensures fits { length f.old ≤ 64 → IsOk result }
+        ensures room { IsOk result ↔ (length f.old + length (arguments_bytes self.now) ≤ 4096) }
+        ensures ok { OnOk result (f.new ≡ f.old ++ arguments_bytes self.now) }
+        ensures err { OnErr result (f.new ≡ f.old) }
+    {
+        match self {
+            Arguments::Nlm(version, message) => message.put_in(*version, f),
+            Arguments::Nsm(message) => message.put(f),
+        }
+    }
+
+    /// Appends the record of a call with these arguments, whole or not at all.
+    pub(crate) fn put_to(&self, number: u64, to: Callee, f: &mut Frame) -> Result<(), FrameFull>
+        ensures fits { length f.old ≤ 24 → IsOk result }
+        ensures room { IsOk result ↔ (length f.old + length (record_to number to (arguments_bytes self.now)) ≤ 4096) }
+        ensures ok { OnOk result (f.new ≡ f.old ++ record_to number to (arguments_bytes self.now)) }
+        ensures err { OnErr result (f.new ≡ f.old) }
+    {
+        let start = f.len();
+        let xid = (number % 4_294_967_296) as u32;
+        put_call(f, xid, to.program, to.version, to.procedure)?;
+        let put = self.put(f);
+        if put.is_err() {
+            f.truncate(start);
+        }
+        put
+    }
+}

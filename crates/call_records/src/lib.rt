@@ -1,0 +1,11 @@
+//! The records of the calls that the server makes: what each sending writes, from the call's number and what it says.
+#![tactic(auto)]
+
+mod callee;
+mod dest;
+mod record;
+#[cfg(test)]
+mod tests;
+
+pub use dest::{Dest, HostName};
+pub use record::put_record;

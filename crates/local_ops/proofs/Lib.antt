@@ -1,0 +1,8 @@
+pub mod Parts
+pub mod Writing
+pub mod Numbers
+pub mod Cuts
+pub mod Spaces
+pub mod Fieldwise
+pub mod Wholes
+pub mod Linewise

@@ -1,0 +1,118 @@
+-- Appending goes on.
+use Rattle.std.proofs.Common.{◌≡◌, ℕ, zero, suc, ◌-◌, ◌<◌, get_or, subst, arith, ◌/◌, ◌%◌, List, [], ◌∷◌, ◌++◌, Option, Some, None, take, drop, length, slice_index, refl, sym, ◌∙◌, ap, append_assoc}
+use Rattle.std.proofs.lemmas.Grind.{common_steps}
+use Rattle.std.proofs.lemmas.List.{append-nil, take-append-drop}
+use Rattle.std.specs.Io.KnownBytes.{Appends}
+use Rattle.std.specs.Prelude.{Result, Ok, Err, IsErr, codes}
+use Rattle.std.specs.List.{flat_map}
+use Rattle.hex.specs.Hex.{encode_with}
+use Rattle.local_ops.specs.Texts.{spaced, line}
+use Rattle.local_ops.specs.Written.{WroteFront, Wrote}
+
+pub Appends-nil : (a : Option (List ℕ)) → Appends a a []
+Appends-nil None = tt
+Appends-nil (Some xs) = sym (append-nil xs)
+
+pub Appends-more : (a b d : Option (List ℕ)) (x y : List ℕ) → Appends a b x → Appends b d y → Appends a d (x ++ y)
+Appends-more None b d x y p q = tt
+Appends-more (Some xs) None d x y p q = absurd p
+Appends-more (Some xs) (Some ys) None x y p q = absurd q
+Appends-more (Some xs) (Some ys) (Some zs) x y p q = q ∙ (ap (λ (s : List ℕ). s ++ y) p ∙ append_assoc xs x y)
+
+-- a front, and then a front of the rest
+pub WroteFront-after : (a b d : Option (List ℕ)) (x y : List ℕ) → Appends a b x → WroteFront b d y → WroteFront a d (x ++ y)
+WroteFront-after a b d x y p w = record {
+  front = x ++ w.front;
+  rest = w.rest;
+  parts = append_assoc x w.front w.rest ∙ ap (λ (s : List ℕ). x ++ s) w.parts;
+  appends = Appends-more a b d x w.front p w.appends;
+}
+
+-- a front of the bytes, whatever else was to be written after them
+pub WroteFront-longer : (a b : Option (List ℕ)) (x y : List ℕ) → WroteFront a b x → WroteFront a b (x ++ y)
+WroteFront-longer a b x y w = record {
+  front = w.front;
+  rest = w.rest ++ y;
+  parts = sym (append_assoc w.front w.rest y) ∙ ap (λ (s : List ℕ). s ++ y) w.parts;
+  appends = w.appends;
+}
+
+-- what is written after other bytes
+pub Wrote-after : {E : Type 0} (a b d : Option (List ℕ)) (r : Result (Unit {0}) E) (x y : List ℕ) → Appends a b x → Wrote b d r y → Wrote a d r (x ++ y)
+Wrote-after a b d (Ok done) x y p w = Appends-more a b d x y p w
+Wrote-after a b d (Err fault) x y p w = WroteFront-after a b d x y p w
+
+-- a loop's next part
+pub parts-next : (front left bytes : List ℕ) (count : ℕ) → front ++ left ≡ bytes → (front ++ take count left) ++ drop count left ≡ bytes
+parts-next front left bytes count e = append_assoc front (take count left) (drop count left) ∙ (ap (λ (s : List ℕ). front ++ s) (take-append-drop count left) ∙ e)
+
+pub encode_with-append : (t xs ys : List ℕ) → encode_with t (xs ++ ys) ≡ encode_with t xs ++ encode_with t ys
+unfolding encode_with
+encode_with-append t [] ys = refl
+encode_with-append t (b ∷ xs) ys = ap (λ s. slice_index t (b / 16) ∷ slice_index t (b % 16) ∷ s) (encode_with-append t xs ys)
+
+pub take_all-drop : (left : List ℕ) (count : ℕ) → take (length left - count) (drop count left) ≡ drop count left
+take_all-drop left count = grind (arith, common_steps)
+
+pub Wrote-failed : {E : Type 0} (a b : Option (List ℕ)) (r : Result (Unit {0}) E) (x : List ℕ) → IsErr r → WroteFront a b x → Wrote a b r x
+Wrote-failed a b (Ok done) x e w = absurd cc
+Wrote-failed a b (Err fault) x e w = w
+
+-- ---- parts one behind the other
+
+pub parts-around : {X : Type 0} (f : X → List ℕ) (xs : List X) (i : ℕ) (d : X) → i < length xs
+    → (flat_map f (take i xs) ++ f (get_or xs i d)) ++ flat_map f (drop (suc i) xs) ≡ flat_map f xs
+parts-around f [] i d h = absurd (omega arith)
+parts-around f (x ∷ xs) zero d h = refl
+parts-around f (x ∷ xs) (suc i) d h =
+    let front = flat_map f (take i xs) in
+    let part = f (get_or xs i d) in
+    let behind = flat_map f (drop (suc i) xs) in
+    ap (λ (s : List ℕ). s ++ behind) (append_assoc (f x) front part)
+    ∙ (append_assoc (f x) (front ++ part) behind ∙ ap (λ (s : List ℕ). f x ++ s) (parts-around f xs i d (omega arith)))
+
+pub WroteFront-parts : {X : Type 0} (f : X → List ℕ) (xs : List X) (i : ℕ) (d : X) (a b e : Option (List ℕ)) → i < length xs
+    → Appends a b (flat_map f (take i xs)) → WroteFront b e (f (get_or xs i d)) → WroteFront a e (flat_map f xs)
+WroteFront-parts f xs i d a b e h before failed =
+    let part = f (get_or xs i d) in
+    subst (WroteFront a e) (parts-around f xs i d h)
+    (WroteFront-longer a e (flat_map f (take i xs) ++ part) (flat_map f (drop (suc i) xs)) (WroteFront-after a b e (flat_map f (take i xs)) part before failed))
+
+-- ---- bytes in hexadecimal
+
+pub hex-next : (a b e : Option (List ℕ)) (t front part shown : List ℕ) → Appends a b (encode_with t front) → Appends b e shown → shown ≡ encode_with t part
+    → Appends a e (encode_with t (front ++ part))
+hex-next a b e t front part shown before wrote is =
+    subst (Appends a e) (ap (λ (s : List ℕ). encode_with t front ++ s) is ∙ sym (encode_with-append t front part))
+    (Appends-more a b e (encode_with t front) shown before wrote)
+
+pub hex-failed : (a b e : Option (List ℕ)) (t front part behind bytes shown : List ℕ) → Appends a b (encode_with t front) → WroteFront b e shown → shown ≡ encode_with t part
+    → (front ++ part) ++ behind ≡ bytes → WroteFront a e (encode_with t bytes)
+hex-failed a b e t front part behind bytes shown before failed is whole =
+    let joined = ap (λ (s : List ℕ). encode_with t front ++ s) is ∙ sym (encode_with-append t front part) in
+    let some = subst (WroteFront a e) joined (WroteFront-after a b e (encode_with t front) shown before failed) in
+    subst (WroteFront a e) (sym (encode_with-append t (front ++ part) behind) ∙ ap (encode_with t) whole)
+    (WroteFront-longer a e (encode_with t (front ++ part)) (encode_with t behind) some)
+
+pub split-next : (front part behind left bytes : List ℕ) → left ≡ part ++ behind → front ++ left ≡ bytes → (front ++ part) ++ behind ≡ bytes
+split-next front part behind left bytes e whole = append_assoc front part behind ∙ (ap (λ (s : List ℕ). front ++ s) (sym e) ∙ whole)
+
+-- ---- pieces of a line
+
+-- a piece fails, and what is written is its text and more
+pub failed-first : {E : Type 0} (a b : Option (List ℕ)) (r : Result (Unit {0}) E) (x rest whole : List ℕ) → x ++ rest ≡ whole → IsErr r → WroteFront a b x → Wrote a b r whole
+failed-first a b r x rest whole is e w = Wrote-failed a b r whole e (subst (WroteFront a b) is (WroteFront-longer a b x rest w))
+
+pub failed-then : {E : Type 0} (a b d : Option (List ℕ)) (r : Result (Unit {0}) E) (x y rest whole : List ℕ) → x ++ (y ++ rest) ≡ whole → IsErr r → Appends a b x → WroteFront b d y
+    → Wrote a d r whole
+failed-then a b d r x y rest whole is e p w =
+    Wrote-failed a d r whole e (subst (WroteFront a d) is (WroteFront-after a b d x (y ++ rest) p (WroteFront-longer b d y rest w)))
+
+-- a client's owner
+pub remote_text : (name svid oh : List ℕ) → 104 ∷ (name ++ ((47 ∷ (svid ++ 47 ∷ [])) ++ oh)) ≡ 104 ∷ (name ++ (47 ∷ (svid ++ (47 ∷ oh))))
+remote_text name svid oh = ap (λ (s : List ℕ). 104 ∷ (name ++ (47 ∷ s))) (append_assoc svid (47 ∷ []) oh)
+
+-- the line `held`
+pub held_text : (mode first len owner : List ℕ)
+    → spaced (codes "held" ∷ mode ∷ first ∷ len ∷ [] ∷ []) ++ (owner ++ 10 ∷ []) ≡ line (codes "held" ∷ mode ∷ first ∷ len ∷ owner ∷ [])
+held_text mode first len owner = simp append_assoc

@@ -1,0 +1,7 @@
+pub mod Texts
+pub mod Written
+pub mod Answers
+pub mod Grammar
+pub mod Reading
+pub mod Words
+pub mod Calls

@@ -1,0 +1,261 @@
+//! The fields of a line, one after the other.
+
+ghost use Rattle.std.specs.Prelude.{◌≡◌, ◌≤◌, ◌↔◌, [], ◌∷◌, length, true, IfOk, IsOk, MatchResult};
+ghost use Rattle.std.specs.List.{position};
+ghost use Rattle.std.specs.Option.{option_and_then};
+ghost use Rattle.letters.specs.Locals.{is_local};
+ghost use Rattle.owner_ids.specs.Said.{said};
+ghost use Rattle.owner_ranges.specs.Same.{held_mode};
+ghost use Rattle.local_ops.specs.Reading.{Gives, GivesRest, is_space, fields_of, fields_left, first_field, number_in, owner_in, file_in, change_in, process_of, owned_in, lock_in};
+ghost use Rattle.letters.specs.Meanings.{local_lock_of};
+ghost use Rattle.local_ops.specs.Words.{word_in};
+
+use itoa::Buffer;
+use letters::LocalLock;
+use owner_ids::Owner;
+use range_table::{FileId, Mode};
+use std::marker::Model;
+use std::str;
+use thiserror::Error;
+
+/// The line is none of the protocol.
+#[derive(Clone, Copy, Debug, PartialEq, Eq, Error)]
+#[error("20 BadLine")]
+pub struct BadLine;
+
+/// What a line's first word asks.
+#[derive(Clone, Copy)]
+pub(crate) enum Word {
+    GetLock,
+    SetLock,
+    SetLockWait,
+    Close,
+    Table,
+    Hosts,
+    Stop,
+}
+
+/// The place of the first space.
+fn first_space(line: &[u8]) -> Option<usize>
+    ensures { result ≡ position is_space line.now }
+{
+    line.iter().position(|byte| *byte == b' ')
+}
+
+/// The first field, and what is behind its space.
+fn split_field(line: &[u8]) -> (&[u8], Option<&[u8]>)
+    ensures { fields_of line.now ≡ result.0.now ∷ fields_left result.1 }
+{
+    match first_space(line) {
+        Some(end) => (&line[..end], Some(&line[end + 1..])),
+        None => (line, None),
+    }
+}
+
+/// A number with no leading zeros.
+pub(crate) fn read_number(field: &[u8]) -> Result<u64, BadLine>
+    ensures { Gives (λ number. number) result (number_in field.now) }
+{
+    let Ok(text) = str::from_utf8(field) else {
+        return Err(BadLine);
+    };
+    let Ok(number) = text.parse::<u64>() else {
+        return Err(BadLine);
+    };
+    // It has one text, the one that it is printed in.
+    if Buffer::new().format(number).as_bytes() == field {
+        Ok(number)
+    } else {
+        Err(BadLine)
+    }
+}
+
+/// `p` and a pid, or `d` and a number.
+#[tactic(auto, unfolding(crate::specs::Reading::owner_in))]
+fn read_owner(field: &[u8]) -> Result<Owner, BadLine>
+    ensures gives { Gives said result (owner_in field.now) }
+    ensures local { IfOk result (λ owner. is_local (said owner) ≡ true) }
+{
+    let Some((kind, digits)) = field.split_first() else {
+        return Err(BadLine);
+    };
+    match *kind {
+        b'p' => read_process(digits),
+        b'd' => Ok(Owner::Description(read_number(digits)?)),
+        _ => Err(BadLine),
+    }
+}
+
+/// A pid is below 2^31.
+fn read_process(digits: &[u8]) -> Result<Owner, BadLine>
+    ensures gives { Gives said result (option_and_then process_of (number_in digits.now)) }
+    ensures local { IfOk result (λ owner. is_local (said owner) ≡ true) }
+{
+    match u32::try_from(read_number(digits)?) {
+        Ok(pid) if pid < 1 << 31 => Ok(Owner::Process(pid)),
+        _ => Err(BadLine),
+    }
+}
+
+/// 2 to 128 hexadecimal digits.
+#[tactic(auto, unfolding(crate::specs::Reading::file_in))]
+fn read_file(field: &[u8]) -> Result<FileId, BadLine>
+    ensures gives { Gives (λ file. file) result (file_in field.now) }
+    ensures short { IfOk result (λ file. length file ≤ 64) }
+{
+    let count = field.len() / 2;
+    if count < 1 || count > 64 {
+        return Err(BadLine);
+    }
+    let mut bytes = [0; 64];
+    let file = &mut bytes[..count];
+    match hex::decode_to_slice(field, file) {
+        Ok(()) => Ok(FileId::new(file)),
+        Err(_) => Err(BadLine),
+    }
+}
+
+/// A mode, or `u`, an unlock.
+#[tactic(auto, unfolding(crate::specs::Reading::change_in))]
+fn read_change(field: &[u8]) -> Result<Option<Mode>, BadLine>
+    ensures { Gives held_mode result (change_in field.now) }
+{
+    match field {
+        b"r" => Ok(Some(Mode::Shared)),
+        b"w" => Ok(Some(Mode::Exclusive)),
+        b"u" => Ok(None),
+        _ => Err(BadLine),
+    }
+}
+
+/// A line's first word.
+#[tactic(auto, unfolding(crate::specs::Words::word_in))]
+fn read_word(field: &[u8]) -> Result<Word, BadLine>
+    ensures { Gives (λ word. word) result (word_in field.now) }
+{
+    if field == b"getlk".as_slice() {
+        Ok(Word::GetLock)
+    } else if field == b"setlk".as_slice() {
+        Ok(Word::SetLock)
+    } else if field == b"setlkw".as_slice() {
+        Ok(Word::SetLockWait)
+    } else if field == b"close".as_slice() {
+        Ok(Word::Close)
+    } else if field == b"table".as_slice() {
+        Ok(Word::Table)
+    } else if field == b"hosts".as_slice() {
+        Ok(Word::Hosts)
+    } else if field == b"stop".as_slice() {
+        Ok(Word::Stop)
+    } else {
+        Err(BadLine)
+    }
+}
+
+/// The fields of a line that are not read yet. Where one is refused, nothing is known of those that are left.
+#[derive(Drop)]
+pub(crate) struct Fields<'a> {
+    // None behind the last field.
+    rest: Option<&'a [u8]>,
+}
+
+impl<'a> Model for Fields<'a> {
+    ghost use Rattle.std.specs.Prelude.{List, ℕ};
+    ghost use Rattle.local_ops.specs.Reading.{fields_left};
+
+    ghost Value = { List (List ℕ) };
+
+    ghost view = { λ f. fields_left f.rest };
+}
+
+impl<'a> Fields<'a> {
+    pub(crate) fn of(line: &'a [u8]) -> Fields<'a>
+        ensures { result ≡ fields_of line.now }
+    {
+        Fields { rest: Some(line) }
+    }
+
+    fn next(&mut self) -> Result<&'a [u8], BadLine>
+        ensures { MatchResult result (λ field. self.old ≡ field.now ∷ self.new) (λ _. self.old ≡ []) }
+    {
+        match self.rest {
+            Some(line) => {
+                let (field, rest) = split_field(line);
+                self.rest = rest;
+                Ok(field)
+            }
+            None => Err(BadLine),
+        }
+    }
+
+    /// No field is left.
+    pub(crate) fn end(&self) -> Result<(), BadLine>
+        ensures { IsOk result ↔ (self.now ≡ []) }
+    {
+        match self.rest {
+            Some(_) => Err(BadLine),
+            None => Ok(()),
+        }
+    }
+
+    pub(crate) fn word(&mut self) -> Result<Word, BadLine>
+        ensures { GivesRest (λ word. word) result self.new (first_field word_in self.old) }
+    {
+        read_word(self.next()?)
+    }
+
+    fn number(&mut self) -> Result<u64, BadLine>
+        ensures { GivesRest (λ number. number) result self.new (first_field number_in self.old) }
+    {
+        read_number(self.next()?)
+    }
+
+    fn change(&mut self) -> Result<Option<Mode>, BadLine>
+        ensures { GivesRest held_mode result self.new (first_field change_in self.old) }
+    {
+        read_change(self.next()?)
+    }
+
+    fn owner(&mut self) -> Result<Owner, BadLine>
+        ensures gives { GivesRest said result self.new (first_field owner_in self.old) }
+        ensures local { IfOk result (λ owner. is_local (said owner) ≡ true) }
+    {
+        read_owner(self.next()?)
+    }
+
+    fn file(&mut self) -> Result<FileId, BadLine>
+        ensures gives { GivesRest (λ file. file) result self.new (first_field file_in self.old) }
+        ensures short { IfOk result (λ file. length file ≤ 64) }
+    {
+        read_file(self.next()?)
+    }
+
+    /// OWNER FH.
+    #[tactic(auto, unfolding(crate::specs::Reading::owned_in))]
+    pub(crate) fn owned(&mut self) -> Result<(Owner, FileId), BadLine>
+        ensures gives { GivesRest (λ owned. (said owned.0, owned.1)) result self.new (owned_in self.old) }
+        ensures local { IfOk result (λ owned. is_local (said owned.0) ≡ true) }
+        ensures short { IfOk result (λ owned. length owned.1 ≤ 64) }
+    {
+        let owner = self.owner()?;
+        Ok((owner, self.file()?))
+    }
+
+    /// OWNER FH MODE FIRST LEN.
+    #[tactic(auto, unfolding(crate::specs::Reading::lock_in))]
+    pub(crate) fn lock(&mut self) -> Result<(Option<Mode>, LocalLock), BadLine>
+        ensures { GivesRest (λ read. (held_mode read.0, local_lock_of read.1)) result self.new (lock_in self.old) }
+    {
+        let (owner, file) = self.owned()?;
+        let mode = self.change()?;
+        let offset = self.number()?;
+        let len = self.number()?;
+        let lock = LocalLock {
+            owner,
+            file,
+            offset,
+            len,
+        };
+        Ok((mode, lock))
+    }
+}

@@ -1,0 +1,20 @@
+//! The line protocol by which local programs lock files: what a line asks, what it is answered, and the line that tells a
+//! waiter that its lock was granted.
+#![tactic(auto)]
+
+mod answer;
+mod call;
+mod fields;
+mod granted;
+mod law;
+mod output;
+#[cfg(test)]
+mod tests;
+mod text;
+
+pub use answer::LocalAnswer;
+pub use call::LocalCall;
+pub use fields::BadLine;
+pub use granted::put_granted;
+pub use law::one_line;
+pub use output::WriteFault;

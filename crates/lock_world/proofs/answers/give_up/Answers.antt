@@ -1,0 +1,16 @@
+use Rattle.std.proofs.Common.{◌<◌, ◌^◌, None, sym, subst, arith}
+use Rattle.definitions.specs.Settings.{Setting}
+use Rattle.owner_ids.specs.Said.{said}
+use Rattle.lock_world.specs.Whole.{IsShown}
+use Rattle.lock_world.proofs.Shown.{shown_set}
+use Rattle.lock_world.proofs.answers.give_up.Goals as goal
+
+pub returns-clause-shown : goal.returns-clause-shown
+returns-clause-shown g c = λ old.
+    let lock = c.args.lock.now in
+    let s : Setting = record { file = c.file.result; owner = said c.owner.result.now; first = lock.l_offset; last = c.last.result; mode = None } in
+    let owner = subst IsShown (sym c.owner.ensures.owner) c.owner.ensures.most in
+    let inside = c.last.ensures.inside in
+    let ordered = c.last.ensures.ordered in
+    let first : lock.l_offset < 2 ^ 63 = omega arith in
+    shown_set c.set.result c.args.locks.now.settings c.set.new.self.settings s c.set.ensures.ok c.set.ensures.err old (owner, first, inside)

@@ -1,0 +1,118 @@
+//! What an answer to one of the server's own calls changes (XNFS, NLM_GRANTED, NLM_GRANTED_MSG and SM_NOTIFY).
+ghost use Rattle.std.specs.Prelude.{◌≡◌, Some};
+ghost use Rattle.std.specs.Option.{option_copied};
+ghost use Rattle.definitions.specs.Bytes.{first_that};
+ghost use Rattle.definitions.specs.Outgoing.{call_of_xid, is_numbered, without_call};
+ghost use Rattle.definitions.specs.World.{with_calls};
+ghost use Rattle.letters.specs.Grants.{granted_lock};
+ghost use Rattle.letters.specs.Meanings.{lock_of, message_of};
+ghost use Rattle.out_calls.specs.Found.{found};
+ghost use Rattle.lock_world.specs.Whole.{AreShown};
+ghost use Rattle.lock_world.specs.Answered.{call_at, lock_at, host_at, IsUnlocked, IsAcked};
+
+use crate::world::World;
+use held_locks::{Change, Locks};
+use hosts_db::{HostStore, StoreError};
+use letters::{Lock, Message};
+use out_calls::{Call, OutCalls};
+use range_table::RangeTable;
+
+/// Which of the server's own calls an answer belongs to: of those that were sent, the oldest.
+#[derive(Clone, Copy)]
+pub enum AnswerKey<'a> {
+    /// The xid of a reply (RFC 5531).
+    Xid(u32),
+    /// The cookie of a GRANTED_RES, which answers a GRANTED_MSG (XNFS, NLM_GRANTED_RES).
+    Cookie(&'a [u8]),
+}
+
+impl<R: RangeTable, S: HostStore> World<R, S> {
+    /// The call that an answer belongs to.
+    pub fn call_of(&self, key: AnswerKey<'_>) -> Option<&Call>
+        ensures { found result ≡ call_at key.entry self.now.world.calls }
+    {
+        find(&self.calls, key)
+    }
+
+    /// An answer ends the call of this number, which is given back. Its place is free. Where there is none nothing changes.
+    pub fn end(&mut self, number: u64) -> Option<Call>
+        ensures call { result ≡ first_that (is_numbered number) self.old.world.calls }
+        ensures ended { self.new ≡ record self.old { world = with_calls self.old.world (without_call number self.old.world.calls) } }
+    {
+        let before = self.calls.len();
+        let call = self.calls.answered(number);
+        self.slots.give(before - self.calls.len());
+        call
+    }
+
+    /// Unlocks the range of the grant that an answer belongs to. Whether the locks changed: they stay where that would
+    /// take a run and fewer than 2 are free, and where the answer belongs to no grant. The call stays.
+    pub fn unlock_grant(&mut self, key: AnswerKey<'_>) -> bool
+        ensures unlocked { IsUnlocked (lock_at (call_at key.entry self.old.world.calls)) result self.old.world.settings self.new.world.settings }
+        ensures stays { self.new ≡ record self.old { world = record self.old.world { settings = self.new.world.settings } } }
+    {
+        match find(&self.calls, key) {
+            Some(call) => unlock(&mut self.locks, call.letter().message()),
+            None => false,
+        }
+    }
+
+    /// Stores the own state as that which the host of this reply's call has acknowledged. `None` where the reply belongs
+    /// to no call that is for a host; then nothing changes. Where the store refuses, its rows stay. The call stays.
+    pub fn acked(&mut self, xid: u32) -> Option<Result<(), StoreError>>
+        ensures { IsAcked (host_at (call_of_xid xid self.old.world.calls)) result self.old self.new }
+    {
+        let own = self.store.own();
+        match host_of(&self.calls, xid) {
+            Some(name) => Some(self.store.acked(name, own)),
+            None => None,
+        }
+    }
+}
+
+fn find<'a>(calls: &'a OutCalls, key: AnswerKey<'_>) -> Option<&'a Call>
+    ensures { found result ≡ call_at key.entry calls.now }
+{
+    match key {
+        AnswerKey::Xid(xid) => calls.of_xid(xid),
+        AnswerKey::Cookie(cookie) => calls.of_cookie(cookie),
+    }
+}
+
+// The host of the call that a reply of this xid belongs to.
+fn host_of(calls: &OutCalls, xid: u32) -> Option<&[u8]>
+    ensures { option_copied result ≡ host_at (call_of_xid xid calls.now) }
+{
+    match calls.of_xid(xid) {
+        Some(call) => call.letter().to().host(),
+        None => None,
+    }
+}
+
+// Unlocks the range that the message grants.
+fn unlock<R: RangeTable>(locks: &mut Locks<R>, message: &Message) -> bool
+    ensures unlocked { IsUnlocked (granted_lock (message_of message.now)) result locks.old.settings locks.new.settings }
+    ensures names { locks.new.names ≡ locks.old.names }
+    ensures shown { AreShown locks.old.settings → AreShown locks.new.settings }
+{
+    match message.granted_lock() {
+        Some(lock) => give_up(locks, lock),
+        None => false,
+    }
+}
+
+// Its owner holds nothing of the lock's range any more.
+fn give_up<R: RangeTable>(locks: &mut Locks<R>, lock: &Lock) -> bool
+    ensures unlocked { IsUnlocked (Some (lock_of lock.now)) result locks.old.settings locks.new.settings }
+    ensures names { locks.new.names ≡ locks.old.names }
+    ensures shown { AreShown locks.old.settings → AreShown locks.new.settings }
+{
+    let change = Change {
+        file: lock.file(),
+        owner: lock.caller.owner(),
+        first: lock.l_offset,
+        last: lock.last(),
+        mode: None,
+    };
+    locks.set(&change).is_ok()
+}

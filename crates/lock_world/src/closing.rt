@@ -1,0 +1,41 @@
+//! What the close of a file takes from its owner.
+ghost use Rattle.std.specs.Prelude.{◌≡◌};
+ghost use Rattle.definitions.specs.World.{closed_by};
+ghost use Rattle.owner_ids.specs.Said.{said};
+ghost use Rattle.definitions.specs.Waits.{without_waiters_on};
+ghost use Rattle.owner_ids.specs.Names.{named};
+ghost use Rattle.blocked_list.specs.Waiting.{AreKnown, AreNamed, waiters_by};
+ghost use Rattle.lock_world.specs.Seen.{KeepsKnown};
+
+use crate::world::World;
+use blocked_list::Slots;
+use hosts_db::HostStore;
+use owner_ids::{Owner, Owners};
+use range_table::{FileId, RangeTable};
+
+impl<R: RangeTable, S: HostStore> World<R, S> {
+    /// Takes out the locks and the waiters of an owner on a file (POSIX, close). Calls that are due stay, and whoever is
+    /// known.
+    pub fn close(&mut self, file: &FileId, owner: &Owner)
+        ensures world { self.new.world ≡ closed_by self.old.world file.now (said owner.now) }
+        ensures refusals { self.new.refusals ≡ self.old.refusals }
+        ensures known { KeepsKnown self.old self.new }
+    {
+        let (_, owners) = self.locks.parts();
+        drop_waiters(&mut self.slots, owners, file, owner);
+        self.locks.drop_owner_on_file(file, owner);
+    }
+}
+
+// Takes out the waiters of an owner on a file. Who has no number doesn't wait.
+fn drop_waiters(slots: &mut Slots, owners: &Owners, file: &FileId, owner: &Owner)
+    requires { AreKnown (named owners.now) slots.old.waiters }
+    ensures by { waiters_by (named owners.now) slots.new.waiters ≡ without_waiters_on file.now (said owner.now) (waiters_by (named owners.now) slots.old.waiters) }
+    ensures named { AreNamed (named owners.now) slots.new.waiters }
+    ensures calls { slots.new.calls ≡ slots.old.calls }
+{
+    let Some(number) = owners.number(owner) else {
+        return;
+    };
+    slots.drop_owner_on_file(file, number);
+}

@@ -1,0 +1,126 @@
+//! The server's own calls, and the answers to them.
+use crate::asks::{Told, Who};
+use hosts_db::{HostRow, HostStore};
+use letters::{Caller, Destination, Letter, Lock, Message, ShortBytes};
+use lock_service::{answered, granted_res};
+use lock_world::{Starved, World};
+use nlm4_types::{Stat, Version};
+use out_calls::Call;
+use range_table::RangeTable;
+use record_reading::AnswerReading;
+use std::alloc::{AllocError, Global};
+
+/// One step of the server's own calls.
+#[derive(Clone, Copy)]
+pub(crate) enum CallStep {
+    /// The server begins anew, and each stored host is to be told.
+    Restarts,
+    /// GRANTED of the first ten bytes of the file is due.
+    Grants(Who),
+    /// GRANTED_MSG of the same.
+    GrantsMsg(Who),
+    /// The next due call is sent.
+    Sends,
+    /// Is told what the store said.
+    Answers(AnswerReading),
+    /// GRANTED_RES, with the cookie of the call of this number.
+    GrantedRes(u64, Stat),
+    /// Is told the xid of the next due call, or 0.
+    Next,
+    /// Is told how many calls have a place.
+    CountsCalls,
+    /// Is told the host's epoch, or 0.
+    Epoch(Who),
+}
+
+/// SUCCESS to the call of this xid.
+pub(crate) fn done(xid: u32, stat: Option<Stat>) -> CallStep {
+    CallStep::Answers(AnswerReading::AcceptedSuccess { xid, stat })
+}
+
+/// PROG_UNAVAIL or the like.
+pub(crate) fn not_done(xid: u32) -> CallStep {
+    CallStep::Answers(AnswerReading::OtherAnswer { xid })
+}
+
+pub(crate) fn told<R: RangeTable, S: HostStore>(
+    world: &mut World<R, S>,
+    step: CallStep,
+) -> Result<Told, Starved> {
+    Ok(match step {
+        CallStep::Restarts => restarts(world)?,
+        CallStep::Grants(who) => grants(world, who, false)?,
+        CallStep::GrantsMsg(who) => grants(world, who, true)?,
+        CallStep::Sends => {
+            world.sent();
+            Told::Nothing
+        }
+        CallStep::Answers(reading) => Told::Store(answered(world, &reading)),
+        CallStep::GrantedRes(number, stat) => {
+            granted_res(world, &number.to_be_bytes(), stat);
+            Told::Nothing
+        }
+        CallStep::Next => Told::Count(world.next_call().map_or(0, Call::xid)),
+        CallStep::CountsCalls => Told::Count(calls(world)),
+        CallStep::Epoch(who) => Told::Count(epoch(world, who)),
+    })
+}
+
+fn restarts<R: RangeTable, S: HostStore>(world: &mut World<R, S>) -> Result<Told, Starved> {
+    let notices = world.notices()?;
+    match world.restart(notices) {
+        Ok(()) => Ok(Told::Nothing),
+        Err(_) => Err(Starved),
+    }
+}
+
+fn lock(alloc: Global, who: Who) -> Result<Lock, AllocError> {
+    Ok(Lock {
+        caller: Caller::copy_of(alloc, who.name(), who.svid(), who.oh())?,
+        fh: ShortBytes::copy_of(alloc, &[1, 2, 3, 4])?,
+        l_offset: 0,
+        l_len: 10,
+    })
+}
+
+fn letter(alloc: Global, who: Who, by_message: bool) -> Result<Letter, AllocError> {
+    let (version, exclusive) = (Version::V4, true);
+    let lock = lock(alloc, who)?;
+    let message = if by_message {
+        Message::GrantedMsg {
+            version,
+            exclusive,
+            lock,
+        }
+    } else {
+        Message::Granted {
+            version,
+            exclusive,
+            lock,
+        }
+    };
+    let host = ShortBytes::copy_of(alloc, who.name())?;
+    Ok(Letter::new(Destination::Host(host), message))
+}
+
+fn grants<R: RangeTable, S: HostStore>(
+    world: &mut World<R, S>,
+    who: Who,
+    by_message: bool,
+) -> Result<Told, Starved> {
+    let alloc = world.alloc();
+    let mut letters = Vec::with_capacity(alloc, 1)?;
+    letters.push_reserved(letter(alloc, who, by_message)?);
+    if world.free_slots() >= 1 {
+        world.tell(letters);
+    }
+    Ok(Told::Nothing)
+}
+
+fn calls<R: RangeTable, S: HostStore>(world: &World<R, S>) -> u32 {
+    (8_192usize.saturating_sub(world.free_slots()) % 8_193) as u32
+}
+
+fn epoch<R: RangeTable, S: HostStore>(world: &World<R, S>, who: Who) -> u32 {
+    world.store().host(who.name()).map_or(0, HostRow::epoch)
+}
