@@ -10,15 +10,16 @@ use xdr_core::Frame;
 /// The number of the first call under the own state 3.
 const FIRST: u64 = (3 << 32) + 1;
 
-fn host(alloc: Global, name: &[u8]) -> Result<HostRow, Fail> {
-    Ok(HostRow::new(Vec::from_slice(alloc, name)?, 1, 3, FULL_QUOTA))
+fn host(alloc: Global, name: u8) -> Result<HostRow, Fail> {
+    let name = Vec::from_slice(alloc, [name].as_slice())?;
+    Ok(HostRow::new(name, 1, 3, FULL_QUOTA))
 }
 
 /// In the own state 1, with rows of `a` and `b`.
 fn opened(alloc: Global) -> Result<Daemon<FlatTable, MemHosts>, Fail> {
     let mut hosts = Vec::new(alloc);
-    hosts.push(host(alloc, b"a")?)?;
-    hosts.push(host(alloc, b"b")?)?;
+    hosts.push(host(alloc, b'a')?)?;
+    hosts.push(host(alloc, b'b')?)?;
     let store = MemHosts::new(alloc, 1, hosts, Vec::new(alloc))?;
     let name = ShortBytes::copy_of(alloc, b"server")?;
     Ok(Daemon::new(alloc, FlatTable::new(alloc)?, store, name)?)

@@ -30,7 +30,7 @@ fn granted(rt: HostRuntime) -> Result<(), Fail> {
     let alloc = rt.alloc();
     let lock = Lock {
         caller: Caller::copy_of(alloc, b"b", 8, b"B")?,
-        fh: short(alloc, &[1, 2, 3, 4])?,
+        fh: ShortBytes::copy_of(alloc, &[1, 2, 3, 4])?,
         l_offset: 0,
         l_len: 10,
     };
