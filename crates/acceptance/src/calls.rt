@@ -7,14 +7,28 @@ use std::alloc::{AllocError, Global};
 pub(crate) enum Who {
     A,
     B,
+    C,
+    D,
 }
 
 impl Who {
+    /// The name of its host.
+    pub(crate) fn host(self) -> &'static str {
+        match self {
+            Who::A => "a",
+            Who::B => "b",
+            Who::C => "c",
+            Who::D => "d",
+        }
+    }
+
     // One byte of name, with its residual bytes.
     fn name(self) -> u32 {
         match self {
             Who::A => 0x6100_0000,
             Who::B => 0x6200_0000,
+            Who::C => 0x6300_0000,
+            Who::D => 0x6400_0000,
         }
     }
 
@@ -22,6 +36,8 @@ impl Who {
         match self {
             Who::A => 0x4100_0000,
             Who::B => 0x4200_0000,
+            Who::C => 0x4300_0000,
+            Who::D => 0x4400_0000,
         }
     }
 
@@ -29,6 +45,8 @@ impl Who {
         match self {
             Who::A => 7,
             Who::B => 8,
+            Who::C => 9,
+            Who::D => 10,
         }
     }
 }
@@ -39,6 +57,12 @@ pub(crate) enum Asks {
     Null,
     Locks(Who, u64, u64),
     Reclaims(Who, u64, u64),
+    /// An exclusive lock, for which it waits where it must.
+    Blocks(Who, u64, u64),
+    /// The same, of a shared lock.
+    BlocksShared(Who, u64, u64),
+    /// It waits no longer for that exclusive lock.
+    Cancels(Who, u64, u64),
     NmLocks(Who, u64, u64),
     /// One byte of the file with this handle, and not of the file 01020304.
     LocksIn(u32, Who, u64),
@@ -63,9 +87,11 @@ pub(crate) enum Told {
     ShareStat(u32),
     /// DENIED, with the lock of this owner in the way: its first byte and its length.
     Held(Who, u64, u64),
+    /// The same, with a lock of the open file description 7: its first byte and its length.
+    HeldBySeven(u64, u64),
 }
 
-fn put(bytes: &mut Vec<u8>, words: &[u32]) -> Result<(), AllocError> {
+pub(crate) fn put(bytes: &mut Vec<u8>, words: &[u32]) -> Result<(), AllocError> {
     for word in words {
         bytes.extend_from_slice(word.to_be_bytes().as_slice())?;
     }
@@ -101,6 +127,18 @@ fn put_lock(
     put(bytes, &[reclaim, 3])
 }
 
+// A lock that is waited for.
+fn put_block(
+    bytes: &mut Vec<u8>,
+    xid: u32,
+    (who, offset, len): (Who, u64, u64),
+    exclusive: u32,
+) -> Result<(), AllocError> {
+    put(bytes, &[4, xid, 1, exclusive])?;
+    put_alock(bytes, who, offset, len)?;
+    put(bytes, &[0, 3])
+}
+
 fn put_share(
     bytes: &mut Vec<u8>,
     xid: u32,
@@ -130,8 +168,13 @@ impl Asks {
         match self {
             Asks::Null => 0,
             Asks::Tests(..) => 1,
-            Asks::Locks(..) | Asks::Reclaims(..) | Asks::LocksIn(..) | Asks::LocksLongHandle(_) =>
-                2,
+            Asks::Locks(..)
+            | Asks::Reclaims(..)
+            | Asks::Blocks(..)
+            | Asks::BlocksShared(..)
+            | Asks::LocksIn(..)
+            | Asks::LocksLongHandle(_) => 2,
+            Asks::Cancels(..) => 3,
             Asks::Unlocks(..) => 4,
             Asks::Shares(..) => 20,
             Asks::Unshares(_) => 21,
@@ -147,6 +190,12 @@ impl Asks {
                 put_lock(bytes, xid, (who, offset, len), 0)
             }
             Asks::Reclaims(who, offset, len) => put_lock(bytes, xid, (who, offset, len), 1),
+            Asks::Blocks(who, offset, len) => put_block(bytes, xid, (who, offset, len), 1),
+            Asks::BlocksShared(who, offset, len) => put_block(bytes, xid, (who, offset, len), 0),
+            Asks::Cancels(who, offset, len) => {
+                put(bytes, &[4, xid, 1, 1])?;
+                put_alock(bytes, who, offset, len)
+            }
             Asks::LocksIn(fh, who, offset) => {
                 put(bytes, &[4, xid, 0, 1])?;
                 put_alock_in(bytes, fh, (who, offset, 1))?;
@@ -197,9 +246,45 @@ impl Told {
                 put_long(&mut bytes, offset)?;
                 put_long(&mut bytes, len)?;
             }
+            Told::HeldBySeven(offset, len) => {
+                put(&mut bytes, &[4, xid, 1, 1, u32::MAX, 8, 0, 7])?;
+                put_long(&mut bytes, offset)?;
+                put_long(&mut bytes, len)?;
+            }
         }
         Ok(bytes)
     }
+}
+
+/// A lock that is granted to who waited for it.
+#[derive(Clone, Copy)]
+pub(crate) struct Grant {
+    /// How many calls the server has made in the own state 1, this one with them: its xid.
+    pub(crate) number: u32,
+    pub(crate) who: Who,
+    /// 1, or 0 of a shared lock.
+    pub(crate) exclusive: u32,
+    pub(crate) offset: u64,
+    pub(crate) len: u64,
+}
+
+impl Grant {
+    /// The record of GRANTED.
+    pub(crate) fn record(self, alloc: Global) -> Result<Vec<u8>, AllocError> {
+        let mut bytes = Vec::new(alloc);
+        let head = [self.number, 0, 2, 100_021, 4, 5, 0, 0, 0, 0];
+        put(&mut bytes, &head)?;
+        put(&mut bytes, &[8, 1, self.number, self.exclusive])?;
+        put_alock(&mut bytes, self.who, self.offset, self.len)?;
+        Ok(bytes)
+    }
+}
+
+/// The reply to GRANTED of this xid, with this status.
+pub(crate) fn answer_to_grant(alloc: Global, xid: u32, stat: u32) -> Result<Vec<u8>, AllocError> {
+    let mut bytes = Vec::new(alloc);
+    put(&mut bytes, &[xid, 1, 0, 0, 0, 0, 0, stat])?;
+    Ok(bytes)
 }
 
 /// Appends a record as one fragment (RFC 5531, section 11).

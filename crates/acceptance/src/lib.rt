@@ -8,6 +8,8 @@ mod calls;
 #[cfg(test)]
 mod limits;
 #[cfg(test)]
+mod lines;
+#[cfg(test)]
 mod notices;
 #[cfg(test)]
 mod repeats;
@@ -17,3 +19,5 @@ mod rows;
 mod server;
 #[cfg(test)]
 mod streams;
+#[cfg(test)]
+mod waits;

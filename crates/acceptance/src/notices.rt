@@ -10,6 +10,9 @@ use xdr_core::Frame;
 /// The number of the first call under the own state 3.
 const FIRST: u64 = (3 << 32) + 1;
 
+/// The bytes of a notice and of its mark.
+const NOTICE: usize = 60;
+
 fn host(alloc: Global, name: u8) -> Result<HostRow, Fail> {
     let name = Vec::from_slice(alloc, [name].as_slice())?;
     Ok(HostRow::new(name, 1, 3, FULL_QUOTA))
@@ -25,10 +28,11 @@ fn opened(alloc: Global) -> Result<Daemon<FlatTable, MemHosts>, Fail> {
     Ok(Daemon::new(alloc, FlatTable::new(alloc)?, store, name)?)
 }
 
-/// SM_NOTIFY of the own state 3 from `server`, under this xid.
+/// SM_NOTIFY of the own state 3 from `server`, under this xid, mark first.
 fn notice(xid: u32) -> Frame {
     let mut f = Frame::new();
     let words = [
+        0x8000_0038,
         xid,
         0,
         2,
@@ -58,9 +62,10 @@ fn is_notice(outputs: &Outputs, name: &[u8], xid: u32) -> bool {
     let Addressee::Host(to) = sent.to() else {
         return false;
     };
-    let mut record = Frame::new();
-    let want = notice(xid);
-    to.as_slice() == name && sent.put(&mut record).is_ok() && record.as_slice() == want.as_slice()
+    let mut record = [0; NOTICE];
+    let mut rest = record.as_mut_slice();
+    let is_whole = sent.write(&mut rest).is_ok() && rest.is_empty();
+    to.as_slice() == name && is_whole && record.as_slice() == notice(xid).as_slice()
 }
 
 fn sends<T: RangeTable, S: HostStore>(daemon: &mut Daemon<T, S>, name: &[u8], xid: u32) -> bool {
@@ -113,28 +118,6 @@ fn is_answered<T: RangeTable, S: HostStore>(
     Ok(is_told && stray && heard && sends(daemon, b"b", 2) && is_quiet(daemon, Event::Send))
 }
 
-// No line is served yet: each is answered `bad` on its own connection.
-fn is_bad_line<T: RangeTable, S: HostStore>(
-    alloc: Global,
-    daemon: &mut Daemon<T, S>,
-) -> Result<bool, Fail> {
-    let line = Vec::from_slice(alloc, b"getlk p1 aa r 0 0".as_slice())?;
-    let outputs = daemon.step(Event::Local(7, line));
-    let Some(sent) = &outputs.sent else {
-        return Ok(false);
-    };
-    let mut text = Frame::new();
-    let is_put = sent.put(&mut text).is_ok();
-    Ok(is_put && matches!(sent.to(), Addressee::Local(7)) && text.as_slice() == b"bad\n".as_slice())
-}
-
-fn hears_each<T: RangeTable, S: HostStore>(
-    alloc: Global,
-    daemon: &mut Daemon<T, S>,
-) -> Result<bool, Fail> {
-    Ok(is_answered(alloc, daemon)? && is_bad_line(alloc, daemon)?)
-}
-
 fn plays(alloc: Global) -> Result<bool, Fail> {
     let mut daemon = opened(alloc)?;
     let is_played = tells_each(&mut daemon) && falls_silent(&mut daemon);
@@ -144,7 +127,7 @@ fn plays(alloc: Global) -> Result<bool, Fail> {
 
 fn hears(alloc: Global) -> Result<bool, Fail> {
     let mut daemon = opened(alloc)?;
-    let is_heard = hears_each(alloc, &mut daemon);
+    let is_heard = is_answered(alloc, &mut daemon);
     drop(daemon);
     is_heard
 }
@@ -156,7 +139,7 @@ fn notices(rt: HostRuntime) -> Result<(), Fail> {
 }
 
 #[test]
-fn answers_and_lines(rt: HostRuntime) -> Result<(), Fail> {
+fn answers(rt: HostRuntime) -> Result<(), Fail> {
     assert!(rt; hears(rt.alloc())?);
     Ok(())
 }

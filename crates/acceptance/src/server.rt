@@ -1,18 +1,20 @@
 //! A daemon over a flat table and hosts in memory, and what it sends. All but what makes it is generic, and so cheap to
 //! prove.
-use crate::calls::{Asks, Told, Who, put_fragment};
-use daemon_core::{Daemon, Event, Outputs, Peer, Refusal};
+use crate::calls::{Asks, Grant, Told, Who, answer_to_grant, put_fragment};
+use daemon_core::{Addressee, Daemon, Event, Outputs, Peer, Refusal};
 use hosts_db::{FULL_QUOTA, HostRow, HostStore, MemHosts};
 use letters::ShortBytes;
 use range_table::{FlatTable, RangeTable};
 use std::alloc::Global;
 use std::test::*;
-use xdr_core::Frame;
 
 /// A call of this xid, and its reply.
 pub(crate) type Line = (u32, Asks, Told);
 
 const CONNECTION: u64 = 5;
+
+// Of a local program.
+const LOCAL: u64 = 7;
 
 /// What comes to a server, one after another.
 #[derive(Clone, Copy)]
@@ -31,6 +33,16 @@ pub(crate) enum Part<'a> {
     Fills(u32),
     /// These bytes come in pieces of so many, and get what stands beside them.
     Bytes(&'a [u8], usize, Heard<'a>),
+    /// These lines come on a local connection, and get the answers beside them, each without its line feed.
+    Lines(&'a [(&'a str, &'a str)]),
+    /// A Send gives this call, to the host of whom it grants.
+    Grants(Grant),
+    /// A Send gives nothing.
+    NothingDue,
+    /// The call of this xid is answered with this status.
+    Answered(u32, u32),
+    /// Nothing answers the call of this number under the own state 1.
+    Silent(u32),
 }
 
 /// What a stream gets: the bytes that are sent, and the refusal of its last piece.
@@ -80,9 +92,7 @@ fn replied(alloc: Global, lines: &[Line]) -> Result<Vec<u8>, Fail> {
 
 fn put_sent(stream: &mut Vec<u8>, outputs: &Outputs) -> Result<(), Fail> {
     if let Some(sent) = &outputs.sent {
-        let mut frame = Frame::new();
-        let _ = sent.put(&mut frame);
-        put_fragment(stream, frame.as_slice())?;
+        sent.write(stream)?;
     }
     Ok(())
 }
@@ -185,6 +195,69 @@ fn is_heard<T: RangeTable, S: HostStore>(
     Ok(is_silent && refusal == heard.refusal && sent.as_slice() == heard.sent)
 }
 
+fn is_local(outputs: &Outputs) -> bool {
+    match &outputs.sent {
+        Some(sent) => matches!(sent.to(), Addressee::Local(LOCAL)),
+        None => false,
+    }
+}
+
+// The line is answered so, on its own connection.
+fn is_answered<T: RangeTable, S: HostStore>(
+    alloc: Global,
+    daemon: &mut Daemon<T, S>,
+    (line, answer): (&str, &str),
+) -> Result<bool, Fail> {
+    let mut events = Vec::new(alloc);
+    events.push(Event::Local(LOCAL, Vec::from_slice(alloc, line.as_bytes())?))?;
+    let outputs = daemon.run(events)?;
+    let mut sent = Vec::new(alloc);
+    for outputs in &outputs {
+        put_sent(&mut sent, outputs)?;
+    }
+    let mut told = Vec::from_slice(alloc, answer.as_bytes())?;
+    told.push(b'\n')?;
+    Ok(outputs.iter().all(is_local) && sent.as_slice() == told.as_slice())
+}
+
+fn are_answered<T: RangeTable, S: HostStore>(
+    alloc: Global,
+    daemon: &mut Daemon<T, S>,
+    lines: &[(&str, &str)],
+) -> Result<bool, Fail> {
+    for line in lines {
+        if !is_answered(alloc, daemon, *line)? {
+            return Ok(false);
+        }
+    }
+    Ok(true)
+}
+
+// The call is sent to the host of whom it grants.
+fn is_granted<T: RangeTable, S: HostStore>(
+    alloc: Global,
+    daemon: &mut Daemon<T, S>,
+    grant: Grant,
+) -> Result<bool, Fail> {
+    let outputs = daemon.step(Event::Send);
+    let Some(call) = &outputs.sent else {
+        return Ok(false);
+    };
+    let Addressee::Host(to) = call.to() else {
+        return Ok(false);
+    };
+    let mut sent = Vec::new(alloc);
+    put_sent(&mut sent, &outputs)?;
+    let mut told = Vec::new(alloc);
+    put_fragment(&mut told, &grant.record(alloc)?)?;
+    Ok(to.as_slice() == grant.who.host().as_bytes() && sent.as_slice() == told.as_slice())
+}
+
+fn is_quiet<T: RangeTable, S: HostStore>(daemon: &mut Daemon<T, S>, event: Event) -> bool {
+    let outputs = daemon.step(event);
+    outputs.sent.is_none() && outputs.refusal.is_none()
+}
+
 fn locks_of(alloc: Global, fh: u32) -> Result<Vec<Line>, Fail> {
     let mut lines = Vec::new(alloc);
     for number in 0..64u32 {
@@ -222,6 +295,17 @@ fn goes<T: RangeTable, S: HostStore>(
         Part::Calls(lines, most) => is_replied(alloc, daemon, lines, most),
         Part::Fills(files) => is_filled(alloc, daemon, files),
         Part::Bytes(stream, most, heard) => is_heard(alloc, daemon, (stream, most), heard),
+        Part::Lines(lines) => are_answered(alloc, daemon, lines),
+        Part::Grants(grant) => is_granted(alloc, daemon, grant),
+        Part::NothingDue => Ok(is_quiet(daemon, Event::Send)),
+        Part::Answered(xid, stat) => {
+            let answer = Event::Answer(answer_to_grant(alloc, xid, stat)?);
+            Ok(is_quiet(daemon, answer))
+        }
+        Part::Silent(number) => {
+            let silent = Event::Silent((1 << 32) + number as u64);
+            Ok(is_quiet(daemon, silent))
+        }
     }
 }
 

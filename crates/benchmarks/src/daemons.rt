@@ -7,7 +7,6 @@ use hosts_db::{HostStore, MemHosts};
 use letters::ShortBytes;
 use range_table::{FlatTable, RangeTable};
 use std::alloc::Global;
-use xdr_core::Frame;
 
 fn opened(alloc: Global) -> Option<Daemon<FlatTable, MemHosts>> {
     let store = MemHosts::new(alloc, 0, Vec::new(alloc), Vec::new(alloc)).ok()?;
@@ -41,11 +40,12 @@ fn is_answered<T: RangeTable, S: HostStore>(
 ) -> Result<bool> {
     daemon.step(Event::Piece(0, asked.fragment(alloc)?));
     let outputs = daemon.step(Event::Take(0, 0));
-    let mut frame = Frame::new();
+    let mut reply = Vec::new(alloc);
     if let Some(sent) = &outputs.sent {
-        let _ = sent.put(&mut frame);
+        sent.write(&mut reply)?;
     }
-    Ok(is_granted(frame.as_slice()))
+    // The mark stands in front.
+    Ok(is_granted(reply.as_slice().get(4..).unwrap_or(&[])))
 }
 
 fn run<T: RangeTable, S: HostStore>(

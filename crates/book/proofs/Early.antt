@@ -2,12 +2,13 @@
 use Rattle.std.proofs.Common.{◌≡◌, ℕ, refl, ap, Option, Some, None}
 use Rattle.definitions.specs.Bytes.{Bytes}
 use Rattle.definitions.specs.Hosts.{NotAsked}
-use Rattle.definitions.specs.Replies.{Call, Reading, Ignored, Turned, Asks, AnswerReading, BadLine, LineStarved}
+use Rattle.definitions.specs.Replies.{Call, Reading, Ignored, Turned, Asks, AnswerReading, Line, LineStarved}
 use Rattle.definitions.specs.Step.{Peer, State, Take, Answer, Local, Silent, GraceOver, Restart, Starved, IsStarved, Says}
 use Rattle.record_reading.specs.Readings.{IsReading}
 use Rattle.record_reading.specs.Answers.{IsAnswerReading}
 use Rattle.lock_service.specs.Served.{served}
-use Rattle.book.specs.Readings.{served_reading, asks_served, refusal_of}
+use Rattle.local_ops.specs.Grammar.{Reads as LineReads}
+use Rattle.book.specs.Readings.{served_reading, asks_served, refusal_of, served_line}
 use Rattle.book.specs.Given.{starved_reading}
 use Rattle.book.specs.Notes.{Takes, HearsAnswer, AsksLine, FallsSilent, GraceEnds, BeginsAnew, IsStep, Steps}
 use Rattle.book.proofs.Calls.{starved_early}
@@ -28,8 +29,8 @@ module _ (s : State) (peer : Peer) (bytes : Bytes) where
 pub answer : (s : State) (bytes : Bytes) (reading : AnswerReading) → IsAnswerReading bytes reading → Steps s (HearsAnswer bytes) Starved NotAsked IsStarved s
 answer s bytes reading read = record { said = Answer reading; reads = (reading, read, refl); step = record { gives = refl; leaves = refl; fits = refl } }
 
-pub line : (s : State) (l : ℕ) (bytes : Bytes) → Steps s (AsksLine l bytes) Starved NotAsked (Says LineStarved) s
-line s l bytes = record { said = Local l BadLine; reads = refl; step = record { gives = refl; leaves = refl; fits = refl } }
+pub line : (s : State) (l : ℕ) (bytes : Bytes) (whole : Line) → LineReads bytes whole → Steps s (AsksLine l bytes) Starved NotAsked (Says LineStarved) s
+line s l bytes whole read = record { said = Local l (served_line whole); reads = (served_line whole, record { whole = whole; read = read; is = refl }, refl); step = record { gives = refl; leaves = refl; fits = refl } }
 
 pub silent : (s : State) (number : ℕ) → Steps s (FallsSilent number) Starved NotAsked IsStarved s
 silent s number = record { said = Silent number; reads = refl; step = record { gives = refl; leaves = refl; fits = refl } }

@@ -5,3 +5,5 @@ pub mod Calls
 pub mod Receipted
 pub mod Same
 pub mod Early
+pub mod Lines
+pub mod Newest

@@ -1,23 +1,24 @@
 -- What events give, as the definitions have it.
 use Rattle.std.specs.Prelude.{[]}
 use Rattle.definitions.specs.Bytes.{Bytes}
-use Rattle.definitions.specs.Replies.{Refuses, SystemErr, Reading, Ignored, Turned, Asks, LineBad, LineStarved}
+use Rattle.definitions.specs.Replies.{Refuses, SystemErr, Reading, Ignored, Turned, Asks}
 use Rattle.definitions.specs.Step.{Doing, Applied, Starved, Given, Nothing, Replies, Says, Sends, IsStarved, IsRefused}
 use Rattle.record_reading.specs.Values.{view_of_refusal}
 use Rattle.call_outcome.specs.Values.{outcome_of}
 use Rattle.call_outcome.specs.Replies.{reply_bytes}
 use Rattle.call_records.specs.Records.{call_record}
-use Rattle.local_ops.specs.Texts.{reply_text}
+use Rattle.local_ops.specs.Answers.{reply_of}
 use Rattle.book.specs.declared.reply.Reply.{Reply}
 use Rattle.book.specs.declared.reply.Reply.TheVariants as reply
+use Rattle.book.specs.declared.entry.Gave.{Gave}
+use Rattle.book.specs.declared.entry.Gave.TheVariants as gave
 
 abbrev pub given_of : Reply → Given
 given_of reply.Nothing = Nothing
 given_of (reply.Answers xid outcome) = Replies xid (outcome_of outcome.value)
 given_of (reply.Refuses xid why) = Replies xid (Refuses (view_of_refusal why))
 given_of (reply.SystemErr xid) = Replies xid SystemErr
-given_of reply.BadLine = Says LineBad
-given_of reply.StarvedLine = Says LineStarved
+given_of (reply.Says answer) = Says (reply_of answer)
 given_of reply.Starved = IsStarved
 given_of reply.StoreRefused = IsRefused
 
@@ -26,11 +27,11 @@ abbrev pub unbegun : Doing → Given
 unbegun Applied = IsRefused
 unbegun Starved = IsStarved
 
--- the record of the reply that a client gets, or of the call that is sent (RFC 5531, section 9), or the line that a local program gets; no bytes where there is none
+-- the record of the reply that a client gets, or of the call that is sent (RFC 5531, section 9), no bytes where there is none; a line is no record
 abbrev pub record_of : Given → Bytes
 record_of (Replies xid outcome) = reply_bytes xid outcome
 record_of Nothing = []
-record_of (Says line) = reply_text line
+record_of (Says line) = []
 record_of (Sends number letter) = call_record number letter.message
 record_of IsStarved = []
 record_of IsRefused = []
@@ -40,3 +41,8 @@ abbrev pub starved_reading : Reading → Given
 starved_reading Ignored = IsStarved
 starved_reading (Turned xid why) = Replies xid SystemErr
 starved_reading (Asks xid call) = Replies xid SystemErr
+
+-- as the journal notes it
+abbrev pub given_by : Gave → Given
+given_by (gave.Reply r) = given_of r
+given_by (gave.Says answer) = Says (reply_of answer.value)

@@ -4,13 +4,13 @@ use Rattle.definitions.specs.Bytes.{Bytes}
 use Rattle.definitions.specs.Outgoing.{Letter, next_due}
 use Rattle.definitions.specs.Hosts.{StoreAnswer, NotAsked}
 use Rattle.definitions.specs.World.{the_limits}
-use Rattle.definitions.specs.Step.{State, Doing, Applied, Given, Sends}
+use Rattle.definitions.specs.Step.{State, Doing, Applied, Starved, Given, Sends}
 use Rattle.definitions.specs.Replay.{Entry, IsLegal as IsLegalFrom}
 use Rattle.lock_service.specs.Planned.{counted}
 use Rattle.call_records.specs.declared.dest.Dest.{Dest}
 use Rattle.call_records.specs.Dests.{dest_of}
 use Rattle.book.specs.Given.{record_of}
-use Rattle.book.specs.Notes.{Note, Happening, SendsNext, Reads, Steps}
+use Rattle.book.specs.Notes.{Note, Happening, Takes, SendsNext, HearsAnswer, AsksLine, FallsSilent, GraceEnds, BeginsAnew, Reads, Steps}
 
 -- the number of the first entry, the state before it, what each notes, and the state after the last
 pub record Journal : Type 0 where
@@ -57,6 +57,16 @@ room_of j = min (1024 - length j.notes) (2 ^ 64 - 1 - next_of j)
 abbrev pub noted : Journal → Note → State → Journal
 noted j n end = record j { notes = j.notes ++ n ∷ []; end = end }
 
+-- only a record, a line and a restart take memory
+abbrev pub TakesMemory : Happening → Type 0
+TakesMemory (Takes peer asked) = Unit {0}
+TakesMemory (AsksLine l line) = Unit {0}
+TakesMemory BeginsAnew = Unit {0}
+TakesMemory SendsNext = ⊥
+TakesMemory (HearsAnswer bytes) = ⊥
+TakesMemory (FallsSilent number) = ⊥
+TakesMemory GraceEnds = ⊥
+
 -- one event is one entry, and one step of the definitions
 pub record Enters (old : Book) (event : Happening) (given : Given) (new : Book) : Type 0 where
   pub doing : Doing
@@ -64,6 +74,7 @@ pub record Enters (old : Book) (event : Happening) (given : Given) (new : Book) 
   pub steps : Steps old.journal.end event doing store given new.journal.end
   pub journal : new.journal ≡ noted old.journal (record { number = next_of old.journal; event = event; doing = doing; store = store; given = given }) new.journal.end
   pub refusals : new.refusals ≡ counted store old.refusals
+  pub fed : doing ≡ Starved → TakesMemory event
 
 -- the call that is due first is sent, with its number, to whom it is for, and its record; or none is due, and nothing happens
 abbrev pub IsNext : Book → Option (ℕ × Dest × Bytes) → Book → Type 0

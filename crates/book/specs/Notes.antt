@@ -2,7 +2,7 @@
 use Rattle.std.specs.Prelude.{◌≡◌, ℕ, true}
 use Rattle.definitions.specs.Bytes.{Bytes}
 use Rattle.definitions.specs.Hosts.{StoreAnswer}
-use Rattle.definitions.specs.Replies.{Reading, AnswerReading, BadLine}
+use Rattle.definitions.specs.Replies.{Reading, AnswerReading, Line}
 use Rattle.definitions.specs.World.{the_limits}
 use Rattle.definitions.specs.Step.{Peer, Event, Take, Send, Answer, Local, Silent, GraceOver, Restart, Doing, Applied, Starved, Given, Sends, State}
 use Rattle.definitions.specs.Replay.{after, fits}
@@ -15,9 +15,9 @@ use Rattle.book.specs.declared.entry.Doing.TheVariants as doing
 use Rattle.book.specs.declared.entry.Act.{Act}
 use Rattle.book.specs.declared.entry.Act.TheVariants as act
 use Rattle.book.specs.declared.entry.Entry.{Entry}
-use Rattle.book.specs.Given.{given_of}
+use Rattle.book.specs.Given.{given_by}
 use Rattle.record_reading.specs.Answers.{IsAnswerReading}
-use Rattle.book.specs.Readings.{IsServed}
+use Rattle.book.specs.Readings.{IsServed, IsServedLine}
 
 pub data Happening : Type 0 where
   Takes : Peer → Bytes → Happening
@@ -48,22 +48,22 @@ doing_of doing.Applied = Applied
 doing_of doing.Starved = Starved
 
 abbrev pub happened : Act → Happening
-happened (act.Event event reply) = happening_of event
+happened (act.Event event g) = happening_of event
 happened (act.Sent number letter) = SendsNext
 
 abbrev pub gave : Act → Given
-gave (act.Event event reply) = given_of reply
+gave (act.Event event g) = given_by g
 gave (act.Sent number letter) = Sends number letter.value
 
 abbrev pub note_of : Entry → Note
 note_of e = record { number = e.number; event = happened e.act; doing = doing_of e.doing; store = answer_of e.store; given = gave e.act }
 
--- the event of the definitions, whose record or answer has its reading. No line is served yet: each is read as one that is none of the protocol
+-- the event of the definitions, whose record, answer or line has its reading
 abbrev pub Reads : Happening → Event → Type 0
 Reads (Takes peer asked) e = (reading : Reading) × IsServed asked reading × (e ≡ Take peer asked reading)
 Reads SendsNext e = e ≡ Send
 Reads (HearsAnswer bytes) e = (reading : AnswerReading) × IsAnswerReading bytes reading × (e ≡ Answer reading)
-Reads (AsksLine l line) e = e ≡ Local l BadLine
+Reads (AsksLine l bytes) e = (line : Line) × IsServedLine bytes line × (e ≡ Local l line)
 Reads (FallsSilent number) e = e ≡ Silent number
 Reads GraceEnds e = e ≡ GraceOver
 Reads BeginsAnew e = e ≡ Restart
@@ -79,7 +79,7 @@ pub record Steps (old : State) (event : Happening) (doing : Doing) (store : Stor
   pub reads : Reads event said
   pub step : IsStep old said doing store given new
 
--- what an event gives and leaves is fixed by what became of it and the store's answer: a record has one reading
+-- what an event gives and leaves is fixed by what became of it and the store's answer: a record, an answer and a line have one reading each
 abbrev pub OneStep : Type 0
 OneStep =
     (old new end : State) (event : Happening) (doing : Doing) (store : StoreAnswer) (given other : Given) → Steps old event doing store given new → Steps old event doing store other end

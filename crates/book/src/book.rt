@@ -97,7 +97,8 @@ impl<R: RangeTable, S: HostStore> Book<R, S> {
         (u64::MAX - next).min(left as u64)
     }
 
-    /// One event: one step of the shared state, and one entry of the journal, which tells what it gave.
+    /// One event: one step of the shared state, and one entry of the journal, which tells what it gave. An answer, a silence
+    /// and the end of grace take no memory.
     pub fn apply(&mut self, event: BookEvent) -> Reply
         requires { 0 < room_of self.old.journal }
         ensures enters { Enters self.old (happening_of event) (given_of result) self.new }
@@ -106,7 +107,7 @@ impl<R: RangeTable, S: HostStore> Book<R, S> {
         let said = self.shared.apply(&event);
         let act = Act::Event {
             event,
-            reply: said.noted,
+            gave: said.noted,
         };
         enter(
             &mut self.entries,

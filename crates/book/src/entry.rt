@@ -2,6 +2,7 @@
 use crate::event::BookEvent;
 use crate::reply::Reply;
 use letters::Letter;
+use local_ops::LocalAnswer;
 use lock_service::StoreAnswer;
 use std::snapshot::Snapshot;
 
@@ -15,13 +16,22 @@ pub enum Doing {
     Starved,
 }
 
+/// What an event gave, as the journal notes it.
+#[derive(Drop)]
+pub enum Gave {
+    Reply(Reply),
+    /// A local program's line was answered so, which contracts see: an answer that names an owner can't be copied without
+    /// memory, and the deed is done by then.
+    Says(Snapshot<LocalAnswer>),
+}
+
 /// What an entry notes.
 #[derive(Drop)]
 pub enum Act {
     /// An event, and what it gave.
     Event {
         event: BookEvent,
-        reply: Reply,
+        gave: Gave,
     },
     /// The server's own call of this number was sent. Contracts see its letter.
     Sent {

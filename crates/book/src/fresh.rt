@@ -80,7 +80,7 @@ fn is_kept(call: &Call<'_>, outcome: &Outcome) -> bool
 {
     let is_done = matches!(outcome, Outcome::Success(_));
     match call.procedure {
-        Procedure::Null | Procedure::Test(_) => false,
+        Procedure::Null | Procedure::Test(_) | Procedure::GrantedRes(_) => false,
         _ => is_done,
     }
 }

@@ -1,6 +1,7 @@
 //! What is true of every step.
 ghost use Rattle.book.specs.Notes.{OneStep};
 
+use local_ops::one_line;
 use record_reading::{one_answer_reading, one_reading};
 
 /// An event, what became of it and the store's answer fix what it gives and the state after it.
@@ -9,4 +10,5 @@ pub fn one_step()
 {
     one_reading();
     one_answer_reading();
+    one_line();
 }

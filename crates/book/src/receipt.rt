@@ -1,10 +1,11 @@
 //! Receipts: what whoever sends a reply holds of its entry.
 ghost use Rattle.std.specs.Prelude.{◌≡◌};
 ghost use Rattle.kept_replies.specs.Pairs.{asker};
+ghost use Rattle.book.specs.Given.{given_by, record_of};
 ghost use Rattle.book.specs.Notes.{Takes, note_of};
 ghost use Rattle.book.specs.Receipts.{receipt_of, same_receipt};
 
-use crate::entry::{Act, Entry};
+use crate::entry::{Act, Entry, Gave};
 use crate::event::BookEvent;
 use bytes::Bytes;
 use kept_replies::Peer;
@@ -42,10 +43,10 @@ impl Receipt {
         requires { (note_of entry.now).event ≡ Takes (asker taken.peer) taken.record }
         ensures { result ≡ receipt_of (note_of entry.now) }
     {
-        let mut reply = Frame::new();
-        if let Act::Event { reply: said, .. } = &entry.act {
-            let _ = said.put(&mut reply);
-        }
+        let reply = match &entry.act {
+            Act::Event { gave, .. } => record_of(gave),
+            Act::Sent { .. } => Frame::new(),
+        };
         Receipt {
             number: entry.number,
             taken,
@@ -81,7 +82,7 @@ impl Receipt {
         if entry.number != self.number {
             return false;
         }
-        let Act::Event { event, reply: said } = &entry.act else {
+        let Act::Event { event, gave } = &entry.act else {
             return false;
         };
         let BookEvent::Take { peer, record } = event else {
@@ -90,8 +91,18 @@ impl Receipt {
         if *peer != self.taken.peer || *record != self.taken.record {
             return false;
         }
-        let mut reply = Frame::new();
-        let _ = said.put(&mut reply);
-        reply.as_slice() == self.reply.as_slice()
+        record_of(gave).as_slice() == self.reply.as_slice()
     }
+}
+
+// The record that a client got.
+fn record_of(gave: &Gave) -> Frame
+    ensures { result ≡ record_of (given_by gave.now) }
+{
+    let mut record = Frame::new();
+    if let Gave::Reply(reply) = gave {
+        // An empty frame has room for each record.
+        let _ = reply.put(&mut record);
+    }
+    record
 }

@@ -3,6 +3,7 @@ ghost use Rattle.std.specs.Prelude.{◌≡◌, ◌+◌, ◌≤◌, ◌++◌, ◌
 ghost use Rattle.book.specs.Given.{given_of, record_of};
 
 use call_outcome::Outcome;
+use local_ops::LocalAnswer;
 use owner_ids::Starved;
 use record_reading::Refusal;
 use std::alloc::Global;
@@ -28,10 +29,8 @@ pub enum Reply {
     SystemErr {
         xid: u32,
     },
-    /// A local program's line is none of the protocol.
-    BadLine,
-    /// There was no memory for a local program's line.
-    StarvedLine,
+    /// A local program's line was answered so.
+    Says(LocalAnswer),
     /// An event that has nobody to answer met want of memory.
     Starved,
     /// The store refused an event that has nobody to answer.
@@ -39,8 +38,7 @@ pub enum Reply {
 }
 
 impl Reply {
-    /// Appends the record of the reply that a client gets, or the line that a local program gets, and nothing where there
-    /// is none. It is written whole or not at
+    /// Appends the record of the reply that a client gets, and nothing where there is none. It is written whole or not at
     /// all: `FrameFull` exactly where it doesn't fit, and the frame is unchanged then. It fits behind 40 bytes, so it does in
     /// an empty frame.
     pub fn put(&self, f: &mut Frame) -> Result<(), FrameFull>
@@ -53,9 +51,7 @@ impl Reply {
             Reply::Answers { xid, outcome } => outcome.reply(*xid, f),
             Reply::Refuses { xid, refusal } => Outcome::Refuses(*refusal).reply(*xid, f),
             Reply::SystemErr { xid } => Outcome::SystemErr.reply(*xid, f),
-            Reply::BadLine => f.append(b"bad\n"),
-            Reply::StarvedLine => f.append(b"starved\n"),
-            Reply::Nothing | Reply::Starved | Reply::StoreRefused => f.append(&[]),
+            Reply::Nothing | Reply::Says(_) | Reply::Starved | Reply::StoreRefused => f.append(&[]),
         }
     }
 }

@@ -2,19 +2,22 @@
 ghost use Rattle.std.specs.Prelude.{◌≡◌};
 ghost use Rattle.definitions.specs.Hosts.{NotAsked};
 ghost use Rattle.definitions.specs.Step.{Applied, Starved as IsStarved, Nothing, Replies, Says};
-ghost use Rattle.definitions.specs.Replies.{SystemErr, Refuses, LineBad};
+ghost use Rattle.definitions.specs.Replies.{SystemErr, Refuses, LineStarved};
 ghost use Rattle.call_outcome.specs.Values.{outcome_of};
 ghost use Rattle.record_reading.specs.Values.{view_of_refusal};
 ghost use Rattle.lock_service.specs.Planned.{answer_of};
-ghost use Rattle.book.specs.Given.{given_of};
+ghost use Rattle.local_ops.specs.Answers.{reply_of};
+ghost use Rattle.book.specs.Given.{given_of, given_by};
 ghost use Rattle.book.specs.Notes.{doing_of};
 
-use crate::entry::Doing;
+use crate::entry::{Doing, Gave};
 use crate::reply::Reply;
 use call_outcome::Outcome;
+use local_ops::LocalAnswer;
 use lock_service::StoreAnswer;
 use record_reading::Refusal;
 use std::alloc::Global;
+use std::snapshot::Snapshot;
 use std::sync::Arc;
 
 /// What became of an event, what the store answered, and what the event gives: once for whoever asked, and once for the
@@ -24,8 +27,8 @@ pub(crate) struct Said {
     pub(crate) doing: Doing,
     pub(crate) store: StoreAnswer,
     pub(crate) reply: Reply,
-    pub(crate) noted: Reply,
-    pub(crate) ghost same: { given_of noted ≡ given_of reply },
+    pub(crate) noted: Gave,
+    pub(crate) ghost same: { given_by noted ≡ given_of reply },
 }
 
 impl Said {
@@ -39,21 +42,35 @@ impl Said {
             doing: Doing::Applied,
             store,
             reply: Reply::Nothing,
-            noted: Reply::Nothing,
+            noted: Gave::Reply(Reply::Nothing),
         }
     }
 
-    // A line is none of the protocol.
-    pub(crate) fn bad_line() -> Said
+    // A line is answered so.
+    pub(crate) fn says(answer: LocalAnswer) -> Said
         ensures doing { doing_of result.doing ≡ Applied }
         ensures store { answer_of result.store ≡ NotAsked }
-        ensures given { given_of result.reply ≡ Says LineBad }
+        ensures given { given_of result.reply ≡ Says (reply_of answer) }
     {
         Said {
             doing: Doing::Applied,
             store: StoreAnswer::NotAsked,
-            reply: Reply::BadLine,
-            noted: Reply::BadLine,
+            noted: Gave::Says(Snapshot::of(&answer)),
+            reply: Reply::Says(answer),
+        }
+    }
+
+    // There was no memory for a line.
+    pub(crate) fn starved_line() -> Said
+        ensures doing { doing_of result.doing ≡ IsStarved }
+        ensures store { answer_of result.store ≡ NotAsked }
+        ensures given { given_of result.reply ≡ Says LineStarved }
+    {
+        Said {
+            doing: Doing::Starved,
+            store: StoreAnswer::NotAsked,
+            reply: Reply::Says(LocalAnswer::Starved),
+            noted: Gave::Reply(Reply::Says(LocalAnswer::Starved)),
         }
     }
 
@@ -67,7 +84,7 @@ impl Said {
             doing: Doing::Applied,
             store: StoreAnswer::NotAsked,
             reply: Reply::Refuses { xid, refusal },
-            noted: Reply::Refuses { xid, refusal },
+            noted: Gave::Reply(Reply::Refuses { xid, refusal }),
         }
     }
 
@@ -81,7 +98,7 @@ impl Said {
             doing: Doing::Starved,
             store,
             reply: Reply::SystemErr { xid },
-            noted: Reply::SystemErr { xid },
+            noted: Gave::Reply(Reply::SystemErr { xid }),
         }
     }
 
@@ -101,10 +118,10 @@ impl Said {
             doing: Doing::Applied,
             store,
             reply: Reply::Answers { xid, outcome },
-            noted: Reply::Answers {
+            noted: Gave::Reply(Reply::Answers {
                 xid,
                 outcome: noted,
-            },
+            }),
         }
     }
 }

@@ -1,12 +1,12 @@
 //! The shared state: the world and the kept replies.
-ghost use Rattle.std.specs.Prelude.{◌≡◌, ℕ, [], IfOk};
-ghost use Rattle.definitions.specs.Replies.{BadLine};
-ghost use Rattle.definitions.specs.Step.{opening_state, Local, Silent, GraceOver, Restart};
+ghost use Rattle.std.specs.Prelude.{◌≡◌, [], IfOk};
+ghost use Rattle.definitions.specs.Step.{opening_state, Silent, GraceOver, Restart, Applied, Starved as HasStarved};
 ghost use Rattle.lock_service.specs.Planned.{answer_of, counted};
 ghost use Rattle.book.specs.Given.{given_of, unbegun};
+ghost use Rattle.book.specs.Journal.{TakesMemory};
 ghost use Rattle.book.specs.Notes.{doing_of, happening_of, HearsAnswer, IsStep, Steps};
 
-use crate::entry::Doing;
+use crate::entry::{Doing, Gave};
 use crate::event::BookEvent;
 use crate::kept::KeptReply;
 use crate::reply::Reply;
@@ -60,11 +60,12 @@ impl<R: RangeTable, S: HostStore> Shared<R, S> {
     pub(crate) fn apply(&mut self, event: &BookEvent) -> Said
         ensures step { Steps self.old.state (happening_of event.now) (doing_of result.doing) (answer_of result.store) (given_of result.reply) self.new.state }
         ensures counts { self.new.refusals ≡ counted (answer_of result.store) self.old.refusals }
+        ensures fed { doing_of result.doing ≡ HasStarved → TakesMemory (happening_of event.now) }
     {
         match event {
             BookEvent::Take { peer, record } => self.take(*peer, record),
             BookEvent::Answer { bytes } => self.answer(bytes),
-            BookEvent::Local { .. } => self.line(),
+            BookEvent::Local { connection, line } => self.line(*connection, line),
             BookEvent::Silent { number } => self.silent(*number),
             BookEvent::GraceOver => self.grace_over(),
             BookEvent::Restart => self.restart(),
@@ -74,23 +75,16 @@ impl<R: RangeTable, S: HostStore> Shared<R, S> {
     fn answer(&mut self, bytes: &[u8]) -> Said
         ensures step { Steps self.old.state (HearsAnswer bytes.now) (doing_of result.doing) (answer_of result.store) (given_of result.reply) self.new.state }
         ensures counts { self.new.refusals ≡ counted (answer_of result.store) self.old.refusals }
+        ensures fed { doing_of result.doing ≡ Applied }
     {
         let reading = AnswerReading::read(bytes);
         Said::nothing(answered(&mut self.world, &reading))
     }
 
-    // No line is served yet.
-    fn line(&mut self) -> Said
-        ensures step { (l : ℕ) → IsStep self.old.state (Local l BadLine) (doing_of result.doing) (answer_of result.store) (given_of result.reply) self.new.state }
-        ensures counts { self.new.refusals ≡ counted (answer_of result.store) self.old.refusals }
-    {
-        self.world.settle();
-        Said::bad_line()
-    }
-
     fn silent(&mut self, number: u64) -> Said
         ensures step { IsStep self.old.state (Silent number) (doing_of result.doing) (answer_of result.store) (given_of result.reply) self.new.state }
         ensures counts { self.new.refusals ≡ counted (answer_of result.store) self.old.refusals }
+        ensures fed { doing_of result.doing ≡ Applied }
     {
         self.world.silent(number);
         Said::nothing(StoreAnswer::NotAsked)
@@ -99,6 +93,7 @@ impl<R: RangeTable, S: HostStore> Shared<R, S> {
     fn grace_over(&mut self) -> Said
         ensures step { IsStep self.old.state GraceOver (doing_of result.doing) (answer_of result.store) (given_of result.reply) self.new.state }
         ensures counts { self.new.refusals ≡ counted (answer_of result.store) self.old.refusals }
+        ensures fed { doing_of result.doing ≡ Applied }
     {
         self.world.grace_over();
         Said::nothing(StoreAnswer::NotAsked)
@@ -136,6 +131,6 @@ fn unstarted(doing: Doing, store: StoreAnswer) -> Said
         doing,
         store,
         reply,
-        noted,
+        noted: Gave::Reply(noted),
     }
 }

@@ -8,6 +8,7 @@ ghost use Rattle.book.specs.Notes.{happening_of, Steps};
 
 use crate::event::BookEvent;
 use crate::reply::Reply;
+use local_ops::{LocalAnswer, LocalCall};
 use record_reading::{AnswerReading, Reading};
 
 impl BookEvent {
@@ -22,7 +23,10 @@ impl BookEvent {
                 let _reading = AnswerReading::read(bytes);
                 Reply::Starved
             }
-            BookEvent::Local { .. } => Reply::StarvedLine,
+            BookEvent::Local { line, .. } => {
+                let _reading = LocalCall::read(line);
+                Reply::Says(LocalAnswer::Starved)
+            }
             BookEvent::Silent { .. } | BookEvent::GraceOver | BookEvent::Restart => Reply::Starved,
         }
     }

@@ -3,3 +3,4 @@ pub mod HubLemmas
 pub mod Sends
 pub mod SameRun
 pub mod Replays
+pub mod WrittenLemmas

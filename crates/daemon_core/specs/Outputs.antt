@@ -2,6 +2,7 @@
 use Rattle.std.specs.Prelude.{ℕ, List, [], Bool, true, false, cond, Option, Some, None}
 use Rattle.definitions.specs.Step.{Given, Nothing, Replies, Says, Sends, IsStarved, IsRefused}
 use Rattle.record_mark.specs.Sent.{marked}
+use Rattle.local_ops.specs.Texts.{reply_text}
 use Rattle.book.specs.declared.entry.Doing.{Doing}
 use Rattle.book.specs.declared.entry.Doing.TheVariants.{Applied, Starved}
 use Rattle.lock_service.specs.declared.plans.StoreAnswer.{StoreAnswer}
@@ -45,7 +46,7 @@ sent_on IsRefused = None
 
 -- the answer to a line goes to its connection
 abbrev pub line_to : ℕ → Given → Option Sending
-line_to l (Says line) = Some (record { to = ToLocal l; bytes = record_of (Says line) })
+line_to l (Says line) = Some (record { to = ToLocal l; bytes = reply_text line })
 line_to l (Replies xid outcome) = None
 line_to l Nothing = None
 line_to l (Sends call letter) = None

@@ -6,6 +6,7 @@ mod daemon;
 mod event;
 mod law;
 mod noted;
+mod output;
 mod outputs;
 mod sent;
 
@@ -17,3 +18,4 @@ pub use crate::outputs::Outputs;
 pub use crate::sent::{Addressee, Sent};
 pub use book::{Doing, HostName, StoreAnswer};
 pub use kept_replies::Peer;
+pub use local_ops::WriteFault;

@@ -113,8 +113,7 @@ fn refusal_in(reply: &Reply) -> Option<Refusal>
         | Reply::Answers { .. }
         | Reply::Refuses { .. }
         | Reply::SystemErr { .. }
-        | Reply::BadLine
-        | Reply::StarvedLine => None,
+        | Reply::Says(_) => None,
     }
 }
 
@@ -125,11 +124,7 @@ fn send(to: u64, reply: Reply) -> Option<Sent>
         Reply::Answers { .. } | Reply::Refuses { .. } | Reply::SystemErr { .. } => {
             Some(Sent::reply(to, reply))
         }
-        Reply::Nothing
-        | Reply::BadLine
-        | Reply::StarvedLine
-        | Reply::Starved
-        | Reply::StoreRefused => None,
+        Reply::Nothing | Reply::Says(_) | Reply::Starved | Reply::StoreRefused => None,
     }
 }
 
@@ -137,7 +132,7 @@ fn send_line(to: u64, reply: Reply) -> Option<Sent>
     ensures { result ≡ line_to to (given_of reply) }
 {
     match reply {
-        Reply::BadLine | Reply::StarvedLine => Some(Sent::line(to, reply)),
+        Reply::Says(answer) => Some(Sent::line(to, answer)),
         Reply::Nothing
         | Reply::Answers { .. }
         | Reply::Refuses { .. }

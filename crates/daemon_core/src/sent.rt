@@ -1,14 +1,21 @@
 //! What is sent.
 
-ghost use Rattle.std.specs.Prelude.{◌≡◌, ◌++◌, [], IsOk, OnOk, OnErr};
+ghost use Rattle.std.specs.Prelude.{◌≡◌, Some};
 ghost use Rattle.call_records.specs.Dests.{dest_of};
 ghost use Rattle.book.specs.Given.{given_of, record_of};
 ghost use Rattle.daemon_core.specs.Sending.{ToClient, ToLocal, addressee, gets_records};
-ghost use Rattle.daemon_core.specs.Addressed.{addressee_of, bytes_of};
+ghost use Rattle.daemon_core.specs.Addressed.{addressee_of};
+ghost use Rattle.daemon_core.specs.Outputs.{bytes_sent};
+ghost use Rattle.local_ops.specs.Answers.{reply_of};
+ghost use Rattle.local_ops.specs.Texts.{reply_text};
+ghost use Rattle.local_ops.specs.Written.{Wrote};
 
-use book::{Dest, HostName, Reply};
+use crate::output::write_frame;
+use book::{Dest, HostName, LocalAnswer, Reply};
+use local_ops::WriteFault;
+use std::io::Write;
 use std::marker::Model;
-use xdr_core::{Frame, FrameFull};
+use xdr_core::Frame;
 
 /// Whom something is sent to.
 #[derive(Drop)]
@@ -33,39 +40,15 @@ impl Addressee {
     }
 }
 
-// A reply is a value until it is written; a call was written when it was sent.
+// A reply or an answer is a value until it is written; a call was written when it was sent.
 #[derive(Drop)]
 enum Content {
     Reply(Reply),
+    Line(LocalAnswer),
     Call(Frame),
 }
 
-impl Content {
-    fn put(&self, f: &mut Frame) -> Result<(), FrameFull>
-        ensures fits { f.old ≡ [] → IsOk result }
-        ensures ok { OnOk result (f.new ≡ f.old ++ bytes_of self.now) }
-        ensures err { OnErr result (f.new ≡ f.old) }
-    {
-        match self {
-            Content::Reply(reply) => reply.put(f),
-            Content::Call(frame) => append_all(f, frame),
-        }
-    }
-}
-
-fn append_all(f: &mut Frame, frame: &Frame) -> Result<(), FrameFull>
-    ensures fits { f.old ≡ [] → IsOk result }
-    ensures ok { OnOk result (f.new ≡ f.old ++ frame.now) }
-    ensures err { OnErr result (f.new ≡ f.old) }
-{
-    // Whatever fits a frame fits an empty one.
-    if frame.len() > 4_096 {
-        return Err(FrameFull);
-    }
-    f.append(frame.as_slice())
-}
-
-/// A reply to a connection, or one of the server's own calls to whom it is for.
+/// A reply to a connection, the answer to a local program's line, or one of the server's own calls to whom it is for.
 #[derive(Drop)]
 pub struct Sent {
     to: Addressee,
@@ -74,11 +57,13 @@ pub struct Sent {
 
 impl Model for Sent {
     ghost use Rattle.daemon_core.specs.Sending.{Sending};
-    ghost use Rattle.daemon_core.specs.Addressed.{addressee_of, bytes_of};
+    ghost use Rattle.daemon_core.specs.Addressed.{addressee_of, bytes_of, IsFor};
 
     ghost Value = { Sending };
 
     ghost view = { λ s. record { to = addressee_of s.to; bytes = bytes_of s.content } };
+
+    ghost invariant = { λ s. IsFor s.content (addressee_of s.to) };
 }
 
 impl Sent {
@@ -93,12 +78,12 @@ impl Sent {
     }
 
     // The answer to a line, to this local connection.
-    pub(crate) fn line(to: u64, reply: Reply) -> Sent
-        ensures { result ≡ record { to = ToLocal to; bytes = record_of (given_of reply) } }
+    pub(crate) fn line(to: u64, answer: LocalAnswer) -> Sent
+        ensures { result ≡ record { to = ToLocal to; bytes = reply_text (reply_of answer) } }
     {
         Sent {
             to: Addressee::Local(to),
-            content: Content::Reply(reply),
+            content: Content::Line(answer),
         }
     }
 
@@ -123,13 +108,20 @@ impl Sent {
         &self.to
     }
 
-    /// Appends the bytes that are sent, whole or not at all. They fit in an empty frame; where they don't fit, the frame is
-    /// unchanged.
-    pub fn put(&self, f: &mut Frame) -> Result<(), FrameFull>
-        ensures fits { f.old ≡ [] → IsOk result }
-        ensures ok { OnOk result (f.new ≡ f.old ++ self.now.bytes) }
-        ensures err { OnErr result (f.new ≡ f.old) }
+    /// Writes what is sent: a record as one fragment (RFC 5531, section 11), a line as it is. Where a write fails, a front of
+    /// it was written. It takes no memory.
+    pub fn write<W: Write>(&self, writer: &mut W) -> Result<(), WriteFault>
+        ensures { Wrote (W.contents writer.old) (W.contents writer.new) result (bytes_sent (Some self.now)) }
     {
-        self.content.put(f)
+        match &self.content {
+            Content::Line(answer) => answer.write(writer),
+            Content::Call(frame) => write_frame(writer, &self.to, frame),
+            Content::Reply(reply) => {
+                let mut frame = Frame::new();
+                // An empty frame has room for each reply.
+                let _ = reply.put(&mut frame);
+                write_frame(writer, &self.to, &frame)
+            }
+        }
     }
 }

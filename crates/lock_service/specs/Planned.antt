@@ -1,18 +1,22 @@
 -- What a plan says: what the store is asked, and what follows.
-use Rattle.std.specs.Prelude.{◌≡◌, ◌≢◌, ◌⊎◌, ℕ, ◌+◌, Bool, true, false, [], Some, None}
+use Rattle.std.specs.Prelude.{◌≡◌, ◌≢◌, ◌⊎◌, ◌<◌, ℕ, ◌+◌, Bool, true, false, [], Some, None}
 use Rattle.definitions.specs.Owners.{Owner}
-use Rattle.definitions.specs.Settings.{Setting}
+use Rattle.definitions.specs.Settings.{Setting, Request}
 use Rattle.definitions.specs.Starts.{refuses}
 use Rattle.definitions.specs.Shares.{is_denied, has_no_room, with_share, without_share}
 use Rattle.definitions.specs.Hosts.{StoreCall, Monitor, StoreAnswer, NotAsked, Yes, Refused, has_row, after_store, is_past_limit}
-use Rattle.definitions.specs.World.{World, with_setting, with_hosts, without_host_of}
+use Rattle.definitions.specs.Waits.{is_waiting, without_waiter}
+use Rattle.definitions.specs.World.{World, the_limits, slots_free, with_setting, with_waiter, with_hosts, without_host_of}
+use Rattle.definitions.specs.Grants.{granted_res_rules}
 use Rattle.definitions.specs.Rulings.{Ruling, decided}
 use Rattle.definitions.specs.Answer.{Answered, gives}
+use Rattle.nlm4_types.specs.Stat.{view_of_stat}
 use Rattle.owner_ids.specs.Said.{said}
-use Rattle.owner_ranges.specs.Same.{held_mode}
+use Rattle.owner_ranges.specs.Same.{mode_of, held_mode}
 use Rattle.call_outcome.specs.Values.{outcome_of}
 use Rattle.lock_world.specs.Seen.{Seen, Knows, KeepsKnown, IsIdle}
 use Rattle.lock_service.specs.declared.plans.Range as range
+use Rattle.lock_service.specs.declared.plans.Wanted as wanted
 use Rattle.lock_service.specs.declared.plans.Row as row
 use Rattle.lock_service.specs.declared.plans.Change.{Change}
 use Rattle.lock_service.specs.declared.plans.Change.TheVariants as change
@@ -25,12 +29,18 @@ use Rattle.lock_service.specs.declared.plans.StoreAnswer.TheVariants as told
 abbrev pub setting_of : range.Range → Setting
 setting_of r = record { file = r.file; owner = said r.owner; first = r.first; last = r.last; mode = held_mode r.mode }
 
+abbrev pub request_wanted : wanted.Wanted → Request
+request_wanted x = record { file = x.file; owner = said x.owner; first = x.first; last = x.last; mode = mode_of x.mode }
+
 abbrev pub changed : Change → World → World
 changed change.Nothing w = w
 changed (change.Set r) w = with_setting w (setting_of r)
+changed (change.Wait x letter) w = with_waiter w (record { request = request_wanted x; letter = letter })
+changed (change.Cancel x) w = record w { waiters = without_waiter (request_wanted x) w.waiters }
 changed (change.Share s) w = record w { shares = with_share s w.shares }
 changed (change.Unshare s) w = record w { shares = without_share s w.shares }
 changed (change.DropHost name) w = without_host_of w name.items
+changed (change.GrantAnswered cookie stat) w = (granted_res_rules the_limits w cookie (view_of_stat stat)).world
 
 abbrev pub answered : answer.Answer → World → Answered
 answered a w = record { outcome = outcome_of a.outcome.value; due = []; world = changed a.change w }
@@ -85,9 +95,12 @@ counted Refused refusals = refusals + 1
 abbrev pub FitsChange : Change → World → Type 0
 FitsChange change.Nothing w = Unit {0}
 FitsChange (change.Set r) w = refuses 65536 w.settings (setting_of r) ≡ false
+FitsChange (change.Wait x letter) w = 0 < slots_free the_limits w
+FitsChange (change.Cancel x) w = is_waiting (request_wanted x) w.waiters ≡ true
 FitsChange (change.Share s) w = (is_denied w.shares s ≡ false) × (has_no_room 16384 w.shares s ≡ false)
 FitsChange (change.Unshare s) w = Unit {0}
 FitsChange (change.DropHost name) w = Unit {0}
+FitsChange (change.GrantAnswered cookie stat) w = Unit {0}
 
 abbrev pub Fits : Plan → World → Type 0
 Fits (plan.Decided a) w = FitsChange a.change w
@@ -98,16 +111,19 @@ abbrev pub CanAsk : Plan → World → Type 0
 CanAsk (plan.Decided a) w = Unit {0}
 CanAsk (plan.AfterRow r agreed refused) w = has_row w.hosts r.name ≡ false
 
--- whoever is to hold a lock is known
+-- whoever is to hold a lock, or to wait for one, is known
 abbrev pub MayHold : range.Range → Seen → Type 0
 MayHold r s = (r.mode ≡ None) ⊎ Knows s (said r.owner)
 
 abbrev pub IsReadyFor : Change → Seen → Type 0
 IsReadyFor change.Nothing s = Unit {0}
 IsReadyFor (change.Set r) s = MayHold r s
+IsReadyFor (change.Wait x letter) s = Knows s (said x.owner)
+IsReadyFor (change.Cancel x) s = Unit {0}
 IsReadyFor (change.Share x) s = Unit {0}
 IsReadyFor (change.Unshare x) s = Unit {0}
 IsReadyFor (change.DropHost name) s = Unit {0}
+IsReadyFor (change.GrantAnswered cookie stat) s = Unit {0}
 
 abbrev pub IsReady : Plan → Seen → Type 0
 IsReady (plan.Decided a) s = IsReadyFor a.change s
@@ -115,25 +131,37 @@ IsReady (plan.AfterRow r agreed refused) s = IsReadyFor agreed.change s
 
 -- ---- when a plan is given up
 
--- who was to hold a lock, and holds nothing and waits for nothing in this world, has no number
+-- who was to hold a lock or to wait for one, and holds nothing and waits for nothing in this world, has no number
+abbrev pub IsForgottenIfIdle : Owner → World → Seen → Type 0
+IsForgottenIfIdle x w s = IsIdle w x → Knows s x → ⊥
+
 abbrev pub IsForgottenFor : Change → World → Seen → Type 0
 IsForgottenFor change.Nothing w s = Unit {0}
-IsForgottenFor (change.Set r) w s = IsIdle w (said r.owner) → Knows s (said r.owner) → ⊥
+IsForgottenFor (change.Set r) w s = IsForgottenIfIdle (said r.owner) w s
+IsForgottenFor (change.Wait x letter) w s = IsForgottenIfIdle (said x.owner) w s
+IsForgottenFor (change.Cancel x) w s = Unit {0}
 IsForgottenFor (change.Share x) w s = Unit {0}
 IsForgottenFor (change.Unshare x) w s = Unit {0}
 IsForgottenFor (change.DropHost name) w s = Unit {0}
+IsForgottenFor (change.GrantAnswered cookie stat) w s = Unit {0}
 
 abbrev pub IsForgotten : Plan → World → Seen → Type 0
 IsForgotten (plan.Decided a) w s = IsForgottenFor a.change w s
 IsForgotten (plan.AfterRow r agreed refused) w s = IsForgottenFor agreed.change w s
 
 -- everybody else who was known still is
+abbrev pub KeepsOthersThan : Owner → Seen → Seen → Type 0
+KeepsOthersThan x before after = (y : Owner) → y ≢ x → Knows before y → Knows after y
+
 abbrev pub KeepsOthersFor : Change → Seen → Seen → Type 0
 KeepsOthersFor change.Nothing before after = KeepsKnown before after
-KeepsOthersFor (change.Set r) before after = (x : Owner) → x ≢ said r.owner → Knows before x → Knows after x
+KeepsOthersFor (change.Set r) before after = KeepsOthersThan (said r.owner) before after
+KeepsOthersFor (change.Wait x letter) before after = KeepsOthersThan (said x.owner) before after
+KeepsOthersFor (change.Cancel x) before after = KeepsKnown before after
 KeepsOthersFor (change.Share x) before after = KeepsKnown before after
 KeepsOthersFor (change.Unshare x) before after = KeepsKnown before after
 KeepsOthersFor (change.DropHost name) before after = KeepsKnown before after
+KeepsOthersFor (change.GrantAnswered cookie stat) before after = KeepsKnown before after
 
 abbrev pub KeepsOthers : Plan → Seen → Seen → Type 0
 KeepsOthers (plan.Decided a) before after = KeepsOthersFor a.change before after

@@ -6,17 +6,19 @@ ghost use Rattle.nlm4_types.specs.Call.{view_of_call as view_of_nlm_call};
 ghost use Rattle.record_reading.specs.Values.{view_of_call};
 ghost use Rattle.lock_service.specs.Served.{served, call_of};
 
-use nlm4_types::{LockArgs, NlmCall, Notify, ShareArgs, TestArgs, UnlockArgs, Version, WIDE};
+use nlm4_types::{
+    CancelArgs, LockArgs, NlmCall, Notify, Res, ShareArgs, TestArgs, UnlockArgs, Version, WIDE,
+};
 
 /// A procedure with its arguments, which borrow from the call's record.
 #[derive(Clone, Copy)]
 pub enum Procedure<'r> {
     Null,
     Test(TestArgs<'r, WIDE>),
-    /// Nobody waits: `block` is taken as false.
     Lock(LockArgs<'r, WIDE>),
+    Cancel(CancelArgs<'r, WIDE>),
     Unlock(UnlockArgs<'r, WIDE>),
-    /// Nobody waits: `block` is taken as false.
+    GrantedRes(Res<'r>),
     NmLock(LockArgs<'r, WIDE>),
     Share(ShareArgs<'r>),
     Unshare(ShareArgs<'r>),
@@ -49,17 +51,15 @@ fn served_of<'r>(version: Version, call: &NlmCall<'r>) -> Option<Call<'r>>
         NlmCall::Null => Procedure::Null,
         NlmCall::Test(args) => Procedure::Test(*args),
         NlmCall::Lock(args) => Procedure::Lock(*args),
+        NlmCall::Cancel(args) => Procedure::Cancel(*args),
         NlmCall::Unlock(args) => Procedure::Unlock(*args),
+        NlmCall::GrantedRes(args) => Procedure::GrantedRes(*args),
         NlmCall::NmLock(args) => Procedure::NmLock(*args),
         NlmCall::Share(args) => Procedure::Share(*args),
         NlmCall::Unshare(args) => Procedure::Unshare(*args),
         NlmCall::FreeAll(args) => Procedure::FreeAll(*args),
-        NlmCall::Cancel(_)
-        | NlmCall::TestMsg(_)
-        | NlmCall::LockMsg(_)
-        | NlmCall::CancelMsg(_)
-        | NlmCall::UnlockMsg(_)
-        | NlmCall::GrantedRes(_) => return None,
+        NlmCall::TestMsg(_) | NlmCall::LockMsg(_) | NlmCall::CancelMsg(_) | NlmCall::UnlockMsg(_) =>
+            return None,
     };
     Some(Call { version, procedure })
 }

@@ -1,6 +1,6 @@
 //! Copies of what a call says.
 ghost use Rattle.std.specs.Prelude.{◌≡◌, false, IfOk};
-ghost use Rattle.definitions.specs.Ranges.{owner_of as owner_said, mode_of as mode_said};
+ghost use Rattle.definitions.specs.Ranges.{owner_of as owner_said, mode_of as mode_said, last_of, request_of};
 ghost use Rattle.nlm4_types.specs.Lock.{view_of_lock};
 ghost use Rattle.nlm4_types.specs.Stat.{view_of_stat};
 ghost use Rattle.owner_ids.specs.Said.{said};
@@ -11,9 +11,10 @@ ghost use Rattle.definitions.specs.Answer.{res as res_said, by_reply};
 ghost use Rattle.definitions.specs.Replies.{Success, ResResult};
 ghost use Rattle.call_outcome.specs.Values.{outcome_of};
 ghost use Rattle.lock_world.specs.Whole.{IsShown};
-ghost use Rattle.lock_service.specs.Planned.{IsPlan, AsksOnlyIf};
+ghost use Rattle.lock_service.specs.Planned.{IsPlan, AsksOnlyIf, request_wanted};
 
-use crate::plans::{Answer, Change, Plan};
+use crate::checks::Place;
+use crate::plans::{Answer, Change, Plan, Wanted};
 use call_outcome::{CallResult, Outcome};
 use letters::{Res, ShortBytes};
 use nlm4_types::{Lock, Netobj, Stat, WIDE};
@@ -42,6 +43,28 @@ pub(crate) fn mode_of(exclusive: bool) -> Mode
     } else {
         Mode::Shared
     }
+}
+
+/// The lock that a call asks for, whose bytes are these.
+#[tactic(auto, using(crate::proofs::Locking::same_request))]
+pub(crate) fn wanted_of(
+    alloc: Global,
+    place: &Place,
+    exclusive: bool,
+    alock: &Lock<'_, WIDE>,
+) -> Result<Wanted, Starved>
+    requires file { place.now.file ≡ alock.now.fh.bytes.now }
+    requires first { place.now.first ≡ alock.now.l_offset }
+    requires last { place.now.last ≡ last_of alock.now.l_offset alock.now.l_len }
+    ensures { IfOk result (λ wanted. request_wanted wanted ≡ request_of exclusive (view_of_lock alock.now)) }
+{
+    Ok(Wanted {
+        file: place.file,
+        owner: owner_of(alloc, alock)?,
+        first: place.first,
+        last: place.last,
+        mode: mode_of(exclusive),
+    })
 }
 
 /// A copy of a cookie.

@@ -4,9 +4,11 @@
 
 mod answers;
 mod call;
+mod cancel;
 mod checks;
 mod copies;
 mod free_all;
+mod granted;
 mod local;
 mod lock;
 mod null;
@@ -22,5 +24,5 @@ pub use answers::{answered, granted_res};
 pub use call::{Call, Procedure};
 pub use local::{LinePlan, close_file, get_lock, plan_set, set_lock};
 pub use owner_ids::Starved;
-pub use plans::{Answer, Change, Plan, Range, Row, StoreAnswer};
+pub use plans::{Answer, Change, Plan, Range, Row, StoreAnswer, Wanted};
 pub use steps::{abandon, agree, answer, ask, commit, plan, prepare};

@@ -5,7 +5,8 @@ ghost use Rattle.lock_world.specs.Whole.{IsShown};
 ghost use Rattle.lock_world.proofs.OneProof.{shown_prop};
 
 use call_outcome::Outcome;
-use letters::ShortBytes;
+use letters::{Letter, ShortBytes};
+use nlm4_types::Stat;
 use owner_ids::Owner;
 use range_table::{FileId, Mode};
 use std::alloc::Global;
@@ -24,6 +25,19 @@ pub struct Range {
     pub ghost shown: { IsShown (said owner) } by { shown_prop (said owner) },
 }
 
+/// A lock that an owner wants, from the first to the last byte.
+#[derive(Drop)]
+pub struct Wanted {
+    pub file: FileId,
+    pub owner: Owner,
+    pub first: u64,
+    pub last: u64,
+    pub mode: Mode,
+    pub ghost ordered: { first ≤ last },
+    pub ghost inside: { last < 2 ^ 63 },
+    pub ghost shown: { IsShown (said owner) } by { shown_prop (said owner) },
+}
+
 /// The row that is stored of a host that has none: its name, and its state as the call gave it (XNFS, SM_MON).
 #[derive(Drop)]
 pub struct Row {
@@ -36,11 +50,17 @@ pub struct Row {
 pub enum Change {
     Nothing,
     Set(Range),
+    /// The owner waits for the lock, behind all who wait, and the letter tells of the grant.
+    Wait(Wanted, Letter),
+    /// The owner, which waits for the lock, waits for it no longer.
+    Cancel(Wanted),
     Share(dos_shares::Share),
     /// The share of that file and owner goes, whatever it denies and does.
     Unshare(dos_shares::Share),
     /// All that a host of this name has.
     DropHost(Vec<u8>),
+    /// What a client says of a grant, whose call carried this cookie (XNFS, NLM_GRANTED_RES).
+    GrantAnswered { cookie: ShortBytes, stat: Stat },
 }
 
 /// What is answered, which whoever keeps the reply shares, and what changes.

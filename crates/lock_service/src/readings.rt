@@ -3,10 +3,11 @@ ghost use Rattle.std.specs.Prelude.{◌≡◌};
 ghost use Rattle.definitions.specs.World.{World as SaidWorld};
 ghost use Rattle.definitions.specs.Rulings.{ruled};
 ghost use Rattle.call_outcome.specs.Values.{outcome_of};
-ghost use Rattle.held_locks.specs.Asked.{changed as change_said};
-ghost use Rattle.lock_service.specs.Planned.{answer_of, planned, setting_of};
+ghost use Rattle.definitions.specs.Settings.{setting_of as setting_said};
+ghost use Rattle.held_locks.specs.Asked.{asked, changed as change_said};
+ghost use Rattle.lock_service.specs.Planned.{answer_of, planned, request_wanted, setting_of};
 
-use crate::plans::{Plan, Range, StoreAnswer};
+use crate::plans::{Plan, Range, StoreAnswer, Wanted};
 use call_outcome::Outcome;
 use std::alloc::Global;
 use std::sync::Arc;
@@ -22,6 +23,34 @@ impl Range {
             first: self.first,
             last: self.last,
             mode: self.mode,
+        }
+    }
+}
+
+impl Wanted {
+    /// The same, as the locks are asked.
+    pub(crate) fn request(&self) -> held_locks::Request<'_>
+        ensures { asked result ≡ request_wanted self.now }
+    {
+        held_locks::Request {
+            file: self.file,
+            owner: &self.owner,
+            first: self.first,
+            last: self.last,
+            mode: self.mode,
+        }
+    }
+
+    /// What its owner holds once it has the lock.
+    pub(crate) fn into_range(self) -> Range
+        ensures { setting_of result ≡ setting_said (request_wanted self) }
+    {
+        Range {
+            file: self.file,
+            owner: self.owner,
+            first: self.first,
+            last: self.last,
+            mode: Some(self.mode),
         }
     }
 }

@@ -10,9 +10,10 @@ ghost use Rattle.lock_world.specs.Seen.{KeepsKnown};
 ghost use Rattle.lock_service.specs.Served.{call_of};
 ghost use Rattle.lock_service.specs.Planned.{answer_of, stored, counted, planned, IsAnswerTo, IsWithin, AsksOnlyIf, IsPlan, Fits, FitsChange, CanAsk, IsReady, IsReadyFor, MayHold, IsForgotten, IsForgottenFor, KeepsOthers, KeepsOthersFor, changed, setting_of};
 
+use crate::answers::granted_res;
 use crate::call::{Call, Procedure};
 use crate::plans::{Change, Plan, Range, StoreAnswer};
-use crate::{free_all, lock, null, share, test, unlock, unshare};
+use crate::{cancel, free_all, granted, lock, null, share, test, unlock, unshare};
 use call_outcome::Outcome;
 use hosts_db::{HostStore, StoreError};
 use lock_world::World;
@@ -34,9 +35,11 @@ pub fn plan<R: RangeTable, S: HostStore>(
     match &call.procedure {
         Procedure::Null => null::plan(world.alloc()),
         Procedure::Test(args) => test::plan(world, call.version, args),
-        Procedure::Lock(args) => lock::plan(world, args, true),
+        Procedure::Lock(args) => lock::plan(world, call.version, args, true),
+        Procedure::Cancel(args) => cancel::plan(world, args),
         Procedure::Unlock(args) => unlock::plan(world, args),
-        Procedure::NmLock(args) => lock::plan(world, args, false),
+        Procedure::GrantedRes(args) => granted::plan(world.alloc(), args),
+        Procedure::NmLock(args) => lock::plan(world, call.version, args, false),
         Procedure::Share(args) => share::plan(world, args),
         Procedure::Unshare(args) => unshare::plan(world, args),
         Procedure::FreeAll(args) => free_all::plan(world.alloc(), args),
@@ -71,7 +74,13 @@ pub(crate) fn prepare_change<R: RangeTable, S: HostStore>(
 {
     match change {
         Change::Set(range) => prepare_range(world, range),
-        Change::Nothing | Change::Share(_) | Change::Unshare(_) | Change::DropHost(_) => Ok(()),
+        Change::Wait(wanted, _) => world.admit(&wanted.owner),
+        Change::Nothing
+        | Change::Cancel(_)
+        | Change::Share(_)
+        | Change::Unshare(_)
+        | Change::DropHost(_)
+        | Change::GrantAnswered { .. } => Ok(()),
     }
 }
 
@@ -104,15 +113,17 @@ pub fn abandon<R: RangeTable, S: HostStore>(world: &mut World<R, S>, plan: &Plan
     }
 }
 
-// Forgets whom the change was to give a lock, unless he holds one or waits.
+// Forgets who was to hold a lock or to wait for one, unless he holds one or waits.
 fn forget<R: RangeTable, S: HostStore>(world: &mut World<R, S>, change: &Change)
     ensures world { world.new.world ≡ world.old.world }
     ensures refusals { world.new.refusals ≡ world.old.refusals }
     ensures forgotten { IsForgottenFor change.now world.old.world world.new }
     ensures others { KeepsOthersFor change.now world.old world.new }
 {
-    if let Change::Set(range) = change {
-        world.forget_idle(&range.owner);
+    match change {
+        Change::Set(range) => world.forget_idle(&range.owner),
+        Change::Wait(wanted, _) => world.forget_idle(&wanted.owner),
+        _ => {}
     }
 }
 
@@ -200,11 +211,17 @@ pub(crate) fn change<R: RangeTable, S: HostStore>(world: &mut World<R, S>, chang
                 world.forget_idle(&range.owner);
             }
         }
+        Change::Wait(wanted, letter) => world.wait(&wanted.request(), letter),
+        Change::Cancel(wanted) => {
+            let _ = world.cancel(&wanted.request());
+            world.forget_idle(&wanted.owner);
+        }
         Change::Share(share) => {
             let _ = world.share(share);
         }
         Change::Unshare(share) => world.unshare(&share),
         Change::DropHost(name) => world.drop_host(&name),
+        Change::GrantAnswered { cookie, stat } => granted_res(world, cookie.as_slice(), stat),
     }
 }
 

@@ -13,14 +13,14 @@ use Rattle.lock_world.specs.Whole.{IsWhole, AreWaitersShown}
 use Rattle.lock_world.proofs.Kept.{some_of}
 use Rattle.lock_world.proofs.Shown.{shown_without, waiters_without}
 
-not_same : (x y : Owner) → (x ≡ y → ⊥) → same_owner x y ≡ false
+pub not_same : (x y : Owner) → (x ≡ y → ⊥) → same_owner x y ≡ false
 not_same x y differ = go (same_owner x y) refl
   where
     go : (b : Bool) → same_owner x y ≡ b → b ≡ false
     go true e = absurd (differ ((same_owner-Decides x y).0 e))
     go false e = refl
 
-and_false : (b : Bool) → (b && false) ≡ false
+pub and_false : (b : Bool) → (b && false) ≡ false
 and_false true = refl
 and_false false = refl
 

@@ -6,3 +6,5 @@ pub mod Granting
 pub mod Sendings
 pub mod Notices
 pub mod Closed
+pub mod Strangers
+pub mod Waiting

@@ -9,8 +9,10 @@ mod closing;
 mod readings;
 mod sends;
 mod settle;
+mod waits;
 mod world;
 
 pub use answers::AnswerKey;
+pub use blocked_list::NotWaiting;
 pub use owner_ids::Starved;
 pub use world::World;

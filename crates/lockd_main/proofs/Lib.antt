@@ -1,3 +1,5 @@
 pub mod WrittenLemmas
+pub mod DueCalls
 pub mod PipeLemmas
+pub mod AnsweredLemmas
 pub mod Beginnings

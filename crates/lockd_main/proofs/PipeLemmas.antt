@@ -1,12 +1,12 @@
--- Pieces, and the takes after them.
-use Rattle.std.proofs.Common.{◌≡◌, ℕ, ◌+◌, inl, inr, Bool, true, false, List, [], ◌∷◌, ◌++◌, Option, Some, None, refl, sym, ◌∙◌, ap, subst, append_assoc, arith}
+-- Pieces, the records that are whole after them, and the calls that are due behind each.
+use Rattle.std.proofs.Common.{◌≡◌, ℕ, ◌⊎◌, inl, inr, Bool, true, false, List, [], ◌∷◌, ◌++◌, length, Option, Some, None, refl, sym, ◌∙◌, ap, subst, append_assoc, arith}
 use Rattle.std.specs.Option.{option_to_list}
 use Rattle.std.specs.Prelude.{Err}
 use Rattle.std.specs.Io.KnownBytes.{Appends, Keeps, Consumes}
-use Rattle.std.proofs.lemmas.Grind.{common_steps, flat_map-append}
+use Rattle.std.proofs.lemmas.Grind.{flat_map-append}
 use Rattle.std.proofs.lemmas.List.{append-nil}
 use Rattle.daemon_core.specs.declared.event.Event.{Event}
-use Rattle.daemon_core.specs.declared.event.Event.TheVariants.{Connect, Piece, Disconnect, Take, GraceOver, Restart}
+use Rattle.daemon_core.specs.declared.event.Event.TheVariants.{Piece}
 use Rattle.book.specs.declared.entry.Doing.{Doing}
 use Rattle.book.specs.declared.entry.Doing.TheVariants.{Applied, Starved}
 use Rattle.daemon_core.specs.declared.outputs.Outputs.{Outputs}
@@ -14,17 +14,14 @@ use Rattle.daemon_core.specs.declared.event.Refusal.{Refusal}
 use Rattle.daemon_core.specs.Sending.{Sending}
 use Rattle.kept_replies.specs.declared.key.Peer.{Peer}
 use Rattle.daemon_core.specs.Outputs.{bytes_sent, marked_by}
-use Rattle.daemon_core.specs.Link.{Link, Hears, Receives}
-use Rattle.daemon_core.specs.Hub.{Hub, place_of, Pieces, Connects, HubStep, Run, all_bytes_sent}
-use Rattle.daemon_core.proofs.HubLemmas.{Run-more}
+use Rattle.daemon_core.specs.Link.{Link, Hears as HearsOn, Receives}
+use Rattle.daemon_core.specs.Hub.{Hub, place_of, Pieces, Connects, Waits, HubStep, Run, all_bytes_sent}
 use Rattle.lockd_main.specs.declared.fault.Fault.{Fault}
 use Rattle.lockd_main.specs.FaultOf.{fault_of}
 use Rattle.lockd_main.specs.Written.{WroteFront, FailsToRead}
-use Rattle.lockd_main.specs.Pipe.{IsPiece, takes, Turn, Turns, met_by, beginning, PipeRun, joined, AnswersAll, AnswersSome, WholeTurn, BrokenTurn, TurnEnds, BeginsAll, BeginsSome, EndsAt, BrokenPipe, PipeEnds}
+use Rattle.lockd_main.specs.Answered.{in_order, Breaks}
+use Rattle.lockd_main.specs.Pipe.{IsPiece, Hears, Turn, Turns, met_by, beginning, PipeRun, joined, AnswersAll, AnswersSome, WholeTurn, BrokenTurn, TurnEnds, BeginsAll, BeginsSome, EndsAt, BrokenPipe, PipeEnds}
 use Rattle.lockd_main.proofs.WrittenLemmas.{Appends-nil, Appends-more, Appends-kept, WroteFront-whole, WroteFront-after, Consumes-nil, Consumes-more, Consumes-kept}
-
-pub takes-more : (count : ℕ) → takes (count + 1) ≡ takes count ++ Take 0 0 ∷ []
-takes-more count = grind (arith, common_steps)
 
 pub bytes-append : (outs more : List Outputs) → all_bytes_sent (outs ++ more) ≡ all_bytes_sent outs ++ all_bytes_sent more
 bytes-append outs more = flat_map-append (λ (o : Outputs). bytes_sent o.sent) outs more
@@ -38,7 +35,7 @@ marked-sends : (fault : Bool) → (marked_by fault).sent ≡ None
 marked-sends false = refl
 marked-sends true = refl
 
-hears-sends : (o : Doing) (old new : Link) (bytes : List ℕ) (out : Outputs) → Hears o old bytes out new → out.sent ≡ None
+hears-sends : (o : Doing) (old new : Link) (bytes : List ℕ) (out : Outputs) → HearsOn o old bytes out new → out.sent ≡ None
 hears-sends Applied old new bytes out h = sent_of h.1.3 ∙ marked-sends h.1.1
 hears-sends Starved old new bytes out h = sent_of h.1
 
@@ -54,27 +51,78 @@ piece-sends : (old new : Hub) (event : Event) (bytes : List ℕ) (out : Outputs)
 piece-sends old new (Piece number v) bytes out is h = pieces-send (place_of number old.links) v.items old new out h
 piece-sends old new _ bytes out is h = absurd is
 
--- ---- turns
+pub bytes-more : (outs : List Outputs) (out : Outputs) → all_bytes_sent (outs ++ out ∷ []) ≡ all_bytes_sent outs ++ bytes_sent out.sent
+bytes-more outs out = bytes-append outs (out ∷ []) ∙ ap (λ x. all_bytes_sent outs ++ x) (append-nil (bytes_sent out.sent))
 
 heard-bytes : (heard : Outputs) (answers : List Outputs) → heard.sent ≡ None → all_bytes_sent (heard ∷ answers) ≡ all_bytes_sent answers
 heard-bytes heard answers e = ap (λ (s : Option Sending). bytes_sent s ++ all_bytes_sent answers) e
 
-module _ (old mid new : Hub) (piece : Event) (bytes : List ℕ) (heard : Outputs) (is : IsPiece piece bytes) (hears : HubStep old piece heard mid) (before after : Option (List ℕ)) where
-  pub broken : AnswersSome mid new before after → BrokenTurn old new bytes before after
-  broken a = record {
-    outs = heard ∷ a.answers;
-    turn = record { piece = piece; is = is; heard = heard; mid = mid; hears = hears; whole = a.whole; waits = a.waits; count = a.count; some = a.some; answers = a.answers; run = a.run; all = refl };
-    wrote = let P : List ℕ → Type 0 = λ b. WroteFront before after b in subst P (sym (heard-bytes heard a.answers (piece-sends old mid piece bytes heard is hears))) a.wrote;
+-- ---- what ends it
+
+pub Breaks-after : (fault : Fault) (old new : Hub) (a b d : Option (List ℕ)) (outs more : List Outputs) → Appends a b (all_bytes_sent outs) → Breaks fault old new b d more → Breaks fault old new a d (outs ++ more)
+Breaks-after Fault.WriteFault old new a b d outs more w h =
+    let P : List ℕ → Type 0 = λ x. WroteFront a d x in (h.0, subst P (sym (bytes-append outs more)) (WroteFront-after a b d _ _ w h.1))
+Breaks-after Fault.Starved old new a b d outs more w h =
+    let P : List ℕ → Type 0 = λ x. Appends a d x in (h.0, subst P (sym (bytes-append outs more)) (Appends-more a b d _ _ w h.1))
+Breaks-after Fault.RecordTooLong old new a b d outs more w h = absurd h
+Breaks-after Fault.StoreRefused old new a b d outs more w h = absurd h
+Breaks-after Fault.ReadFault old new a b d outs more w h = absurd h
+
+Front-kept : (a b d : Option (List ℕ)) (x : List ℕ) → WroteFront a b x → Keeps b d → WroteFront a d x
+Front-kept a b d x w k = record { front = w.front; rest = w.rest; parts = w.parts; appends = Appends-kept a b d w.front w.appends k }
+
+Breaks-kept : (fault : Fault) (old new : Hub) (a b d : Option (List ℕ)) (outs : List Outputs) → Breaks fault old new a b outs → Keeps b d → Breaks fault old new a d outs
+Breaks-kept Fault.WriteFault old new a b d outs h k = (h.0, Front-kept a b d _ h.1 k)
+Breaks-kept Fault.Starved old new a b d outs h k = (h.0, Appends-kept a b d _ h.1 k)
+Breaks-kept Fault.RecordTooLong old new a b d outs h k = absurd h
+Breaks-kept Fault.StoreRefused old new a b d outs h k = absurd h
+Breaks-kept Fault.ReadFault old new a b d outs h k = absurd h
+
+-- behind an event that sends nothing
+Breaks-heard : (fault : Fault) (old new : Hub) (a b : Option (List ℕ)) (heard : Outputs) (outs : List Outputs) → heard.sent ≡ None → Breaks fault old new a b outs → Breaks fault old new a b (heard ∷ outs)
+Breaks-heard Fault.WriteFault old new a b heard outs e h = let P : List ℕ → Type 0 = λ x. WroteFront a b x in (h.0, subst P (sym (heard-bytes heard outs e)) h.1)
+Breaks-heard Fault.Starved old new a b heard outs e h = let P : List ℕ → Type 0 = λ x. Appends a b x in (h.0, subst P (sym (heard-bytes heard outs e)) h.1)
+Breaks-heard Fault.RecordTooLong old new a b heard outs e h = absurd h
+Breaks-heard Fault.StoreRefused old new a b heard outs e h = absurd h
+Breaks-heard Fault.ReadFault old new a b heard outs e h = absurd h
+
+-- ---- turns
+
+module _ (old mid new : Hub) (piece : Event) (bytes : List ℕ) (heard : Outputs) (is : IsPiece piece bytes) (step : HubStep old piece heard mid) (before after later : Option (List ℕ)) (kept : Keeps after later) where
+  hears : (whole : ℕ) → Waits (place_of 0 mid.links) mid whole → Hears old bytes heard whole mid
+  hears whole waits = record { piece = piece; is = is; step = step; waits = waits }
+
+  breaks : (fault : Fault) → AnswersSome fault mid new before after → BrokenTurn fault old new bytes before later
+  breaks fault a = record {
+    outs = heard ∷ (in_order a.answers ++ a.last);
+    mid = a.mid;
+    turn = record { heard = heard; mid = mid; whole = a.whole; hears = hears a.whole a.waits; answers = a.answers; next = a.next; each = a.each; last = a.last; part = a.part; some = a.some; all = refl };
+    breaks = Breaks-heard fault a.mid new before later heard (in_order a.answers ++ a.last) (piece-sends old mid piece bytes heard is step) (Breaks-kept fault a.mid new before after later (in_order a.answers ++ a.last) a.breaks kept);
   }
 
-  pub whole : (met : Option Refusal) → heard.refusal ≡ met → AnswersAll mid new before after → WholeTurn old new bytes before after (option_to_list met)
+  -- an answer that was cut short ends the turn
+  pub broken : (fault : Fault) → AnswersSome fault mid new before after → TurnEnds (Err fault) old new bytes before later
+  broken Fault.WriteFault a = breaks Fault.WriteFault a
+  broken Fault.Starved a = inr (breaks Fault.Starved a)
+  broken Fault.RecordTooLong a = absurd a.breaks
+  broken Fault.StoreRefused a = absurd a.breaks
+  broken Fault.ReadFault a = absurd a.breaks
+
+  -- all was written, and could not be handed on
+  pub unflushed : AnswersAll mid new before after → BrokenTurn Fault.WriteFault old new bytes before later
+  unflushed a = record {
+    outs = heard ∷ (in_order a.answers ++ []);
+    mid = new;
+    turn = record { heard = heard; mid = mid; whole = length a.answers; hears = hears (length a.answers) a.waits; answers = a.answers; next = new; each = a.each; last = []; part = refl; some = omega arith; all = refl };
+    breaks = Breaks-heard Fault.WriteFault new new before later heard (in_order a.answers ++ []) (piece-sends old mid piece bytes heard is step) (let P : List Outputs → Type 0 = λ os. WroteFront before later (all_bytes_sent os) in (refl, subst P (sym (append-nil (in_order a.answers))) (Front-kept before after later _ (WroteFront-whole before after _ a.wrote) kept)));
+  }
+
+  pub whole : (met : Option Refusal) → heard.refusal ≡ met → AnswersAll mid new before after → WholeTurn old new bytes before later (option_to_list met)
   whole met e a = record {
-    outs = heard ∷ a.answers;
-    turn = record {
-      some = record { piece = piece; is = is; heard = heard; mid = mid; hears = hears; whole = a.whole; waits = a.waits; count = a.whole; some = omega arith; answers = a.answers; run = a.run; all = refl };
-      all = refl;
-    };
-    wrote = let P : List ℕ → Type 0 = λ b. Appends before after b in subst P (sym (heard-bytes heard a.answers (piece-sends old mid piece bytes heard is hears))) a.wrote;
+    outs = heard ∷ in_order a.answers;
+    turn = record { heard = heard; mid = mid; answers = a.answers; hears = hears (length a.answers) a.waits; each = a.each; all = refl };
+    wrote = let P : List ℕ → Type 0 = λ b. Appends before later b in
+        subst P (sym (heard-bytes heard (in_order a.answers) (piece-sends old mid piece bytes heard is step))) (Appends-kept before after later _ a.wrote kept);
     met_is = ap (λ (r : Option Refusal). option_to_list r) e;
   }
 
@@ -84,7 +132,7 @@ marked-agreed : (fault : Bool) → (marked_by fault).refusal ≡ Some Refusal.St
 marked-agreed false e = cc
 marked-agreed true e = cc
 
-hears-agreed : (o : Doing) (old new : Link) (bytes : List ℕ) (out : Outputs) → Hears o old bytes out new → out.refusal ≡ Some Refusal.StoreRefused → ⊥
+hears-agreed : (o : Doing) (old new : Link) (bytes : List ℕ) (out : Outputs) → HearsOn o old bytes out new → out.refusal ≡ Some Refusal.StoreRefused → ⊥
 hears-agreed Applied old new bytes out h e = marked-agreed h.1.1 (sym (ap (λ (o : Outputs). o.refusal) h.1.3) ∙ e)
 hears-agreed Starved old new bytes out h e = cc
 
@@ -101,30 +149,16 @@ pieces-agreed old new (Piece number v) bytes out is h e = pieces-at-agreed (plac
 pieces-agreed old new _ bytes out is h e = absurd is
 
 -- a piece that was refused
-pub refused-turn : (old mid new : Hub) (piece : Event) (bytes : List ℕ) (heard : Outputs) → IsPiece piece bytes → HubStep old piece heard mid → (before after : Option (List ℕ)) (r : Refusal) → heard.refusal ≡ Some r
-    → AnswersAll mid new before after → TurnEnds (Err (fault_of r)) old new bytes before after
-refused-turn old mid new piece bytes heard is hears before after Refusal.Starved e a = whole old mid new piece bytes heard is hears before after (Some Refusal.Starved) e a
-refused-turn old mid new piece bytes heard is hears before after Refusal.StoreRefused e a = absurd (pieces-agreed old mid piece bytes heard is hears e)
-refused-turn old mid new piece bytes heard is hears before after Refusal.RecordTooLong e a = whole old mid new piece bytes heard is hears before after (Some Refusal.RecordTooLong) e a
-
-pub answers-kept : (mid new : Hub) (before after later : Option (List ℕ)) → AnswersAll mid new before after → Keeps after later → AnswersAll mid new before later
-answers-kept mid new before after later a k = record { whole = a.whole; waits = a.waits; answers = a.answers; run = a.run; wrote = Appends-kept before after later _ a.wrote k }
-
-pub answers-some : (mid new : Hub) (before after : Option (List ℕ)) → AnswersAll mid new before after → AnswersSome mid new before after
-answers-some mid new before after a = record {
-  whole = a.whole;
-  waits = a.waits;
-  count = a.whole;
-  some = omega arith;
-  answers = a.answers;
-  run = a.run;
-  wrote = WroteFront-whole before after _ a.wrote;
-}
+pub refused-turn : (old mid new : Hub) (piece : Event) (bytes : List ℕ) (heard : Outputs) → IsPiece piece bytes → HubStep old piece heard mid → (before after later : Option (List ℕ)) → Keeps after later → (r : Refusal) → heard.refusal ≡ Some r
+    → AnswersAll mid new before after → TurnEnds (Err (fault_of r)) old new bytes before later
+refused-turn old mid new piece bytes heard is step before after later kept Refusal.Starved e a = inl (whole old mid new piece bytes heard is step before after later kept (Some Refusal.Starved) e a)
+refused-turn old mid new piece bytes heard is step before after later kept Refusal.StoreRefused e a = absurd (pieces-agreed old mid piece bytes heard is step e)
+refused-turn old mid new piece bytes heard is step before after later kept Refusal.RecordTooLong e a = whole old mid new piece bytes heard is step before after later kept (Some Refusal.RecordTooLong) e a
 
 first-turn : (old mid new : Hub) (outs more : List Outputs) (met : List Refusal) (piece : List ℕ) → mid ≡ old → outs ≡ [] → met ≡ [] → (t : Turn mid piece more new)
-    → Turns old (piece ∷ []) (outs ++ more) (met ++ met_by t.some.heard) new
+    → Turns old (piece ∷ []) (outs ++ more) (met ++ met_by t.heard) new
 first-turn old mid new outs more met piece h o m t =
-    let P : Hub → Type 0 = λ q. (u : Turn q piece more new) × (met_by u.some.heard ≡ met_by t.some.heard) in
+    let P : Hub → Type 0 = λ q. (u : Turn q piece more new) × (met_by u.heard ≡ met_by t.heard) in
     let moved = subst P h (t, refl) in (
       new,
       more,
@@ -133,26 +167,26 @@ first-turn old mid new outs more met piece h o m t =
       moved.0,
       (refl, refl, refl),
       ap (λ (os : List Outputs). os ++ more) o ∙ sym (append-nil more),
-      ap (λ (rs : List Refusal). rs ++ met_by t.some.heard) m ∙ sym moved.1 ∙ sym (append-nil (met_by moved.0.some.heard)),
+      ap (λ (rs : List Refusal). rs ++ met_by t.heard) m ∙ sym moved.1 ∙ sym (append-nil (met_by moved.0.heard)),
     )
 
 pub Turns-more : (old mid new : Hub) (pieces : List (List ℕ)) (outs more : List Outputs) (met : List Refusal) (piece : List ℕ) → Turns old pieces outs met mid → (t : Turn mid piece more new)
-    → Turns old (pieces ++ piece ∷ []) (outs ++ more) (met ++ met_by t.some.heard) new
+    → Turns old (pieces ++ piece ∷ []) (outs ++ more) (met ++ met_by t.heard) new
 Turns-more old mid new [] outs more met piece h t = first-turn old mid new outs more met piece h.0 h.1 h.2 t
 Turns-more old mid new (p ∷ pieces) outs more met piece h t =
     let rest = Turns-more h.0 mid new pieces h.2 more h.3 piece h.5 t in (
       h.0,
       h.1,
       h.2 ++ more,
-      h.3 ++ met_by t.some.heard,
+      h.3 ++ met_by t.heard,
       h.4,
       rest,
       ap (λ (os : List Outputs). os ++ more) h.6 ∙ append_assoc h.1 h.2 more,
-      ap (λ (rs : List Refusal). rs ++ met_by t.some.heard) h.7 ∙ append_assoc (met_by h.4.some.heard) h.3 (met_by t.some.heard),
+      ap (λ (rs : List Refusal). rs ++ met_by t.heard) h.7 ∙ append_assoc (met_by h.4.heard) h.3 (met_by t.heard),
     )
 
 pub PipeRun-more : (pipe : Peer) (start : Hub) (pieces : List (List ℕ)) (outs more : List Outputs) (met : List Refusal) (mid new : Hub) (piece : List ℕ) → PipeRun pipe start pieces outs met mid → (t : Turn mid piece more new)
-    → PipeRun pipe start (pieces ++ piece ∷ []) (outs ++ more) (met ++ met_by t.some.heard) new
+    → PipeRun pipe start (pieces ++ piece ∷ []) (outs ++ more) (met ++ met_by t.heard) new
 PipeRun-more pipe start pieces outs more met mid new piece r t = record {
   begun = r.begun;
   firsts = r.firsts;
@@ -165,16 +199,6 @@ PipeRun-more pipe start pieces outs more met mid new piece r t = record {
 
 pub joined-more : (pieces : List (List ℕ)) (piece : List ℕ) → joined (pieces ++ piece ∷ []) ≡ joined pieces ++ piece
 joined-more pieces piece = flat_map-append (λ p. p) pieces (piece ∷ []) ∙ ap (λ x. joined pieces ++ x) (append-nil piece)
-
--- one take more
-pub takes-run : (count : ℕ) (old mid new : Hub) (answers : List Outputs) (out : Outputs) → Run old (takes count) answers mid → HubStep mid (Take 0 0) out new
-    → Run old (takes (count + 1)) (answers ++ out ∷ []) new
-takes-run count old mid new answers out run step =
-    let P : List Event → Type 0 = λ es. Run old es (answers ++ out ∷ []) new in
-    subst P (sym (takes-more count)) (Run-more old mid new (takes count) answers (Take 0 0) out run step)
-
-pub bytes-more : (outs : List Outputs) (out : Outputs) → all_bytes_sent (outs ++ out ∷ []) ≡ all_bytes_sent outs ++ bytes_sent out.sent
-bytes-more outs out = bytes-append outs (out ∷ []) ∙ ap (λ x. all_bytes_sent outs ++ x) (append-nil (bytes_sent out.sent))
 
 -- ---- the whole loop
 
@@ -205,29 +229,34 @@ module _ (pipe : Peer) (start : Hub) (unread left before after : Option (List �
       wrote = let P : List ℕ → Type 0 = λ x. Appends before written x in subst P (sym (bytes-append so_far.outs t.outs)) (Appends-more before after written _ _ so_far.wrote t.wrote);
     }
 
-    pub turn-broken : BrokenTurn mid new piece after written → BrokenPipe pipe start unread later before written
-    turn-broken t = record {
+    turn-broken : (fault : Fault) → BrokenTurn fault mid new piece after written → BrokenPipe fault pipe start unread later before written
+    turn-broken fault t = record {
       pieces = so_far.pieces;
       outs = so_far.outs;
       mid = mid;
       run = so_far.run;
       last = piece;
       more = t.outs;
-      end = new;
+      next = t.mid;
       turn = t.turn;
+      end = new;
       read = Consumes-more unread left later _ piece so_far.read read;
-      wrote = let P : List ℕ → Type 0 = λ x. WroteFront before written x in subst P (sym (bytes-append so_far.outs t.outs)) (WroteFront-after before after written _ _ so_far.wrote t.wrote);
+      breaks = Breaks-after fault t.mid new before after written so_far.outs t.outs so_far.wrote t.breaks;
     }
 
+    turn-starved : WholeTurn mid new piece after written (Refusal.Starved ∷ []) ⊎ BrokenTurn Fault.Starved mid new piece after written → PipeEnds pipe start (Err Fault.Starved) unread later before written
+    turn-starved (inl t) = inr (inl (inr (new, turn-more (Refusal.Starved ∷ []) t)))
+    turn-starved (inr t) = inr (inr (turn-broken Fault.Starved t))
+
     pub turn-failed : (f : Fault) → TurnEnds (Err f) mid new piece after written → PipeEnds pipe start (Err f) unread later before written
-    turn-failed Fault.Starved t = inr (inr (new, turn-more (Refusal.Starved ∷ []) t))
-    turn-failed Fault.RecordTooLong t = inr (new, turn-more (Refusal.RecordTooLong ∷ []) t)
-    turn-failed Fault.WriteFault t = turn-broken t
+    turn-failed Fault.Starved t = turn-starved t
+    turn-failed Fault.RecordTooLong t = (new, turn-more (Refusal.RecordTooLong ∷ []) t)
+    turn-failed Fault.WriteFault t = turn-broken Fault.WriteFault t
     turn-failed Fault.ReadFault t = absurd t
     turn-failed Fault.StoreRefused t = absurd t
 
   pub read-failed : (later : Option (List ℕ)) (f : Fault) → FailsToRead left later f → PipeEnds pipe start (Err f) unread later before after
-  read-failed later Fault.Starved k = inr (inl (mid, read-kept later k))
+  read-failed later Fault.Starved k = inr (inl (inl (mid, read-kept later k)))
   read-failed later Fault.ReadFault k = (mid, read-kept later k)
   read-failed later Fault.RecordTooLong k = absurd k
   read-failed later Fault.StoreRefused k = absurd k
@@ -263,7 +292,7 @@ pub Keeps-same : (a : Option (List ℕ)) → Keeps a a
 Keeps-same None = tt
 Keeps-same (Some xs) = refl
 
-pub unbegun : (pipe : Peer) (start hub : Hub) (why : Refusal) (unread before : Option (List ℕ)) → BeginsSome pipe why start hub → PipeEnds pipe start (Err (fault_of why)) unread unread before before
-unbegun pipe start hub Refusal.Starved unread before some = inl (inr (record { end = hub; some = some; untouched = record { read = Keeps-same unread; wrote = Keeps-same before } }))
-unbegun pipe start hub Refusal.RecordTooLong unread before some = inl (record { end = hub; some = some; untouched = record { read = Keeps-same unread; wrote = Keeps-same before } })
-unbegun pipe start hub Refusal.StoreRefused unread before some = record { end = hub; some = some; untouched = record { read = Keeps-same unread; wrote = Keeps-same before } }
+pub unbegun : (pipe : Peer) (start hub : Hub) (why : Refusal) (unread before : Option (List ℕ)) → BeginsSome pipe why start hub → (why ≡ Refusal.RecordTooLong → ⊥) → PipeEnds pipe start (Err (fault_of why)) unread unread before before
+unbegun pipe start hub Refusal.Starved unread before some short = inl (inr (record { end = hub; some = some; untouched = record { read = Keeps-same unread; wrote = Keeps-same before } }))
+unbegun pipe start hub Refusal.RecordTooLong unread before some short = absurd (short refl)
+unbegun pipe start hub Refusal.StoreRefused unread before some short = record { end = hub; some = some; untouched = record { read = Keeps-same unread; wrote = Keeps-same before } }

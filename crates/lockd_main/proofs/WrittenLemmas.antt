@@ -1,11 +1,8 @@
 -- Appending goes on.
-use Rattle.std.proofs.Common.{◌≡◌, ℕ, ◌-◌, List, [], ◌++◌, length, arith, Option, Some, None, take, drop, refl, sym, ◌∙◌, ap, subst, append_assoc}
-use Rattle.std.proofs.lemmas.Grind.{common_steps}
-use Rattle.std.proofs.lemmas.List.{append-nil, take-append-drop}
+use Rattle.std.proofs.Common.{ℕ, List, [], ◌++◌, Option, Some, None, refl, sym, ◌∙◌, ap, subst, append_assoc}
+use Rattle.std.proofs.lemmas.List.{append-nil}
 use Rattle.std.specs.Io.KnownBytes.{Appends, Keeps, Consumes}
-use Rattle.std.specs.Prelude.{Result, Ok, Err, IsOk, OnOk}
-use Rattle.lockd_main.specs.declared.fault.Fault.{Fault}
-use Rattle.lockd_main.specs.Written.{WroteFront, Wrote}
+use Rattle.lockd_main.specs.Written.{WroteFront}
 
 pub Appends-nil : (a : Option (List ℕ)) → Appends a a []
 Appends-nil None = tt
@@ -37,19 +34,6 @@ WroteFront-after a b d x y p w = record {
 pub WroteFront-whole : (a b : Option (List ℕ)) (x : List ℕ) → Appends a b x → WroteFront a b x
 WroteFront-whole a b x p = record { front = x; rest = []; parts = append-nil x; appends = p }
 
--- a front of the bytes, whatever else was to be written after them
-pub WroteFront-longer : (a b : Option (List ℕ)) (x y : List ℕ) → WroteFront a b x → WroteFront a b (x ++ y)
-WroteFront-longer a b x y w = record {
-  front = w.front;
-  rest = w.rest ++ y;
-  parts = sym (append_assoc w.front w.rest y) ∙ ap (λ (s : List ℕ). s ++ y) w.parts;
-  appends = w.appends;
-}
-
--- a loop's next part
-pub parts-next : (front left bytes : List ℕ) (count : ℕ) → front ++ left ≡ bytes → (front ++ take count left) ++ drop count left ≡ bytes
-parts-next front left bytes count e = append_assoc front (take count left) (drop count left) ∙ (ap (λ (s : List ℕ). front ++ s) (take-append-drop count left) ∙ e)
-
 pub Consumes-nil : (a : Option (List ℕ)) → Consumes a a []
 Consumes-nil None = tt
 Consumes-nil (Some xs) = refl
@@ -65,15 +49,3 @@ Consumes-kept None b d x p k = tt
 Consumes-kept (Some xs) None d x p k = absurd p
 Consumes-kept (Some xs) (Some ys) None x p k = absurd k
 Consumes-kept (Some xs) (Some ys) (Some zs) x p k = p ∙ ap (λ (s : List ℕ). x ++ s) (sym k)
-
--- what is written after other bytes
-pub Wrote-after : (a b d : Option (List ℕ)) (r : Result (Unit {0}) Fault) (x y : List ℕ) → Appends a b x → Wrote b d r y → Wrote a d r (x ++ y)
-Wrote-after a b d (Ok done) x y p w = Appends-more a b d x y p w
-Wrote-after a b d (Err fault) x y p w = (w.0, WroteFront-after a b d x y p w.1)
-
-pub on_ok : {T E : Type 0} (r : Result T E) (P : Type 0) → IsOk r → OnOk r P → P
-on_ok (Ok x) P ok h = h
-on_ok (Err e) P ok h = absurd cc
-
-pub take_all-drop : (left : List ℕ) (count : ℕ) → take (length left - count) (drop count left) ≡ drop count left
-take_all-drop left count = grind (arith, common_steps)

@@ -1,3 +1,4 @@
 pub mod FaultOf
 pub mod Written
+pub mod Answered
 pub mod Pipe

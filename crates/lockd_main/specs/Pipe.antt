@@ -1,10 +1,10 @@
 -- One stream from a reader to a writer, as a run of the daemon.
-use Rattle.std.specs.Prelude.{◌≡◌, ℕ, ◌≤◌, ◌⊎◌, List, [], ◌∷◌, ◌++◌, replicate, take, Option, Some, None, Result, Ok, Err}
+use Rattle.std.specs.Prelude.{◌≡◌, ℕ, ◌+◌, ◌≤◌, ◌⊎◌, List, [], ◌∷◌, ◌++◌, length, take, Option, Some, None, Result, Ok, Err}
 use Rattle.std.specs.List.{flat_map}
 use Rattle.std.specs.Option.{option_to_list}
 use Rattle.std.specs.Io.KnownBytes.{Appends, Keeps, Consumes, IsAtEnd}
 use Rattle.daemon_core.specs.declared.event.Event.{Event}
-use Rattle.daemon_core.specs.declared.event.Event.TheVariants.{Connect, Piece, Take, GraceOver, Restart}
+use Rattle.daemon_core.specs.declared.event.Event.TheVariants.{Connect, Piece, GraceOver, Restart}
 use Rattle.daemon_core.specs.declared.outputs.Outputs.{Outputs}
 use Rattle.daemon_core.specs.declared.event.Refusal.{Refusal}
 use Rattle.kept_replies.specs.declared.key.Peer.{Peer}
@@ -12,36 +12,42 @@ use Rattle.daemon_core.specs.Hub.{Hub, place_of, Waits, HubStep, Run, all_bytes_
 use Rattle.lockd_main.specs.declared.fault.Fault.{Fault}
 use Rattle.lockd_main.specs.declared.fault.Fault.TheVariants.{Starved, RecordTooLong, StoreRefused, ReadFault, WriteFault}
 use Rattle.lockd_main.specs.FaultOf.{fault_of}
-use Rattle.lockd_main.specs.Written.{WroteFront}
+use Rattle.lockd_main.specs.Answered.{AnswersEach, AnswersPart, taken_in, in_order, Breaks}
 
 -- the event brings these bytes to the pipe's connection, which has the number 0
 abbrev pub IsPiece : Event → List ℕ → Type 0
 IsPiece (Piece number v) bytes = (number ≡ 0) × (v.items ≡ bytes)
 IsPiece _ bytes = ⊥
 
--- the oldest record that was not taken is answered, so many times
-abbrev pub takes : ℕ → List Event
-takes count = replicate count (Take 0 0)
-
--- a piece comes, and then some of the records that are whole are answered, in order
-pub record SomeTurn (old : Hub) (bytes : List ℕ) (outs : List Outputs) (new : Hub) : Type 0 where
+-- a piece comes, and then so many records are whole and were not taken
+pub record Hears (old : Hub) (bytes : List ℕ) (heard : Outputs) (whole : ℕ) (new : Hub) : Type 0 where
   pub piece : Event
   pub is : IsPiece piece bytes
+  pub step : HubStep old piece heard new
+  pub waits : Waits (place_of 0 new.links) new whole
+
+-- a piece comes, and then each record that is whole is answered, in order, with the calls that are due behind it
+pub record Turn (old : Hub) (bytes : List ℕ) (outs : List Outputs) (new : Hub) : Type 0 where
   pub heard : Outputs
   pub mid : Hub
-  pub hears : HubStep old piece heard mid
-  pub whole : ℕ
-  pub waits : Waits (place_of 0 mid.links) mid whole
-  pub count : ℕ
-  pub some : count ≤ whole
-  pub answers : List Outputs
-  pub run : Run mid (takes count) answers new
-  pub all : outs ≡ heard ∷ answers
+  pub answers : List (List Outputs)
+  pub hears : Hears old bytes heard (length answers) mid
+  pub each : AnswersEach mid answers new
+  pub all : outs ≡ heard ∷ in_order answers
 
--- and all of them are
-pub record Turn (old : Hub) (bytes : List ℕ) (outs : List Outputs) (new : Hub) : Type 0 where
-  pub some : SomeTurn old bytes outs new
-  pub all : some.count ≡ some.whole
+-- or some of them are, the last of them perhaps in part
+pub record SomeTurn (old : Hub) (bytes : List ℕ) (outs : List Outputs) (new : Hub) : Type 0 where
+  pub heard : Outputs
+  pub mid : Hub
+  pub whole : ℕ
+  pub hears : Hears old bytes heard whole mid
+  pub answers : List (List Outputs)
+  pub next : Hub
+  pub each : AnswersEach mid answers next
+  pub last : List Outputs
+  pub part : AnswersPart next last new
+  pub some : length answers + taken_in last ≤ whole
+  pub all : outs ≡ heard ∷ (in_order answers ++ last)
 
 -- what the piece was refused
 abbrev pub met_by : Outputs → List Refusal
@@ -51,7 +57,7 @@ abbrev pub Turns : Hub → List (List ℕ) → List Outputs → List Refusal →
 Turns old [] outs met new = (new ≡ old) × (outs ≡ []) × (met ≡ [])
 Turns old (piece ∷ pieces) outs met new =
     (mid : Hub) × (first : List Outputs) × (rest : List Outputs) × (later : List Refusal) × (turn : Turn old piece first mid) × Turns mid pieces rest later new
-    × (outs ≡ first ++ rest) × (met ≡ met_by turn.some.heard ++ later)
+    × (outs ≡ first ++ rest) × (met ≡ met_by turn.heard ++ later)
 
 -- the server begins anew, its grace period is over, and the pipe's connection begins
 abbrev pub beginning : Peer → List Event
@@ -74,49 +80,52 @@ pub record PipeRun (pipe : Peer) (start : Hub) (pieces : List (List ℕ)) (outs 
 abbrev pub joined : List (List ℕ) → List ℕ
 joined pieces = flat_map (λ p. p) pieces
 
--- ---- the takes after a piece
+-- ---- the records that are whole after a piece
 
 pub record AnswersAll (old new : Hub) (before after : Option (List ℕ)) : Type 0 where
-  pub whole : ℕ
-  pub waits : Waits (place_of 0 old.links) old whole
-  pub answers : List Outputs
-  pub run : Run old (takes whole) answers new
-  pub wrote : Appends before after (all_bytes_sent answers)
+  pub answers : List (List Outputs)
+  pub waits : Waits (place_of 0 old.links) old (length answers)
+  pub each : AnswersEach old answers new
+  pub wrote : Appends before after (all_bytes_sent (in_order answers))
 
--- a write failed: a front of what is sent so far was written
-pub record AnswersSome (old new : Hub) (before after : Option (List ℕ)) : Type 0 where
+pub record AnswersSome (fault : Fault) (old new : Hub) (before after : Option (List ℕ)) : Type 0 where
   pub whole : ℕ
   pub waits : Waits (place_of 0 old.links) old whole
-  pub count : ℕ
-  pub some : count ≤ whole
-  pub answers : List Outputs
-  pub run : Run old (takes count) answers new
-  pub wrote : WroteFront before after (all_bytes_sent answers)
+  pub answers : List (List Outputs)
+  pub next : Hub
+  pub each : AnswersEach old answers next
+  pub last : List Outputs
+  pub mid : Hub
+  pub part : AnswersPart next last mid
+  pub some : length answers + taken_in last ≤ whole
+  pub breaks : Breaks fault mid new before after (in_order answers ++ last)
 
 abbrev pub AnswersWaiting : Result (Unit {0}) Fault → Hub → Hub → Option (List ℕ) → Option (List ℕ) → Type 0
 AnswersWaiting (Ok done) old new before after = AnswersAll old new before after
-AnswersWaiting (Err fault) old new before after = (fault ≡ WriteFault) × AnswersSome old new before after
+AnswersWaiting (Err fault) old new before after = AnswersSome fault old new before after
 
--- ---- a piece and the takes after it
+-- ---- a piece and the records after it
 
 -- all that is sent was written
 pub record WholeTurn (old new : Hub) (bytes : List ℕ) (before after : Option (List ℕ)) (met : List Refusal) : Type 0 where
   pub outs : List Outputs
   pub turn : Turn old bytes outs new
   pub wrote : Appends before after (all_bytes_sent outs)
-  pub met_is : met_by turn.some.heard ≡ met
+  pub met_is : met_by turn.heard ≡ met
 
-pub record BrokenTurn (old new : Hub) (bytes : List ℕ) (before after : Option (List ℕ)) : Type 0 where
+pub record BrokenTurn (fault : Fault) (old new : Hub) (bytes : List ℕ) (before after : Option (List ℕ)) : Type 0 where
   pub outs : List Outputs
-  pub turn : SomeTurn old bytes outs new
-  pub wrote : WroteFront before after (all_bytes_sent outs)
+  pub mid : Hub
+  pub turn : SomeTurn old bytes outs mid
+  pub breaks : Breaks fault mid new before after outs
 
+-- where memory is wanting it was for the piece or for a sending
 abbrev pub TurnEnds : Result (Unit {0}) Fault → Hub → Hub → List ℕ → Option (List ℕ) → Option (List ℕ) → Type 0
 TurnEnds (Ok done) old new bytes before after = WholeTurn old new bytes before after []
-TurnEnds (Err Starved) old new bytes before after = WholeTurn old new bytes before after (Refusal.Starved ∷ [])
+TurnEnds (Err Starved) old new bytes before after = WholeTurn old new bytes before after (Refusal.Starved ∷ []) ⊎ BrokenTurn Starved old new bytes before after
 TurnEnds (Err RecordTooLong) old new bytes before after = WholeTurn old new bytes before after (Refusal.RecordTooLong ∷ [])
 TurnEnds (Err StoreRefused) old new bytes before after = ⊥
-TurnEnds (Err WriteFault) old new bytes before after = BrokenTurn old new bytes before after
+TurnEnds (Err WriteFault) old new bytes before after = BrokenTurn WriteFault old new bytes before after
 TurnEnds (Err ReadFault) old new bytes before after = ⊥
 
 -- ---- the beginning
@@ -140,7 +149,7 @@ pub record BeginsSome (pipe : Peer) (why : Refusal) (old new : Hub) : Type 0 whe
 
 abbrev pub Begins : Peer → Result (Unit {0}) Fault → Hub → Hub → Type 0
 Begins pipe (Ok done) old new = BeginsAll pipe old new
-Begins pipe (Err fault) old new = (why : Refusal) × (fault ≡ fault_of why) × BeginsSome pipe why old new
+Begins pipe (Err fault) old new = (why : Refusal) × (fault ≡ fault_of why) × BeginsSome pipe why old new × (why ≡ Refusal.RecordTooLong → ⊥)
 
 -- ---- the whole loop
 
@@ -155,18 +164,19 @@ pub record EndsAt (pipe : Peer) (start : Hub) (unread left before after : Option
 abbrev pub WholePipe : Peer → Hub → Option (List ℕ) → Option (List ℕ) → Option (List ℕ) → Option (List ℕ) → List Refusal → Type 0
 WholePipe pipe start unread left before after met = (hub : Hub) × EndsAt pipe start unread left before after met hub
 
--- a write failed after the last piece: a front of what is sent was written
-pub record BrokenPipe (pipe : Peer) (start : Hub) (unread left before after : Option (List ℕ)) : Type 0 where
+-- it ended within the turn of the last piece
+pub record BrokenPipe (fault : Fault) (pipe : Peer) (start : Hub) (unread left before after : Option (List ℕ)) : Type 0 where
   pub pieces : List (List ℕ)
   pub outs : List Outputs
   pub mid : Hub
   pub run : PipeRun pipe start pieces outs [] mid
   pub last : List ℕ
   pub more : List Outputs
+  pub next : Hub
+  pub turn : SomeTurn mid last more next
   pub end : Hub
-  pub turn : SomeTurn mid last more end
   pub read : Consumes unread left (joined pieces ++ last)
-  pub wrote : WroteFront before after (all_bytes_sent (outs ++ more))
+  pub breaks : Breaks fault next end before after (outs ++ more)
 
 -- nothing was read or written
 pub record Untouched (unread left before after : Option (List ℕ)) : Type 0 where
@@ -179,17 +189,17 @@ pub record Unbegun (pipe : Peer) (start : Hub) (why : Refusal) (unread left befo
   pub some : BeginsSome pipe why start end
   pub untouched : Untouched unread left before after
 
--- memory is wanted for the daemon, by its beginning, for a place of a piece before it is read, or by a piece
+-- memory is wanted for the daemon, by its beginning, for a place of a piece before it is read, by a piece, or by the sending of a call
 abbrev pub PipeStarves : Peer → Hub → Option (List ℕ) → Option (List ℕ) → Option (List ℕ) → Option (List ℕ) → Type 0
 PipeStarves pipe start unread left before after =
     (Untouched unread left before after ⊎ Unbegun pipe start Refusal.Starved unread left before after)
-    ⊎ (WholePipe pipe start unread left before after [] ⊎ WholePipe pipe start unread left before after (Refusal.Starved ∷ []))
+    ⊎ ((WholePipe pipe start unread left before after [] ⊎ WholePipe pipe start unread left before after (Refusal.Starved ∷ []))
+    ⊎ BrokenPipe Starved pipe start unread left before after)
 
 abbrev pub PipeEnds : Peer → Hub → Result (Unit {0}) Fault → Option (List ℕ) → Option (List ℕ) → Option (List ℕ) → Option (List ℕ) → Type 0
 PipeEnds pipe start (Ok done) unread left before after = WholePipe pipe start unread left before after [] × IsAtEnd left
 PipeEnds pipe start (Err ReadFault) unread left before after = WholePipe pipe start unread left before after []
-PipeEnds pipe start (Err RecordTooLong) unread left before after =
-    Unbegun pipe start Refusal.RecordTooLong unread left before after ⊎ WholePipe pipe start unread left before after (Refusal.RecordTooLong ∷ [])
+PipeEnds pipe start (Err RecordTooLong) unread left before after = WholePipe pipe start unread left before after (Refusal.RecordTooLong ∷ [])
 PipeEnds pipe start (Err Starved) unread left before after = PipeStarves pipe start unread left before after
 PipeEnds pipe start (Err StoreRefused) unread left before after = Unbegun pipe start Refusal.StoreRefused unread left before after
-PipeEnds pipe start (Err WriteFault) unread left before after = BrokenPipe pipe start unread left before after
+PipeEnds pipe start (Err WriteFault) unread left before after = BrokenPipe WriteFault pipe start unread left before after

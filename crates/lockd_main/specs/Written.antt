@@ -1,16 +1,10 @@
 -- What a writer holds after a write that may fail.
-use Rattle.std.specs.Prelude.{◌≡◌, List, [], ℕ, ◌++◌, Option, Result, Ok, Err}
+use Rattle.std.specs.Prelude.{◌≡◌, List, [], ℕ, Option, Result, Ok, Err}
 use Rattle.std.specs.Io.KnownBytes.{Appends, Keeps, Consumes, IsAtEnd}
 use Rattle.std.specs.declared.vec.Vec.{Vec}
+pub use Rattle.local_ops.specs.Written.{WroteFront}
 use Rattle.lockd_main.specs.declared.fault.Fault.{Fault}
 use Rattle.lockd_main.specs.declared.fault.Fault.TheVariants.{Starved, RecordTooLong, StoreRefused, ReadFault, WriteFault}
-
--- a front of the bytes was appended
-pub record WroteFront (old new : Option (List ℕ)) (bytes : List ℕ) : Type 0 where
-  pub front : List ℕ
-  pub rest : List ℕ
-  pub parts : front ++ rest ≡ bytes
-  pub appends : Appends old new front
 
 -- all the bytes were appended, or a front of them and the write failed
 abbrev pub Wrote : Option (List ℕ) → Option (List ℕ) → Result (Unit {0}) Fault → List ℕ → Type 0

@@ -1,9 +1,10 @@
-//! One stream of records from a reader, and what it is answered to a writer.
+//! One stream of records from a reader, and to a writer what it is answered and what is due behind each answer.
 
 ghost use Rattle.std.specs.Prelude.{◌≡◌, ℕ, List, [], Option};
 ghost use Rattle.kept_replies.specs.declared.key.Peer.{Peer};
 ghost use Rattle.lockd_main.specs.Written.{ReadsPiece};
 ghost use Rattle.daemon_core.specs.Hub.{Hub, opening};
+ghost use Rattle.lockd_main.specs.Answered.{SendsNext, SendsDue, AnswersNext};
 ghost use Rattle.lockd_main.specs.Pipe.{AnswersWaiting, TurnEnds, EndsAt, Passes, Begins, PipeEnds};
 
 use crate::fault::Fault;
@@ -38,7 +39,49 @@ fn read_piece<R: Read>(alloc: Global, reader: &mut R) -> Result<Vec<u8>, Fault>
     }
 }
 
-/// Answers each record that is whole, in order.
+/// Sends the call of the server's own that is due first. Whether there was one.
+fn send_next<T: RangeTable, S: HostStore, W: Write>(
+    daemon: &mut Daemon<T, S>,
+    writer: &mut W,
+) -> Result<bool, Fault>
+    ensures { SendsNext result daemon.old daemon.new (W.contents writer.old) (W.contents writer.new) }
+{
+    let outputs = daemon.step(Event::Send);
+    if let Some(refusal) = outputs.refusal {
+        return Err(Fault::from(refusal));
+    }
+    if outputs.sent.is_none() {
+        return Ok(false);
+    }
+    write_outputs(writer, &outputs)?;
+    Ok(true)
+}
+
+/// Sends every call of the server's own that is due, in order.
+fn send_due<T: RangeTable, S: HostStore, W: Write>(
+    daemon: &mut Daemon<T, S>,
+    writer: &mut W,
+) -> Result<(), Fault>
+    ensures { SendsDue result daemon.old daemon.new (W.contents writer.old) (W.contents writer.new) }
+{
+    while send_next(daemon, writer)? {}
+    Ok(())
+}
+
+/// Answers the oldest whole record, and sends every call that is due then.
+fn answer_next<T: RangeTable, S: HostStore, W: Write>(
+    daemon: &mut Daemon<T, S>,
+    writer: &mut W,
+) -> Result<(), Fault>
+    ensures { AnswersNext result daemon.old daemon.new (W.contents writer.old) (W.contents writer.new) }
+{
+    let outputs = daemon.step(Event::Take(CONNECTION, 0));
+    write_outputs(writer, &outputs)?;
+    drop(outputs);
+    send_due(daemon, writer)
+}
+
+/// Answers each record that is whole, in order, with the calls that are due behind it.
 fn answer_waiting<T: RangeTable, S: HostStore, W: Write>(
     daemon: &mut Daemon<T, S>,
     writer: &mut W,
@@ -46,8 +89,7 @@ fn answer_waiting<T: RangeTable, S: HostStore, W: Write>(
     ensures { AnswersWaiting result daemon.old daemon.new (W.contents writer.old) (W.contents writer.new) }
 {
     for _answered in 0..daemon.waiting(CONNECTION) {
-        let outputs = daemon.step(Event::Take(CONNECTION, 0));
-        write_outputs(writer, &outputs)?;
+        answer_next(daemon, writer)?;
     }
     Ok(())
 }
@@ -64,8 +106,11 @@ fn turn<T: RangeTable, S: HostStore, W: Write>(
     let heard = daemon.step(Event::Piece(CONNECTION, piece));
     let refused = heard.refusal;
     drop(heard);
-    answer_waiting(daemon, writer)?;
-    if writer.flush().is_err() {
+    let answered = answer_waiting(daemon, writer);
+    // What was sent before a fault goes out, too.
+    let flushed = writer.flush();
+    answered?;
+    if flushed.is_err() {
         return Err(Fault::WriteFault);
     }
     match refused {
@@ -114,7 +159,8 @@ fn begin<T: RangeTable, S: HostStore>(daemon: &mut Daemon<T, S>) -> Result<(), F
     pass(daemon, Event::Connect(CONNECTION, Peer::PIPE))
 }
 
-/// Begins, reads a stream to its end, and writes what each whole record is answered, in order, and nothing else.
+/// Begins, reads a stream to its end, and writes what each whole record is answered, and the calls that are due behind it,
+/// in order, and nothing else.
 fn answer_stream<T: RangeTable, S: HostStore, R: Read, W: Write>(
     alloc: Global,
     daemon: &mut Daemon<T, S>,
@@ -129,8 +175,8 @@ fn answer_stream<T: RangeTable, S: HostStore, R: Read, W: Write>(
 }
 
 /// A daemon with this table, which has no runs, and this store, begins, reads a stream to its end, and writes what each
-/// whole record is answered, in order, and nothing else. An end inside a record is no fault. After `bound` reads that were
-/// not the end it gives up with `ReadFault`.
+/// whole record is answered, and the calls of the server's own that are due behind it, in order, and nothing else. An end
+/// inside a record is no fault. After `bound` reads that were not the end it gives up with `ReadFault`.
 pub(crate) fn pipe_loop<T: RangeTable + Drop, S: HostStore + Drop, R: Read, W: Write>(
     alloc: Global,
     table: T,

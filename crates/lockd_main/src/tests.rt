@@ -1,6 +1,7 @@
 use crate::fault::Fault;
 use crate::pipe::pipe_loop;
 use crate::{no_hosts, own_name};
+use hosts_db::{FULL_QUOTA, HostRow, MemHosts};
 use range_table::FlatTable;
 use std::alloc::Global;
 use std::io::{self, Error, ErrorKind, Read, Write};
@@ -72,11 +73,20 @@ impl Write for Sink {
     }
 }
 
+/// A daemon of these hosts answers what the source gives.
+fn serve_over(
+    alloc: Global,
+    store: MemHosts,
+    source: &mut Source<'_>,
+    sink: &mut Sink,
+) -> Result<(), Fault> {
+    let table = FlatTable::new(alloc)?;
+    pipe_loop(alloc, table, store, own_name(alloc)?, source, sink, 1_000)
+}
+
 /// A daemon of no hosts answers what the source gives.
 fn serve(alloc: Global, source: &mut Source<'_>, sink: &mut Sink) -> Result<(), Fault> {
-    let table = FlatTable::new(alloc)?;
-    let store = no_hosts(alloc)?;
-    pipe_loop(alloc, table, store, own_name(alloc)?, source, sink, 1_000)
+    serve_over(alloc, no_hosts(alloc)?, source, sink)
 }
 
 /// What is written for the bytes, read by so many at once.
@@ -395,5 +405,72 @@ fn endless_zeros(rt: HostRuntime) -> Result<(), Fail> {
         names.as_str(),
         "1 Starved10 RecordTooLong19 StoreRefused23 ReadFault24 WriteFault"
     );
+    Ok(())
+}
+
+fn host(alloc: Global, name: u8) -> Result<HostRow, Fail> {
+    let name = Vec::from_slice(alloc, [name].as_slice())?;
+    Ok(HostRow::new(name, 1, 3, FULL_QUOTA))
+}
+
+/// What is written, into so much room, for the bytes, read by so many at once, by a daemon in the own state 1 with rows of
+/// `a` and `b`.
+fn piped_to_hosts(
+    alloc: Global,
+    input: &[u8],
+    most: usize,
+    room: usize,
+) -> Result<(Vec<u8>, Result<(), Fault>), Fail> {
+    let mut hosts = Vec::new(alloc);
+    hosts.push(host(alloc, b'b')?)?;
+    hosts.push(host(alloc, b'a')?)?;
+    let store = MemHosts::new(alloc, 1, hosts, Vec::new(alloc))?;
+    let mut source = Source {
+        rest: input,
+        most,
+        reads_left: 1000,
+    };
+    let mut sink = Sink {
+        held: Vec::new(alloc),
+        room,
+    };
+    let ended = serve_over(alloc, store, &mut source, &mut sink);
+    Ok((sink.held, ended))
+}
+
+/// SM_NOTIFY of the own state 3 from `server`, mark first, under this xid (XNFS, SM_NOTIFY).
+fn notice(alloc: Global, xid: u32) -> Result<Vec<u8>, Fail> {
+    let server = [6, 0x7365_7276, 0x6572_0000];
+    let mut bytes = words(alloc, &[0x8000_0038, xid, 0, 2, 100024, 1, 6, 0, 0, 0, 0])?;
+    bytes.extend_from_slice(&words(alloc, &server)?)?;
+    bytes.extend_from_slice(&words(alloc, &[3])?)?;
+    Ok(bytes)
+}
+
+#[test]
+fn notices_behind_the_first_reply(rt: HostRuntime) -> Result<(), Fail> {
+    let alloc = rt.alloc();
+    let mut input = record(alloc, &NULL)?;
+    input.extend_from_slice(&record(alloc, &NULL)?)?;
+    let reply = words(alloc, &NULL_REPLY)?;
+    let mut want = Vec::from_slice(alloc, &reply)?;
+    want.extend_from_slice(&notice(alloc, 1)?)?;
+    want.extend_from_slice(&notice(alloc, 2)?)?;
+    want.extend_from_slice(&reply)?;
+    for most in [1, 8192] {
+        let (written, ended) = piped_to_hosts(alloc, &input, most, 4096)?;
+        assert_eq!(rt; &written[..], &want[..], "by {most}");
+        assert_eq!(rt; ended, Ok(()));
+    }
+    // within the first reply, each call and the second reply, and between them
+    for bytes in [0usize, 27, 28, 32, 87, 88, 100, 147, 148, 175] {
+        let room = bytes.min(want.len());
+        let (written, ended) = piped_to_hosts(alloc, &input, 8192, room)?;
+        assert_eq!(rt; ended, Err(Fault::WriteFault), "with {room}");
+        assert_eq!(rt; &written[..], &want[..room], "with {room}");
+    }
+    let (written, ended) = piped_to_hosts(alloc, &[], 8192, 4096)?;
+    assert_eq!(rt; written.len(), 0);
+    assert_eq!(rt; ended, Ok(()));
     Ok(())
 }

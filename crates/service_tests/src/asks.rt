@@ -6,7 +6,8 @@ use call_outcome::{CallResult, Outcome};
 use letters::TestRes;
 use lock_service::{Procedure, StoreAnswer};
 use nlm4_types::{
-    Access, Lock, LockArgs, Netobj, Notify, ShareArgs, Stat, TestArgs, UnlockArgs, WIDE,
+    Access, CancelArgs, Lock, LockArgs, Netobj, Notify, Res, ShareArgs, Stat, TestArgs, UnlockArgs,
+    WIDE,
 };
 use xdr_core::Opaque;
 
@@ -14,10 +15,14 @@ static FILE: [u8; 4] = [1, 2, 3, 4];
 
 static LONG: [u8; 65] = [5; 65];
 
+/// The numbers of the first two calls of the server's own, under its first own state.
+static COOKIES: [[u8; 8]; 2] = [[0, 0, 0, 1, 0, 0, 0, 1], [0, 0, 0, 1, 0, 0, 0, 2]];
+
 #[derive(Clone, Copy)]
 pub(crate) enum Who {
     A,
     B,
+    D,
 }
 
 impl Who {
@@ -27,6 +32,7 @@ impl Who {
         match self {
             Who::A => b"a",
             Who::B => b"b",
+            Who::D => b"d",
         }
     }
 
@@ -36,6 +42,7 @@ impl Who {
         match self {
             Who::A => b"A",
             Who::B => b"B",
+            Who::D => b"D",
         }
     }
 
@@ -43,6 +50,7 @@ impl Who {
         match self {
             Who::A => 7,
             Who::B => 8,
+            Who::D => 10,
         }
     }
 }
@@ -56,7 +64,17 @@ pub(crate) enum Step {
     LocksLongHandle(Who),
     Reclaims(Who, u64, u64),
     NmLocks(Who, u64, u64),
+    /// LOCK with `block`.
+    Waits(Who, u64, u64),
+    /// The same of a shared lock.
+    WaitsToShare(Who, u64, u64),
+    /// NM_LOCK with `block`.
+    NmWaits(Who, u64, u64),
+    Cancels(Who, u64, u64),
     Unlocks(Who, u64, u64),
+    /// What a client says of the first grant.
+    SaysOfFirst(Stat),
+    SaysOfSecond(Stat),
     /// Of a lock on the whole file.
     Tests(Who),
     /// The mode, which denies the others something, and the access.
@@ -85,6 +103,10 @@ pub(crate) enum Told {
 pub(crate) const GRANTED: Told = Told::Stat(Stat::Granted);
 
 pub(crate) const DENIED: Told = Told::Stat(Stat::Denied);
+
+pub(crate) const BLOCKED: Told = Told::Stat(Stat::Blocked);
+
+pub(crate) const DEADLOCK: Told = Told::Stat(Stat::Deadlck);
 
 pub(crate) const NO_LOCKS: Told = Told::Stat(Stat::DeniedNolocks);
 
@@ -161,6 +183,36 @@ fn reclaim(who: Who, offset: u64, len: u64) -> LockArgs<'static, WIDE> {
     }
 }
 
+fn wait(who: Who, offset: u64, len: u64) -> LockArgs<'static, WIDE> {
+    LockArgs {
+        block: true,
+        ..lock(who, &FILE, offset, len)
+    }
+}
+
+fn wait_to_share(who: Who, offset: u64, len: u64) -> LockArgs<'static, WIDE> {
+    LockArgs {
+        exclusive: false,
+        ..wait(who, offset, len)
+    }
+}
+
+fn cancel(who: Who, offset: u64, len: u64) -> CancelArgs<'static, WIDE> {
+    CancelArgs {
+        cookie: short(&[7]),
+        block: true,
+        exclusive: true,
+        alock: alock(who, &FILE, offset, len),
+    }
+}
+
+fn grant_answer(cookie: &'static [u8; 8], stat: Stat) -> Res<'static> {
+    Res {
+        cookie: short(cookie),
+        stat,
+    }
+}
+
 fn unlock(who: Who, offset: u64, len: u64) -> UnlockArgs<'static, WIDE> {
     UnlockArgs {
         cookie: short(&[7]),
@@ -198,7 +250,15 @@ impl Step {
             Step::LocksLongHandle(who) => Procedure::Lock(lock(who, &LONG, 0, 1)),
             Step::Reclaims(who, offset, len) => Procedure::Lock(reclaim(who, offset, len)),
             Step::NmLocks(who, offset, len) => Procedure::NmLock(lock(who, &FILE, offset, len)),
+            Step::Waits(who, offset, len) => Procedure::Lock(wait(who, offset, len)),
+            Step::WaitsToShare(who, offset, len) => {
+                Procedure::Lock(wait_to_share(who, offset, len))
+            }
+            Step::NmWaits(who, offset, len) => Procedure::NmLock(wait(who, offset, len)),
+            Step::Cancels(who, offset, len) => Procedure::Cancel(cancel(who, offset, len)),
             Step::Unlocks(who, offset, len) => Procedure::Unlock(unlock(who, offset, len)),
+            Step::SaysOfFirst(stat) => Procedure::GrantedRes(grant_answer(&COOKIES[0], stat)),
+            Step::SaysOfSecond(stat) => Procedure::GrantedRes(grant_answer(&COOKIES[1], stat)),
             Step::Tests(who) => Procedure::Test(test(who)),
             Step::Shares(who, mode, access) => Procedure::Share(share(who, mode, access)),
             Step::Unshares(who) => Procedure::Unshare(share(who, Access::None, Access::Read)),

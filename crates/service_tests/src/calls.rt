@@ -1,8 +1,8 @@
 //! The server's own calls, and the answers to them.
-use crate::asks::{Told, Who};
+use crate::asks::{Step, Told, Who};
 use hosts_db::{HostRow, HostStore};
 use letters::{Caller, Destination, Letter, Lock, Message, ShortBytes};
-use lock_service::{answered, granted_res};
+use lock_service::answered;
 use lock_world::{Starved, World};
 use nlm4_types::{Stat, Version};
 use out_calls::Call;
@@ -23,12 +23,12 @@ pub(crate) enum CallStep {
     Sends,
     /// Is told what the store said.
     Answers(AnswerReading),
-    /// GRANTED_RES, with the cookie of the call of this number.
-    GrantedRes(u64, Stat),
     /// Is told the xid of the next due call, or 0.
     Next,
-    /// Is told how many calls have a place.
-    CountsCalls,
+    /// Is told whether the next due call grants a lock to the host.
+    NextGrants(Who),
+    /// Is told how many places waiters and calls have.
+    CountsPlaces,
     /// Is told the host's epoch, or 0.
     Epoch(Who),
 }
@@ -41,6 +41,24 @@ pub(crate) fn done(xid: u32, stat: Option<Stat>) -> CallStep {
 /// PROG_UNAVAIL or the like.
 pub(crate) fn not_done(xid: u32) -> CallStep {
     CallStep::Answers(AnswerReading::OtherAnswer { xid })
+}
+
+/// So many places are taken.
+pub(crate) fn places(count: u32) -> (Step, Told) {
+    (Step::Calls(CallStep::CountsPlaces), Told::Count(count))
+}
+
+/// The next due call has this xid, or there is none, which is 0.
+pub(crate) fn next(xid: u32) -> (Step, Told) {
+    (Step::Calls(CallStep::Next), Told::Count(xid))
+}
+
+pub(crate) fn next_grants(who: Who) -> (Step, Told) {
+    (Step::Calls(CallStep::NextGrants(who)), Told::Is(true))
+}
+
+pub(crate) fn sends() -> (Step, Told) {
+    (Step::Calls(CallStep::Sends), Told::Nothing)
 }
 
 pub(crate) fn told<R: RangeTable, S: HostStore>(
@@ -56,12 +74,9 @@ pub(crate) fn told<R: RangeTable, S: HostStore>(
             Told::Nothing
         }
         CallStep::Answers(reading) => Told::Store(answered(world, &reading)),
-        CallStep::GrantedRes(number, stat) => {
-            granted_res(world, &number.to_be_bytes(), stat);
-            Told::Nothing
-        }
         CallStep::Next => Told::Count(world.next_call().map_or(0, Call::xid)),
-        CallStep::CountsCalls => Told::Count(calls(world)),
+        CallStep::NextGrants(who) => Told::Is(grants_next(world, who)),
+        CallStep::CountsPlaces => Told::Count(taken(world)),
         CallStep::Epoch(who) => Told::Count(epoch(world, who)),
     })
 }
@@ -117,7 +132,14 @@ fn grants<R: RangeTable, S: HostStore>(
     Ok(Told::Nothing)
 }
 
-fn calls<R: RangeTable, S: HostStore>(world: &World<R, S>) -> u32 {
+fn grants_next<R: RangeTable, S: HostStore>(world: &World<R, S>, who: Who) -> bool {
+    match world.next_call() {
+        Some(call) => call.letter().is_grant_to(who.name()),
+        None => false,
+    }
+}
+
+fn taken<R: RangeTable, S: HostStore>(world: &World<R, S>) -> u32 {
     (8_192usize.saturating_sub(world.free_slots()) % 8_193) as u32
 }
 

@@ -6,3 +6,4 @@ mod phases;
 mod room;
 mod shares;
 mod stored;
+mod waits;

@@ -60,6 +60,7 @@ struct Left {
     runs: u32,
     shares: usize,
     known: u32,
+    free: usize,
 }
 
 impl Server {
@@ -152,6 +153,7 @@ impl Server {
             runs: self.world.locks().used(),
             shares: self.world.shares().len(),
             known: self.known(),
+            free: self.world.free_slots(),
         }
     }
 

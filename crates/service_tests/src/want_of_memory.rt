@@ -1,7 +1,7 @@
 //! Each growth refused in turn, by whoever runs it so. Run with no refusal it shows that each call succeeds.
-use crate::asks::{DENIED, GRANTED, Step, Told, Who, held};
+use crate::asks::{BLOCKED, DENIED, GRANTED, Step, Told, Who, held};
 use crate::server::first_wrong_at_last;
-use nlm4_types::Access;
+use nlm4_types::{Access, Stat};
 use std::test::*;
 
 #[test]
@@ -16,8 +16,13 @@ fn starved_changes_nothing(rt: HostRuntime) -> Result<(), Fail> {
         (Step::Shares(Who::A, Access::Read, Access::Read), GRANTED),
         (Step::Shares(Who::B, Access::None, Access::Read), DENIED),
         (Step::Tests(Who::B), held(0, 10)),
+        (Step::Waits(Who::B, 0, 1), BLOCKED),
+        (Step::NmWaits(Who::D, 0, 2), BLOCKED),
+        (Step::Cancels(Who::D, 0, 2), GRANTED),
+        (Step::Cancels(Who::D, 0, 2), DENIED),
+        (Step::SaysOfFirst(Stat::Granted), Told::Nothing),
         (Step::Unlocks(Who::A, 3, 3), GRANTED),
-        (Step::Tests(Who::B), held(0, 3)),
+        (Step::Tests(Who::D), held(0, 3)),
         (Step::Unlocks(Who::A, 0, 0), GRANTED),
         (Step::Unshares(Who::A), GRANTED),
         (Step::FreesAll(Who::B), Told::Nothing),

@@ -1,6 +1,6 @@
 //! Answers to the server's own calls.
 use crate::asks::{DENIED, GRANTED, Step, Told, Who, held};
-use crate::calls::{CallStep, done, not_done};
+use crate::calls::{CallStep, done, next, not_done, places, sends};
 use crate::server::{Hosts, first_wrong};
 use lock_service::StoreAnswer;
 use nlm4_types::Stat;
@@ -11,31 +11,19 @@ const NOT_ASKED: Told = Told::Store(StoreAnswer::NotAsked);
 
 const STORED: Told = Told::Store(StoreAnswer::Yes);
 
-fn calls(count: u32) -> (Step, Told) {
-    (Step::Calls(CallStep::CountsCalls), Told::Count(count))
-}
-
-fn next(xid: u32) -> (Step, Told) {
-    (Step::Calls(CallStep::Next), Told::Count(xid))
-}
-
 fn epoch(who: Who, epoch: u32) -> (Step, Told) {
     (Step::Calls(CallStep::Epoch(who)), Told::Count(epoch))
-}
-
-fn sends() -> (Step, Told) {
-    (Step::Calls(CallStep::Sends), Told::Nothing)
 }
 
 #[test]
 fn notice_answered(rt: HostRuntime) -> Result<(), Fail> {
     let row = [
         (Step::Calls(CallStep::Restarts), Told::Nothing),
-        calls(2),
+        places(2),
         next(1),
         // not sent yet, so it answers nothing
         (Step::Calls(done(1, None)), NOT_ASKED),
-        calls(2),
+        places(2),
         sends(),
         next(2),
         (
@@ -44,11 +32,11 @@ fn notice_answered(rt: HostRuntime) -> Result<(), Fail> {
         ),
         (Step::Calls(done(7, None)), NOT_ASKED),
         (Step::Calls(done(1, None)), STORED),
-        calls(1),
+        places(1),
         epoch(Who::A, 3),
         sends(),
         (Step::Calls(not_done(2)), NOT_ASKED),
-        calls(0),
+        places(0),
         epoch(Who::B, 1),
     ];
     assert_eq!(rt; first_wrong(rt.alloc(), Hosts::Two, &row)?, None);
@@ -66,12 +54,12 @@ fn grant_taken(rt: HostRuntime) -> Result<(), Fail> {
             Step::Calls(done(1, Some(Stat::DeniedGracePeriod))),
             NOT_ASKED,
         ),
-        calls(1),
+        places(1),
         // due again
         next(1),
         sends(),
         (Step::Calls(done(1, Some(Stat::Granted))), NOT_ASKED),
-        calls(0),
+        places(0),
         (Step::Tests(Who::B), held(0, 10)),
     ];
     assert_eq!(rt; first_wrong(rt.alloc(), Hosts::None, &row)?, None);
@@ -88,7 +76,7 @@ fn grant_turned(rt: HostRuntime) -> Result<(), Fail> {
         sends(),
         (Step::CountsKnown, Told::Count(1)),
         (Step::Calls(done(1, Some(Stat::Denied))), NOT_ASKED),
-        calls(0),
+        places(0),
         (Step::CountsKnown, Told::Count(0)),
         (Step::Tests(Who::B), GRANTED),
     ];
@@ -98,7 +86,6 @@ fn grant_turned(rt: HostRuntime) -> Result<(), Fail> {
 
 #[test]
 fn message_turned(rt: HostRuntime) -> Result<(), Fail> {
-    let number = 0x1_0000_0001;
     let row = [
         (Step::GraceOver, Told::Nothing),
         (Step::NmLocks(Who::A, 0, 10), GRANTED),
@@ -106,17 +93,11 @@ fn message_turned(rt: HostRuntime) -> Result<(), Fail> {
         sends(),
         // only its GRANTED_RES answers it
         (Step::Calls(done(1, None)), NOT_ASKED),
-        calls(1),
-        (
-            Step::Calls(CallStep::GrantedRes(number + 1, Stat::Denied)),
-            Told::Nothing,
-        ),
+        places(1),
+        (Step::SaysOfSecond(Stat::Denied), Told::Nothing),
         (Step::Tests(Who::B), held(0, 10)),
-        (
-            Step::Calls(CallStep::GrantedRes(number, Stat::Denied)),
-            Told::Nothing,
-        ),
-        calls(0),
+        (Step::SaysOfFirst(Stat::Denied), Told::Nothing),
+        places(0),
         (Step::Tests(Who::B), GRANTED),
     ];
     assert_eq!(rt; first_wrong(rt.alloc(), Hosts::None, &row)?, None);

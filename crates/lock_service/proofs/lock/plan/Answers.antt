@@ -1,32 +1,34 @@
-use Rattle.std.proofs.Common.{sym, ◌∙◌}
+use Rattle.std.proofs.Common.{ap, sym, ◌∙◌}
 use Rattle.definitions.specs.Nlm as nlm
-use Rattle.definitions.specs.Ranges.{owner_of, last_of, mode_of as mode_said}
-use Rattle.definitions.specs.World.{the_limits, with_setting}
+use Rattle.definitions.specs.Conflict.{conflicts}
+use Rattle.definitions.specs.World.{the_limits, slots_free, with_setting}
 use Rattle.definitions.specs.LockRules.{row_asked, after_row}
 use Rattle.definitions.specs.Answer.{nlm_answer, by_reply}
-use Rattle.definitions.specs.Settings.{Request, setting_of}
+use Rattle.nlm4_types.specs.Version.{view_of_version}
 use Rattle.nlm4_types.specs.Arguments.{view_of_lockargs}
-use Rattle.nlm4_types.specs.Lock.{view_of_lock}
-use Rattle.owner_ids.specs.Said.{said}
-use Rattle.owner_ranges.specs.Same.{mode_of}
-use Rattle.lock_service.specs.Served.{unblocked}
-use Rattle.lock_service.specs.Locking.{lock_call, row_if}
-use Rattle.lock_service.proofs.Locking.{granted_by, same_request, for_all}
+use Rattle.lock_service.specs.Planned.{request_wanted, setting_of}
+use Rattle.lock_service.specs.Locking.{lock_call, row_if, asked_by, kept_out}
+use Rattle.lock_service.proofs.Locking.{in_the_way, granted, of_ruling}
 use Rattle.lock_service.proofs.lock.plan.Goals as goal
+
+pub returns-then-conflicts-clause-plan : goal.returns-then-conflicts-clause-plan
+returns-then-conflicts-clause-plan g c =
+    let w = c.args.world.now.world in
+    let a = view_of_lockargs c.args.args.now in
+    let version = view_of_version c.args.version in
+    let r = request_wanted c.in_ok-wanted.wanted in
+    let taken = ap (conflicts w.settings) (sym c.request.ensures) ∙ sym c.conflicts.ensures ∙ c.if-conflicts.true in
+    of_ruling c.kept_out.result w (by_reply a.cookie (kept_out w (asked_by version c.args.monitored a (slots_free the_limits w)))) (nlm_answer the_limits w version (lock_call c.args.monitored a))
+    (in_the_way w version a c.in-Ok.ensures.ok.0 c.args.monitored r c.in_ok-wanted.ensures taken) c.kept_out.ensures.plan
 
 pub returns-clause-plan : goal.returns-clause-plan
 returns-clause-plan g c =
     let w = c.args.world.now.world in
-    let args = c.args.args.now in
-    let a = view_of_lockargs args in
-    let alock = view_of_lock args.alock in
-    let place = c.in-Ok.place in
-    let ok = c.in-Ok.ensures.ok in
-    let r : Request = record { file = place.file; owner = said c.in_ok-owner.owner; first = place.first; last = place.last; mode = mode_of c.mode_of-mode.result } in
-    let same = same_request place.file alock.fh (said c.in_ok-owner.owner) (owner_of alock) place.first alock.l_offset place.last (last_of alock.l_offset alock.l_len) (mode_of c.mode_of-mode.result) (mode_said args.exclusive) ok.1 c.in_ok-owner.ensures.owner ok.2 ok.3 c.mode_of-mode.ensures in
-    let free = sym c.conflicts.ensures ∙ c.if-conflicts.false in
+    let a = view_of_lockargs c.args.args.now in
+    let version = view_of_version c.args.version in
+    let r = request_wanted c.in_ok-wanted.wanted in
+    let s = setting_of c.into_range.result in
+    let free = ap (conflicts w.settings) (sym c.request.ensures) ∙ sym c.conflicts.ensures ∙ c.if-conflicts.false in
     let room = sym c.is_short.ensures ∙ c.if-is_short.false in
-    for_all c.grant.result w
-    (by_reply a.cookie (after_row w (row_asked w (row_if c.args.monitored a)) nlm.GRANTED (λ v. with_setting v (setting_of r))))
-    (λ (version : nlm.Version). nlm_answer the_limits w version (lock_call c.args.monitored (unblocked a)))
-    (λ version. granted_by w version c.args.monitored a r ok.0 same free room) c.grant.ensures.plan
+    of_ruling c.behind_row.result w (by_reply a.cookie (after_row w (row_asked w (row_if c.args.monitored a)) nlm.GRANTED (λ v. with_setting v s))) (nlm_answer the_limits w version (lock_call c.args.monitored a))
+    (granted w version a c.in-Ok.ensures.ok.0 c.args.monitored r c.in_ok-wanted.ensures free room s c.into_range.ensures) c.behind_row.ensures.plan

@@ -2,7 +2,8 @@ use Rattle.definitions.specs.Nlm as nlm
 use Rattle.definitions.specs.World.{World, the_limits}
 use Rattle.definitions.specs.Answer.{nlm_answer}
 use Rattle.nlm4_types.specs.Version.{view_of_version}
-use Rattle.nlm4_types.specs.Arguments.{view_of_unlockargs}
+use Rattle.nlm4_types.specs.Arguments.{view_of_cancargs, view_of_unlockargs}
+use Rattle.nlm4_types.specs.Results.{view_of_res}
 use Rattle.nlm4_types.specs.Share.{view_of_shareargs}
 use Rattle.lock_service.proofs.Locking.{in_version, in_world}
 use Rattle.lock_service.proofs.steps.plan.Goals as goal
@@ -11,6 +12,18 @@ pub returns-in-Null-clause-plan : goal.returns-in-Null-clause-plan
 returns-in-Null-clause-plan g c =
     rw c.in-Null.is
     (in_world c.plan.result c.args.world.now.world (λ (u : World) (v : nlm.Version). nlm_answer the_limits u v nlm.Null) (view_of_version c.args.call.now.version) c.plan.ensures.plan)
+
+pub returns-in-Cancel-clause-plan : goal.returns-in-Cancel-clause-plan
+returns-in-Cancel-clause-plan g c =
+    let w = c.args.world.now.world in
+    rw c.in-Cancel.is
+    (in_version c.plan-in-Cancel.result w (λ (v : nlm.Version). nlm_answer the_limits w v (nlm.Cancel (view_of_cancargs c.in-Cancel.args))) (view_of_version c.args.call.now.version) c.plan-in-Cancel.ensures.plan)
+
+pub returns-in-GrantedRes-clause-plan : goal.returns-in-GrantedRes-clause-plan
+returns-in-GrantedRes-clause-plan g c =
+    let args = c.in-GrantedRes.args in
+    rw c.in-GrantedRes.is
+    (in_world c.plan-in-GrantedRes.result c.args.world.now.world (λ (u : World) (v : nlm.Version). nlm_answer the_limits u v (nlm.GrantedRes (view_of_res args))) (view_of_version c.args.call.now.version) c.plan-in-GrantedRes.ensures.plan)
 
 pub returns-in-Unlock-clause-plan : goal.returns-in-Unlock-clause-plan
 returns-in-Unlock-clause-plan g c =

@@ -7,7 +7,7 @@ pub returns-in_err-begin : goal.returns-in_err-begin
 returns-in_err-begin g c =
     let p = err_from_is_err_and c.from_residual.result c.from_residual.ensures.1 in
     let failed = c.in_err-begin.ensures in
-    rw (p.1, p.2, failed.1) (unbegun PIPE c.args.daemon.now _ failed.0 _ _ failed.2)
+    rw (p.1, p.2, failed.1) (unbegun PIPE c.args.daemon.now _ failed.0 _ _ failed.2 failed.3)
 
 pub returns : goal.returns
 returns g c = c.answer_pieces.ensures PIPE c.args.daemon.now _ _ (at-start PIPE c.args.daemon.now _ _ _ c.in_ok-begin.ensures)

@@ -1,46 +1,50 @@
-use Rattle.std.proofs.Common.{◌≡◌, ◌+◌, ℕ, List, ◌++◌, ◌∷◌, [], sym, subst, arith}
+use Rattle.std.proofs.Common.{◌≡◌, ◌++◌, ◌∷◌, [], length, ℕ, subst, arith}
+use Rattle.std.proofs.lemmas.List.{length-append}
 use Rattle.std.proofs.lemmas.Result.{err_from_is_err_and}
-use Rattle.std.specs.Io.KnownBytes.{Appends}
-use Rattle.daemon_core.specs.Hub.{Run, all_bytes_sent}
-use Rattle.lockd_main.specs.Written.{WroteFront}
-use Rattle.lockd_main.specs.Pipe.{takes}
-use Rattle.lockd_main.proofs.WrittenLemmas.{Appends-more, WroteFront-after}
-use Rattle.lockd_main.proofs.PipeLemmas.{takes-run, bytes-more}
+use Rattle.daemon_core.specs.Hub.{Waits, place_of}
+use Rattle.lockd_main.specs.Answered.{in_order}
+use Rattle.lockd_main.proofs.AnsweredLemmas.{Each-more, each-bytes}
+use Rattle.lockd_main.proofs.PipeLemmas.{Breaks-after}
 use Rattle.lockd_main.proofs.pipe.answer_waiting.Goals as goal
 
-pub returns-in_err-write_outputs : goal.returns-in_err-write_outputs
-returns-in_err-write_outputs g c =
+pub returns-in_err-answer_next : goal.returns-in_err-answer_next
+returns-in_err-answer_next g c =
     let p = err_from_is_err_and c.from_residual.result c.from_residual.ensures.1 in
     let before = c.loop-answered.invariant in
-    let out = c.step-outputs.result in
-    let failed = c.in_err-write_outputs.ensures in
-    let P : List ℕ → Type 0 = λ b. WroteFront (g.W.Write.contents c.args.writer.now) (g.W.Write.contents c.write_outputs.new.writer) b in
+    let failed = c.in_err-answer_next.ensures in
+    let counted = before.1 in
+    let begun = failed.begun in
     rw (p.1, p.2) (
-      failed.0,
-      record {
-        whole = c.waiting-answered-end.result;
-        waits = c.waiting-answered-end.ensures;
-        count = c.loop-answered._answered + 1;
-        some = omega arith;
-        answers = before.0 ++ out ∷ [];
-        run = takes-run c.loop-answered._answered _ _ _ before.0 out before.1 c.step-outputs.ensures;
-        wrote = subst P (sym (bytes-more before.0 out)) (WroteFront-after _ _ _ (all_bytes_sent before.0) _ before.2 failed.1);
-      },
+    record {
+      whole = c.waiting-answered-end.result;
+      waits = c.waiting-answered-end.ensures;
+      answers = before.0;
+      next = c.loop-answered.daemon;
+      each = before.2;
+      last = failed.outs;
+      mid = failed.mid;
+      part = failed.answers;
+      some = omega (arith, counted, begun);
+      breaks = Breaks-after _ _ _ _ _ _ (in_order before.0) failed.outs before.3 failed.breaks;
+    }
     )
 
 pub loop-answered-preserved : goal.loop-answered-preserved
 loop-answered-preserved g c =
     let before = c.loop-answered.invariant in
-    let out = c.step-outputs.result in
-    let P : List ℕ → Type 0 = λ b. Appends (g.W.Write.contents c.args.writer.now) (g.W.Write.contents c.write_outputs.new.writer) b in (
-      before.0 ++ out ∷ [],
-      takes-run c.loop-answered._answered _ _ _ before.0 out before.1 c.step-outputs.ensures,
-      subst P (sym (bytes-more before.0 out)) (Appends-more _ _ _ (all_bytes_sent before.0) _ before.2 c.in_ok-write_outputs.ensures),
+    let done = c.in_ok-answer_next.ensures in
+    let counted = before.1 in
+    let longer = length-append before.0 (done.outs ∷ []) in (
+      before.0 ++ done.outs ∷ [],
+      omega (arith, counted, longer),
+      Each-more _ _ _ before.0 done.outs before.2 done.answers,
+      each-bytes _ _ _ before.0 done.outs before.3 done.wrote,
     )
 
 pub returns : goal.returns
 returns g c =
     let before = c.loop-answered.invariant in
-    let all : c.loop-answered._answered ≡ c.waiting-answered-end.result = omega arith in
-    let P : ℕ → Type 0 = λ n. Run c.args.daemon.now (takes n) before.0 c.loop-answered.daemon in
-    record { whole = c.waiting-answered-end.result; waits = c.waiting-answered-end.ensures; answers = before.0; run = subst P all before.1; wrote = before.2 }
+    let counted = before.1 in
+    let all : c.waiting-answered-end.result ≡ length before.0 = omega (arith, counted) in
+    let P : ℕ → Type 0 = λ n. Waits (place_of 0 c.args.daemon.now.links) c.args.daemon.now n in
+    record { answers = before.0; waits = subst P all c.waiting-answered-end.ensures; each = before.2; wrote = before.3 }

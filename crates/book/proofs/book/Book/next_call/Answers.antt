@@ -28,7 +28,7 @@ returns-clause-sends g c =
       s.letter.value,
       s.goes,
       s.says,
-      (record { doing = Applied; store = NotAsked; steps = step g c; journal = journal; refusals = c.send.ensures.refusals }, refl, refl),
+      (record { doing = Applied; store = NotAsked; steps = step g c; journal = journal; refusals = c.send.ensures.refusals; fed = λ h. cc }, refl, refl),
     )
 
 pub invariant_of-self-2 : goal.invariant_of-self-2

@@ -3,6 +3,8 @@ use Rattle.kept_replies.specs.Pairs.{asker}
 use Rattle.record_reading.specs.Values.{view_of_reading}
 use Rattle.record_reading.specs.Readings.{IsReading}
 use Rattle.record_reading.specs.Answers.{IsAnswerReading, view_of_answer}
+use Rattle.local_ops.specs.Calls.{line_read}
+use Rattle.local_ops.specs.Grammar.{Reads as LineReads}
 use Rattle.book.proofs.Early.{taken, answer, line, silent, grace, anew}
 use Rattle.book.proofs.event.BookEvent.starved.Goals as goal
 
@@ -19,7 +21,10 @@ returns-in-Answer c =
     λ s. rw c.in-Answer.is (answer s c.in-Answer.bytes.items reading read)
 
 pub returns-in-Local : goal.returns-in-Local
-returns-in-Local c = λ s. rw c.in-Local.is (line s c.in-Local.connection c.in-Local.line.items)
+returns-in-Local c =
+    let whole = line_read c.read-reading-in-Local.result in
+    let read = subst (λ (bytes : List ℕ). LineReads bytes whole) c.deref-in-Local.ensures.value c.read-reading-in-Local.ensures in
+    λ s. rw c.in-Local.is (line s c.in-Local.connection c.in-Local.line.items whole read)
 
 pub returns-in-Silent : goal.returns-in-Silent
 returns-in-Silent c = elim c.in-Silent.is [

@@ -1,6 +1,6 @@
 use Rattle.std.proofs.Common.{◌++◌, take, ap, ◌∙◌}
-use Rattle.lockd_main.proofs.WrittenLemmas.{Appends-more, parts-next, take_all-drop}
-use Rattle.lockd_main.proofs.output.write_whole.Goals as goal
+use Rattle.daemon_core.proofs.WrittenLemmas.{Appends-more, parts-next, take_all-drop}
+use Rattle.daemon_core.proofs.output.write_whole.Goals as goal
 
 pub loop-rest-preserved : goal.loop-rest-preserved
 loop-rest-preserved g c =

@@ -1,16 +1,14 @@
 use Rattle.std.proofs.Common.{◌≡◌, length, ap, ◌∙◌}
-use Rattle.std.proofs.lemmas.Result.{err_from_is_err_and}
 use Rattle.record_mark.specs.Sent.{mark_of_last}
-use Rattle.lockd_main.proofs.WrittenLemmas.{WroteFront-longer, Wrote-after}
-use Rattle.lockd_main.proofs.output.write_record.Goals as goal
+use Rattle.daemon_core.proofs.WrittenLemmas.{WroteFront-longer, Wrote-after, Wrote-failed}
+use Rattle.daemon_core.proofs.output.write_record.Goals as goal
 
 pub returns-in_err-write_whole : goal.returns-in_err-write_whole
 returns-in_err-write_whole g c =
-    let p = err_from_is_err_and c.from_residual.result c.from_residual.ensures.1 in
     let bytes = c.args.frame.now in
     let mark : c.last_mark.result ≡ mark_of_last (length bytes) = c.last_mark.ensures ∙ ap mark_of_last c.len.ensures.value in
     let failed = rw mark at c.in_err-write_whole.ensures in
-    rw (p.1, p.2) (failed.0, WroteFront-longer _ _ (mark_of_last (length bytes)) bytes failed.1)
+    Wrote-failed _ _ _ _ c.from_residual.ensures.0 (WroteFront-longer _ _ (mark_of_last (length bytes)) bytes failed)
 
 pub returns : goal.returns
 returns g c =

@@ -1,0 +1,114 @@
+//! Locks that are waited for, from bytes to bytes: who waits, who is granted, and what the server calls then (XNFS, NLM_LOCK,
+//! NLM_CANCEL and NLM_GRANTED).
+use crate::calls::{Asks, Grant, Told, Who};
+use crate::server::{Part, plays};
+use std::alloc::Global;
+use std::test::*;
+
+const BEGINS: Part<'static> = Part::Begins { is_over: true };
+
+const fn grant(number: u32, who: Who, exclusive: u32, len: u64) -> Grant {
+    Grant {
+        number,
+        who,
+        exclusive,
+        offset: 0,
+        len,
+    }
+}
+
+// A grant that narrows its own lock frees whoever stood before it.
+fn settles_twice(alloc: Global) -> Result<bool, Fail> {
+    let calls = [
+        (10, Asks::Locks(Who::A, 0, 10), Told::Stat(0)),
+        (11, Asks::Locks(Who::D, 20, 1), Told::Stat(0)),
+        (12, Asks::BlocksShared(Who::B, 0, 1), Told::Stat(3)),
+        (13, Asks::BlocksShared(Who::A, 0, 21), Told::Stat(3)),
+        (14, Asks::Unlocks(Who::D, 20, 1), Told::Stat(0)),
+    ];
+    let parts = [
+        BEGINS,
+        Part::NothingDue,
+        Part::Calls(&calls, 64),
+        Part::Grants(grant(1, Who::A, 0, 21)),
+        Part::Grants(grant(2, Who::B, 0, 1)),
+        Part::NothingDue,
+    ];
+    plays(alloc, Vec::new(alloc), &parts)
+}
+
+#[test]
+fn settle_twice(rt: HostRuntime) -> Result<(), Fail> {
+    assert!(rt; settles_twice(rt.alloc())?);
+    Ok(())
+}
+
+fn tells_deadlock(alloc: Global) -> Result<bool, Fail> {
+    let calls = [
+        (15, Asks::Locks(Who::A, 1, 1), Told::Stat(0)),
+        (16, Asks::Locks(Who::B, 2, 1), Told::Stat(0)),
+        (17, Asks::Blocks(Who::A, 2, 1), Told::Stat(3)),
+        (18, Asks::Blocks(Who::B, 1, 1), Told::Stat(5)),
+    ];
+    let parts = [BEGINS, Part::Calls(&calls, 64), Part::NothingDue];
+    plays(alloc, Vec::new(alloc), &parts)
+}
+
+#[test]
+fn deadlock(rt: HostRuntime) -> Result<(), Fail> {
+    assert!(rt; tells_deadlock(rt.alloc())?);
+    Ok(())
+}
+
+// Who asks again has one place, and who cancels gets nothing later.
+fn cancels(alloc: Global) -> Result<bool, Fail> {
+    let calls = [
+        (120, Asks::Locks(Who::A, 0, 10), Told::Stat(0)),
+        (121, Asks::Blocks(Who::B, 0, 10), Told::Stat(3)),
+        (122, Asks::Blocks(Who::B, 0, 10), Told::Stat(3)),
+        (123, Asks::Cancels(Who::B, 0, 10), Told::Stat(0)),
+        (124, Asks::Cancels(Who::B, 0, 10), Told::Stat(1)),
+        (125, Asks::Unlocks(Who::A, 0, 10), Told::Stat(0)),
+    ];
+    let parts = [BEGINS, Part::Calls(&calls, 64), Part::NothingDue];
+    plays(alloc, Vec::new(alloc), &parts)
+}
+
+#[test]
+fn cancel(rt: HostRuntime) -> Result<(), Fail> {
+    assert!(rt; cancels(rt.alloc())?);
+    Ok(())
+}
+
+// A grant that is turned down goes to the next, whose call falls silent three times; the lock stays his.
+fn refuses_grant(alloc: Global) -> Result<bool, Fail> {
+    let calls = [
+        (36, Asks::Locks(Who::A, 0, 10), Told::Stat(0)),
+        (37, Asks::Blocks(Who::B, 0, 10), Told::Stat(3)),
+        (38, Asks::Blocks(Who::C, 0, 10), Told::Stat(3)),
+        (39, Asks::Unlocks(Who::A, 0, 10), Told::Stat(0)),
+    ];
+    let last = [(40, Asks::Tests(Who::B, 0, 0), Told::Held(Who::C, 0, 10))];
+    let to_c = Part::Grants(grant(2, Who::C, 1, 10));
+    let parts = [
+        BEGINS,
+        Part::Calls(&calls, 64),
+        Part::Grants(grant(1, Who::B, 1, 10)),
+        Part::Answered(1, 1),
+        to_c,
+        Part::Silent(2),
+        to_c,
+        Part::Silent(2),
+        to_c,
+        Part::Silent(2),
+        Part::NothingDue,
+        Part::Calls(&last, 64),
+    ];
+    plays(alloc, Vec::new(alloc), &parts)
+}
+
+#[test]
+fn grant_refused(rt: HostRuntime) -> Result<(), Fail> {
+    assert!(rt; refuses_grant(rt.alloc())?);
+    Ok(())
+}
