@@ -4,11 +4,11 @@
 mod alike;
 mod file;
 mod flat;
-mod ordered;
-mod places;
-mod run;
-mod run_list;
-mod sorted;
+pub mod ordered;
+pub mod places;
+pub mod run;
+pub mod run_list;
+pub mod sorted;
 mod table;
 
 pub use alike::{first_conflict_in_both, runs_in_both, used_in_both};

@@ -176,7 +176,7 @@ fn keep(runs: &mut RunList, part: Part, range: &Setting)
     close(runs, kept, past);
 }
 
-fn place(runs: &RunList, run: &Run) -> usize
+pub fn place(runs: &RunList, run: &Run) -> usize
     requires { IsRunList runs.now }
     ensures within { result ≤ length runs.now }
     ensures place { result ≡ position_or_len (run_before run.now) runs.now }
@@ -233,7 +233,7 @@ fn is_full(runs: &RunList, part: Part, setting: &Setting) -> bool
     setting.mode.is_some() || is_split(runs, part, setting)
 }
 
-pub(crate) fn refuses(runs: &RunList, setting: &Setting) -> bool
+pub fn refuses(runs: &RunList, setting: &Setting) -> bool
     requires ordered { setting.now.first ≤ setting.now.last }
     requires listed { IsRunList runs.now }
     ensures { result ≡ is_full setting.now runs.now }
@@ -242,7 +242,7 @@ pub(crate) fn refuses(runs: &RunList, setting: &Setting) -> bool
 }
 
 /// In place, in room that is there.
-pub(crate) fn set(runs: &mut RunList, setting: &Setting) -> Result<(), NoRuns>
+pub fn set(runs: &mut RunList, setting: &Setting) -> Result<(), NoRuns>
     requires ordered { setting.now.first ≤ setting.now.last }
     requires inside { setting.now.last < 2 ^ 63 }
     requires listed { IsRunList runs.old }
@@ -276,7 +276,7 @@ fn is_better<O: OwnerOrder>(owners: &O, best: &Option<Run>, run: &Run) -> bool
 }
 
 // Of the runs from one place to another.
-fn best_of<O: OwnerOrder>(
+pub fn best_of<O: OwnerOrder>(
     runs: &RunList,
     begin: usize,
     end: usize,
@@ -297,7 +297,7 @@ fn best_of<O: OwnerOrder>(
     best
 }
 
-pub(crate) fn first_conflict<O: OwnerOrder>(runs: &RunList, owners: &O, wanted: &Run) -> Option<Run>
+pub fn first_conflict<O: OwnerOrder>(runs: &RunList, owners: &O, wanted: &Run) -> Option<Run>
     requires { IsRunList runs.now }
     ensures { result ≡ best_from (O.order owners.now) wanted.now None runs.now }
 {
@@ -322,7 +322,7 @@ fn any_in_way<H: Host>(runs: &RunList, begin: usize, end: usize, host: &H, wante
 }
 
 /// Whether a run of one of the host's owners is in the way of the wanted one.
-pub(crate) fn is_in_way<H: Host>(runs: &RunList, host: &H, wanted: &Run) -> bool
+pub fn is_in_way<H: Host>(runs: &RunList, host: &H, wanted: &Run) -> bool
     requires { IsRunList runs.now }
     ensures { result ≡ list_any (is_against (H.has host.now) wanted.now) runs.now }
 {
@@ -330,7 +330,7 @@ pub(crate) fn is_in_way<H: Host>(runs: &RunList, host: &H, wanted: &Run) -> bool
     any_in_way(runs, part.begin, part.end, host, wanted)
 }
 
-pub(crate) fn drop_owner_on_file(runs: &mut RunList, file: &FileId, owner: OwnerId)
+pub fn drop_owner_on_file(runs: &mut RunList, file: &FileId, owner: OwnerId)
     ensures { runs.new ≡ filter (λ r. not (is_of r file.now owner)) runs.old }
 {
     let mut kept = 0;
@@ -344,7 +344,7 @@ pub(crate) fn drop_owner_on_file(runs: &mut RunList, file: &FileId, owner: Owner
     runs.truncate(kept);
 }
 
-pub(crate) fn drop_host<H: Host>(runs: &mut RunList, host: &H)
+pub fn drop_host<H: Host>(runs: &mut RunList, host: &H)
     ensures { runs.new ≡ filter (λ r. not (H.has host.now r.owner)) runs.old }
 {
     let mut kept = 0;
@@ -358,7 +358,7 @@ pub(crate) fn drop_host<H: Host>(runs: &mut RunList, host: &H)
     runs.truncate(kept);
 }
 
-pub(crate) fn used_of<H: Host>(runs: &RunList, host: &H) -> u32
+pub fn used_of<H: Host>(runs: &RunList, host: &H) -> u32
     requires { length runs.now ≤ MOST_RUNS }
     ensures { result ≡ length (filter (λ r. H.has host.now r.owner) runs.now) }
 {
@@ -402,7 +402,7 @@ fn used_cut<H: Host>(runs: &RunList, host: &H, part: Part, range: &Setting) -> u
     }
 }
 
-pub(crate) fn used_after<H: Host>(runs: &RunList, host: &H, setting: &Setting) -> u32
+pub fn used_after<H: Host>(runs: &RunList, host: &H, setting: &Setting) -> u32
     requires listed { IsRunList runs.now }
     requires few { length runs.now ≤ MOST_RUNS }
     requires inside { setting.now.last < 2 ^ 63 }

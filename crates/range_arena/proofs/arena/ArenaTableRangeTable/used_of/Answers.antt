@@ -1,0 +1,6 @@
+use Rattle.range_table.specs.Settings.{mode_at}
+use Rattle.range_table.proofs.Hosts.{used_host}
+use Rattle.range_arena.proofs.arena.ArenaTableRangeTable.used_of.Goals as goal
+
+pub returns : goal.returns
+returns g c = rw (← c.self.view_is, c.used_of.ensures, c.list.ensures) (used_host (g.H.Host.has c.args.host.now) c.self.inside.runs (mode_at c.self.inside.history.items) c.self.invariant.listed c.self.invariant.held)

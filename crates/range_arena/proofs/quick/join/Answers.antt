@@ -1,0 +1,33 @@
+use Rattle.std.proofs.Common.{◌≡◌, ◌≤◌, ◌+◌, ◌∙◌, List, None, ap, arith, length, subst, sym}
+use Rattle.range_table.specs.Runs.{IsRunList, insert_run, joined, run_of}
+use Rattle.range_table.specs.Parts.{last_of}
+use Rattle.range_table.specs.declared.run.Mode.{Mode}
+use Rattle.range_table.specs.declared.run.Run.{Run}
+use Rattle.range_table.specs.declared.run.Setting.{Setting}
+use Rattle.range_table.proofs.Inserting.{length-insert_run}
+use Rattle.range_table.proofs.Sets.{IsRunList-joined}
+use Rattle.range_arena.proofs.Untouched.{joined_alone}
+use Rattle.range_arena.proofs.quick.join.Goals as goal
+
+-- the owner has nothing up to the byte behind the range, as a search said
+alone : (c : Setting) (m : Mode) (rs : List Run) (x : Run) → c.first ≤ c.last → last_of c (c.last + 1 + 1) rs ≡ None → x ≡ run_of c m → insert_run x rs ≡ joined c m rs
+alone c m rs x o h e =
+    let two : c.last + 1 + 1 ≡ c.last + 2 = omega arith in
+    ap (λ (r : Run). insert_run r rs) e ∙ sym (joined_alone c m o rs (ap (λ n. last_of c n rs) (sym two) ∙ h))
+
+pub insert-requires-clause-fits : goal.insert-requires-clause-fits
+insert-requires-clause-fits c =
+    let range = c.args.range.now in
+    subst IsRunList
+    (sym (alone range c.args.mode c.args.runs.now c.run.result c.requires.ordered (sym c.last_upto.ensures.last ∙ c.in-None.is) c.run.ensures))
+    (IsRunList-joined range c.args.mode c.args.runs.now c.requires.ordered c.requires.listed)
+
+pub insert-requires-clause-room : goal.insert-requires-clause-room
+insert-requires-clause-room c =
+    let e = alone c.args.range.now c.args.mode c.args.runs.now c.run.result c.requires.ordered (sym c.last_upto.ensures.last ∙ c.in-None.is) c.run.ensures in
+    omega (arith, length-insert_run c.run.result c.args.runs.now, c.requires.room, ap length e)
+
+pub returns-in-None : goal.returns-in-None
+returns-in-None c =
+    c.insert.ensures
+    ∙ alone c.args.range.now c.args.mode c.args.runs.now c.run.result c.requires.ordered (sym c.last_upto.ensures.last ∙ c.in-None.is) c.run.ensures

@@ -1,0 +1,124 @@
+//! One sorted list of runs, with an index.
+ghost use Rattle.std.specs.Prelude.{◌≡◌, [], IfOk};
+
+use crate::indexed::Indexed;
+use crate::quick;
+use history::History;
+use owner_ids::{Host, OwnerId, OwnerOrder, Starved};
+use range_table::run::{Mode, NoRuns, Run, Setting};
+use range_table::{FileId, RangeTable, ordered, sorted};
+use std::alloc::Global;
+use std::marker::Model;
+
+/// Runs in order of file, first byte and owner's number. A clause sees the settings that stand, oldest first.
+#[derive(Drop)]
+pub struct ArenaTable {
+    runs: Indexed,
+    history: History<Setting>,
+}
+
+impl Model for ArenaTable {
+    ghost use Rattle.std.specs.Prelude.{List};
+    ghost use Rattle.range_table.specs.declared.run.Setting.{Setting};
+
+    ghost Value = { List Setting };
+
+    ghost use Rattle.range_arena.specs.Arena.{IsKept};
+
+    ghost view = { λ t. t.history.items };
+
+    ghost invariant = { IsKept };
+}
+
+impl ArenaTable {
+    /// A table with no setting, and with room for 65,536 runs.
+    pub fn new(alloc: Global) -> Result<ArenaTable, Starved>
+        ensures { IfOk result (λ table. table ≡ []) }
+    {
+        Ok(ArenaTable {
+            runs: Indexed::new(alloc)?,
+            history: History::new(),
+        })
+    }
+}
+
+impl RangeTable for ArenaTable {
+    ghost settings = { λ t. t };
+
+    fn set(
+        &mut self,
+        file: &FileId,
+        owner: OwnerId,
+        first: u64,
+        last: u64,
+        mode: Option<Mode>,
+    ) -> Result<(), NoRuns> {
+        let setting = Setting::new(file, owner, first, last, mode);
+        quick::set(&mut self.runs, &setting)?;
+        self.history = self.history.after(&setting);
+        Ok(())
+    }
+
+    fn refuses(
+        &self,
+        file: &FileId,
+        owner: OwnerId,
+        first: u64,
+        last: u64,
+        mode: Option<Mode>,
+    ) -> bool {
+        quick::is_full(&self.runs, &Setting::new(file, owner, first, last, mode))
+    }
+
+    fn used(&self) -> u32 {
+        self.runs.list().len() as u32
+    }
+
+    fn runs<O: OwnerOrder>(&self, owners: &O, i: u32) -> Run {
+        ordered::run_at(self.runs.list(), owners, i as usize)
+    }
+
+    fn first_conflict<O: OwnerOrder>(&self, owners: &O, wanted: &Run) -> Option<Run> {
+        self.runs.first_conflict(owners, wanted)
+    }
+
+    fn is_in_way<H: Host>(&self, host: &H, wanted: &Run) -> bool {
+        sorted::is_in_way(self.runs.list(), host, wanted)
+    }
+
+    fn drop_owner_on_file(&mut self, file: &FileId, owner: OwnerId) {
+        let range = Setting::new(file, owner, 0, 0, None);
+        self.runs.drop_owner_on_file(&range);
+        self.history = self.history.after(&(*file, owner));
+    }
+
+    fn drop_host<H: Host>(&mut self, host: &H) {
+        self.runs.drop_host(host);
+        self.history = self.history.after(host);
+    }
+
+    fn used_of<H: Host>(&self, host: &H) -> u32 {
+        sorted::used_of(self.runs.list(), host)
+    }
+
+    fn used_after<H: Host>(
+        &self,
+        host: &H,
+        file: &FileId,
+        owner: OwnerId,
+        first: u64,
+        last: u64,
+        mode: Option<Mode>,
+    ) -> u32 {
+        sorted::used_after(
+            self.runs.list(),
+            host,
+            &Setting::new(file, owner, first, last, mode),
+        )
+    }
+
+    fn clear(&mut self) {
+        self.runs.clear();
+        self.history = History::new();
+    }
+}

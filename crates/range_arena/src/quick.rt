@@ -1,0 +1,186 @@
+//! A sorted list of runs, set in place, where only the runs of one owner on one file are looked at.
+ghost use Rattle.std.specs.Prelude.{OnOk, OnErr, IsErr, IsTrue, IfSome, ◌↔◌, ◌≡◌, ◌+◌, ◌<◌, ◌≤◌, ◌^◌, length, map, not};
+ghost use Rattle.std.specs.List.{filter};
+ghost use Rattle.range_table.specs.Settings.{IsIn};
+ghost use Rattle.range_table.specs.Runs.{starts_in, trim, kept, right, cut, low, high, widened, joined, set_runs, is_split, is_full, IsRunList};
+ghost use Rattle.range_table.specs.Parts.{last_of};
+
+use crate::indexed::Indexed;
+use range_table::run::{Mode, NoRuns, Run, Setting};
+use range_table::run_list::MOST_RUNS;
+
+// The last run of the range's owner that starts before it.
+fn last_before(runs: &Indexed, range: &Setting) -> Option<Run>
+    requires { IsRunList runs.now }
+    ensures last { result ≡ last_of range.now range.now.first runs.now }
+    ensures stands { IfSome result (λ r. IsIn r runs.now) }
+{
+    if range.first == 0 {
+        return None;
+    }
+    runs.last_upto(range, range.first - 1)
+}
+
+fn low(runs: &Indexed, range: &Setting, mode: Mode) -> u64
+    requires { IsRunList runs.now }
+    ensures { result ≡ low range.now mode runs.now }
+{
+    match last_before(runs, range) {
+        Some(run) => run.low_beside(range, mode),
+        None => range.first,
+    }
+}
+
+fn high(runs: &Indexed, range: &Setting, mode: Mode) -> u64
+    requires listed { IsRunList runs.now }
+    requires inside { range.now.last < 2 ^ 63 }
+    ensures { result ≡ high range.now mode runs.now }
+{
+    match runs.last_upto(range, range.last + 1) {
+        Some(run) => run.high_beside(range, mode),
+        None => range.last,
+    }
+}
+
+// The range with the runs of the mode that it meets.
+fn widened(runs: &Indexed, range: &Setting, mode: Mode) -> Setting
+    requires listed { IsRunList runs.now }
+    requires inside { range.now.last < 2 ^ 63 }
+    ensures { result ≡ widened range.now mode runs.now }
+{
+    Setting {
+        first: low(runs, range, mode),
+        last: high(runs, range, mode),
+        ..*range
+    }
+}
+
+fn is_split(runs: &Indexed, range: &Setting) -> bool
+    requires listed { IsRunList runs.now }
+    requires ordered { range.now.first ≤ range.now.last }
+    ensures { result ≡ is_split range.now runs.now }
+{
+    match last_before(runs, range) {
+        Some(run) => run.splits(range),
+        None => false,
+    }
+}
+
+// Leaves of the run that reaches the range what is in front of it.
+fn trim(runs: &mut Indexed, range: &Setting)
+    requires { IsRunList runs.old }
+    ensures { runs.new ≡ map (trim range.now) runs.old }
+{
+    if let Some(run) = last_before(runs, range) {
+        let mut left = run;
+        left.trim(range);
+        if left.last < run.last {
+            runs.end_at(&run, left.last);
+        }
+    }
+}
+
+// The owner's runs that start in the range go, the last one first.
+fn take_started(runs: &mut Indexed, range: &Setting)
+    requires { IsRunList runs.old }
+    ensures { runs.new ≡ filter (λ r. not (starts_in range.now r)) runs.old }
+{
+    while let Some(run) = runs.last_upto(range, range.last) {
+        if run.first < range.first {
+            return;
+        }
+        runs.remove(&run);
+    }
+}
+
+fn keep(runs: &mut Indexed, range: &Setting)
+    requires { IsRunList runs.old }
+    ensures { runs.new ≡ kept range.now runs.old }
+{
+    take_started(runs, range);
+    trim(runs, range);
+}
+
+// Cuts the range out, of which this is left behind it.
+fn cut_to(runs: &mut Indexed, range: &Setting, rest: Option<Run>)
+    requires listed { IsRunList runs.old }
+    requires ordered { range.now.first ≤ range.now.last }
+    requires rest { rest ≡ right range.now runs.old }
+    requires room { length (cut range.now runs.old) ≤ MOST_RUNS }
+    ensures { runs.new ≡ cut range.now runs.old }
+{
+    keep(runs, range);
+    if let Some(run) = rest {
+        runs.insert(&run);
+    }
+}
+
+fn cut(runs: &mut Indexed, range: &Setting)
+    requires listed { IsRunList runs.old }
+    requires ordered { range.now.first ≤ range.now.last }
+    requires room { length (cut range.now runs.old) ≤ MOST_RUNS }
+    ensures { runs.new ≡ cut range.now runs.old }
+{
+    // Where the owner has nothing up to the range's end, nothing more is searched.
+    if let Some(run) = runs.last_upto(range, range.last) {
+        cut_to(runs, range, run.rest(range));
+    }
+}
+
+// Where the owner may have runs beside the range.
+fn join_beside(runs: &mut Indexed, range: &Setting, mode: Mode)
+    requires listed { IsRunList runs.old }
+    requires ordered { range.now.first ≤ range.now.last }
+    requires inside { range.now.last < 2 ^ 63 }
+    requires room { length (joined range.now mode runs.old) ≤ MOST_RUNS }
+    ensures { runs.new ≡ joined range.now mode runs.old }
+{
+    let wide = widened(runs, range, mode);
+    cut(runs, &wide);
+    runs.insert(&wide.run(mode));
+}
+
+fn join(runs: &mut Indexed, range: &Setting, mode: Mode)
+    requires listed { IsRunList runs.old }
+    requires ordered { range.now.first ≤ range.now.last }
+    requires inside { range.now.last < 2 ^ 63 }
+    requires room { length (joined range.now mode runs.old) ≤ MOST_RUNS }
+    ensures { runs.new ≡ joined range.now mode runs.old }
+{
+    match runs.last_upto(range, range.last + 1) {
+        Some(_) => join_beside(runs, range, mode),
+        None => runs.insert(&range.run(mode)),
+    }
+}
+
+pub(crate) fn is_full(runs: &Indexed, setting: &Setting) -> bool
+    requires listed { IsRunList runs.now }
+    requires ordered { setting.now.first ≤ setting.now.last }
+    ensures { result ≡ is_full setting.now runs.now }
+{
+    if runs.list().len() + 2 <= MOST_RUNS {
+        return false;
+    }
+    setting.mode.is_some() || is_split(runs, setting)
+}
+
+/// In place, in room that is there.
+pub(crate) fn set(runs: &mut Indexed, setting: &Setting) -> Result<(), NoRuns>
+    requires ordered { setting.now.first ≤ setting.now.last }
+    requires inside { setting.now.last < 2 ^ 63 }
+    requires listed { IsRunList runs.old }
+    requires few { length runs.old ≤ MOST_RUNS }
+    ensures refused { IsErr result ↔ IsTrue (is_full setting.now runs.old) }
+    ensures ok { OnOk result (runs.new ≡ set_runs setting.now runs.old) }
+    ensures err { OnErr result (runs.new ≡ runs.old) }
+    ensures few { length runs.new ≤ MOST_RUNS }
+{
+    if is_full(runs, setting) {
+        return Err(NoRuns);
+    }
+    match setting.mode {
+        Some(mode) => join(runs, setting, mode),
+        None => cut(runs, setting),
+    }
+    Ok(())
+}
