@@ -3,4 +3,5 @@ pub mod HubLemmas
 pub mod Sends
 pub mod SameRun
 pub mod Replays
+pub mod Told
 pub mod WrittenLemmas

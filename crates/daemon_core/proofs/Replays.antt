@@ -8,7 +8,7 @@ use Rattle.definitions.specs.World.{the_limits}
 use Rattle.definitions.specs.Step.{State, Doing as Became, Given, opening_state}
 use Rattle.definitions.specs.Replay.{Done, after, state_after}
 use Rattle.definitions.specs.Moves.{IsSound, IsReclaim, TableMove}
-use Rattle.definitions.specs.Standing.{IsShareReclaim}
+use Rattle.definitions.specs.Standing.{IsShareReclaim, IsGrantless}
 use Rattle.book.specs.declared.entry.Doing.{Doing}
 use Rattle.book.specs.declared.entry.Doing.TheVariants.{Applied, Starved}
 use Rattle.book.specs.Notes.{Happening, Steps}
@@ -87,9 +87,11 @@ module _ (name : Bytes) (hosts : Hosts) (refusals : ℕ) (events : List Event) (
   pub sound : IsSound the_limits hub.state.world
   sound = subst (λ (s : State). IsSound the_limits s.world) replay.leads (run_is_sound the_limits name hosts replay.done)
 
+  pub grantless : hub.state.world.phase ≡ Grace → IsGrantless hub.state.world
+  grantless h = subst (λ (s : State). s.world.phase ≡ Grace → IsGrantless s.world) replay.leads (λ g. grace_calls_law the_limits name hosts replay.done g) h
+
   nobody_waits : hub.state.world.phase ≡ Grace → hub.state.world.waiters ≡ []
-  nobody_waits h =
-      subst (λ (s : State). s.world.phase ≡ Grace → s.world.waiters ≡ []) replay.leads (λ g. (grace_calls_law the_limits name hosts replay.done g).waiters) h
+  nobody_waits h = (grantless h).waiters
 
   pub reclaims_only : hub.state.world.phase ≡ Grace → (event : Happening) (doing : Became) (store : StoreAnswer) (given : Given) (new : State) (step : Steps hub.state event doing store given new) → GrantsReclaimsOnly hub.state event doing store given new step
   reclaims_only h event doing store given new step = record {

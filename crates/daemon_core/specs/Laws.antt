@@ -7,7 +7,7 @@ use Rattle.definitions.specs.Shares.{Share}
 use Rattle.definitions.specs.World.{the_limits}
 use Rattle.definitions.specs.Step.{State, Doing, Given}
 use Rattle.definitions.specs.Moves.{IsSound, IsReclaim, TableMove}
-use Rattle.definitions.specs.Standing.{IsShareReclaim}
+use Rattle.definitions.specs.Standing.{IsShareReclaim, IsGrantless}
 use Rattle.book.specs.Notes.{Happening, Steps}
 use Rattle.daemon_core.specs.declared.event.Event.{Event}
 use Rattle.daemon_core.specs.declared.outputs.Outputs.{Outputs}
@@ -27,3 +27,8 @@ abbrev pub GraceGrantsReclaimsOnly : Type 0
 GraceGrantsReclaimsOnly =
     (name : Bytes) (hosts : Hosts) (refusals : ℕ) (events : List Event) (outs : List Outputs) (hub : Hub) → Run (opening name hosts refusals) events outs hub → hub.state.world.phase ≡ Grace
     → (event : Happening) (doing : Doing) (store : StoreAnswer) (given : Given) (new : State) (step : Steps hub.state event doing store given new) → GrantsReclaimsOnly hub.state event doing store given new step
+
+-- wherever a run has led that is in grace nobody waits, and no call tells of a grant: so no GRANTED and no GRANTED_MSG is due
+abbrev pub GraceTellsOfNoGrant : Type 0
+GraceTellsOfNoGrant =
+    (name : Bytes) (hosts : Hosts) (refusals : ℕ) (events : List Event) (outs : List Outputs) (hub : Hub) → Run (opening name hosts refusals) events outs hub → hub.state.world.phase ≡ Grace → IsGrantless hub.state.world

@@ -6,3 +6,4 @@ pub mod Link
 pub mod Inside
 pub mod Hub
 pub mod Laws
+pub mod Told

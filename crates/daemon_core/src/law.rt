@@ -1,7 +1,8 @@
 //! What is true of every run.
 
 ghost use Rattle.daemon_core.specs.Hub.{HasOneRun};
-ghost use Rattle.daemon_core.specs.Laws.{GraceGrantsReclaimsOnly, RunsAreSound};
+ghost use Rattle.daemon_core.specs.Laws.{GraceGrantsReclaimsOnly, GraceTellsOfNoGrant, RunsAreSound};
+ghost use Rattle.daemon_core.specs.Told.{KeptIsGivenAgain, RefusalIsTold};
 
 use book::one_step;
 use record_mark::one_reading;
@@ -23,4 +24,20 @@ pub fn runs_are_sound()
 /// Wherever a run has led that is in grace, only a reclaim is granted.
 pub fn grace_grants_reclaims_only()
     ensures { GraceGrantsReclaimsOnly }
+{}
+
+/// Wherever a run has led that is in grace, nobody waits, and no call of the server's own tells of a grant.
+pub fn grace_tells_of_no_grant()
+    ensures { GraceTellsOfNoGrant }
+{}
+
+/// A call that is refused for its file handle, its range or the phase is answered by that status, so that in grace each that
+/// the phase turns away is answered DENIED_GRACE_PERIOD.
+pub fn early_refusal_is_told()
+    ensures { RefusalIsTold }
+{}
+
+/// A call whose reply is kept gets it again, and is not done again.
+pub fn kept_reply_is_given_again()
+    ensures { KeptIsGivenAgain }
 {}

@@ -13,7 +13,10 @@ mod sent;
 pub use crate::connection::Connection;
 pub use crate::daemon::Daemon;
 pub use crate::event::{Event, Refusal};
-pub use crate::law::{grace_grants_reclaims_only, one_run, runs_are_sound};
+pub use crate::law::{
+    early_refusal_is_told, grace_grants_reclaims_only, grace_tells_of_no_grant,
+    kept_reply_is_given_again, one_run, runs_are_sound,
+};
 pub use crate::outputs::Outputs;
 pub use crate::sent::{Addressee, Sent};
 pub use book::{Doing, HostName, StoreAnswer};

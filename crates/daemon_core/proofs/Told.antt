@@ -1,0 +1,127 @@
+-- What a call gets that is refused early, and one whose reply is kept.
+use Rattle.std.proofs.Common.{◌≡◌, ℕ, Bool, leb, length, Option, Some, None, refl, sym, ◌∙◌, ap, subst}
+use Rattle.definitions.specs.Bytes.{Bytes}
+use Rattle.definitions.specs.Hosts.{StoreAnswer, NotAsked, Yes, Refused}
+use Rattle.definitions.specs.Nlm.{Version, Stat, NlmCall, Test, Locks, Cancel, Unlock, LockMsg, ShareCall, Unshare, NmLock}
+use Rattle.definitions.specs.Answer.{Answered, gives, ruling, nlm_answer, test_unless, lock_ask, caller_row, lock_unless, cancel_unless, unlock_unless, share_unless, unshare_unless, share_told, by_reply}
+use Rattle.definitions.specs.Outgoing.{Granted}
+use Rattle.definitions.specs.Ranges.{request_of}
+use Rattle.definitions.specs.Replies.{Call, Nlm, Success, SystemErr, TestResResult, Asks}
+use Rattle.definitions.specs.Rulings.{ruled, stays, decided}
+use Rattle.definitions.specs.World.{World, the_limits, slots_free, with_all_due}
+use Rattle.definitions.specs.Step.{Event, Take, Peer, Doing, Applied, Starved, Given, Replies, State, Stepped, KeptPair, applied, taken, repeated, look, step, with_row_stored, asked_unless_kept, moved_to_front, IsUnapplied}
+use Rattle.definitions.proofs.RepeatLaws.{repeat_law}
+use Rattle.kept_replies.specs.Pairs.{asker}
+use Rattle.lock_service.specs.Planned.{answer_of}
+use Rattle.book.specs.Notes.{doing_of, IsStep}
+use Rattle.daemon_core.specs.Outputs.{reply_to}
+use Rattle.daemon_core.specs.declared.outputs.Outputs.{Outputs}
+use Rattle.daemon_core.specs.Hub.{Hub, Answers}
+use Rattle.daemon_core.specs.Told.{early_refusal, stat_in, TellsStat, RefusalIsTold, AnswersRepeat, KeptIsGivenAgain}
+
+-- ---- an early refusal is what a call says
+
+abbrev SaysStat : Stat → Answered → Type 0
+SaysStat stat a = stat_in a.outcome ≡ Some stat
+
+says_stays : (w : World) (stat : Stat) (cookie : Bytes) (store : StoreAnswer) → SaysStat stat (ruled store (by_reply cookie (stays w stat)))
+says_stays w stat cookie NotAsked = refl
+says_stays w stat cookie Yes = refl
+says_stays w stat cookie Refused = refl
+
+says_decided : (a : Answered) (stat : Stat) (store : StoreAnswer) → stat_in a.outcome ≡ Some stat → SaysStat stat (ruled store (decided a))
+says_decided a stat NotAsked h = h
+says_decided a stat Yes h = h
+says_decided a stat Refused h = h
+
+says_early : (w : World) (version : Version) (call : NlmCall) (stat : Stat) (store : StoreAnswer) → early_refusal w call ≡ Some stat → SaysStat stat (ruled store (nlm_answer the_limits w version call))
+says_early w version (Test a) stat store e =
+    let answer : Option Stat → Answered = λ o. gives w (Success (TestResResult version (test_unless w a o))) in
+    subst (λ (o : Option Stat). SaysStat stat (ruled store (decided (answer o)))) (sym e) (says_decided (answer (Some stat)) stat store refl)
+says_early w version (Locks a) stat store e =
+    subst (λ (o : Option Stat). SaysStat stat (ruled store (by_reply a.cookie (lock_unless the_limits w (lock_ask a (caller_row a) (Granted version a.exclusive a.alock) (slots_free the_limits w)) o)))) (sym e) (says_stays w stat a.cookie store)
+says_early w version (NmLock a) stat store e =
+    subst (λ (o : Option Stat). SaysStat stat (ruled store (by_reply a.cookie (lock_unless the_limits w (lock_ask a None (Granted version a.exclusive a.alock) (slots_free the_limits w)) o)))) (sym e) (says_stays w stat a.cookie store)
+says_early w version (Cancel a) stat store e =
+    subst (λ (o : Option Stat). SaysStat stat (ruled store (by_reply a.cookie (cancel_unless w (request_of a.exclusive a.alock) o)))) (sym e) (says_stays w stat a.cookie store)
+says_early w version (Unlock a) stat store e =
+    subst (λ (o : Option Stat). SaysStat stat (ruled store (by_reply a.cookie (unlock_unless the_limits w a.alock o)))) (sym e) (says_stays w stat a.cookie store)
+says_early w version (ShareCall a) stat store e =
+    let answer : Option Stat → Answered = λ o. share_told a (share_unless the_limits w a o) in
+    subst (λ (o : Option Stat). SaysStat stat (ruled store (decided (answer o)))) (sym e) (says_decided (answer (Some stat)) stat store refl)
+says_early w version (Unshare a) stat store e =
+    let answer : Option Stat → Answered = λ o. share_told a (unshare_unless w a o) in
+    subst (λ (o : Option Stat). SaysStat stat (ruled store (decided (answer o)))) (sym e) (says_decided (answer (Some stat)) stat store refl)
+says_early w version call stat store e = absurd cc
+
+-- ---- what a step gives for a record that asks for a call
+
+module _ (s new : State) (said : Event) (became : Doing) (store : StoreAnswer) (given : Given) (h : IsStep s said became store given new) (peer : Peer) (asked : Bytes) (xid : ℕ) (call : Call) (is : said ≡ Take peer asked (Asks xid call)) where
+  steps : (doing : Doing) → became ≡ doing → (given ≡ (step the_limits s (Take peer asked (Asks xid call)) doing store).given) × (new ≡ (step the_limits s (Take peer asked (Asks xid call)) doing store).state)
+  steps doing e =
+      let to : Event → Doing → Stepped = λ event d. step the_limits s event d store in
+      let same : to said became ≡ to (Take peer asked (Asks xid call)) doing = ap (λ event. to event became) is ∙ ap (to (Take peer asked (Asks xid call))) e in
+      (sym h.gives ∙ ap (λ (t : Stepped). t.given) same, sym h.leaves ∙ ap (λ (t : Stepped). t.state) same)
+
+  -- where its reply is not kept
+  anew : became ≡ Applied → look s peer asked ≡ None → given ≡ Replies xid (ruled store (ruling the_limits s.world peer.local call)).outcome
+  anew e n = (steps Applied e).0 ∙ ap (λ (o : Option KeptPair). (taken the_limits s peer asked xid call store o).given) n
+
+  module _ (k : KeptPair) (there : look s peer asked ≡ Some k) where
+    has_slots : Bool
+    has_slots = leb (length k.letters) (slots_free the_limits s.world)
+
+    again : became ≡ Applied → (given ≡ (repeated the_limits s k).given) × (new ≡ (repeated the_limits s k).state)
+    again e =
+        let same : taken the_limits s peer asked xid call store (look s peer asked) ≡ repeated the_limits s k = ap (taken the_limits s peer asked xid call store) there in
+        ((steps Applied e).0 ∙ ap (λ (t : Stepped). t.given) same, (steps Applied e).1 ∙ ap (λ (t : Stepped). t.state) same)
+
+    wanting : became ≡ Starved → (given ≡ Replies xid SystemErr) × (new ≡ s)
+    wanting e =
+        let row : Option KeptPair → State = λ o. with_row_stored s call (asked_unless_kept the_limits s peer call o) store in
+        ((steps Starved e).0, (steps Starved e).1 ∙ ap row there ∙ unstored call store)
+      where
+        unstored : (c : Call) (a : StoreAnswer) → with_row_stored s c None a ≡ s
+        unstored (Nlm version (Locks b)) a = refl
+        unstored (Nlm version (LockMsg b)) a = refl
+        unstored _ a = refl
+
+-- ---- as a client is told
+
+module _ (place i : ℕ) (old new : Hub) (out : Outputs) (t : Answers place i old out new) where
+  sent : (given : Given) → t.given ≡ given → out.sent ≡ reply_to t.link.number given
+  sent given e = ap (λ (o : Outputs). o.sent) t.outputs ∙ ap (reply_to t.link.number) e
+
+  pub tells : (xid : ℕ) (version : Version) (call : NlmCall) (stat : Stat) → t.step.said ≡ Take (asker t.link.peer) t.bytes (Asks xid (Nlm version call)) → look old.state (asker t.link.peer) t.bytes ≡ None
+      → doing_of out.outcome ≡ Applied → early_refusal old.state.world call ≡ Some stat → TellsStat t.link xid stat out
+  tells xid version call stat is none applied early = record {
+    outcome = (ruled (answer_of out.store) (nlm_answer the_limits old.state.world version call)).outcome;
+    stat_is = says_early old.state.world version call stat (answer_of out.store) early;
+    sent = sent _ (anew old.state new.state t.step.said (doing_of out.outcome) (answer_of out.store) t.given t.step.step (asker t.link.peer) t.bytes xid (Nlm version call) is applied none);
+  }
+
+  pub repeats : (xid : ℕ) (call : Call) (k : KeptPair) → t.step.said ≡ Take (asker t.link.peer) t.bytes (Asks xid call) → look old.state (asker t.link.peer) t.bytes ≡ Some k → AnswersRepeat t.link xid k old out new
+  repeats xid call k is there = record {
+    unapplied = subst (λ (s : State). IsUnapplied old.state.world s.world) (sym (steps old.state new.state t.step.said (doing_of out.outcome) (answer_of out.store) t.given t.step.step (asker t.link.peer) t.bytes xid call is (doing_of out.outcome) refl).1) (repeat_law the_limits old.state (asker t.link.peer) t.bytes xid call (doing_of out.outcome) (answer_of out.store) k there);
+    again = λ applied slots.
+        let r = again old.state new.state t.step.said (doing_of out.outcome) (answer_of out.store) t.given t.step.step (asker t.link.peer) t.bytes xid call is k there applied in
+        let both : repeated the_limits old.state k ≡ record { given = Replies k.xid k.outcome; state = record { world = with_all_due old.state.world k.letters; kept = moved_to_front k old.state.kept } } = rw slots refl in
+        record {
+          sent = sent (Replies k.xid k.outcome) (r.0 ∙ ap (λ (x : Stepped). x.given) both);
+          world = ap (λ (s : State). s.world) r.1 ∙ ap (λ (x : Stepped). x.state.world) both;
+          kept = ap (λ (s : State). s.kept) r.1 ∙ ap (λ (x : Stepped). x.state.kept) both;
+        };
+    full = λ applied slots.
+        let r = again old.state new.state t.step.said (doing_of out.outcome) (answer_of out.store) t.given t.step.step (asker t.link.peer) t.bytes xid call is k there applied in
+        let both : repeated the_limits old.state k ≡ record { given = Replies k.xid SystemErr; state = old.state } = rw slots refl in
+        record { sent = sent (Replies k.xid SystemErr) (r.0 ∙ ap (λ (x : Stepped). x.given) both); state = r.1 ∙ ap (λ (x : Stepped). x.state) both };
+    starved = λ starves.
+        let r = wanting old.state new.state t.step.said (doing_of out.outcome) (answer_of out.store) t.given t.step.step (asker t.link.peer) t.bytes xid call is k there starves in
+        record { sent = sent (Replies xid SystemErr) r.0; state = r.1 };
+  }
+
+pub refusal_is_told : RefusalIsTold
+refusal_is_told place i old new out taken xid version call stat is none applied early = tells place i old new out taken xid version call stat is none applied early
+
+pub kept_is_given_again : KeptIsGivenAgain
+kept_is_given_again place i old new out taken xid call k is there = repeats place i old new out taken xid call k is there

@@ -1,0 +1,74 @@
+-- What a call gets that is refused before its procedure's rules, and what one gets whose reply is kept.
+use Rattle.std.specs.Prelude.{◌≡◌, ℕ, true, false, leb, length, Option, Some, None}
+use Rattle.definitions.specs.Phases.{Testing, Locking, Sharing, Cancelling, Unlocking, Unsharing}
+use Rattle.definitions.specs.Nlm.{Version, Stat, NlmCall, Test, Locks, Cancel, Unlock, ShareCall, Unshare, NmLock}
+use Rattle.definitions.specs.Ranges.{range_refusal, file_refusal}
+use Rattle.definitions.specs.Replies.{Call, Nlm, Outcome, Success, SystemErr, ResResult, TestResResult, ShareResult, Asks}
+use Rattle.definitions.specs.World.{World, the_limits, slots_free, with_all_due}
+use Rattle.definitions.specs.Step.{Take, Applied, Starved, KeptPair, Replies, look, moved_to_front, IsUnapplied}
+use Rattle.kept_replies.specs.Pairs.{asker}
+use Rattle.book.specs.Notes.{doing_of}
+use Rattle.daemon_core.specs.Link.{Link}
+use Rattle.daemon_core.specs.Outputs.{reply_to}
+use Rattle.daemon_core.specs.declared.outputs.Outputs.{Outputs}
+use Rattle.daemon_core.specs.Hub.{Hub, Answers}
+
+-- what a call is refused for before its procedure's own rules: its file handle, its range, the phase
+abbrev pub early_refusal : World → NlmCall → Option Stat
+early_refusal w (Test a) = range_refusal w Testing a.alock
+early_refusal w (Locks a) = range_refusal w (Locking a.reclaim) a.alock
+early_refusal w (NmLock a) = range_refusal w (Locking a.reclaim) a.alock
+early_refusal w (Cancel a) = range_refusal w Cancelling a.alock
+early_refusal w (Unlock a) = range_refusal w Unlocking a.alock
+early_refusal w (ShareCall a) = file_refusal w (Sharing a.reclaim) a.fh
+early_refusal w (Unshare a) = file_refusal w Unsharing a.fh
+early_refusal w _ = None
+
+-- the status that a reply tells
+abbrev pub stat_in : Outcome → Option Stat
+stat_in (Success (ResResult r)) = Some r.stat
+stat_in (Success (TestResResult version t)) = Some t.stat
+stat_in (Success (ShareResult s)) = Some s.stat
+stat_in _ = None
+
+-- the record that was taken asks for this call
+abbrev pub IsCall : {place i : ℕ} {old new : Hub} {out : Outputs} → Answers place i old out new → ℕ → Call → Type 0
+IsCall taken xid call = taken.step.said ≡ Take (asker taken.link.peer) taken.bytes (Asks xid call)
+
+-- the pair that is kept of it, if one is
+abbrev pub kept_of : {place i : ℕ} {old new : Hub} {out : Outputs} → Answers place i old out new → Option KeptPair
+kept_of {old = old} taken = look old.state (asker taken.link.peer) taken.bytes
+
+-- the client that asked gets this status
+pub record TellsStat (link : Link) (xid : ℕ) (stat : Stat) (out : Outputs) : Type 0 where
+  pub outcome : Outcome
+  pub stat_is : stat_in outcome ≡ Some stat
+  pub sent : out.sent ≡ reply_to link.number (Replies xid outcome)
+
+-- a call that is done anew and has an early refusal is answered by it: so in grace each that the phase turns away is answered DENIED_GRACE_PERIOD
+abbrev pub RefusalIsTold : Type 0
+RefusalIsTold =
+    (place i : ℕ) (old new : Hub) (out : Outputs) (taken : Answers place i old out new) (xid : ℕ) (version : Version) (call : NlmCall) (stat : Stat) → IsCall taken xid (Nlm version call) → kept_of taken ≡ None
+    → doing_of out.outcome ≡ Applied → early_refusal old.state.world call ≡ Some stat → TellsStat taken.link xid stat out
+
+-- the kept reply is sent again, the calls that went with it are due again, and the pair is now the newest
+pub record IsRepeated (link : Link) (k : KeptPair) (old : Hub) (out : Outputs) (new : Hub) : Type 0 where
+  pub sent : out.sent ≡ reply_to link.number (Replies k.xid k.outcome)
+  pub world : new.state.world ≡ with_all_due old.state.world k.letters
+  pub kept : new.state.kept ≡ moved_to_front k old.state.kept
+
+-- SYSTEM_ERR is sent, and the state stays
+pub record IsTurnedBack (link : Link) (xid : ℕ) (old : Hub) (out : Outputs) (new : Hub) : Type 0 where
+  pub sent : out.sent ≡ reply_to link.number (Replies xid SystemErr)
+  pub state : new.state ≡ old.state
+
+-- a call whose reply is kept is not done again: locks, waiters, shares, phase and hosts stay. It gets its reply again, unless memory or the places for its calls are wanting
+pub record AnswersRepeat (link : Link) (xid : ℕ) (k : KeptPair) (old : Hub) (out : Outputs) (new : Hub) : Type 0 where
+  pub unapplied : IsUnapplied old.state.world new.state.world
+  pub again : doing_of out.outcome ≡ Applied → leb (length k.letters) (slots_free the_limits old.state.world) ≡ true → IsRepeated link k old out new
+  pub full : doing_of out.outcome ≡ Applied → leb (length k.letters) (slots_free the_limits old.state.world) ≡ false → IsTurnedBack link k.xid old out new
+  pub starved : doing_of out.outcome ≡ Starved → IsTurnedBack link xid old out new
+
+abbrev pub KeptIsGivenAgain : Type 0
+KeptIsGivenAgain =
+    (place i : ℕ) (old new : Hub) (out : Outputs) (taken : Answers place i old out new) (xid : ℕ) (call : Call) (k : KeptPair) → IsCall taken xid call → kept_of taken ≡ Some k → AnswersRepeat taken.link xid k old out new
