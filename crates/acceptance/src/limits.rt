@@ -1,6 +1,6 @@
 //! A table that is full, a store that is full, and streams that are cut at random.
 use crate::calls::{Asks, Told, Who};
-use crate::server::{Line, Part, all_hosts, plays, sent_by};
+use crate::server::{Line, Part, all_hosts, plays, sent_by, sent_by_flat};
 use std::alloc::Global;
 use std::test::*;
 
@@ -90,5 +90,14 @@ fn random_calls_in_pieces(rt: HostRuntime) -> Result<(), Fail> {
         let cut = sent_by(alloc, &lines, most)?;
         assert!(rt; cut.as_slice() == whole.as_slice(), "by {most}");
     }
+    Ok(())
+}
+
+#[test]
+fn both_tables(rt: HostRuntime) -> Result<(), Fail> {
+    let alloc = rt.alloc();
+    let lines = random_calls(alloc, 300)?;
+    let sent = sent_by(alloc, &lines, 8_192)?;
+    assert!(rt; sent.as_slice() == sent_by_flat(alloc, &lines)?.as_slice());
     Ok(())
 }

@@ -2,7 +2,8 @@
 use daemon_core::{Addressee, Daemon, Event, Outputs};
 use hosts_db::{FULL_QUOTA, HostRow, HostStore, MemHosts};
 use letters::ShortBytes;
-use range_table::{FlatTable, RangeTable};
+use range_arena::ArenaTable;
+use range_table::RangeTable;
 use std::alloc::Global;
 use std::test::*;
 use xdr_core::Frame;
@@ -19,13 +20,13 @@ fn host(alloc: Global, name: u8) -> Result<HostRow, Fail> {
 }
 
 /// In the own state 1, with rows of `a` and `b`.
-fn opened(alloc: Global) -> Result<Daemon<FlatTable, MemHosts>, Fail> {
+fn opened(alloc: Global) -> Result<Daemon<ArenaTable, MemHosts>, Fail> {
     let mut hosts = Vec::new(alloc);
     hosts.push(host(alloc, b'a')?)?;
     hosts.push(host(alloc, b'b')?)?;
     let store = MemHosts::new(alloc, 1, hosts, Vec::new(alloc))?;
     let name = ShortBytes::copy_of(alloc, b"server")?;
-    Ok(Daemon::new(alloc, FlatTable::new(alloc)?, store, name)?)
+    Ok(Daemon::new(alloc, ArenaTable::new(alloc)?, store, name)?)
 }
 
 /// SM_NOTIFY of the own state 3 from `server`, under this xid, mark first.

@@ -1,9 +1,12 @@
-//! A daemon over a flat table and hosts in memory, and what it sends. All but what makes it is generic, and so cheap to
-//! prove.
+//! A daemon over a table of ranges and hosts in memory, and what it sends. All but what makes it is generic, and so cheap
+//! to prove.
+ghost use Rattle.std.specs.Prelude.{◌≡◌, []};
+
 use crate::calls::{Asks, Grant, Told, Who, answer_to_grant, put_fragment};
 use daemon_core::{Addressee, Daemon, Event, Outputs, Peer, Refusal};
 use hosts_db::{FULL_QUOTA, HostRow, HostStore, MemHosts};
 use letters::ShortBytes;
+use range_arena::ArenaTable;
 use range_table::{FlatTable, RangeTable};
 use std::alloc::Global;
 use std::test::*;
@@ -55,9 +58,14 @@ pub(crate) struct Heard<'a> {
 // As many records as any stream of bytes has.
 const MOST_RECORDS: usize = 2;
 
-fn opened(alloc: Global, hosts: Vec<HostRow>) -> Result<Daemon<FlatTable, MemHosts>, Fail> {
+fn opened<T: RangeTable + Drop>(
+    alloc: Global,
+    table: T,
+    hosts: Vec<HostRow>,
+) -> Result<Daemon<T, MemHosts>, Fail>
+    requires { T.settings table ≡ [] }
+{
     let store = MemHosts::new(alloc, 0, hosts, Vec::new(alloc))?;
-    let table = FlatTable::new(alloc)?;
     let name = ShortBytes::copy_of(alloc, b"server")?;
     Ok(Daemon::new(alloc, table, store, name)?)
 }
@@ -324,7 +332,7 @@ fn go<T: RangeTable, S: HostStore>(
 
 /// Whether a server of these hosts sends just the replies of these parts, byte for byte.
 pub(crate) fn plays(alloc: Global, hosts: Vec<HostRow>, parts: &[Part<'_>]) -> Result<bool, Fail> {
-    let mut daemon = opened(alloc, hosts)?;
+    let mut daemon = opened(alloc, ArenaTable::new(alloc)?, hosts)?;
     let went = go(alloc, &mut daemon, parts);
     drop(daemon);
     went
@@ -342,8 +350,16 @@ fn send<T: RangeTable, S: HostStore>(
 
 /// What a server sends for calls that come in pieces of so many bytes.
 pub(crate) fn sent_by(alloc: Global, lines: &[Line], most: usize) -> Result<Vec<u8>, Fail> {
-    let mut daemon = opened(alloc, Vec::new(alloc))?;
+    let mut daemon = opened(alloc, ArenaTable::new(alloc)?, Vec::new(alloc))?;
     let sent = send(alloc, &mut daemon, lines, most);
+    drop(daemon);
+    sent
+}
+
+/// What a server over the flat table sends for these calls.
+pub(crate) fn sent_by_flat(alloc: Global, lines: &[Line]) -> Result<Vec<u8>, Fail> {
+    let mut daemon = opened(alloc, FlatTable::new(alloc)?, Vec::new(alloc))?;
+    let sent = send(alloc, &mut daemon, lines, 8_192);
     drop(daemon);
     sent
 }

@@ -1,0 +1,203 @@
+//! One random script through the arena table and the flat one, which is its definition in code.
+ghost use Rattle.std.specs.Prelude.{◌≤◌, ◌<◌, ◌^◌};
+
+use owner_ids::{HostOf, Owner, OwnerId, Owners};
+use range_arena::ArenaTable;
+use range_table::{FileId, FlatTable, Mode, RangeTable, Run, Setting};
+use std::alloc::Global;
+use std::test::*;
+
+/// How many steps the script has, and after how many all runs of both tables are compared.
+const STEPS: u32 = 100_000;
+
+const COMPARED: u32 = 10_000;
+
+/// How many bytes of a file the script names: so many that a file comes to have thousands of runs.
+const BYTES: u32 = 6_000;
+
+/// The owners, of whom the first two are of host `a`.
+type Asking = [OwnerId; 4];
+
+fn next_random(random: &mut u32, bound: u32) -> u32
+    requires { 0 < bound }
+    ensures { result < bound }
+{
+    *random = random.wrapping_mul(1_664_525).wrapping_add(1_013_904_223);
+    (*random >> 16) % bound
+}
+
+fn remote(alloc: Global, name: u8, svid: i32) -> Result<Owner, Fail> {
+    Ok(Owner::Remote {
+        name: Vec::from_slice(alloc, [name].as_slice())?,
+        svid,
+        oh: Vec::new(alloc),
+    })
+}
+
+fn asking(alloc: Global, owners: &mut Owners) -> Result<Asking, Fail> {
+    let second = owners.intern(&remote(alloc, b'a', 9)?)?;
+    let process = owners.intern(&Owner::Process(2))?;
+    let other = owners.intern(&remote(alloc, b'b', 1)?)?;
+    let first = owners.intern(&remote(alloc, b'a', -9)?)?;
+    Ok([first, second, other, process])
+}
+
+// Mostly of a byte or two, now and then of many.
+fn next_setting(random: &mut u32, asking: &Asking) -> Setting
+    ensures ordered { result.first ≤ result.last }
+    ensures inside { result.last < 2 ^ 63 }
+{
+    let owner = asking[next_random(random, 4) as usize];
+    let file = FileId::new(next_random(random, 3).to_be_bytes().as_slice());
+    let first = u64::from(next_random(random, BYTES));
+    let most = if next_random(random, 64) == 0 {
+        BYTES
+    } else {
+        2
+    };
+    let last = first + u64::from(next_random(random, most));
+    let mode = match next_random(random, 3) {
+        0 => None,
+        1 => Some(Mode::Shared),
+        _ => Some(Mode::Exclusive),
+    };
+    Setting::new(&file, owner, first, last, mode)
+}
+
+// What a run shows.
+type Shown = (OwnerId, u64, u64, Mode);
+
+fn shown(run: &Run) -> Shown {
+    (run.owner, run.first, run.last, run.mode)
+}
+
+fn is_same(run: Option<Run>, other: Option<Run>) -> bool {
+    match (run, other) {
+        (Some(run), Some(other)) => run.file.is_same(&other.file) && shown(&run) == shown(&other),
+        (None, None) => true,
+        _ => false,
+    }
+}
+
+fn nth<T: RangeTable>(table: &T, owners: &Owners, i: u32) -> Option<Run> {
+    if i < table.used() {
+        Some(table.runs(owners, i))
+    } else {
+        None
+    }
+}
+
+// Whether both refuse the setting, or both make it.
+fn set_alike<T: RangeTable, U: RangeTable>(table: &mut T, other: &mut U, asked: &Setting) -> bool
+    requires ordered { asked.now.first ≤ asked.now.last }
+    requires inside { asked.now.last < 2 ^ 63 }
+{
+    let done = table
+        .set(
+            &asked.file,
+            asked.owner,
+            asked.first,
+            asked.last,
+            asked.mode,
+        )
+        .is_ok();
+    let also = other
+        .set(
+            &asked.file,
+            asked.owner,
+            asked.first,
+            asked.last,
+            asked.mode,
+        )
+        .is_ok();
+    done == also
+}
+
+// Whether both find the same in the way.
+fn find_alike<T: RangeTable, U: RangeTable>(
+    table: &T,
+    other: &U,
+    owners: &Owners,
+    asked: &Setting,
+) -> bool
+    requires ordered { asked.now.first ≤ asked.now.last }
+    requires inside { asked.now.last < 2 ^ 63 }
+{
+    let wanted = Run {
+        file: asked.file,
+        owner: asked.owner,
+        first: asked.first,
+        last: asked.last,
+        mode: asked.mode.unwrap_or(Mode::Exclusive),
+    };
+    is_same(
+        table.first_conflict(owners, &wanted),
+        other.first_conflict(owners, &wanted),
+    )
+}
+
+// Whether both have the same runs, in one order.
+fn hold_alike<T: RangeTable, U: RangeTable>(table: &T, other: &U, owners: &Owners) -> bool {
+    for i in 0..table.used() {
+        if !is_same(nth(table, owners, i), nth(other, owners, i)) {
+            return false;
+        }
+    }
+    table.used() == other.used()
+}
+
+// Mostly a setting; seldom a host or an owner on a file goes.
+fn step<T: RangeTable, U: RangeTable>(
+    table: &mut T,
+    other: &mut U,
+    owners: &Owners,
+    asking: &Asking,
+    random: &mut u32,
+) -> bool {
+    let asked = next_setting(random, asking);
+    match next_random(random, 10_000) {
+        0 => {
+            let host = HostOf { owners, name: b"a" };
+            table.drop_host(&host);
+            other.drop_host(&host);
+            true
+        }
+        1..10 => {
+            table.drop_owner_on_file(&asked.file, asked.owner);
+            other.drop_owner_on_file(&asked.file, asked.owner);
+            true
+        }
+        _ => { find_alike(table, other, owners, &asked) && set_alike(table, other, &asked) }
+    }
+}
+
+// The first step at which they differ, if there is one.
+fn first_difference<T: RangeTable, U: RangeTable>(
+    table: &mut T,
+    other: &mut U,
+    owners: &Owners,
+    asking: &Asking,
+) -> Option<u32> {
+    let mut random = 1;
+    for i in 0..STEPS {
+        let is_alike = step(table, other, owners, asking, &mut random);
+        if !is_alike || (i % COMPARED == 0 && !hold_alike(table, other, owners)) {
+            return Some(i);
+        }
+    }
+    None
+}
+
+#[test]
+fn one_script_through_both_tables(rt: HostRuntime) -> Result<(), Fail> {
+    let alloc = rt.alloc();
+    let mut owners = Owners::new(alloc);
+    let asking = asking(alloc, &mut owners)?;
+    let mut arena = ArenaTable::new(alloc)?;
+    let mut flat = FlatTable::new(alloc)?;
+    let difference = first_difference(&mut arena, &mut flat, &owners, &asking);
+    assert!(rt; difference.is_none());
+    assert!(rt; hold_alike(&arena, &flat, &owners));
+    assert!(rt; arena.used() > 1_000);
+    Ok(())
+}
