@@ -37,18 +37,19 @@ kept_out false true e f = absurd (false≢true (sym e))
 kept_out false false e f = absurd (false≢true (sym f))
 
 module _ (before after : List Setting) (file : Bytes) (alike : (other : Bytes) → same_bytes other file ≡ false → IsAlike before after other) (enough : is_short 65536 before ≡ false) where
-  off_next : (x : Waiter) → x.request.first ≤ x.request.last → is_ready the_limits before x ≡ false → is_ready_off file after x ≡ false
+  off_next : (x : Waiter) → x.request.first ≤ x.request.last → is_ready_off file before x ≡ false → is_ready_off file after x ≡ false
   off_next x range e =
       by_test (same_bytes x.request.file file)
       (λ t. rw t refl)
-      (λ t. let out = kept_out (conflicts before x.request) (is_short 65536 before) enough e in
+      (λ t. let kept = sym (ap (λ b. not b && is_ready the_limits before x) t) ∙ e in
+      let out = kept_out (conflicts before x.request) (is_short 65536 before) enough kept in
       let still = conflict_stays before after x.request range (alike x.request.file t) out in
       rw (t, still) refl)
 
-  none_off : (xs : List Waiter) → AreRanges xs → is_any (is_ready the_limits before) xs ≡ false → is_any (is_ready_off file after) xs ≡ false
+  none_off : (xs : List Waiter) → AreRanges xs → is_any (is_ready_off file before) xs ≡ false → is_any (is_ready_off file after) xs ≡ false
   none_off [] r e = refl
   none_off (x ∷ xs) r e =
-      let p = or_parts (is_ready the_limits before x) (is_any (is_ready the_limits before) xs) e in
+      let p = or_parts (is_ready_off file before x) (is_any (is_ready_off file before) xs) e in
       rw (off_next x r.0 p.0) (none_off xs r.1 p.1)
 
 other_file : (a b : Bytes) → same_bytes a b ≡ false → same_bytes b a ≡ false

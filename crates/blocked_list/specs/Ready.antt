@@ -16,12 +16,12 @@ is_ready_on file settings x = same_bytes x.request.file file && is_ready the_lim
 abbrev pub is_ready_off : Bytes → List Setting → Waiter → Bool
 is_ready_off file settings x = not (same_bytes x.request.file file) && is_ready the_limits settings x
 
--- where nobody is ready and 2 runs are free, a setting lets only those wait no longer who wait for its file
+-- where nobody who waits for another file is ready and 2 runs are free, a setting lets nobody of those wait no longer
 abbrev pub SettingFreesLaw : Type 0
 SettingFreesLaw =
-    (settings : List Setting) (s : Setting) (waiters : List Waiter) → AreRanges waiters → is_short 65536 settings ≡ false → is_any (is_ready the_limits settings) waiters ≡ false → is_any (is_ready_off s.file (settings ++ s ∷ [])) waiters ≡ false
+    (settings : List Setting) (s : Setting) (waiters : List Waiter) → AreRanges waiters → is_short 65536 settings ≡ false → is_any (is_ready_off s.file settings) waiters ≡ false → is_any (is_ready_off s.file (settings ++ s ∷ [])) waiters ≡ false
 
--- and so does a drop of an owner on a file
+-- nor does a drop of an owner on a file
 abbrev pub CloseFreesLaw : Type 0
 CloseFreesLaw =
-    (settings : List Setting) (file : Bytes) (owner : Owner) (waiters : List Waiter) → AreRanges waiters → is_short 65536 settings ≡ false → is_any (is_ready the_limits settings) waiters ≡ false → is_any (is_ready_off file (without_owner_on file owner settings)) waiters ≡ false
+    (settings : List Setting) (file : Bytes) (owner : Owner) (waiters : List Waiter) → AreRanges waiters → is_short 65536 settings ≡ false → is_any (is_ready_off file settings) waiters ≡ false → is_any (is_ready_off file (without_owner_on file owner settings)) waiters ≡ false

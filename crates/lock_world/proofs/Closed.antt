@@ -9,7 +9,14 @@ use Rattle.definitions.specs.Settings.{Setting, is_of, without_owner_on}
 use Rattle.definitions.specs.Waits.{Waiter, without_waiters_on}
 use Rattle.owner_ids.specs.Names.{named}
 use Rattle.blocked_list.specs.Waiting.{Waiting, Taken, AreNamed, owner_at, waiter_by, waiters_by}
+use Rattle.definitions.specs.Moves.{AreRanges}
+use Rattle.definitions.specs.Starts.{is_short}
+use Rattle.definitions.proofs.MoveLaws.{ranges_without}
+use Rattle.blocked_list.specs.Ready.{CloseFreesLaw}
+use Rattle.lock_world.specs.declared.unsettled.Unsettled.{Unsettled}
+use Rattle.lock_world.specs.ReadyAt.{IsReadyAt, after_change}
 use Rattle.lock_world.specs.Whole.{IsWhole, AreWaitersShown}
+use Rattle.lock_world.proofs.ReadyAt.{ready_changed, ready_without}
 use Rattle.lock_world.proofs.Kept.{some_of}
 use Rattle.lock_world.proofs.Shown.{shown_without, waiters_without}
 
@@ -37,14 +44,21 @@ stranger_waits_not names file x nobody (w ∷ ws) a =
     ap (λ b. cond b (without_waiters_on file x (waiters_by (named names) ws)) (waiter_by (named names) w ∷ without_waiters_on file x (waiters_by (named names) ws))) kept
     ∙ ap (λ (v : List Waiter). waiter_by (named names) w ∷ v) (stranger_waits_not names file x nobody ws a.1)
 
-pub whole_closed : (names : List (Option Owner)) (file : Bytes) (x : Owner) (settings : List Setting) (slots left : Taken) (calls : List Outgoing) → IsWhole settings names slots calls
+pub whole_closed : (names : List (Option Owner)) (file : Bytes) (x : Owner) (settings : List Setting) (slots left : Taken) (calls : List Outgoing) (unsettled : Unsettled) (short : Bool) → IsWhole settings names slots calls unsettled → CloseFreesLaw → short ≡ is_short 65536 settings
     → waiters_by (named names) left.waiters ≡ without_waiters_on file x (waiters_by (named names) slots.waiters) → AreNamed (named names) left.waiters → left.calls ≡ slots.calls
-    → IsWhole (without_owner_on file x settings) names left calls
-whole_closed names file x settings slots left calls h by in_use count = record {
+    → IsWhole (without_owner_on file x settings) names left calls (after_change unsettled file short)
+whole_closed names file x settings slots left calls unsettled short h law is by in_use count = record {
   in_use = in_use;
   counted = count ∙ h.counted;
   shown = shown_without (is_of file x) settings h.shown;
-  waiters_shown =
-      subst AreWaitersShown (sym by)
-      (waiters_without (λ (w : Waiter). same_bytes w.request.file file && same_owner w.request.owner x) (waiters_by (named names) slots.waiters) h.waiters_shown);
+  waiters_shown = subst AreWaitersShown (sym by) (waiters_without closed (waiters_by (named names) slots.waiters) h.waiters_shown);
+  ranges = subst AreRanges (sym by) (ranges_without closed (waiters_by (named names) slots.waiters) h.ranges);
+  ready =
+      let ws = waiters_by (named names) slots.waiters in
+      let changed = ready_changed unsettled short settings (without_owner_on file x settings) file ws (λ enough off. law settings file x ws h.ranges enough off) is h.ready in
+      subst (IsReadyAt (after_change unsettled file short) (without_owner_on file x settings)) (sym by)
+      (ready_without (after_change unsettled file short) (without_owner_on file x settings) closed ws changed);
 }
+  where
+    closed : Waiter → Bool
+    closed w = same_bytes w.request.file file && same_owner w.request.owner x

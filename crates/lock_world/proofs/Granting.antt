@@ -1,5 +1,5 @@
 -- A waiter is granted, and what settle comes to then.
-use Rattle.std.proofs.Common.{◌≡◌, ◌↔◌, ℕ, suc, zero, ◌+◌, ◌<◌, ◌≤◌, ◌^◌, Bool, true, false, not, ◌&&◌, ◌||◌, List, [], ◌∷◌, ◌++◌, length, refl, sym, ap, ◌∙◌, subst, Option, Some, None, unwrap_or, Result, Ok, Err, IsErr, IsTrue, OnOk, arith}
+use Rattle.std.proofs.Common.{◌≡◌, ◌↔◌, ℕ, suc, zero, ◌+◌, ◌<◌, ◌≤◌, ◌^◌, Bool, true, false, not, ◌&&◌, List, [], ◌∷◌, ◌++◌, length, refl, sym, ap, ◌∙◌, subst, Option, Some, None, unwrap_or, Result, Ok, Err, IsErr, IsTrue, OnOk, arith}
 use Rattle.std.specs.Option.{IsSome}
 use Rattle.definitions.specs.Bytes.{is_any, first_that, without_first}
 use Rattle.definitions.specs.Owners.{Owner, Process}
@@ -13,7 +13,13 @@ use Rattle.definitions.proofs.Lists.{first_found}
 use Rattle.owner_ids.specs.Names.{named}
 use Rattle.held_locks.specs.Asked.{setting_by}
 use Rattle.blocked_list.specs.Waiting.{Waiting, Taken, AreNamed, owner_at, waiter_by, waiters_by}
+use Rattle.definitions.specs.Moves.{AreRanges}
+use Rattle.definitions.proofs.MoveLaws.{ranges_without_first}
+use Rattle.blocked_list.specs.Ready.{SettingFreesLaw}
+use Rattle.lock_world.specs.declared.unsettled.Unsettled.{Unsettled}
+use Rattle.lock_world.specs.ReadyAt.{IsReadyAt}
 use Rattle.lock_world.specs.Whole.{IsWhole, AreWaitersShown}
+use Rattle.lock_world.proofs.ReadyAt.{none_first, ready_granted}
 use Rattle.lock_world.proofs.Shown.{shown_more, first_shown, waiters_without_first}
 
 -- ---- settle
@@ -21,14 +27,6 @@ use Rattle.lock_world.proofs.Shown.{shown_more, first_shown, waiters_without_fir
 rest_within : (n : ℕ) (limits : Limits) (w : World) → first_ready limits w ≡ None → settled_within n limits w ≡ w
 rest_within zero limits w e = refl
 rest_within (suc n) limits w e = ap (λ (o : Option Waiter). elim o [ None ↦ w | Some x ↦ settled_within n limits (granted limits w x) ]) e
-
-none_first : {X : Type 0} (p : X → Bool) (xs : List X) → is_any p xs ≡ false → first_that p xs ≡ None
-none_first p [] e = refl
-none_first p (x ∷ xs) e = go (p x) refl e (none_first p xs)
-  where
-    go : (b : Bool) → p x ≡ b → (p x || is_any p xs) ≡ false → (is_any p xs ≡ false → first_that p xs ≡ None) → first_that p (x ∷ xs) ≡ None
-    go true h f more = let k : true ≡ false = sym (ap (λ b. b || is_any p xs) h) ∙ f in cc
-    go false h f more = rw h (more (sym (ap (λ b. b || is_any p xs) h) ∙ f))
 
 -- where nobody is ready the world is at rest
 pub settled_rest : (w : World) → is_any (is_ready the_limits w.settings) w.waiters ≡ false → settled the_limits w ≡ w
@@ -69,7 +67,7 @@ pub length_more : {X : Type 0} (xs : List X) (x : X) → length (xs ++ x ∷ [])
 length_more [] x = refl
 length_more (y ∷ xs) x = let more = length_more xs x in omega arith
 
-module _ (names : List (Option Owner)) (settings : List Setting) (slots left : Taken) (calls : List Outgoing) (waiting : Waiting) (h : IsWhole settings names slots calls) (there : first_that (is_ready the_limits settings) (waiters_by (named names) slots.waiters) ≡ Some (waiter_by (named names) waiting)) (one : IsSome (named names waiting.wanted.owner)) where
+module _ (names : List (Option Owner)) (settings : List Setting) (slots left : Taken) (calls : List Outgoing) (waiting : Waiting) (unsettled : Unsettled) (h : IsWhole settings names slots calls unsettled) (there : first_that (is_ready the_limits settings) (waiters_by (named names) slots.waiters) ≡ Some (waiter_by (named names) waiting)) (one : IsSome (named names waiting.wanted.owner)) where
   abbrev owner : Owner
   owner = owner_at (named names) waiting.wanted.owner
 
@@ -88,10 +86,16 @@ module _ (names : List (Option Owner)) (settings : List Setting) (slots left : T
   is_set (Ok y) now refused ok = ok owner is_named
   is_set (Err z) now refused ok = absurd (not_refused ((refused owner is_named).0 refl))
 
-  pub whole_granted : (number : ℕ) → waiters_by (named names) left.waiters ≡ without_first (is_ready the_limits settings) (waiters_by (named names) slots.waiters) → AreNamed (named names) left.waiters → left.calls ≡ slots.calls + 1 → waiting.wanted.first ≤ waiting.wanted.last → waiting.wanted.last < 2 ^ 63 → IsWhole (settings ++ setting_by owner waiting.wanted ∷ []) names left (calls ++ due_now number waiting.letter ∷ [])
-  whole_granted number gone in_use more ordered inside = record {
+  pub whole_granted : (number : ℕ) → waiters_by (named names) left.waiters ≡ without_first (is_ready the_limits settings) (waiters_by (named names) slots.waiters) → AreNamed (named names) left.waiters → left.calls ≡ slots.calls + 1 → waiting.wanted.first ≤ waiting.wanted.last → waiting.wanted.last < 2 ^ 63 → SettingFreesLaw
+      → IsWhole (settings ++ setting_by owner waiting.wanted ∷ []) names left (calls ++ due_now number waiting.letter ∷ []) unsettled
+  whole_granted number gone in_use more ordered inside law = record {
     in_use = in_use;
     counted = let k = length_more calls (due_now number waiting.letter) in let t = h.counted in omega arith;
     shown = shown_more settings (setting_by owner waiting.wanted) h.shown (first_shown (is_ready the_limits settings) (waiters_by (named names) slots.waiters) (waiter_by (named names) waiting) h.waiters_shown there, omega arith, inside);
     waiters_shown = subst AreWaitersShown (sym gone) (waiters_without_first (is_ready the_limits settings) (waiters_by (named names) slots.waiters) h.waiters_shown);
+    ranges = subst AreRanges (sym gone) (ranges_without_first (is_ready the_limits settings) (waiters_by (named names) slots.waiters) h.ranges);
+    ready =
+        let s = setting_by owner waiting.wanted in
+        subst (IsReadyAt unsettled (settings ++ s ∷ [])) (sym gone)
+        (ready_granted law unsettled settings s (waiters_by (named names) slots.waiters) (waiter_by (named names) waiting) h.ranges room there refl h.ready);
   }

@@ -13,6 +13,11 @@ use Rattle.definitions.specs.Waits.{Waiter, without_host_waiters}
 use Rattle.owner_ids.specs.Names.{named, AreDistinct}
 use Rattle.owner_ranges.specs.Same.{mode_of}
 use Rattle.blocked_list.specs.Waiting.{Waiting, Taken, AreNamed, owner_at, waiter_by, waiters_by}
+use Rattle.definitions.specs.Moves.{AreRanges}
+use Rattle.definitions.proofs.MoveLaws.{ranges_without}
+use Rattle.lock_world.specs.declared.unsettled.Unsettled.{Unsettled}
+use Rattle.lock_world.specs.declared.unsettled.Unsettled.TheVariants.{Anywhere}
+use Rattle.lock_world.specs.ReadyAt.{IsReadyAt}
 use Rattle.lock_world.specs.Whole.{IsWhole, AreWaitersShown}
 use Rattle.lock_world.proofs.Shown.{none_passes, shown_without, waiters_without}
 
@@ -76,16 +81,18 @@ module _ (names after : List (Option Owner)) where
   named_kept [] k a = tt
   named_kept (w ∷ ws) k a = (subst (λ o. IsSome o) (sym k.0) a.0, named_kept ws k.1 a.1)
 
-  pub whole_kept : (settings : List Setting) (slots : Taken) (calls : List Outgoing) → KeepsWaiters names after slots.waiters → IsWhole settings names slots calls → IsWhole settings after slots calls
-  whole_kept settings slots calls k h = record {
+  pub whole_kept : (settings : List Setting) (slots : Taken) (calls : List Outgoing) (unsettled : Unsettled) → KeepsWaiters names after slots.waiters → IsWhole settings names slots calls unsettled → IsWhole settings after slots calls unsettled
+  whole_kept settings slots calls unsettled k h = record {
     in_use = named_kept slots.waiters k h.in_use;
     counted = h.counted;
     shown = h.shown;
     waiters_shown = subst AreWaitersShown (sym (waiters_kept slots.waiters k)) h.waiters_shown;
+    ranges = subst AreRanges (sym (waiters_kept slots.waiters k)) h.ranges;
+    ready = subst (IsReadyAt unsettled settings) (sym (waiters_kept slots.waiters k)) h.ready;
   }
 
 -- a host's waiters are gone, and other owners keep their numbers
-module _ (names after : List (Option Owner)) (name : Bytes) (settings : List Setting) (slots left : Taken) (calls others : List Outgoing) (h : IsWhole settings names slots calls) (by : waiters_by (named names) left.waiters ≡ without_host_waiters name (waiters_by (named names) slots.waiters)) (in_use : AreNamed (named names) left.waiters) (keep : (n : ℕ) (x : Owner) → is_of_host name x ≡ false → named names n ≡ Some x → named after n ≡ Some x) where
+module _ (names after : List (Option Owner)) (name : Bytes) (settings : List Setting) (slots left : Taken) (calls others : List Outgoing) (unsettled : Unsettled) (h : IsWhole settings names slots calls unsettled) (by : waiters_by (named names) left.waiters ≡ without_host_waiters name (waiters_by (named names) slots.waiters)) (in_use : AreNamed (named names) left.waiters) (keep : (n : ℕ) (x : Owner) → is_of_host name x ≡ false → named names n ≡ Some x → named after n ≡ Some x) where
   abbrev of_host : Waiter → Bool
   of_host = λ (w : Waiter). is_of_host name w.request.owner
 
@@ -95,12 +102,14 @@ module _ (names after : List (Option Owner)) (name : Bytes) (settings : List Set
   pub waiters_left : waiters_by (named after) left.waiters ≡ without_host_waiters name (waiters_by (named names) slots.waiters)
   waiters_left = waiters_kept names after left.waiters kept_left ∙ by
 
-  pub whole_dropped : left.calls ≡ length others → IsWhole (without_host name settings) after left others
+  pub whole_dropped : left.calls ≡ length others → IsWhole (without_host name settings) after left others Anywhere
   whole_dropped counted = record {
     in_use = named_kept names after left.waiters kept_left in_use;
     counted = counted;
     shown = shown_without (λ (s : Setting). is_of_host name s.owner) settings h.shown;
     waiters_shown = subst AreWaitersShown (sym waiters_left) (waiters_without of_host (waiters_by (named names) slots.waiters) h.waiters_shown);
+    ranges = subst AreRanges (sym waiters_left) (ranges_without of_host (waiters_by (named names) slots.waiters) h.ranges);
+    ready = tt;
   }
 
 -- whoever has a number and waits is found among those who wait

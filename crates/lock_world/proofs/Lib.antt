@@ -1,4 +1,5 @@
 pub mod Shown
+pub mod ReadyAt
 pub mod Kept
 pub mod Found
 pub mod OneProof

@@ -1,5 +1,5 @@
 -- Who has no number holds nothing and waits for nothing.
-use Rattle.std.proofs.Common.{◌≡◌, ◌≢◌, ℕ, Bool, true, false, not, ◌&&◌, ◌||◌, List, [], ◌∷◌, refl, sym, ap, ◌∙◌, Option, Some, None, unwrap_or}
+use Rattle.std.proofs.Common.{◌≡◌, ◌≢◌, ℕ, Bool, false, not, ◌&&◌, ◌||◌, List, [], ◌∷◌, refl, sym, ap, ◌∙◌, Option, Some, None, unwrap_or}
 use Rattle.std.proofs.lemmas.Option.{none-some}
 use Rattle.definitions.specs.Bytes.{Bytes, same_bytes, is_any}
 use Rattle.definitions.specs.Owners.{Owner, Process, same_owner, is_description}
@@ -9,7 +9,7 @@ use Rattle.definitions.specs.Waits.{Waiter, same_request, is_waiting, waits_for,
 use Rattle.range_table.specs.Settings.{Held}
 use Rattle.owner_ids.specs.Names.{Names, named}
 use Rattle.owner_ranges.specs.Stands.{Stands}
-use Rattle.blocked_list.specs.Waiting.{Waiting, AreNamed, owner_at, waiter_by, waiters_by}
+use Rattle.blocked_list.specs.Waiting.{Waiting, AreNamed, waiter_by, waiters_by}
 use Rattle.lock_world.proofs.Closed.{not_same, and_false}
 use Rattle.lock_world.proofs.Kept.{some_of}
 

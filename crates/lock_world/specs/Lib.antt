@@ -1,3 +1,4 @@
 pub mod Seen
+pub mod ReadyAt
 pub mod Whole
 pub mod Answered

@@ -5,7 +5,10 @@ use Rattle.definitions.specs.Settings.{Setting}
 use Rattle.definitions.specs.Outgoing.{Outgoing}
 use Rattle.definitions.specs.Waits.{Waiter}
 use Rattle.owner_ids.specs.Names.{named}
+use Rattle.definitions.specs.Moves.{AreRanges}
 use Rattle.blocked_list.specs.Waiting.{Taken, AreNamed, waiters_by}
+use Rattle.lock_world.specs.declared.unsettled.Unsettled.{Unsettled}
+use Rattle.lock_world.specs.ReadyAt.{IsReadyAt}
 
 -- what a holder shows of the owner has a spelling (RFC 1813, appendix II, nlm4_holder: a signed word and at most 1,024 bytes)
 abbrev pub IsShown : Owner → Type 0
@@ -25,9 +28,12 @@ abbrev pub AreWaitersShown : List Waiter → Type 0
 AreWaitersShown [] = Unit {0}
 AreWaitersShown (x ∷ waiters) = IsShown x.request.owner × AreWaitersShown waiters
 
--- each waiter's number is in use, each call has its place, and every owner can be shown
-pub record IsWhole (settings : List Setting) (names : List (Option Owner)) (slots : Taken) (calls : List Outgoing) : Type 0 where
+-- each waiter's number is in use, each call has its place, every owner can be shown, whoever waits, waits for a range, and is
+-- ready nowhere but where it is said
+pub record IsWhole (settings : List Setting) (names : List (Option Owner)) (slots : Taken) (calls : List Outgoing) (unsettled : Unsettled) : Type 0 where
   pub in_use : AreNamed (named names) slots.waiters
   pub counted : slots.calls ≡ length calls
   pub shown : AreShown settings
   pub waiters_shown : AreWaitersShown (waiters_by (named names) slots.waiters)
+  pub ranges : AreRanges (waiters_by (named names) slots.waiters)
+  pub ready : IsReadyAt unsettled settings (waiters_by (named names) slots.waiters)

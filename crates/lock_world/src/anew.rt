@@ -5,6 +5,7 @@ ghost use Rattle.definitions.specs.Outgoing.{ToHost, Notify};
 ghost use Rattle.definitions.specs.World.{opening, restarted, restart_letter, with_due, with_all_due};
 ghost use Rattle.hosts_db.specs.Calls.{Counts, IsNotStarved};
 
+use crate::unsettled::Unsettled;
 use crate::world::{World, first_number};
 use definitions::own_state::next_own_state;
 use grace::Phase;
@@ -70,6 +71,7 @@ impl<R: RangeTable, S: HostStore> World<R, S> {
         self.calls.clear();
         self.phase = Phase::Grace;
         self.next = first_number(own);
+        self.unsettled = Unsettled::Nowhere;
     }
 
     /// The calls become due, in their order, under the next numbers. As many places are free.

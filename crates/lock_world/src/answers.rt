@@ -1,15 +1,19 @@
 //! What an answer to one of the server's own calls changes (XNFS, NLM_GRANTED, NLM_GRANTED_MSG and SM_NOTIFY).
-ghost use Rattle.std.specs.Prelude.{◌≡◌, Some};
+ghost use Rattle.std.specs.Prelude.{◌≡◌, Some, List};
 ghost use Rattle.std.specs.Option.{option_copied};
 ghost use Rattle.definitions.specs.Bytes.{first_that};
 ghost use Rattle.definitions.specs.Outgoing.{call_of_xid, is_numbered, without_call};
+ghost use Rattle.definitions.specs.Moves.{AreRanges};
+ghost use Rattle.definitions.specs.Waits.{Waiter as SaidWaiter};
 ghost use Rattle.definitions.specs.World.{with_calls};
 ghost use Rattle.letters.specs.Grants.{granted_lock};
 ghost use Rattle.letters.specs.Meanings.{lock_of, message_of};
 ghost use Rattle.out_calls.specs.Found.{found};
+ghost use Rattle.lock_world.specs.ReadyAt.{IsReadyAt};
 ghost use Rattle.lock_world.specs.Whole.{AreShown};
 ghost use Rattle.lock_world.specs.Answered.{call_at, lock_at, host_at, IsUnlocked, IsAcked};
 
+use crate::unsettled::{Unsettled, set_on};
 use crate::world::World;
 use held_locks::{Change, Locks};
 use hosts_db::{HostStore, StoreError};
@@ -52,7 +56,13 @@ impl<R: RangeTable, S: HostStore> World<R, S> {
         ensures stays { self.new ≡ record self.old { world = record self.old.world { settings = self.new.world.settings } } }
     {
         match find(&self.calls, key) {
-            Some(call) => unlock(&mut self.locks, call.letter().message()),
+            Some(call) => {
+                unlock(
+                    &mut self.locks,
+                    &mut self.unsettled,
+                    call.letter().message(),
+                )
+            }
             None => false,
         }
     }
@@ -90,22 +100,24 @@ fn host_of(calls: &OutCalls, xid: u32) -> Option<&[u8]>
 }
 
 // Unlocks the range that the message grants.
-fn unlock<R: RangeTable>(locks: &mut Locks<R>, message: &Message) -> bool
+fn unlock<R: RangeTable>(locks: &mut Locks<R>, unsettled: &mut Unsettled, message: &Message) -> bool
     ensures unlocked { IsUnlocked (granted_lock (message_of message.now)) result locks.old.settings locks.new.settings }
     ensures names { locks.new.names ≡ locks.old.names }
     ensures shown { AreShown locks.old.settings → AreShown locks.new.settings }
+    ensures ready { (waiters : List SaidWaiter) → AreRanges waiters → IsReadyAt unsettled.old locks.old.settings waiters → IsReadyAt unsettled.new locks.new.settings waiters }
 {
     match message.granted_lock() {
-        Some(lock) => give_up(locks, lock),
+        Some(lock) => give_up(locks, unsettled, lock),
         None => false,
     }
 }
 
 // Its owner holds nothing of the lock's range any more.
-fn give_up<R: RangeTable>(locks: &mut Locks<R>, lock: &Lock) -> bool
+fn give_up<R: RangeTable>(locks: &mut Locks<R>, unsettled: &mut Unsettled, lock: &Lock) -> bool
     ensures unlocked { IsUnlocked (Some (lock_of lock.now)) result locks.old.settings locks.new.settings }
     ensures names { locks.new.names ≡ locks.old.names }
     ensures shown { AreShown locks.old.settings → AreShown locks.new.settings }
+    ensures ready { (waiters : List SaidWaiter) → AreRanges waiters → IsReadyAt unsettled.old locks.old.settings waiters → IsReadyAt unsettled.new locks.new.settings waiters }
 {
     let change = Change {
         file: lock.file(),
@@ -114,5 +126,5 @@ fn give_up<R: RangeTable>(locks: &mut Locks<R>, lock: &Lock) -> bool
         last: lock.last(),
         mode: None,
     };
-    locks.set(&change).is_ok()
+    set_on(locks, unsettled, &change).is_ok()
 }

@@ -12,6 +12,7 @@ ghost use Rattle.hosts_db.specs.Calls.{Counts, Makes, IsPastLimit};
 ghost use Rattle.lock_world.specs.Seen.{IsIdle, Knows, KeepsKnown};
 ghost use Rattle.lock_world.specs.Whole.{IsShown};
 
+use crate::unsettled::{Unsettled, set_on};
 use crate::world::World;
 use dos_shares::{Share, ShareError};
 use grace::Phase;
@@ -57,7 +58,7 @@ impl<R: RangeTable, S: HostStore> World<R, S> {
         ensures ok { OnOk result (self.new ≡ record self.old { world = with_setting self.old.world (changed change.now) }) }
         ensures err { OnErr result (self.new ≡ self.old) }
     {
-        self.locks.set(change)
+        set_on(&mut self.locks, &mut self.unsettled, change)
     }
 
     /// Takes a share (XNFS, NLM_SHARE). The owner's earlier share of the file goes. Refused, nothing has changed.
@@ -88,6 +89,7 @@ impl<R: RangeTable, S: HostStore> World<R, S> {
         self.slots.drop_host(owners, name);
         self.locks.drop_host(name);
         self.shares.drop_host(name);
+        self.unsettled = Unsettled::Anywhere;
         let before = self.calls.len();
         self.calls.drop_host(name);
         self.slots.give(before - self.calls.len());

@@ -9,6 +9,7 @@ ghost use Rattle.lock_world.specs.Seen.{KeepsKnown};
 
 use crate::world::World;
 use blocked_list::Slots;
+use blocked_list::laws::close_frees_own_file;
 use hosts_db::HostStore;
 use owner_ids::{Owner, Owners};
 use range_table::{FileId, RangeTable};
@@ -23,6 +24,8 @@ impl<R: RangeTable, S: HostStore> World<R, S> {
     {
         let (_, owners) = self.locks.parts();
         drop_waiters(&mut self.slots, owners, file, owner);
+        close_frees_own_file();
+        self.unsettled = self.unsettled.after_change(file, self.locks.is_short());
         self.locks.drop_owner_on_file(file, owner);
     }
 }

@@ -9,6 +9,7 @@ mod closing;
 mod readings;
 mod sends;
 mod settle;
+mod unsettled;
 mod waits;
 mod world;
 

@@ -1,9 +1,12 @@
 //! Who waits is granted once nothing is in the way.
-ghost use Rattle.std.specs.Prelude.{◌≡◌, ◌<◌, true, false, length};
-ghost use Rattle.definitions.specs.World.{settled, the_limits};
+ghost use Rattle.std.specs.Prelude.{◌≡◌, ◌<◌, true, false, length, IfSome};
+ghost use Rattle.definitions.specs.World.{settled, the_limits, is_ready};
+ghost use Rattle.blocked_list.specs.First.{IsFirstPlace};
 ghost use Rattle.lock_world.specs.Seen.{KeepsKnown};
 
+use crate::unsettled::Unsettled;
 use crate::world::World;
+use blocked_list::laws::setting_frees_own_file;
 use hosts_db::HostStore;
 use range_table::RangeTable;
 
@@ -26,15 +29,29 @@ impl<R: RangeTable, S: HostStore> World<R, S> {
         ensures refusals { self.new.refusals ≡ self.old.refusals }
         ensures names { self.new.names ≡ self.old.names }
     {
-        let (table, owners) = self.locks.parts();
-        let Some(place) = self.slots.next_grantable(table, owners) else {
+        let Some(place) = self.next_place() else {
+            self.unsettled = Unsettled::Nowhere;
             return false;
         };
+        setting_frees_own_file();
         let _free = self.slots.free();
         let waiter = self.slots.grant(place);
         let _ = self.locks.set_run(waiter.wanted());
         self.calls.make_due(self.next, waiter.into_letter());
         self.next = self.next.wrapping_add(1);
         true
+    }
+
+    // Where the first waiter stands that can be granted. Nobody is looked at who can't be.
+    fn next_place(&self) -> Option<usize>
+        ensures bound { IfSome result (λ place. place < length self.now.world.waiters) }
+        ensures first { IsFirstPlace (is_ready the_limits self.now.world.settings) self.now.world.waiters result }
+    {
+        let (table, owners) = self.locks.parts();
+        match &self.unsettled {
+            Unsettled::Nowhere => None,
+            Unsettled::On(file) => self.slots.next_grantable_on(table, owners, file),
+            Unsettled::Anywhere => self.slots.next_grantable(table, owners),
+        }
     }
 }

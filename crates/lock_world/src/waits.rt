@@ -57,6 +57,7 @@ impl<R: RangeTable, S: HostStore> World<R, S> {
         let Some(number) = owners.number(wanted.owner) else {
             unreachable!();
         };
+        self.unsettled = self.unsettled.with_file(&wanted.file);
         let waiter = Waiter::new(by_number(wanted, number), letter);
         let _ = self.slots.block(waiter);
     }

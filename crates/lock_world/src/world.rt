@@ -3,6 +3,7 @@ ghost use Rattle.std.specs.Prelude.{◌≡◌, [], IfOk};
 ghost use Rattle.definitions.specs.World.{opening, first_number};
 ghost use Rattle.grace.specs.Meanings.{phase_of};
 
+use crate::unsettled::Unsettled;
 use blocked_list::Slots;
 use dos_shares::Shares;
 use grace::Phase;
@@ -28,6 +29,7 @@ pub struct World<R: RangeTable, S: HostStore> {
     pub(crate) store: S,
     pub(crate) calls: OutCalls,
     pub(crate) next: u64,
+    pub(crate) unsettled: Unsettled,
 }
 
 impl<R: RangeTable, S: HostStore> Model for World<R, S> {
@@ -54,7 +56,7 @@ impl<R: RangeTable, S: HostStore> Model for World<R, S> {
       refusals = S.refusals w.store;
     } };
 
-    ghost invariant = { λ w. IsWhole w.locks.settings w.locks.names w.slots w.calls };
+    ghost invariant = { λ w. IsWhole w.locks.settings w.locks.names w.slots w.calls w.unsettled };
 }
 
 impl<R: RangeTable + Drop, S: HostStore + Drop> World<R, S> {
@@ -83,6 +85,7 @@ impl<R: RangeTable + Drop, S: HostStore + Drop> World<R, S> {
             store,
             calls,
             next,
+            unsettled: Unsettled::Nowhere,
         })
     }
 }

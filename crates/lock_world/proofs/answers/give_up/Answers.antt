@@ -13,4 +13,4 @@ returns-clause-shown g c = λ old.
     let inside = c.last.ensures.inside in
     let ordered = c.last.ensures.ordered in
     let first : lock.l_offset < 2 ^ 63 = omega arith in
-    shown_set c.set.result c.args.locks.now.settings c.set.new.self.settings s c.set.ensures.ok c.set.ensures.err old (owner, first, inside)
+    shown_set c.set_on.result c.args.locks.now.settings c.set_on.new.locks.settings s c.set_on.ensures.ok c.set_on.ensures.err old (owner, first, inside)

@@ -20,8 +20,8 @@ invariant_of-self g c =
     let left = c.drop_waiters.new.slots in
     let by = subst (λ ns. waiters_by (named ns) left.waiters ≡ without_waiters_on file x (waiters_by (named ns) slots.waiters)) c.parts.ensures.names c.drop_waiters.ensures.by in
     let in_use = subst (λ ns. AreNamed (named ns) left.waiters) c.parts.ensures.names c.drop_waiters.ensures.named in
-    rw (c.drop_owner_on_file.ensures.settings, c.drop_owner_on_file.ensures.names)
-    (whole_closed c.self.inside.locks.names file x c.self.inside.locks.settings slots left c.self.inside.calls c.self.invariant by in_use c.drop_waiters.ensures.calls)
+    rw (c.drop_owner_on_file.ensures.settings, c.drop_owner_on_file.ensures.names, c.after_change-self-inside.ensures)
+    (whole_closed c.self.inside.locks.names file x c.self.inside.locks.settings slots left c.self.inside.calls c.self.inside.unsettled c.is_short.result c.self.invariant c.close_frees_own_file.ensures c.is_short.ensures by in_use c.drop_waiters.ensures.calls)
 
 pub returns-clause-world : goal.returns-clause-world
 returns-clause-world g c =

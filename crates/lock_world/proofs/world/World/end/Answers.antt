@@ -17,6 +17,8 @@ invariant_of-self g c =
       counted = counted;
       shown = old.shown;
       waiters_shown = rw c.give.ensures old.waiters_shown;
+      ranges = rw c.give.ensures old.ranges;
+      ready = rw c.give.ensures old.ready;
     }
 
 pub returns-clause-ended : goal.returns-clause-ended

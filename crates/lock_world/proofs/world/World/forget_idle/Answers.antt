@@ -22,7 +22,7 @@ kept g c =
 pub invariant_of-self : goal.invariant_of-self
 invariant_of-self g c =
     rw c.forget_idle.ensures.settings
-    (whole_kept c.self.inside.locks.names c.forget_idle.new.self.names c.self.inside.locks.settings c.self.inside.slots c.self.inside.calls (kept g c) c.self.invariant)
+    (whole_kept c.self.inside.locks.names c.forget_idle.new.self.names c.self.inside.locks.settings c.self.inside.slots c.self.inside.calls c.self.inside.unsettled (kept g c) c.self.invariant)
 
 pub returns-in-Some-clause-world : goal.returns-in-Some-clause-world
 returns-in-Some-clause-world g c =

@@ -1,63 +1,60 @@
-use Rattle.std.proofs.Common.{◌≡◌, ◌↔◌, ◌≤◌, ◌<◌, ◌^◌, ◌++◌, ◌∷◌, [], Some, None, IsErr, IsTrue, OnOk, sym, subst}
+use Rattle.std.proofs.Common.{◌≡◌, ◌↔◌, ◌≤◌, ◌<◌, ◌^◌, ◌++◌, ◌∷◌, [], false, length, Some, IsErr, IsTrue, OnOk, sym, subst, arith}
+use Rattle.std.proofs.lemmas.List.{length-map}
 use Rattle.definitions.specs.Owners.{Owner}
 use Rattle.definitions.specs.Starts.{refuses}
-use Rattle.definitions.specs.World.{World, the_limits, is_ready}
+use Rattle.definitions.specs.Bytes.{is_any}
+use Rattle.definitions.specs.World.{World, the_limits, is_ready, settled}
 use Rattle.grace.specs.Meanings.{phase_of}
 use Rattle.held_locks.specs.Asked.{setting_by}
 use Rattle.owner_ids.specs.Names.{named}
-use Rattle.blocked_list.specs.First.{IsFirstAt, IsFirstPlace}
-use Rattle.blocked_list.specs.Waiting.{AreNamed, AreKnown, owner_at, waiter_by, waiters_by}
+use Rattle.blocked_list.specs.First.{IsFirstAt}
+use Rattle.blocked_list.specs.Waiting.{owner_at, waiter_by, waiters_by}
+use Rattle.lock_world.specs.Seen.{Seen}
 use Rattle.lock_world.proofs.Granting.{settled_rest, settled_grant, fewer_wait, is_set, whole_granted}
 use Rattle.lock_world.proofs.world.World.grant_next.Given.{Over}
 use Rattle.lock_world.proofs.world.World.grant_next.Goals as goal
 
+pub invariant_of-self : goal.invariant_of-self
+invariant_of-self g c =
+    let old = c.self.invariant in
+    record {
+      in_use = old.in_use;
+      counted = old.counted;
+      shown = old.shown;
+      waiters_shown = old.waiters_shown;
+      ranges = old.ranges;
+      ready = subst (λ (s : Seen). is_any (is_ready the_limits s.world.settings) s.world.waiters ≡ false) (sym c.self.view_is) c.in_default.ensures.first;
+    }
+
 pub returns-in_default-clause-done : goal.returns-in_default-clause-done
 returns-in_default-clause-done g c = λ e.
-    let names = c.self.inside.locks.names in
-    let settings = c.self.inside.locks.settings in
-    let ws = c.self.inside.slots.waiters in
-    let named_there = subst (λ ns. AreNamed (named ns) ws) (sym c.parts.ensures.names) c.self.invariant.in_use in
-    let known : AreKnown (named c.parts.result.1.now) ws = record { distinct = c.parts.ensures.stands.distinct; named = named_there } in
-    let none = c.in_default.ensures.first settings c.parts.ensures.stands known in
-    let rest = subst (λ ns. IsFirstPlace (is_ready the_limits settings) (waiters_by (named ns) ws) None) c.parts.ensures.names none in
-    rw (← c.self.view_is) (sym (settled_rest (world g c) rest))
-  where
-    world : (g : Over) → goal.In_default g → World
-    world g c = record {
-      own_name = c.self.inside.own_name;
-      settings = c.self.inside.locks.settings;
-      waiters = waiters_by (named c.self.inside.locks.names) c.self.inside.slots.waiters;
-      shares = c.self.inside.shares;
-      phase = phase_of c.self.inside.phase;
-      hosts = g.S.HostStore.rows c.self.inside.store;
-      calls = c.self.inside.calls;
-      next = c.self.inside.next;
-    }
+    subst (λ (s : Seen). s.world ≡ settled the_limits s.world) (sym c.self.view_is) (sym (settled_rest c.args.self.now.world c.in_default.ensures.first))
 
 pub set_run-requires-clause-known : goal.set_run-requires-clause-known
 set_run-requires-clause-known g c =
     rw c.wanted.ensures.wanted (c.grant-waiter.ensures.named (named c.self.inside.locks.names) c.self.invariant.in_use).1
 
-first : (g : Over) (c : goal.After-self-1 g) → IsFirstAt (is_ready the_limits c.self.inside.locks.settings) (waiters_by (named c.self.inside.locks.names) c.self.inside.slots.waiters) c.in-Some.place
-first g c =
-    let settings = c.self.inside.locks.settings in
-    let ws = c.self.inside.slots.waiters in
-    let named_there = subst (λ ns. AreNamed (named ns) ws) (sym c.parts.ensures.names) c.self.invariant.in_use in
-    let known : AreKnown (named c.parts.result.1.now) ws = record { distinct = c.parts.ensures.stands.distinct; named = named_there } in
-    subst (λ ns. IsFirstAt (is_ready the_limits settings) (waiters_by (named ns) ws) c.in-Some.place) c.parts.ensures.names (c.in-Some.ensures.first settings c.parts.ensures.stands known)
+first : (g : Over) (c : goal.After-self-2-1 g) → IsFirstAt (is_ready the_limits c.self.inside.locks.settings) (waiters_by (named c.self.inside.locks.names) c.self.inside.slots.waiters) c.in-Some.place
+first g c = subst (λ (s : Seen). IsFirstAt (is_ready the_limits s.world.settings) s.world.waiters c.in-Some.place) (sym c.self.view_is) c.in-Some.ensures.first
 
-settings_are : (g : Over) (c : goal.After-self-1 g) → c.set_run.new.self.settings ≡ c.self.inside.locks.settings ++ setting_by (owner_at (named c.self.inside.locks.names) c.grant-waiter.result.wanted.owner) c.grant-waiter.result.wanted ∷ []
+pub grant-waiter-requires : goal.grant-waiter-requires
+grant-waiter-requires g c =
+    let long = length-map c.self.inside.slots.waiters (waiter_by (named c.self.inside.locks.names)) in
+    let bound = subst (λ (s : Seen). c.in-Some.place < length s.world.waiters) (sym c.self.view_is) c.in-Some.ensures.bound in
+    omega arith
+
+settings_are : (g : Over) (c : goal.After-self-2-1 g) → c.set_run.new.self.settings ≡ c.self.inside.locks.settings ++ setting_by (owner_at (named c.self.inside.locks.names) c.grant-waiter.result.wanted.owner) c.grant-waiter.result.wanted ∷ []
 settings_are g c =
     let names = c.self.inside.locks.names in
     let settings = c.self.inside.locks.settings in
     let there = c.grant-waiter.ensures.there (named names) (is_ready the_limits settings) (first g c) in
     let one = (c.grant-waiter.ensures.named (named names) c.self.invariant.in_use).1 in
-    is_set names settings c.self.inside.slots c.grant-waiter.new.self c.self.inside.calls c.grant-waiter.result c.self.invariant there one c.set_run.result c.set_run.new.self.settings
+    is_set names settings c.self.inside.slots c.grant-waiter.new.self c.self.inside.calls c.grant-waiter.result c.self.inside.unsettled c.self.invariant there one c.set_run.result c.set_run.new.self.settings
     (subst (λ r. (x : Owner) → named names r.owner ≡ Some x → IsErr c.set_run.result ↔ IsTrue (refuses 65536 settings (setting_by x r))) c.wanted.ensures.wanted c.set_run.ensures.refused)
     (subst (λ r. OnOk c.set_run.result ((x : Owner) → named names r.owner ≡ Some x → c.set_run.new.self.settings ≡ settings ++ setting_by x r ∷ [])) c.wanted.ensures.wanted c.set_run.ensures.ok)
 
-pub invariant_of-self : goal.invariant_of-self
-invariant_of-self g c =
+pub invariant_of-self-2 : goal.invariant_of-self-2
+invariant_of-self-2 g c =
     let names = c.self.inside.locks.names in
     let settings = c.self.inside.locks.settings in
     let test = is_ready the_limits settings in
@@ -67,9 +64,9 @@ invariant_of-self g c =
     let ordered = subst (λ r. r.first ≤ r.last) c.wanted.ensures.wanted c.wanted.ensures.ordered in
     let inside = subst (λ r. r.last < 2 ^ 63) c.wanted.ensures.wanted c.wanted.ensures.inside in
     rw (settings_are g c, c.set_run.ensures.names, c.make_due.ensures, c.into_letter.ensures)
-    (whole_granted names settings c.self.inside.slots c.grant-waiter.new.self c.self.inside.calls c.grant-waiter.result c.self.invariant there left.1 c.self.inside.next gone left.0 c.grant-waiter.ensures.calls ordered inside)
+    (whole_granted names settings c.self.inside.slots c.grant-waiter.new.self c.self.inside.calls c.grant-waiter.result c.self.inside.unsettled c.self.invariant there left.1 c.self.inside.next gone left.0 c.grant-waiter.ensures.calls ordered inside c.setting_frees_own_file.ensures)
 
-abbrev world : (g : Over) → goal.After-self-1 g → World
+abbrev world : (g : Over) → goal.After-self-2-1 g → World
 world g c = record {
   own_name = c.self.inside.own_name;
   settings = c.self.inside.locks.settings;
