@@ -6,3 +6,4 @@ pub mod Freed
 pub mod Places
 pub mod Indexed
 pub mod Parts
+pub mod Tallies

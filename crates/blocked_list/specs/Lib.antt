@@ -3,3 +3,4 @@ pub mod Waiting
 pub mod Ready
 pub mod Reach
 pub mod ByFile
+pub mod ByOwner

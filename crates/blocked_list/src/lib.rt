@@ -3,6 +3,7 @@
 #![tactic(auto)]
 
 mod by_file;
+mod by_owner;
 mod cycles;
 mod grants;
 pub mod laws;

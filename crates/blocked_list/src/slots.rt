@@ -1,14 +1,15 @@
 //! Places for waiters and for calls.
-ghost use Rattle.std.specs.Prelude.{◌≡◌, ◌↔◌, ◌≤◌, ◌<◌, ◌+◌, ◌-◌, ◌++◌, ◌∷◌, ◌==◌, ◌&&◌, [], not, length, true, false, Bool, Some, IfOk, OnOk, OnErr, IsErr, IsTrue, IsSome};
+ghost use Rattle.std.specs.Prelude.{◌≡◌, ◌↔◌, ◌≤◌, ◌<◌, ◌+◌, ◌-◌, ◌++◌, ◌∷◌, ◌==◌, ◌&&◌, [], not, length, true, false, Bool, Some, IfOk, OnOk, OnErr, IsErr, IsTrue, IsSome, slice_index_or};
 ghost use Rattle.definitions.specs.Bytes.{same_bytes, first_that, without_first};
 ghost use Rattle.definitions.specs.Owners.{Owner};
 ghost use Rattle.definitions.specs.Waits.{Waiter as OwnerWaiter, is_waiting, without_waiter, without_host_waiters, without_waiters_on};
 ghost use Rattle.owner_ids.specs.Names.{Names, named};
-ghost use Rattle.std.specs.List.{list_any};
+ghost use Rattle.std.specs.List.{list_any, remove};
 ghost use Rattle.blocked_list.specs.First.{IsFirstAt, IsFirstPlace};
 ghost use Rattle.blocked_list.specs.Waiting.{Waiting, AreKnown, AreNamed, owner_at, request_by, waiter_by, waiters_by, same_wanted};
 
 use crate::by_file::ByFile;
+use crate::by_owner::ByOwner;
 use crate::waiter::Waiter;
 use owner_ids::{Host, HostOf, OwnerId, Owners, Starved};
 use range_table::{FileId, Run};
@@ -36,19 +37,21 @@ pub struct NotWaiting;
 pub struct Slots {
     pub(crate) waiters: Vec<Waiter>,
     pub(crate) by_file: ByFile,
+    by_owner: ByOwner,
     calls: usize,
 }
 
 impl Model for Slots {
     ghost use Rattle.std.specs.Prelude.{◌≤◌, ◌+◌, length, vec_capacity};
     ghost use Rattle.blocked_list.specs.ByFile.{IsIndex, file_at};
+    ghost use Rattle.blocked_list.specs.ByOwner.{AreCounted};
     ghost use Rattle.blocked_list.specs.Waiting.{Taken};
 
     ghost Value = { Taken };
 
     ghost view = { λ s. record { waiters = s.waiters.items; calls = s.calls } };
 
-    ghost invariant = { λ s. (length s.waiters.items + s.calls ≤ 8192) × (8192 ≤ vec_capacity s.waiters) × IsIndex (file_at s.waiters.items) (length s.waiters.items) s.by_file };
+    ghost invariant = { λ s. (length s.waiters.items + s.calls ≤ 8192) × (8192 ≤ vec_capacity s.waiters) × IsIndex (file_at s.waiters.items) (length s.waiters.items) s.by_file × AreCounted s.waiters.items s.by_owner };
 }
 
 impl Slots {
@@ -59,6 +62,7 @@ impl Slots {
         Ok(Slots {
             waiters: Vec::with_capacity(alloc, MOST_SLOTS)?,
             by_file: ByFile::new(alloc)?,
+            by_owner: ByOwner::new(alloc)?,
             calls: 0,
         })
     }
@@ -90,8 +94,10 @@ impl Slots {
             return Err(NoSlots);
         }
         let place = self.waiters.len();
+        let owner = waiter.wanted().owner;
         self.waiters.push_reserved(waiter);
         self.by_file.add(&self.waiters, place);
+        self.by_owner.add(owner);
         Ok(())
     }
 
@@ -113,8 +119,7 @@ impl Slots {
     {
         match self.place_of(wanted) {
             Some(place) => {
-                drop(self.waiters.remove(place));
-                self.by_file.remove(place);
+                drop(self.take_out(place));
                 Ok(())
             }
             None => Err(NotWaiting),
@@ -129,9 +134,21 @@ impl Slots {
         ensures calls { self.new.calls ≡ self.old.calls + 1 }
         ensures named { (names : Names) → AreNamed names self.old.waiters → AreNamed names self.new.waiters × IsSome (names result.wanted.owner) }
     {
+        let waiter = self.take_out(place);
+        self.calls += 1;
+        waiter
+    }
+
+    // The waiter at this place waits no longer.
+    fn take_out(&mut self, place: usize) -> Waiter
+        requires { place < length self.old.waiters }
+        ensures waiter { result ≡ slice_index_or self.old.waiters place result }
+        ensures others { self.new ≡ record self.old { waiters = remove self.old.waiters place } }
+        ensures room { length self.new.waiters + self.new.calls < 8192 }
+    {
         let waiter = self.waiters.remove(place);
         self.by_file.remove(place);
-        self.calls += 1;
+        self.by_owner.remove(waiter.wanted().owner);
         waiter
     }
 
@@ -167,6 +184,7 @@ impl Slots {
         self.waiters
             .retain(|waiter| !host.has(waiter.wanted().owner));
         self.by_file.renew_after(&self.waiters, before);
+        self.by_owner.renew_after(&self.waiters, before);
     }
 
     /// Takes out the waiters of an owner on a file, as when it closes the file (POSIX fcntl).
@@ -178,12 +196,16 @@ impl Slots {
         let before = self.waiters.len();
         self.waiters.retain(|waiter| !(waiter.is_on(file) && waiter.wanted().owner == owner));
         self.by_file.renew_after(&self.waiters, before);
+        self.by_owner.renew_after(&self.waiters, before);
     }
 
     /// Whether somebody of this number waits.
     pub fn has_owner(&self, owner: OwnerId) -> bool
         ensures { result ≡ list_any (λ w. w.wanted.owner == owner) self.now.waiters }
     {
+        if self.by_owner.is_nobody(owner) {
+            return false;
+        }
         self.waiters
             .iter()
             .any(|waiter| waiter.wanted().owner == owner)
@@ -195,6 +217,7 @@ impl Slots {
     {
         self.waiters.clear();
         self.by_file.clear();
+        self.by_owner.clear();
         self.calls = 0;
     }
 
