@@ -1,6 +1,6 @@
 -- What a plan says: what the store is asked, and what follows.
 use Rattle.std.specs.Prelude.{◌≡◌, ◌≢◌, ◌⊎◌, ◌<◌, ℕ, ◌+◌, Bool, true, false, [], Some, None}
-use Rattle.definitions.specs.Owners.{Owner}
+use Rattle.definitions.specs.Owners.{Owner, is_of_host}
 use Rattle.definitions.specs.Settings.{Setting, Request}
 use Rattle.definitions.specs.Starts.{refuses}
 use Rattle.definitions.specs.Shares.{is_denied, has_no_room, with_share, without_share}
@@ -148,6 +148,24 @@ IsForgottenFor (change.GrantAnswered cookie stat) w s = Unit {0}
 abbrev pub IsForgotten : Plan → World → Seen → Type 0
 IsForgotten (plan.Decided a) w s = IsForgottenFor a.change w s
 IsForgotten (plan.AfterRow r agreed refused) w s = IsForgottenFor agreed.change w s
+
+-- whoever the change names, and holds nothing and waits for nothing once it is done, has no number
+abbrev pub IsForgottenBy : Change → Seen → Type 0
+IsForgottenBy change.Nothing s = Unit {0}
+IsForgottenBy (change.Set r) s = IsForgottenIfIdle (said r.owner) s.world s
+IsForgottenBy (change.Wait x letter) s = IsForgottenIfIdle (said x.owner) s.world s
+IsForgottenBy (change.Cancel x) s = IsForgottenIfIdle (said x.owner) s.world s
+IsForgottenBy (change.Share x) s = Unit {0}
+IsForgottenBy (change.Unshare x) s = Unit {0}
+IsForgottenBy (change.DropHost name) s = (x : Owner) → is_of_host name.items x ≡ true → Knows s x → ⊥
+IsForgottenBy (change.GrantAnswered cookie stat) s = Unit {0}
+
+-- and so where the plan is done under this answer of the store
+abbrev pub IsForgottenUnder : StoreAnswer → Plan → Seen → Type 0
+IsForgottenUnder store (plan.Decided a) s = IsForgottenBy a.change s
+IsForgottenUnder Yes (plan.AfterRow r agreed refused) s = IsForgottenBy agreed.change s
+IsForgottenUnder NotAsked (plan.AfterRow r agreed refused) s = IsForgottenFor agreed.change s.world s
+IsForgottenUnder Refused (plan.AfterRow r agreed refused) s = IsForgottenFor agreed.change s.world s
 
 -- everybody else who was known still is
 abbrev pub KeepsOthersThan : Owner → Seen → Seen → Type 0

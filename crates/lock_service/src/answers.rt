@@ -3,7 +3,7 @@ ghost use Rattle.std.specs.Prelude.{◌≡◌, List, true, Option, Some};
 ghost use Rattle.std.specs.Option.{option_map};
 ghost use Rattle.definitions.specs.Nlm as nlm;
 ghost use Rattle.definitions.specs.Hosts.{NotAsked};
-ghost use Rattle.definitions.specs.Outgoing.{call_of_xid};
+ghost use Rattle.definitions.specs.Outgoing.{call_of_cookie, call_of_xid, is_granted_msg};
 ghost use Rattle.definitions.specs.World.{the_limits};
 ghost use Rattle.definitions.specs.Ranges.{owner_of};
 ghost use Rattle.definitions.specs.Rulings.{ruled};
@@ -16,7 +16,7 @@ ghost use Rattle.record_reading.specs.Answers.{view_of_answer};
 ghost use Rattle.lock_service.specs.Planned.{answer_of, counted};
 ghost use Rattle.lock_world.specs.Answered.{call_at, lock_at};
 ghost use Rattle.lock_world.specs.Seen.{IsIdle, Knows};
-ghost use Rattle.lock_service.specs.Answers.{IsDone, IsGrant, IsNotice, grant_told, change_by, store_said};
+ghost use Rattle.lock_service.specs.Answers.{IsDone, IsFoundForgotten, IsGrant, IsGrantForgotten, IsNotice, IsTurnedForgotten, is_granted, grant_told, change_by, store_said};
 
 use crate::plans::StoreAnswer;
 use hosts_db::{HostStore, StoreError};
@@ -37,6 +37,7 @@ pub fn answered<R: RangeTable, S: HostStore>(
     ensures world { world.new.world ≡ settled_after the_limits (ruled (answer_of result) (answer_rules the_limits world.old.world (view_of_answer reading.now))) }
     ensures fits { (kept : List KeptPair) → fits the_limits (record { world = world.old.world; kept = kept }) (record { event = Answer (view_of_answer reading.now); doing = Applied; store = answer_of result }) ≡ true }
     ensures refusals { world.new.refusals ≡ counted (answer_of result) world.old.refusals }
+    ensures forgotten { IsTurnedForgotten reading.now world.old.world world.new }
 {
     match reading {
         AnswerReading::Unreadable => StoreAnswer::NotAsked,
@@ -53,6 +54,7 @@ pub fn answered<R: RangeTable, S: HostStore>(
 pub fn granted_res<R: RangeTable, S: HostStore>(world: &mut World<R, S>, cookie: &[u8], stat: Stat)
     ensures world { world.new.world ≡ (granted_res_rules the_limits world.old.world cookie.now (view_of_stat stat)).world }
     ensures refusals { world.new.refusals ≡ world.old.refusals }
+    ensures forgotten { stat ≡ Stat.Denied → IsFoundForgotten is_granted_msg (call_of_cookie cookie.now world.old.world.calls) world.old.world.calls world.new }
 {
     let key = AnswerKey::Cookie(cookie);
     let Some(call) = world.call_of(key) else {
@@ -70,7 +72,8 @@ fn succeeded<R: RangeTable, S: HostStore>(
     xid: u32,
     stat: Option<Stat>,
 ) -> StoreAnswer
-    ensures { IsDone (answered_success the_limits world.old.world (option_map view_of_stat stat) (call_of_xid xid world.old.world.calls)) (answer_of result) world.old world.new }
+    ensures done { IsDone (answered_success the_limits world.old.world (option_map view_of_stat stat) (call_of_xid xid world.old.world.calls)) (answer_of result) world.old world.new }
+    ensures forgotten { stat ≡ Some Stat.Denied → IsFoundForgotten is_granted (call_of_xid xid world.old.world.calls) world.old.world.calls world.new }
 {
     let key = AnswerKey::Xid(xid);
     let Some(call) = world.call_of(key) else {
@@ -116,6 +119,7 @@ fn granted<R: RangeTable, S: HostStore>(
     requires { IsGrant number (call_at key world.old.world.calls) }
     ensures told { record { says = change_by result; world = world.new.world } ≡ grant_told world.old.world (option_map view_of_stat stat) (call_at key.entry world.old.world.calls) }
     ensures refusals { world.new.refusals ≡ world.old.refusals }
+    ensures forgotten { stat ≡ Some Stat.Denied → IsGrantForgotten number world.old.world.calls world.new }
 {
     match stat {
         Some(Stat::Denied) => refused(world, key, number),
@@ -139,6 +143,7 @@ fn refused<R: RangeTable, S: HostStore>(
     requires { IsGrant number (call_at key world.old.world.calls) }
     ensures told { record { says = change_by result; world = world.new.world } ≡ grant_told world.old.world (Some nlm.DENIED) (call_at key.entry world.old.world.calls) }
     ensures refusals { world.new.refusals ≡ world.old.refusals }
+    ensures forgotten { IsGrantForgotten number world.old.world.calls world.new }
 {
     let unlocked = world.unlock_grant(key);
     let ended = world.end(number);

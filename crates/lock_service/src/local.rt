@@ -9,7 +9,7 @@ ghost use Rattle.owner_ranges.specs.Same.{mode_of, held_mode};
 ghost use Rattle.letters.specs.Meanings.{local_lock_of};
 ghost use Rattle.held_locks.specs.Asked.{shown};
 ghost use Rattle.local_ops.specs.Answers.{reply_of};
-ghost use Rattle.lock_service.specs.Planned.{FitsChange, setting_of};
+ghost use Rattle.lock_service.specs.Planned.{FitsChange, IsForgottenIfIdle, setting_of};
 ghost use Rattle.lock_service.specs.declared.plans.Change.TheVariants.{Nothing};
 ghost use Rattle.lock_service.specs.Lined.{line_planned, locked_now, unlocked_now};
 
@@ -212,6 +212,7 @@ pub fn close_file<R: RangeTable, S: HostStore>(
 )
     ensures world { (l : ℕ) → world.new.world ≡ settled the_limits (line_answer the_limits world.old.world l (Close (said owner.now) file.now)).world }
     ensures refusals { world.new.refusals ≡ world.old.refusals }
+    ensures forgotten { IsForgottenIfIdle (said owner.now) world.new.world world.new }
 {
     world.close(file, owner);
     world.forget_idle(owner);

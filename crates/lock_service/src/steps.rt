@@ -8,7 +8,7 @@ ghost use Rattle.definitions.specs.Replay.{may_leave_row};
 ghost use Rattle.call_outcome.specs.Values.{outcome_of};
 ghost use Rattle.lock_world.specs.Seen.{KeepsKnown};
 ghost use Rattle.lock_service.specs.Served.{call_of};
-ghost use Rattle.lock_service.specs.Planned.{answer_of, stored, counted, planned, IsAnswerTo, IsWithin, AsksOnlyIf, IsPlan, Fits, FitsChange, CanAsk, IsReady, IsReadyFor, MayHold, IsForgotten, IsForgottenFor, KeepsOthers, KeepsOthersFor, changed, setting_of};
+ghost use Rattle.lock_service.specs.Planned.{answer_of, stored, counted, planned, IsAnswerTo, IsWithin, AsksOnlyIf, IsPlan, Fits, FitsChange, CanAsk, IsReady, IsReadyFor, MayHold, IsForgotten, IsForgottenFor, IsForgottenBy, IsForgottenUnder, KeepsOthers, KeepsOthersFor, changed, setting_of};
 
 use crate::answers::granted_res;
 use crate::call::{Call, Procedure};
@@ -163,6 +163,7 @@ pub fn commit<R: RangeTable, S: HostStore>(
     requires ready { IsReady plan world.old }
     ensures answer { (w : SaidWorld) → world.old.world ≡ stored plan (answer_of store) w → record { outcome = outcome_of result.value; due = []; world = world.new.world } ≡ ruled (answer_of store) (planned plan w) }
     ensures refusals { world.new.refusals ≡ world.old.refusals }
+    ensures forgotten { IsForgottenUnder (answer_of store) plan world.new }
 {
     match (plan, store) {
         (Plan::Decided(answer), _) => {
@@ -202,6 +203,7 @@ pub(crate) fn change<R: RangeTable, S: HostStore>(world: &mut World<R, S>, chang
     requires ready { IsReadyFor change world.old }
     ensures world { world.new.world ≡ changed change world.old.world }
     ensures refusals { world.new.refusals ≡ world.old.refusals }
+    ensures forgotten { IsForgottenBy change world.new }
 {
     match change {
         Change::Nothing => {}
@@ -257,6 +259,7 @@ pub fn agree<R: RangeTable, S: HostStore>(
     ensures fits { OnOk result (Fits plan.now world.new.world) }
     ensures ready { OnOk result (IsReady plan.now world.new) }
     ensures err { OnErr result ((world.new.world ≡ world.old.world) × (world.new.refusals ≡ world.old.refusals)) }
+    ensures forgotten { OnErr result (IsForgotten plan.now world.new.world world.new) }
 {
     let agreed = match prepare(world, plan) {
         Ok(()) => ask(world, plan),

@@ -4,6 +4,7 @@ pub mod Kept
 pub mod Found
 pub mod OneProof
 pub mod Granting
+pub mod Idle
 pub mod Sendings
 pub mod Notices
 pub mod Closed

@@ -84,6 +84,7 @@ impl<R: RangeTable, S: HostStore> World<R, S> {
         ensures world { self.new.world ≡ without_host_of self.old.world name.now }
         ensures refusals { self.new.refusals ≡ self.old.refusals }
         ensures others { (x : SaidOwner) → is_of_host name.now x ≡ false → Knows self.old x → Knows self.new x }
+        ensures forgotten { (x : SaidOwner) → is_of_host name.now x ≡ true → Knows self.new x → ⊥ }
     {
         let (_, owners) = self.locks.parts();
         self.slots.drop_host(owners, name);

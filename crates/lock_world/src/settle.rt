@@ -2,7 +2,8 @@
 ghost use Rattle.std.specs.Prelude.{◌≡◌, ◌<◌, true, false, length, IfSome};
 ghost use Rattle.definitions.specs.World.{settled, the_limits, is_ready};
 ghost use Rattle.blocked_list.specs.First.{IsFirstPlace};
-ghost use Rattle.lock_world.specs.Seen.{KeepsKnown};
+ghost use Rattle.definitions.specs.Owners.{Owner as SaidOwner};
+ghost use Rattle.lock_world.specs.Seen.{IsIdle};
 
 use crate::unsettled::Unsettled;
 use crate::world::World;
@@ -17,6 +18,7 @@ impl<R: RangeTable, S: HostStore> World<R, S> {
         ensures world { self.new.world ≡ settled the_limits self.old.world }
         ensures refusals { self.new.refusals ≡ self.old.refusals }
         ensures names { self.new.names ≡ self.old.names }
+        ensures idle { (x : SaidOwner) → IsIdle self.new.world x → IsIdle self.old.world x }
     {
         while self.grant_next() {}
     }
@@ -25,6 +27,7 @@ impl<R: RangeTable, S: HostStore> World<R, S> {
     fn grant_next(&mut self) -> bool
         ensures same { settled the_limits self.new.world ≡ settled the_limits self.old.world }
         ensures done { result ≡ false → self.new.world ≡ settled the_limits self.new.world }
+        ensures idle { (x : SaidOwner) → IsIdle self.new.world x → IsIdle self.old.world x }
         ensures fewer { result ≡ true → length self.new.world.waiters < length self.old.world.waiters }
         ensures refusals { self.new.refusals ≡ self.old.refusals }
         ensures names { self.new.names ≡ self.old.names }

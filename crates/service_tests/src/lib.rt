@@ -6,6 +6,8 @@ mod asks;
 #[cfg(test)]
 mod calls;
 #[cfg(test)]
+mod known_lines;
+#[cfg(test)]
 mod lines;
 #[cfg(test)]
 mod rows;

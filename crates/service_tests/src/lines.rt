@@ -8,7 +8,7 @@ use range_table::{FlatTable, RangeTable};
 use std::alloc::Global;
 use std::test::*;
 
-fn answered<R: RangeTable, S: HostStore>(
+pub(crate) fn answered<R: RangeTable, S: HostStore>(
     world: &mut World<R, S>,
     line: &[u8],
 ) -> Result<LocalAnswer, Starved> {

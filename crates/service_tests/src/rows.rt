@@ -1,6 +1,7 @@
 //! Worked rows.
 mod absence;
 mod answers;
+mod known;
 mod locks;
 mod phases;
 mod room;

@@ -33,3 +33,6 @@ returns-clause-world g c =
     let by = subst (λ ns. AreNamed (named ns) slots.waiters → waiters_by (named ns) left ≡ without_host_waiters name (waiters_by (named ns) slots.waiters)) c.parts.ensures.names c.drop_host.ensures.by c.self.invariant.in_use in
     let waiters = waiters_left names c.drop_host-2.new.self.names name c.self.inside.locks.settings slots c.drop_host.new.self c.self.inside.calls c.drop_host-4.new.self c.self.inside.unsettled c.self.invariant by (c.drop_host.ensures.named (named names) c.self.invariant.in_use) c.drop_host-2.ensures.names in
     rw (← c.self.view_is) (rw (c.give.ensures, c.drop_host-2.ensures.settings, waiters, c.drop_host-3.ensures, c.drop_host-4.ensures) refl)
+
+pub returns-clause-forgotten : goal.returns-clause-forgotten
+returns-clause-forgotten g c = λ x e known. c.drop_host-2.ensures.forgotten x e known.0 known.1

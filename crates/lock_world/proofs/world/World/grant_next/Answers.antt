@@ -10,6 +10,7 @@ use Rattle.owner_ids.specs.Names.{named}
 use Rattle.blocked_list.specs.First.{IsFirstAt}
 use Rattle.blocked_list.specs.Waiting.{owner_at, waiter_by, waiters_by}
 use Rattle.lock_world.specs.Seen.{Seen}
+use Rattle.lock_world.proofs.Idle.{idle_granted}
 use Rattle.lock_world.proofs.Granting.{settled_rest, settled_grant, fewer_wait, is_set, whole_granted}
 use Rattle.lock_world.proofs.world.World.grant_next.Given.{Over}
 use Rattle.lock_world.proofs.world.World.grant_next.Goals as goal
@@ -94,3 +95,13 @@ returns-clause-fewer g c = λ e.
     let there = c.grant-waiter.ensures.there (named names) test (first g c) in
     let gone = c.grant-waiter.ensures.gone (named names) test (first g c) in
     rw (← c.self.view_is) (rw (c.set_run.ensures.names, gone) (fewer_wait (world g c) (waiter_by (named names) c.grant-waiter.result) there))
+
+pub returns-clause-idle : goal.returns-clause-idle
+returns-clause-idle g c = λ x.
+    let names = c.self.inside.locks.names in
+    let test = is_ready the_limits c.self.inside.locks.settings in
+    let there = c.grant-waiter.ensures.there (named names) test (first g c) in
+    let gone = c.grant-waiter.ensures.gone (named names) test (first g c) in
+    let ordered = subst (λ r. r.first ≤ r.last) c.wanted.ensures.wanted c.wanted.ensures.ordered in
+    rw (← c.self.view_is)
+    (rw (settings_are g c, c.set_run.ensures.names, gone, c.make_due.ensures, c.into_letter.ensures) (idle_granted (world g c) (waiter_by (named names) c.grant-waiter.result) there ordered x))
