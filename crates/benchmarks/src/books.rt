@@ -6,13 +6,14 @@ use book::{Book, BookEvent, Peer, Reply, Segment};
 use bytes::Bytes;
 use hosts_db::{HostStore, MemHosts};
 use letters::ShortBytes;
-use range_table::{FlatTable, RangeTable};
+use range_arena::ArenaTable;
+use range_table::RangeTable;
 use std::alloc::Global;
 use xdr_core::Frame;
 
-fn opened(alloc: Global) -> Option<Book<FlatTable, MemHosts>> {
+fn opened(alloc: Global) -> Option<Book<ArenaTable, MemHosts>> {
     let store = MemHosts::new(alloc, 0, Vec::new(alloc), Vec::new(alloc)).ok()?;
-    let table = FlatTable::new(alloc).ok()?;
+    let table = ArenaTable::new(alloc).ok()?;
     let name = ShortBytes::copy_of(alloc, b"server").ok()?;
     Book::new(alloc, table, store, name).ok()
 }

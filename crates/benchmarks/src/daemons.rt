@@ -5,12 +5,13 @@ use anyhow::{Result, anyhow};
 use daemon_core::{Daemon, Event, Peer};
 use hosts_db::{HostStore, MemHosts};
 use letters::ShortBytes;
-use range_table::{FlatTable, RangeTable};
+use range_arena::ArenaTable;
+use range_table::RangeTable;
 use std::alloc::Global;
 
-fn opened(alloc: Global) -> Option<Daemon<FlatTable, MemHosts>> {
+fn opened(alloc: Global) -> Option<Daemon<ArenaTable, MemHosts>> {
     let store = MemHosts::new(alloc, 0, Vec::new(alloc), Vec::new(alloc)).ok()?;
-    let table = FlatTable::new(alloc).ok()?;
+    let table = ArenaTable::new(alloc).ok()?;
     let name = ShortBytes::copy_of(alloc, b"server").ok()?;
     Daemon::new(alloc, table, store, name).ok()
 }

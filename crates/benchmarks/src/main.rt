@@ -2,7 +2,7 @@
 //! by the word `and`:
 //!
 //! - `fill`, `sweep`, `intern`, or `set`, `reset`, `used`, `conflict` with `-front`, `-middle`, `-back` or `-turns`, each with a
-//!   size and a number of rounds: the table of ranges and its owners;
+//!   size and a number of rounds: the table of ranges and its owners; with the word `flat` in front, the flat table;
 //! - `change` or `come`, with `-none`, `-each` or `-one`, a size and a number of rounds: waiters;
 //! - `kept`, a size and a number of rounds: kept replies;
 //! - `book test` or `book lock`, a number of files, of runs that are held over them, and of rounds: the book;
@@ -17,6 +17,8 @@ mod replies;
 mod waits;
 
 use anyhow::{Result, bail};
+use range_arena::ArenaTable;
+use range_table::FlatTable;
 use std::alloc::Global;
 use std::env;
 
@@ -31,7 +33,14 @@ fn done(alloc: Global, words: &[&str]) -> Result<u32> {
         [what, count, rounds] if what.starts_with("change") || what.starts_with("come") => {
             waits::waits(alloc, what, count.parse()?, rounds.parse()?)
         }
-        [what, count, rounds] => ranges::ranges(alloc, what, count.parse()?, rounds.parse()?),
+        ["flat", what, count, rounds] => {
+            let mut table = FlatTable::new(alloc)?;
+            ranges::ranges(alloc, &mut table, what, count.parse()?, rounds.parse()?)
+        }
+        [what, count, rounds] => {
+            let mut table = ArenaTable::new(alloc)?;
+            ranges::ranges(alloc, &mut table, what, count.parse()?, rounds.parse()?)
+        }
         _ => bail!("nothing is done by {} words", words.len()),
     }
 }

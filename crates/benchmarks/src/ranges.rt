@@ -4,7 +4,7 @@ ghost use Rattle.std.specs.Prelude.{◌≡◌, length};
 
 use anyhow::Result;
 use owner_ids::{Owner, OwnerId, Owners};
-use range_table::{FileId, FlatTable, Mode, RangeTable, Run};
+use range_table::{FileId, Mode, RangeTable, Run};
 use std::alloc::{AllocError, Global};
 
 // A file of its own for each number.
@@ -13,7 +13,7 @@ pub(crate) fn file_of(number: u32) -> FileId {
 }
 
 // Single bytes, each with a free one behind it.
-fn fill(table: &mut FlatTable, file: &FileId, owner: OwnerId, count: u32) {
+fn fill<T: RangeTable>(table: &mut T, file: &FileId, owner: OwnerId, count: u32) {
     for i in 0..count {
         let byte = u64::from(i) * 2;
         let _ = table.set(file, owner, byte, byte, Some(Mode::Exclusive));
@@ -28,7 +28,7 @@ const MIDDLE: u32 = 0x7000_0000;
 const BACK: u32 = 0xf000_0000;
 
 // One run on each of many files, half of which stand before the file in the middle, and half behind it.
-fn fill_others(table: &mut FlatTable, owner: OwnerId, count: u32) {
+fn fill_others<T: RangeTable>(table: &mut T, owner: OwnerId, count: u32) {
     for i in 0..count {
         let file = if i < count / 2 {
             file_of(i + 1)
@@ -40,7 +40,7 @@ fn fill_others(table: &mut FlatTable, owner: OwnerId, count: u32) {
 }
 
 // A lock and an unlock, on one file after the other.
-fn set_and_unset(table: &mut FlatTable, files: &[FileId], owner: OwnerId, rounds: u32) {
+fn set_and_unset<T: RangeTable>(table: &mut T, files: &[FileId], owner: OwnerId, rounds: u32) {
     for i in 0..rounds {
         if let Some(file) = files.get(i as usize % files.len().max(1)) {
             let _ = table.set(file, owner, 100, 109, Some(Mode::Exclusive));
@@ -50,7 +50,7 @@ fn set_and_unset(table: &mut FlatTable, files: &[FileId], owner: OwnerId, rounds
 }
 
 // A change of mode.
-fn reset(table: &mut FlatTable, files: &[FileId], owner: OwnerId, rounds: u32) {
+fn reset<T: RangeTable>(table: &mut T, files: &[FileId], owner: OwnerId, rounds: u32) {
     for i in 0..rounds {
         let mode = if i / 4 % 2 == 0 {
             Mode::Exclusive
@@ -63,7 +63,7 @@ fn reset(table: &mut FlatTable, files: &[FileId], owner: OwnerId, rounds: u32) {
     }
 }
 
-fn ask_used(table: &FlatTable, rounds: u32) -> u32 {
+fn ask_used<T: RangeTable>(table: &T, rounds: u32) -> u32 {
     let mut found = 0u32;
     for _ in 0..rounds {
         found = found.wrapping_add(table.used());
@@ -71,8 +71,8 @@ fn ask_used(table: &FlatTable, rounds: u32) -> u32 {
     found
 }
 
-fn ask_conflict(
-    table: &FlatTable,
+fn ask_conflict<T: RangeTable>(
+    table: &T,
     owners: &Owners,
     files: &[FileId],
     owner: OwnerId,
@@ -134,55 +134,64 @@ fn files_of<'a>(all: &'a [FileId], what: &str) -> &'a [FileId]
     }
 }
 
-fn beside(alloc: Global, what: &str, count: u32, rounds: u32) -> Result<u32> {
+fn beside<T: RangeTable>(
+    alloc: Global,
+    table: &mut T,
+    what: &str,
+    count: u32,
+    rounds: u32,
+) -> Result<u32> {
     let mut owners = Owners::new(alloc);
     let a = owners.intern(&Owner::Process(1))?;
     let b = owners.intern(&Owner::Process(2))?;
-    let mut table = FlatTable::new(alloc)?;
-    fill_others(&mut table, a, count);
+    fill_others(table, a, count);
     let all = [file_of(FRONT), file_of(MIDDLE), file_of(BACK)];
     for file in &all {
-        fill(&mut table, file, a, 8);
+        fill(table, file, a, 8);
     }
     let files = files_of(&all, what);
     let answer = match what {
-        _ if what.starts_with("used") => ask_used(&table, rounds),
-        _ if what.starts_with("conflict") => ask_conflict(&table, &owners, files, b, rounds),
+        _ if what.starts_with("used") => ask_used(table, rounds),
+        _ if what.starts_with("conflict") => ask_conflict(table, &owners, files, b, rounds),
         _ => 0,
     };
     match what {
-        _ if what.starts_with("set") => set_and_unset(&mut table, files, b, rounds),
-        _ if what.starts_with("reset") => reset(&mut table, files, a, rounds),
+        _ if what.starts_with("set") => set_and_unset(table, files, b, rounds),
+        _ if what.starts_with("reset") => reset(table, files, a, rounds),
         _ => {}
     }
     Ok(table.used().saturating_add(answer))
 }
 
-fn filled(alloc: Global, count: u32) -> Result<u32> {
-    let mut table = FlatTable::new(alloc)?;
-    fill(&mut table, &file_of(1), 1, count);
-    Ok(table.used())
+fn filled<T: RangeTable>(table: &mut T, count: u32) -> u32 {
+    fill(table, &file_of(1), 1, count);
+    table.used()
 }
 
 // Fills a file, and takes its runs away again: the first half by one `set`, then those behind it.
-fn swept(alloc: Global, count: u32, rounds: u32) -> Result<u32> {
-    let mut table = FlatTable::new(alloc)?;
+fn swept<T: RangeTable>(table: &mut T, count: u32, rounds: u32) -> u32 {
     let file = file_of(1);
     let most = u64::from(count);
     for _ in 0..rounds {
-        fill(&mut table, &file, 1, count);
+        fill(table, &file, 1, count);
         let _ = table.set(&file, 1, 0, most, None);
         let _ = table.set(&file, 1, 0, 2 * most, None);
     }
-    Ok(table.used())
+    table.used()
 }
 
-/// Does what is asked, with so many runs or owners, so often.
-pub(crate) fn ranges(alloc: Global, what: &str, count: u32, rounds: u32) -> Result<u32> {
+/// Does what is asked of a table without runs, with so many runs or owners, so often.
+pub(crate) fn ranges<T: RangeTable>(
+    alloc: Global,
+    table: &mut T,
+    what: &str,
+    count: u32,
+    rounds: u32,
+) -> Result<u32> {
     match what {
-        "fill" => filled(alloc, count),
-        "sweep" => swept(alloc, count, rounds),
+        "fill" => Ok(filled(table, count)),
+        "sweep" => Ok(swept(table, count, rounds)),
         "intern" => intern(alloc, count, rounds),
-        other => beside(alloc, other, count, rounds),
+        other => beside(alloc, table, other, count, rounds),
     }
 }

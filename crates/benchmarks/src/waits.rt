@@ -7,7 +7,8 @@ use anyhow::Result;
 use blocked_list::{Slots, Waiter};
 use letters::{Destination, Letter, Message, ShortBytes};
 use owner_ids::{Owner, OwnerId, Owners};
-use range_table::{FileId, FlatTable, Mode, RangeTable, Run};
+use range_arena::ArenaTable;
+use range_table::{FileId, Mode, RangeTable, Run};
 use std::alloc::{AllocError, Global};
 
 // The file that changes stands in the middle of the others.
@@ -35,7 +36,7 @@ fn whole(file: FileId, owner: OwnerId) -> Run
 }
 
 // One run on each of the other files.
-fn fill(table: &mut FlatTable, owner: OwnerId, count: u32) {
+fn fill<T: RangeTable>(table: &mut T, owner: OwnerId, count: u32) {
     for number in 0..count {
         let file = other_file(number, count);
         let _ = table.set(&file, owner, 0, 9, Some(Mode::Exclusive));
@@ -65,8 +66,8 @@ fn wait(alloc: Global, slots: &mut Slots, owner: OwnerId, what: &str, count: u32
 }
 
 // A lock and an unlock of one file, and the question who can be granted after each.
-fn change(
-    table: &mut FlatTable,
+fn change<T: RangeTable>(
+    table: &mut T,
     owners: &Owners,
     slots: &Slots,
     owner: OwnerId,
@@ -103,7 +104,7 @@ pub(crate) fn waits(alloc: Global, what: &str, count: u32, rounds: u32) -> Resul
     let mut owners = Owners::new(alloc);
     let a = owners.intern(&Owner::Process(1))?;
     let b = owners.intern(&Owner::Process(2))?;
-    let mut table = FlatTable::new(alloc)?;
+    let mut table = ArenaTable::new(alloc)?;
     let mut slots = Slots::new(alloc)?;
     fill(&mut table, a, count);
     wait(alloc, &mut slots, b, what, count)?;
