@@ -2,7 +2,7 @@
 //! granted.
 use crate::asked::{Asked, Procedure, is_granted};
 use anyhow::{Result, anyhow};
-use book::{Book, BookEvent, Peer, Reply, Segment};
+use book::{Book, BookEvent, Peer, Segment, Upshot};
 use bytes::Bytes;
 use hosts_db::{HostStore, MemHosts};
 use letters::ShortBytes;
@@ -22,7 +22,7 @@ fn apply<T: RangeTable, S: HostStore>(
     alloc: Global,
     book: &mut Book<T, S>,
     event: BookEvent,
-) -> Result<Reply> {
+) -> Result<Upshot> {
     if book.room() == 0 {
         drop(book.rotate(Segment::new(alloc)?));
     }
@@ -39,9 +39,9 @@ fn is_answered<T: RangeTable, S: HostStore>(
 ) -> Result<bool> {
     let record = Bytes::from_vec(asked.record(alloc)?)?;
     let peer = Peer::PIPE;
-    let reply = apply(alloc, book, BookEvent::Take { peer, record })?;
+    let upshot = apply(alloc, book, BookEvent::Take { peer, record })?;
     let mut frame = Frame::new();
-    let _ = reply.put(&mut frame);
+    let _ = upshot.reply.put(&mut frame);
     Ok(is_granted(frame.as_slice()))
 }
 

@@ -15,6 +15,7 @@ use Rattle.lock_service.specs.declared.plans.Plan.{Plan}
 use Rattle.lock_service.specs.declared.plans.Plan.TheVariants as plan
 use Rattle.lock_service.specs.Served.{call_of}
 use Rattle.lock_service.specs.Planned.{planned, stored, asked, IsPlan, IsAnswerTo, IsWithin, AsksOnlyIf}
+use Rattle.book.specs.Given.{comes_to}
 use Rattle.book.specs.Notes.{IsStep}
 
 agrees : StoreAnswer → Bool
@@ -36,7 +37,7 @@ row_stored s (Nlm version (LockMsg a)) store h = refl
 row_stored s _ store h = absurd (true≢false (sym h))
 
 -- nobody was asked yet
-pub starved_early : (s : State) (peer : Peer) (bytes : Bytes) (xid : ℕ) (call : Call) → IsStep s (Take peer bytes (Asks xid call)) Starved NotAsked (Replies xid SystemErr) s
+pub starved_early : (s : State) (peer : Peer) (bytes : Bytes) (xid : ℕ) (call : Call) → IsStep s (Take peer bytes (Asks xid call)) (comes_to Starved NotAsked (Replies xid SystemErr)) s
 starved_early s peer bytes xid call = record {
   gives = refl;
   leaves = starved_law.unless_agreed the_limits s (Take peer bytes (Asks xid call)) NotAsked not_asked;
@@ -51,7 +52,7 @@ module _ (s : State) (peer : Peer) (bytes : Bytes) (xid : ℕ) (called : Called)
   asks_as p is = ap (λ (o : Option KeptPair). asked_unless_kept the_limits s peer call o) none ∙ ap (λ (r : Ruling Answered). r.asks) (sym is.ruled)
 
   -- the store had answered, and then memory was wanting
-  pub starved_late : (p : Plan) (store : StoreAnswer) → IsPlan (ruling the_limits s.world peer.local call) s.world p → AsksOnlyIf (may_leave_row call) p → IsAnswerTo p store → IsWithin p store s.world → IsStep s (Take peer bytes (Asks xid call)) Starved store (Replies xid SystemErr) (with_world s (stored p store s.world))
+  pub starved_late : (p : Plan) (store : StoreAnswer) → IsPlan (ruling the_limits s.world peer.local call) s.world p → AsksOnlyIf (may_leave_row call) p → IsAnswerTo p store → IsWithin p store s.world → IsStep s (Take peer bytes (Asks xid call)) (comes_to Starved store (Replies xid SystemErr)) (with_world s (stored p store s.world))
   starved_late (plan.Decided a) store is only answer within = rw answer (starved_early s peer bytes xid call)
   starved_late (plan.AfterRow r agreed refused) NotAsked is only answer within = absurd (answer refl)
   starved_late (plan.AfterRow r agreed refused) Refused is only answer within = record {
@@ -72,7 +73,7 @@ module _ (s : State) (peer : Peer) (bytes : Bytes) (xid : ℕ) (called : Called)
   answer_fits (plan.AfterRow r agreed refused) Refused is answer within = rw (asks_as (plan.AfterRow r agreed refused) is) refl
 
   -- it was done
-  pub done : (p : Plan) (store : StoreAnswer) (a : Answered) → IsPlan (ruling the_limits s.world peer.local call) s.world p → a ≡ ruled store (planned p s.world) → IsAnswerTo p store → IsWithin p store s.world → IsStep s (Take peer bytes (Asks xid call)) Applied store (Replies xid a.outcome) (record { world = settled the_limits a.world; kept = kept_after the_limits peer bytes xid call a s.kept })
+  pub done : (p : Plan) (store : StoreAnswer) (a : Answered) → IsPlan (ruling the_limits s.world peer.local call) s.world p → a ≡ ruled store (planned p s.world) → IsAnswerTo p store → IsWithin p store s.world → IsStep s (Take peer bytes (Asks xid call)) (comes_to Applied store (Replies xid a.outcome)) (record { world = settled the_limits a.world; kept = kept_after the_limits peer bytes xid call a s.kept })
   done p store a is ruling answer within = record {
     gives = rw (none, ← is.ruled, ← ruling) refl;
     leaves = rw (none, ← is.ruled, ← ruling) refl;

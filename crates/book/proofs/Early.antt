@@ -9,34 +9,34 @@ use Rattle.record_reading.specs.Answers.{IsAnswerReading}
 use Rattle.lock_service.specs.Served.{served}
 use Rattle.local_ops.specs.Grammar.{Reads as LineReads}
 use Rattle.book.specs.Readings.{served_reading, asks_served, refusal_of, served_line}
-use Rattle.book.specs.Given.{starved_reading}
+use Rattle.book.specs.Given.{starved_reading, comes_to}
 use Rattle.book.specs.Notes.{Takes, HearsAnswer, AsksLine, FallsSilent, GraceEnds, BeginsAnew, IsStep, Steps}
 use Rattle.book.proofs.Calls.{starved_early}
 
 module _ (s : State) (peer : Peer) (bytes : Bytes) where
-  by_reading : (whole said : Reading) → IsReading bytes whole → said ≡ served_reading whole → IsStep s (Take peer bytes said) Starved NotAsked (starved_reading whole) s → Steps s (Takes peer bytes) Starved NotAsked (starved_reading whole) s
+  by_reading : (whole said : Reading) → IsReading bytes whole → said ≡ served_reading whole → IsStep s (Take peer bytes said) (comes_to Starved NotAsked (starved_reading whole)) s → Steps s (Takes peer bytes) (comes_to Starved NotAsked (starved_reading whole)) s
   by_reading whole said read is step = record { said = Take peer bytes said; reads = (said, record { whole = whole; read = read; is = is }, refl); step = step }
 
-  asked : (xid : _) (call : Call) → IsReading bytes (Asks xid call) → (o : Option Call) → o ≡ served call → Steps s (Takes peer bytes) Starved NotAsked (starved_reading (Asks xid call)) s
+  asked : (xid : _) (call : Call) → IsReading bytes (Asks xid call) → (o : Option Call) → o ≡ served call → Steps s (Takes peer bytes) (comes_to Starved NotAsked (starved_reading (Asks xid call))) s
   asked xid call read (Some known) is = by_reading (Asks xid call) (Asks xid known) read (ap (λ (o : Option Call). asks_served xid call o) is) (starved_early s peer bytes xid known)
   asked xid call read None is = by_reading (Asks xid call) (Turned xid (refusal_of call)) read (ap (λ (o : Option Call). asks_served xid call o) is) (record { gives = refl; leaves = refl; fits = refl })
 
-  pub taken : (whole : Reading) → IsReading bytes whole → Steps s (Takes peer bytes) Starved NotAsked (starved_reading whole) s
+  pub taken : (whole : Reading) → IsReading bytes whole → Steps s (Takes peer bytes) (comes_to Starved NotAsked (starved_reading whole)) s
   taken Ignored read = by_reading Ignored Ignored read refl (record { gives = refl; leaves = refl; fits = refl })
   taken (Turned xid why) read = by_reading (Turned xid why) (Turned xid why) read refl (record { gives = refl; leaves = refl; fits = refl })
   taken (Asks xid call) read = asked xid call read (served call) refl
 
-pub answer : (s : State) (bytes : Bytes) (reading : AnswerReading) → IsAnswerReading bytes reading → Steps s (HearsAnswer bytes) Starved NotAsked IsStarved s
+pub answer : (s : State) (bytes : Bytes) (reading : AnswerReading) → IsAnswerReading bytes reading → Steps s (HearsAnswer bytes) (comes_to Starved NotAsked IsStarved) s
 answer s bytes reading read = record { said = Answer reading; reads = (reading, read, refl); step = record { gives = refl; leaves = refl; fits = refl } }
 
-pub line : (s : State) (l : ℕ) (bytes : Bytes) (whole : Line) → LineReads bytes whole → Steps s (AsksLine l bytes) Starved NotAsked (Says LineStarved) s
+pub line : (s : State) (l : ℕ) (bytes : Bytes) (whole : Line) → LineReads bytes whole → Steps s (AsksLine l bytes) (comes_to Starved NotAsked (Says LineStarved)) s
 line s l bytes whole read = record { said = Local l (served_line whole); reads = (served_line whole, record { whole = whole; read = read; is = refl }, refl); step = record { gives = refl; leaves = refl; fits = refl } }
 
-pub silent : (s : State) (number : ℕ) → Steps s (FallsSilent number) Starved NotAsked IsStarved s
+pub silent : (s : State) (number : ℕ) → Steps s (FallsSilent number) (comes_to Starved NotAsked IsStarved) s
 silent s number = record { said = Silent number; reads = refl; step = record { gives = refl; leaves = refl; fits = refl } }
 
-pub grace : (s : State) → Steps s GraceEnds Starved NotAsked IsStarved s
+pub grace : (s : State) → Steps s GraceEnds (comes_to Starved NotAsked IsStarved) s
 grace s = record { said = GraceOver; reads = refl; step = record { gives = refl; leaves = refl; fits = refl } }
 
-pub anew : (s : State) → Steps s BeginsAnew Starved NotAsked IsStarved s
+pub anew : (s : State) → Steps s BeginsAnew (comes_to Starved NotAsked IsStarved) s
 anew s = record { said = Restart; reads = refl; step = record { gives = refl; leaves = refl; fits = refl } }

@@ -1,6 +1,7 @@
--- What events give, as the definitions have it.
+-- What events come to, as the definitions have it.
 use Rattle.std.specs.Prelude.{[]}
 use Rattle.definitions.specs.Bytes.{Bytes}
+use Rattle.definitions.specs.Hosts.{StoreAnswer}
 use Rattle.definitions.specs.Replies.{Refuses, SystemErr, Reading, Ignored, Turned, Asks}
 use Rattle.definitions.specs.Step.{Doing, Applied, Starved, Given, Nothing, Replies, Says, Sends, IsStarved, IsRefused}
 use Rattle.record_reading.specs.Values.{view_of_refusal}
@@ -10,8 +11,21 @@ use Rattle.call_records.specs.Records.{call_record}
 use Rattle.local_ops.specs.Answers.{reply_of}
 use Rattle.book.specs.declared.reply.Reply.{Reply}
 use Rattle.book.specs.declared.reply.Reply.TheVariants as reply
-use Rattle.book.specs.declared.entry.Gave.{Gave}
-use Rattle.book.specs.declared.entry.Gave.TheVariants as gave
+use Rattle.book.specs.declared.upshot.Doing.{Doing as Became}
+use Rattle.book.specs.declared.upshot.Doing.TheVariants as doing
+
+-- what became of an event, what the store answered, and what the event gives
+pub record Upshot : Type 0 where
+  pub doing : Doing
+  pub store : StoreAnswer
+  pub given : Given
+
+abbrev pub comes_to : Doing → StoreAnswer → Given → Upshot
+comes_to doing store given = record { doing = doing; store = store; given = given }
+
+abbrev pub doing_of : Became → Doing
+doing_of doing.Applied = Applied
+doing_of doing.Starved = Starved
 
 abbrev pub given_of : Reply → Given
 given_of reply.Nothing = Nothing
@@ -41,8 +55,3 @@ abbrev pub starved_reading : Reading → Given
 starved_reading Ignored = IsStarved
 starved_reading (Turned xid why) = Replies xid SystemErr
 starved_reading (Asks xid call) = Replies xid SystemErr
-
--- as the journal notes it
-abbrev pub given_by : Gave → Given
-given_by (gave.Reply r) = given_of r
-given_by (gave.Says answer) = Says (reply_of answer.value)

@@ -2,14 +2,14 @@
 use Rattle.std.specs.Prelude.{◌≡◌, ℕ, ◌+◌, ◌-◌, ◌^◌, List, [], ◌∷◌, ◌++◌, length, min, Option, None, Some}
 use Rattle.definitions.specs.Bytes.{Bytes}
 use Rattle.definitions.specs.Outgoing.{Letter, next_due}
-use Rattle.definitions.specs.Hosts.{StoreAnswer, NotAsked}
+use Rattle.definitions.specs.Hosts.{NotAsked}
 use Rattle.definitions.specs.World.{the_limits}
-use Rattle.definitions.specs.Step.{State, Doing, Applied, Starved, Given, Sends}
+use Rattle.definitions.specs.Step.{State, Applied, Starved, Sends}
 use Rattle.definitions.specs.Replay.{Entry, IsLegal as IsLegalFrom}
 use Rattle.lock_service.specs.Planned.{counted}
 use Rattle.call_records.specs.declared.dest.Dest.{Dest}
 use Rattle.call_records.specs.Dests.{dest_of}
-use Rattle.book.specs.Given.{record_of}
+use Rattle.book.specs.Given.{Upshot, comes_to, record_of}
 use Rattle.book.specs.Notes.{Note, Happening, Takes, SendsNext, HearsAnswer, AsksLine, FallsSilent, GraceEnds, BeginsAnew, Reads, Steps}
 
 -- the number of the first entry, the state before it, what each notes, and the state after the last
@@ -27,9 +27,9 @@ pub record Book : Type 0 where
 pub record IsEntryOf (n : Note) (e : Entry) : Type 0 where
   pub number : e.number ≡ n.number
   pub event : Reads n.event e.done.event
-  pub doing : e.done.doing ≡ n.doing
-  pub store : e.done.store ≡ n.store
-  pub given : e.given ≡ n.given
+  pub doing : e.done.doing ≡ n.upshot.doing
+  pub store : e.done.store ≡ n.upshot.store
+  pub given : e.given ≡ n.upshot.given
 
 abbrev pub AreEntriesOf : List Note → List Entry → Type 0
 AreEntriesOf [] entries = entries ≡ []
@@ -50,9 +50,13 @@ begun first s = record { first = first; base = s; notes = []; end = s }
 abbrev pub next_of : Journal → ℕ
 next_of j = j.first + length j.notes
 
--- for so many entries more there is room. The last number is never given
+-- for so many entries more there is room: 2^64 - 1 entries have a number
 abbrev pub room_of : Journal → ℕ
-room_of j = min (1024 - length j.notes) (2 ^ 64 - 1 - next_of j)
+room_of j = min (1024 - length j.notes) (2 ^ 64 - next_of j)
+
+-- the segment ends, and the next one begins where it ends
+abbrev pub rotated : Book → Book
+rotated b = record b { journal = begun (next_of b.journal) b.journal.end }
 
 abbrev pub noted : Journal → Note → State → Journal
 noted j n end = record j { notes = j.notes ++ n ∷ []; end = end }
@@ -68,15 +72,13 @@ TakesMemory (FallsSilent number) = ⊥
 TakesMemory GraceEnds = ⊥
 
 -- one event is one entry, and one step of the definitions
-pub record Enters (old : Book) (event : Happening) (given : Given) (new : Book) : Type 0 where
-  pub doing : Doing
-  pub store : StoreAnswer
-  pub steps : Steps old.journal.end event doing store given new.journal.end
-  pub journal : new.journal ≡ noted old.journal (record { number = next_of old.journal; event = event; doing = doing; store = store; given = given }) new.journal.end
-  pub refusals : new.refusals ≡ counted store old.refusals
-  pub fed : doing ≡ Starved → TakesMemory event
+pub record Enters (old : Book) (event : Happening) (upshot : Upshot) (new : Book) : Type 0 where
+  pub steps : Steps old.journal.end event upshot new.journal.end
+  pub journal : new.journal ≡ noted old.journal (record { number = next_of old.journal; event = event; upshot = upshot }) new.journal.end
+  pub refusals : new.refusals ≡ counted upshot.store old.refusals
+  pub fed : upshot.doing ≡ Starved → TakesMemory event
 
 -- the call that is due first is sent, with its number, to whom it is for, and its record; or none is due, and nothing happens
 abbrev pub IsNext : Book → Option (ℕ × Dest × Bytes) → Book → Type 0
 IsNext old None new = (next_due old.journal.end.world.calls ≡ None) × (new ≡ old)
-IsNext old (Some (number, to, bytes)) new = (letter : Letter) × (dest_of to ≡ letter.to) × (bytes ≡ record_of (Sends number letter)) × ((e : Enters old SendsNext (Sends number letter) new) × (e.doing ≡ Applied) × (e.store ≡ NotAsked))
+IsNext old (Some (number, to, bytes)) new = (letter : Letter) × (dest_of to ≡ letter.to) × (bytes ≡ record_of (Sends number letter)) × Enters old SendsNext (comes_to Applied NotAsked (Sends number letter)) new

@@ -1,21 +1,20 @@
--- What an entry of the journal notes: the event with the bytes of its record, what became of it, and what it gave.
+-- What an entry of the journal notes: the event with the bytes of its record, and what it came to.
 use Rattle.std.specs.Prelude.{◌≡◌, ℕ, true}
 use Rattle.definitions.specs.Bytes.{Bytes}
 use Rattle.definitions.specs.Hosts.{StoreAnswer}
 use Rattle.definitions.specs.Replies.{Reading, AnswerReading, Line}
 use Rattle.definitions.specs.World.{the_limits}
-use Rattle.definitions.specs.Step.{Peer, Event, Take, Send, Answer, Local, Silent, GraceOver, Restart, Doing, Applied, Starved, Given, Sends, State}
+use Rattle.definitions.specs.Step.{Peer, Event, Take, Send, Answer, Local, Silent, GraceOver, Restart, Doing, Given, Says, Sends, State}
 use Rattle.definitions.specs.Replay.{after, fits}
 use Rattle.kept_replies.specs.Pairs.{asker}
 use Rattle.lock_service.specs.Planned.{answer_of}
 use Rattle.book.specs.declared.event.BookEvent.{BookEvent}
 use Rattle.book.specs.declared.event.BookEvent.TheVariants as event
-use Rattle.book.specs.declared.entry.Doing.{Doing as Became}
-use Rattle.book.specs.declared.entry.Doing.TheVariants as doing
 use Rattle.book.specs.declared.entry.Act.{Act}
 use Rattle.book.specs.declared.entry.Act.TheVariants as act
 use Rattle.book.specs.declared.entry.Entry.{Entry}
-use Rattle.book.specs.Given.{given_by}
+use Rattle.local_ops.specs.Answers.{reply_of}
+use Rattle.book.specs.Given.{Upshot, comes_to, doing_of, given_of}
 use Rattle.record_reading.specs.Answers.{IsAnswerReading}
 use Rattle.book.specs.Readings.{IsServed, IsServedLine}
 
@@ -31,9 +30,7 @@ pub data Happening : Type 0 where
 pub record Note : Type 0 where
   pub number : ℕ
   pub event : Happening
-  pub doing : Doing
-  pub store : StoreAnswer
-  pub given : Given
+  pub upshot : Upshot
 
 abbrev pub happening_of : BookEvent → Happening
 happening_of (event.Take peer bytes) = Takes (asker peer) bytes
@@ -43,20 +40,18 @@ happening_of (event.Silent number) = FallsSilent number
 happening_of event.GraceOver = GraceEnds
 happening_of event.Restart = BeginsAnew
 
-abbrev pub doing_of : Became → Doing
-doing_of doing.Applied = Applied
-doing_of doing.Starved = Starved
-
 abbrev pub happened : Act → Happening
-happened (act.Event event g) = happening_of event
+happened (act.Event event reply) = happening_of event
+happened (act.Line l line answer) = AsksLine l line.items
 happened (act.Sent number letter) = SendsNext
 
 abbrev pub gave : Act → Given
-gave (act.Event event g) = given_by g
+gave (act.Event event reply) = given_of reply
+gave (act.Line l line answer) = Says (reply_of answer.value)
 gave (act.Sent number letter) = Sends number letter.value
 
 abbrev pub note_of : Entry → Note
-note_of e = record { number = e.number; event = happened e.act; doing = doing_of e.doing; store = answer_of e.store; given = gave e.act }
+note_of e = record { number = e.number; event = happened e.act; upshot = comes_to (doing_of e.doing) (answer_of e.store) (gave e.act) }
 
 -- the event of the definitions, whose record, answer or line has its reading
 abbrev pub Reads : Happening → Event → Type 0
@@ -69,18 +64,18 @@ Reads GraceEnds e = e ≡ GraceOver
 Reads BeginsAnew e = e ≡ Restart
 
 -- one step of the definitions, by an event that is read
-pub record IsStep (old : State) (said : Event) (doing : Doing) (store : StoreAnswer) (given : Given) (new : State) : Type 0 where
-  pub gives : (after the_limits old (record { event = said; doing = doing; store = store })).given ≡ given
-  pub leaves : (after the_limits old (record { event = said; doing = doing; store = store })).state ≡ new
-  pub fits : fits the_limits old (record { event = said; doing = doing; store = store }) ≡ true
+pub record IsStep (old : State) (said : Event) (upshot : Upshot) (new : State) : Type 0 where
+  pub gives : (after the_limits old (record { event = said; doing = upshot.doing; store = upshot.store })).given ≡ upshot.given
+  pub leaves : (after the_limits old (record { event = said; doing = upshot.doing; store = upshot.store })).state ≡ new
+  pub fits : fits the_limits old (record { event = said; doing = upshot.doing; store = upshot.store }) ≡ true
 
-pub record Steps (old : State) (event : Happening) (doing : Doing) (store : StoreAnswer) (given : Given) (new : State) : Type 0 where
+pub record Steps (old : State) (event : Happening) (upshot : Upshot) (new : State) : Type 0 where
   pub said : Event
   pub reads : Reads event said
-  pub step : IsStep old said doing store given new
+  pub step : IsStep old said upshot new
 
 -- what an event gives and leaves is fixed by what became of it and the store's answer: a record, an answer and a line have one reading each
 abbrev pub OneStep : Type 0
 OneStep =
-    (old new end : State) (event : Happening) (doing : Doing) (store : StoreAnswer) (given other : Given) → Steps old event doing store given new → Steps old event doing store other end
+    (old new end : State) (event : Happening) (doing : Doing) (store : StoreAnswer) (given other : Given) → Steps old event (comes_to doing store given) new → Steps old event (comes_to doing store other) end
     → (given ≡ other) × (new ≡ end)

@@ -1,11 +1,9 @@
 -- What a receipt tells of an entry.
 use Rattle.std.specs.Prelude.{ℕ, Bool, true, false, ◌&&◌, ◌==◌, cond, not, List, ◌-◌, length, slice_get, Option, Some, None, option_map}
-use Rattle.std.specs.Borrow.{Bor}
 use Rattle.definitions.specs.Bytes.{Bytes, same_bytes, is_any}
 use Rattle.definitions.specs.Step.{Peer}
 use Rattle.book.specs.Given.{record_of}
-use Rattle.book.specs.declared.entry.Entry.{Entry}
-use Rattle.book.specs.Notes.{Happening, Takes, SendsNext, HearsAnswer, AsksLine, FallsSilent, GraceEnds, BeginsAnew, Note, note_of}
+use Rattle.book.specs.Notes.{Happening, Takes, SendsNext, HearsAnswer, AsksLine, FallsSilent, GraceEnds, BeginsAnew, Note}
 
 -- the entry's number, its event, and the record that its client got
 pub record Receipt : Type 0 where
@@ -14,15 +12,10 @@ pub record Receipt : Type 0 where
   pub reply : Bytes
 
 abbrev pub receipt_of : Note → Receipt
-receipt_of n = record { number = n.number; event = n.event; reply = record_of n.given }
+receipt_of n = record { number = n.number; event = n.event; reply = record_of n.upshot.given }
 
 abbrev pub newest : List Note → Option Note
 newest notes = slice_get notes (length notes - 1)
-
--- what an entry that is lent notes
-abbrev pub noted_by : Option (Bor Entry) → Option Note
-noted_by None = None
-noted_by (Some e) = Some (note_of e.now)
 
 abbrev pub newest_event : List Note → Option Happening
 newest_event notes = option_map (λ (n : Note). n.event) (newest notes)

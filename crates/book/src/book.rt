@@ -1,18 +1,18 @@
 //! The shared state and the segment of the journal that leads to it.
-ghost use Rattle.std.specs.Prelude.{◌≡◌, ◌+◌, ◌-◌, ◌<◌, ◌^◌, [], ◌∷◌, ◌++◌, length, vec_len, vec_capacity, Some, IfOk};
+ghost use Rattle.std.specs.Prelude.{◌≡◌, ◌+◌, ◌-◌, ◌<◌, ◌^◌, [], ◌∷◌, ◌++◌, vec_len, vec_capacity, Some, IfOk, is_some};
 ghost use Rattle.kept_replies.specs.Pairs.{asker};
+ghost use Rattle.definitions.specs.Outgoing.{next_due};
 ghost use Rattle.definitions.specs.Step.{opening_state};
-ghost use Rattle.book.specs.Given.{given_of};
 ghost use Rattle.book.specs.Notes.{happening_of, Takes};
-ghost use Rattle.book.specs.Receipts.{newest, newest_event, newest_receipt, noted_by, is_noted};
-ghost use Rattle.book.specs.Journal.{begun, next_of, room_of, Enters, IsLegal, IsNext};
+ghost use Rattle.book.specs.Receipts.{newest_event, newest_receipt, is_noted};
+ghost use Rattle.book.specs.Journal.{begun, room_of, rotated, Enters, IsLegal, IsNext};
 
-use crate::entry::{Act, Doing, Entry, SEGMENT};
+use crate::entry::{Act, Entry, SEGMENT};
 use crate::event::BookEvent;
 use crate::receipt::{Receipt, Taken};
-use crate::reply::Reply;
 use crate::segment::{Closed, Segment};
 use crate::shared::Shared;
+use crate::upshot::{Doing, Upshot};
 use call_records::Dest;
 use hosts_db::HostStore;
 use letters::ShortBytes;
@@ -32,8 +32,8 @@ pub struct Book<R: RangeTable, S: HostStore> {
     shared: Shared<R, S>,
     base: Snapshot<Shared<R, S>>,
     entries: Vec<Entry>,
-    /// The number of the next entry.
-    next: u64,
+    /// The number of the newest entry, over all segments.
+    newest: u64,
 }
 
 impl<R: RangeTable, S: HostStore> Model for Book<R, S> {
@@ -42,9 +42,9 @@ impl<R: RangeTable, S: HostStore> Model for Book<R, S> {
 
     ghost Value = { Book };
 
-    ghost view = { λ b. record { journal = journal_of b.next b.base.value.state b.entries b.shared.state; refusals = b.shared.refusals } };
+    ghost view = { λ b. record { journal = journal_of b.newest b.base.value.state b.entries b.shared.state; refusals = b.shared.refusals } };
 
-    ghost invariant = { λ b. IsKept b.next b.base.value.state b.entries b.shared.state };
+    ghost invariant = { λ b. IsKept b.newest b.base.value.state b.entries b.shared.state };
 }
 
 impl<R: RangeTable + Drop, S: HostStore + Drop> Book<R, S> {
@@ -66,7 +66,7 @@ impl<R: RangeTable + Drop, S: HostStore + Drop> Book<R, S> {
             shared,
             base,
             entries: segment.entries,
-            next: 1,
+            newest: 0,
         })
     }
 
@@ -76,9 +76,8 @@ impl<R: RangeTable + Drop, S: HostStore + Drop> Book<R, S> {
         ensures legal { IsLegal result }
     {
         let end = Snapshot::of(&self.shared);
-        let first = first_of(self.next, &self.entries);
         Closed {
-            first,
+            newest: self.newest,
             base: self.base,
             entries: self.entries,
             end,
@@ -87,36 +86,42 @@ impl<R: RangeTable + Drop, S: HostStore + Drop> Book<R, S> {
 }
 
 impl<R: RangeTable, S: HostStore> Book<R, S> {
-    /// For how many more entries this segment has room. The last number is never given.
+    /// For how many more entries this segment has room. There are 2^64 - 1 numbers.
     pub fn room(&self) -> u64
         ensures room { result ≡ room_of self.now.journal }
         ensures legal { IsLegal self.now.journal }
     {
-        let next = self.next;
+        let newest = self.newest;
         let left = SEGMENT - self.entries.len();
-        (u64::MAX - next).min(left as u64)
+        (u64::MAX - newest).min(left as u64)
     }
 
-    /// One event: one step of the shared state, and one entry of the journal, which tells what it gave. An answer, a silence
+    /// The store of hosts, to be read: its rows are the hosts of the state.
+    pub fn store(&self) -> &S
+        ensures rows { S.rows result.now ≡ self.now.journal.end.world.hosts }
+        ensures refusals { S.refusals result.now ≡ self.now.refusals }
+    {
+        self.shared.world.store()
+    }
+
+    /// One event: one step of the shared state, and one entry of the journal, which notes what it came to. An answer, a silence
     /// and the end of grace take no memory.
-    pub fn apply(&mut self, event: BookEvent) -> Reply
+    pub fn apply(&mut self, event: BookEvent) -> Upshot
         requires { 0 < room_of self.old.journal }
-        ensures enters { Enters self.old (happening_of event) (given_of result) self.new }
+        ensures enters { Enters self.old (happening_of event) result self.new }
         ensures legal { IsLegal self.new.journal }
     {
-        let said = self.shared.apply(&event);
-        let act = Act::Event {
-            event,
-            gave: said.noted,
-        };
-        enter(
-            &mut self.entries,
-            &mut self.next,
-            act,
-            said.doing,
-            said.store,
-        );
-        said.reply
+        let (upshot, act) = self.shared.apply(event);
+        let (doing, store) = (upshot.doing, upshot.store);
+        enter(&mut self.entries, &mut self.newest, act, doing, store);
+        upshot
+    }
+
+    /// Whether a call of the server's own is due.
+    pub fn has_due(&self) -> bool
+        ensures { result ≡ is_some (next_due self.now.journal.end.world.calls) }
+    {
+        self.shared.world.next_call().is_some()
     }
 
     /// Sends the call of the server's own that is due first: one step of the shared state, and one entry of the journal. It
@@ -133,7 +138,7 @@ impl<R: RangeTable, S: HostStore> Book<R, S> {
             letter: sending.letter,
         };
         let (doing, store) = (Doing::Applied, StoreAnswer::NotAsked);
-        enter(&mut self.entries, &mut self.next, act, doing, store);
+        enter(&mut self.entries, &mut self.newest, act, doing, store);
         Some((sending.number, sending.to, sending.frame))
     }
 
@@ -141,25 +146,17 @@ impl<R: RangeTable, S: HostStore> Book<R, S> {
     pub fn rotate(&mut self, fresh: Segment) -> Closed<R, S>
         ensures closed { result ≡ self.old.journal }
         ensures legal { IsLegal result }
-        ensures next { self.new ≡ record self.old { journal = begun (next_of self.old.journal) self.old.journal.end } }
+        ensures next { self.new ≡ rotated self.old }
     {
         let end = Snapshot::of(&self.shared);
         let base = mem::replace(&mut self.base, Snapshot::of(&self.shared));
-        let first = first_of(self.next, &self.entries);
         let entries = mem::replace(&mut self.entries, fresh.entries);
         Closed {
-            first,
+            newest: self.newest,
             base,
             entries,
             end,
         }
-    }
-
-    /// This segment's newest entry, if it has one.
-    pub fn newest(&self) -> Option<&Entry>
-        ensures { noted_by result ≡ newest self.now.journal.notes }
-    {
-        self.entries.last()
     }
 
     /// The receipt of this segment's newest entry, which took this call.
@@ -179,27 +176,19 @@ impl<R: RangeTable, S: HostStore> Book<R, S> {
     }
 }
 
-// The number of the first entry, where this is the number of the next.
-fn first_of(next: u64, entries: &[Entry]) -> u64
-    requires { length entries.now < next }
-    ensures { result ≡ next - length entries.now }
-{
-    next - entries.len() as u64
-}
-
 // One entry more, under the next number.
-fn enter(entries: &mut Vec<Entry>, next: &mut u64, act: Act, doing: Doing, store: StoreAnswer)
+fn enter(entries: &mut Vec<Entry>, newest: &mut u64, act: Act, doing: Doing, store: StoreAnswer)
     requires room { vec_len entries.old < vec_capacity entries.old }
-    requires number { next.old < 2 ^ 64 - 1 }
-    ensures entries { entries.new.items ≡ entries.old.items ++ record { number = next.old; act = act; doing = doing; store = store } ∷ [] }
+    requires number { newest.old < 2 ^ 64 - 1 }
+    ensures entries { entries.new.items ≡ entries.old.items ++ record { number = newest.old + 1; act = act; doing = doing; store = store } ∷ [] }
     ensures room { vec_capacity entries.new ≡ vec_capacity entries.old }
-    ensures next { next.new ≡ next.old + 1 }
+    ensures newest { newest.new ≡ newest.old + 1 }
 {
+    *newest += 1;
     entries.push_reserved(Entry {
-        number: *next,
+        number: *newest,
         act,
         doing,
         store,
     });
-    *next += 1;
 }

@@ -1,6 +1,7 @@
 //! Entries of the journal.
 use crate::event::BookEvent;
 use crate::reply::Reply;
+use crate::upshot::Doing;
 use letters::Letter;
 use local_ops::LocalAnswer;
 use lock_service::StoreAnswer;
@@ -9,29 +10,20 @@ use std::snapshot::Snapshot;
 /// The most entries of a segment.
 pub const SEGMENT: usize = 1_024;
 
-/// Whether an event was done, or met want of memory.
-#[derive(Clone, Copy, Debug, PartialEq, Eq)]
-pub enum Doing {
-    Applied,
-    Starved,
-}
-
-/// What an event gave, as the journal notes it.
-#[derive(Drop)]
-pub enum Gave {
-    Reply(Reply),
-    /// A local program's line was answered so, which contracts see: an answer that names an owner can't be copied without
-    /// memory, and the deed is done by then.
-    Says(Snapshot<LocalAnswer>),
-}
-
 /// What an entry notes.
 #[derive(Drop)]
 pub enum Act {
     /// An event, and what it gave.
     Event {
         event: BookEvent,
-        gave: Gave,
+        reply: Reply,
+    },
+    /// A local program's line. Contracts see its answer: one that names an owner can't be copied without memory, and the deed
+    /// is done by then.
+    Line {
+        connection: u64,
+        line: Vec<u8>,
+        answer: Snapshot<LocalAnswer>,
     },
     /// The server's own call of this number was sent. Contracts see its letter.
     Sent {

@@ -5,15 +5,16 @@ ghost use Rattle.definitions.specs.Replies.{Asks};
 ghost use Rattle.definitions.specs.Step.{Take, is_success, is_kept_kind};
 ghost use Rattle.kept_replies.specs.Pairs.{asker, at_key};
 ghost use Rattle.call_outcome.specs.Values.{outcome_of};
-ghost use Rattle.lock_service.specs.Planned.{answer_of, counted};
+ghost use Rattle.lock_service.specs.Planned.{counted};
 ghost use Rattle.lock_service.specs.Served.{call_of};
 ghost use Rattle.book.specs.Given.{given_of};
 ghost use Rattle.book.specs.Shared.{with_reply};
-ghost use Rattle.book.specs.Notes.{doing_of, IsStep};
+ghost use Rattle.book.specs.Notes.{IsStep};
 
 use crate::kept::KeptReply;
-use crate::said::Said;
+use crate::reply::Reply;
 use crate::shared::Shared;
+use crate::upshot::{Upshot, answers, starved};
 use call_outcome::Outcome;
 use hosts_db::HostStore;
 use kept_replies::{KeptReplies, Key};
@@ -27,27 +28,28 @@ use std::sync::Arc;
 impl<R: RangeTable, S: HostStore> Shared<R, S> {
     /// The call is planned, all memory is got, the store is asked, the reply is kept, the plan is done, and what waited for
     /// it is granted.
-    pub(crate) fn fresh(&mut self, key: Key, xid: u32, call: &Call<'_>) -> Said
+    pub(crate) fn fresh(&mut self, key: Key, xid: u32, call: &Call<'_>) -> (Upshot, Reply)
         requires { at_key key self.old.state.kept ≡ None }
-        ensures step { IsStep self.old.state (Take (asker key.peer) key.record (Asks xid (call_of call.now))) (doing_of result.doing) (answer_of result.store) (given_of result.reply) self.new.state }
-        ensures counts { self.new.refusals ≡ counted (answer_of result.store) self.old.refusals }
+        ensures step { IsStep self.old.state (Take (asker key.peer) key.record (Asks xid (call_of call.now))) result.0 self.new.state }
+        ensures noted { given_of result.1 ≡ result.0.given }
+        ensures counts { self.new.refusals ≡ counted result.0.store self.old.refusals }
     {
         let Ok(plan) = plan(&self.world, key.peer.is_local, call) else {
-            return Said::starved(StoreAnswer::NotAsked, xid);
+            return starved(StoreAnswer::NotAsked, xid);
         };
         let Ok(store) = agree(&mut self.world, &plan) else {
-            return Said::starved(StoreAnswer::NotAsked, xid);
+            return starved(StoreAnswer::NotAsked, xid);
         };
         match keep(&mut self.kept, key, xid, call, plan.outcome(store)) {
             Ok(noted) => {
                 let outcome = commit(&mut self.world, plan, store);
                 self.world.settle();
-                Said::answers(store, xid, outcome, noted)
+                answers(store, xid, outcome, noted)
             }
             Err(Starved) => {
                 abandon(&mut self.world, &plan);
                 drop(plan);
-                Said::starved(store, xid)
+                starved(store, xid)
             }
         }
     }

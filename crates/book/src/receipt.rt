@@ -1,12 +1,13 @@
 //! Receipts: what whoever sends a reply holds of its entry.
 ghost use Rattle.std.specs.Prelude.{◌≡◌};
 ghost use Rattle.kept_replies.specs.Pairs.{asker};
-ghost use Rattle.book.specs.Given.{given_by, record_of};
+ghost use Rattle.book.specs.Given.{given_of, record_of};
 ghost use Rattle.book.specs.Notes.{Takes, note_of};
 ghost use Rattle.book.specs.Receipts.{receipt_of, same_receipt};
 
-use crate::entry::{Act, Entry, Gave};
+use crate::entry::{Act, Entry};
 use crate::event::BookEvent;
+use crate::reply::Reply;
 use bytes::Bytes;
 use kept_replies::Peer;
 use std::marker::Model;
@@ -44,8 +45,8 @@ impl Receipt {
         ensures { result ≡ receipt_of (note_of entry.now) }
     {
         let reply = match &entry.act {
-            Act::Event { gave, .. } => record_of(gave),
-            Act::Sent { .. } => Frame::new(),
+            Act::Event { reply, .. } => record_of(reply),
+            Act::Line { .. } | Act::Sent { .. } => Frame::new(),
         };
         Receipt {
             number: entry.number,
@@ -82,7 +83,7 @@ impl Receipt {
         if entry.number != self.number {
             return false;
         }
-        let Act::Event { event, gave } = &entry.act else {
+        let Act::Event { event, reply } = &entry.act else {
             return false;
         };
         let BookEvent::Take { peer, record } = event else {
@@ -91,18 +92,16 @@ impl Receipt {
         if *peer != self.taken.peer || *record != self.taken.record {
             return false;
         }
-        record_of(gave).as_slice() == self.reply.as_slice()
+        record_of(reply).as_slice() == self.reply.as_slice()
     }
 }
 
 // The record that a client got.
-fn record_of(gave: &Gave) -> Frame
-    ensures { result ≡ record_of (given_by gave.now) }
+fn record_of(reply: &Reply) -> Frame
+    ensures { result ≡ record_of (given_of reply.now) }
 {
     let mut record = Frame::new();
-    if let Gave::Reply(reply) = gave {
-        // An empty frame has room for each record.
-        let _ = reply.put(&mut record);
-    }
+    // An empty frame has room for each record.
+    let _ = reply.put(&mut record);
     record
 }

@@ -4,12 +4,12 @@ ghost use Rattle.definitions.specs.Hosts.{NotAsked};
 ghost use Rattle.definitions.specs.Replies.{Call as Asked, Asks};
 ghost use Rattle.definitions.specs.Step.{Take};
 ghost use Rattle.kept_replies.specs.Pairs.{asker, at_key};
-ghost use Rattle.lock_service.specs.Planned.{answer_of};
 ghost use Rattle.book.specs.Given.{given_of};
-ghost use Rattle.book.specs.Notes.{doing_of, IsStep};
+ghost use Rattle.book.specs.Notes.{IsStep};
 
-use crate::said::Said;
+use crate::reply::Reply;
 use crate::shared::Shared;
+use crate::upshot::{Upshot, answers};
 use hosts_db::HostStore;
 use kept_replies::Key;
 use lock_service::StoreAnswer;
@@ -20,10 +20,11 @@ use std::sync::Arc;
 impl<R: RangeTable, S: HostStore> Shared<R, S> {
     /// The reply that is kept under the key, which is now the newest use; whatever the call asks, nothing else changes.
     /// Starved: nothing has changed.
-    pub(crate) fn repeat(&mut self, key: &Key) -> Result<Option<Said>, Starved>
-        ensures found { IfOk result (λ found. IfSome found (λ said. (xid : ℕ) (call : Asked) → IsStep self.old.state (Take (asker key.now.peer) key.now.record (Asks xid call)) (doing_of said.doing) (answer_of said.store) (given_of said.reply) self.new.state)) }
+    pub(crate) fn repeat(&mut self, key: &Key) -> Result<Option<(Upshot, Reply)>, Starved>
+        ensures found { IfOk result (λ found. IfSome found (λ said. (xid : ℕ) (call : Asked) → IsStep self.old.state (Take (asker key.now.peer) key.now.record (Asks xid call)) said.0 self.new.state)) }
+        ensures noted { IfOk result (λ found. IfSome found (λ said. given_of said.1 ≡ said.0.given)) }
         ensures counts { self.new.refusals ≡ self.old.refusals }
-        ensures unasked { IfOk result (λ found. IfSome found (λ said. answer_of said.store ≡ NotAsked)) }
+        ensures unasked { IfOk result (λ found. IfSome found (λ said. said.0.store ≡ NotAsked)) }
         ensures none { IfOk result (λ found. IfNone found ((at_key key.now self.old.state.kept ≡ None) × (self.new ≡ self.old))) }
         ensures err { OnErr result (self.new ≡ self.old) }
     {
@@ -34,6 +35,6 @@ impl<R: RangeTable, S: HostStore> Shared<R, S> {
         let outcome = Arc::try_clone(&kept.outcome)?;
         let noted = Arc::try_clone(&kept.outcome)?;
         let _ = self.kept.find(key);
-        Ok(Some(Said::answers(StoreAnswer::NotAsked, xid, outcome, noted)))
+        Ok(Some(answers(StoreAnswer::NotAsked, xid, outcome, noted)))
     }
 }

@@ -1,5 +1,5 @@
 //! Segments of the journal.
-ghost use Rattle.std.specs.Prelude.{◌≡◌, ◌≤◌, [], map, vec_capacity};
+ghost use Rattle.std.specs.Prelude.{◌≡◌, ◌≤◌, ◌↔◌, [], map, vec_capacity, IfSome, IsNone};
 ghost use Rattle.book.specs.Notes.{note_of};
 ghost use Rattle.book.specs.declared.entry.TheConstants.{SEGMENT};
 
@@ -32,30 +32,34 @@ impl Segment {
 /// A segment that is over. Contracts see the states before and after it, too.
 #[derive(Drop)]
 pub struct Closed<R: RangeTable, S: HostStore> {
-    pub(crate) first: u64,
+    pub(crate) newest: u64,
     pub(crate) base: Snapshot<Shared<R, S>>,
     pub(crate) entries: Vec<Entry>,
     pub(crate) end: Snapshot<Shared<R, S>>,
 }
 
 impl<R: RangeTable, S: HostStore> Model for Closed<R, S> {
-    ghost use Rattle.std.specs.Prelude.{map};
-    ghost use Rattle.book.specs.Notes.{note_of};
+    ghost use Rattle.std.specs.Prelude.{◌≤◌, vec_len};
     ghost use Rattle.book.specs.Journal.{Journal, IsLegal};
+    ghost use Rattle.book.specs.Kept.{journal_of};
 
     ghost Value = { Journal };
 
-    ghost view = { λ c. record { first = c.first; base = c.base.value.state; notes = map note_of c.entries.items; end = c.end.value.state } };
+    ghost view = { λ c. journal_of c.newest c.base.value.state c.entries c.end.value.state };
 
-    ghost invariant = { λ c. IsLegal (record { first = c.first; base = c.base.value.state; notes = map note_of c.entries.items; end = c.end.value.state }) };
+    ghost invariant = { λ c. IsLegal (journal_of c.newest c.base.value.state c.entries c.end.value.state) × (vec_len c.entries ≤ c.newest) };
 }
 
 impl<R: RangeTable, S: HostStore> Closed<R, S> {
     /// The number of the first entry, if there is one.
-    pub fn first(&self) -> u64
-        ensures { result ≡ self.now.first }
+    pub fn first(&self) -> Option<u64>
+        ensures some { IfSome result (λ first. first ≡ self.now.first) }
+        ensures none { IsNone result ↔ (self.now.notes ≡ []) }
     {
-        self.first
+        if self.entries.is_empty() {
+            return None;
+        }
+        Some(self.newest - (self.entries.len() as u64 - 1))
     }
 
     /// The entries, the oldest first.

@@ -5,6 +5,7 @@ ghost use Rattle.definitions.specs.Outgoing.{next_due};
 ghost use Rattle.definitions.specs.Step.{Applied, Send, Sends};
 ghost use Rattle.call_records.specs.Dests.{dest_of};
 ghost use Rattle.call_records.specs.Records.{call_record};
+ghost use Rattle.book.specs.Given.{comes_to};
 ghost use Rattle.book.specs.Notes.{IsStep};
 
 use crate::shared::Shared;
@@ -29,7 +30,7 @@ pub(crate) struct Sending {
 impl<R: RangeTable, S: HostStore> Shared<R, S> {
     /// The call that is due first is sent, if one is due.
     pub(crate) fn send(&mut self) -> Option<Sending>
-        ensures step { IfSome result (λ s. IsStep self.old.state Send Applied NotAsked (Sends s.number s.letter.value) self.new.state) }
+        ensures step { IfSome result (λ s. IsStep self.old.state Send (comes_to Applied NotAsked (Sends s.number s.letter.value)) self.new.state) }
         ensures none { IfNone result ((next_due self.old.state.world.calls ≡ None) × (self.new ≡ self.old)) }
         ensures refusals { self.new.refusals ≡ self.old.refusals }
     {

@@ -2,18 +2,19 @@
 ghost use Rattle.std.specs.Prelude.{◌≡◌, [], IfOk};
 ghost use Rattle.definitions.specs.Step.{opening_state, Silent, GraceOver, Restart, Applied, Starved as HasStarved};
 ghost use Rattle.lock_service.specs.Planned.{answer_of, counted};
-ghost use Rattle.book.specs.Given.{given_of, unbegun};
+ghost use Rattle.book.specs.Given.{comes_to, doing_of, given_of, unbegun};
 ghost use Rattle.book.specs.Journal.{TakesMemory};
-ghost use Rattle.book.specs.Notes.{doing_of, happening_of, HearsAnswer, IsStep, Steps};
+ghost use Rattle.book.specs.Notes.{gave, happened, happening_of, AsksLine, HearsAnswer, IsStep, Steps};
 
-use crate::entry::{Doing, Gave};
+use crate::entry::Act;
 use crate::event::BookEvent;
 use crate::kept::KeptReply;
 use crate::reply::Reply;
-use crate::said::Said;
+use crate::upshot::{Doing, Upshot, nothing};
 use hosts_db::{HostStore, StoreError};
 use kept_replies::KeptReplies;
 use letters::ShortBytes;
+use local_ops::LocalAnswer;
 use lock_service::{StoreAnswer, answered};
 use lock_world::World;
 use owner_ids::Starved;
@@ -21,6 +22,7 @@ use range_table::RangeTable;
 use record_reading::AnswerReading;
 use std::alloc::Global;
 use std::marker::Model;
+use std::snapshot::Snapshot;
 
 /// What the events of the book act on. A contract sees it as the state of `definitions`, and how often the store refused.
 #[derive(Drop)]
@@ -56,52 +58,84 @@ impl<R: RangeTable + Drop, S: HostStore + Drop> Shared<R, S> {
 }
 
 impl<R: RangeTable, S: HostStore> Shared<R, S> {
-    /// One event.
-    pub(crate) fn apply(&mut self, event: &BookEvent) -> Said
-        ensures step { Steps self.old.state (happening_of event.now) (doing_of result.doing) (answer_of result.store) (given_of result.reply) self.new.state }
-        ensures counts { self.new.refusals ≡ counted (answer_of result.store) self.old.refusals }
-        ensures fed { doing_of result.doing ≡ HasStarved → TakesMemory (happening_of event.now) }
+    /// One event: what it comes to, and what the journal notes of it.
+    pub(crate) fn apply(&mut self, event: BookEvent) -> (Upshot, Act)
+        ensures step { Steps self.old.state (happening_of event) result.0 self.new.state }
+        ensures event { happened result.1 ≡ happening_of event }
+        ensures noted { gave result.1 ≡ result.0.given }
+        ensures counts { self.new.refusals ≡ counted result.0.store self.old.refusals }
+        ensures fed { result.0.doing ≡ HasStarved → TakesMemory (happening_of event) }
     {
-        match event {
-            BookEvent::Take { peer, record } => self.take(*peer, record),
-            BookEvent::Answer { bytes } => self.answer(bytes),
-            BookEvent::Local { connection, line } => self.line(*connection, line),
-            BookEvent::Silent { number } => self.silent(*number),
-            BookEvent::GraceOver => self.grace_over(),
-            BookEvent::Restart => self.restart(),
-        }
+        let ((upshot, reply), event) = match event {
+            BookEvent::Local { connection, line } => return self.local(connection, line),
+            BookEvent::Take { peer, record } => {
+                (self.take(peer, &record), BookEvent::Take { peer, record })
+            }
+            BookEvent::Answer { bytes } => (self.answer(&bytes), BookEvent::Answer { bytes }),
+            BookEvent::Silent { number } => (self.silent(number), BookEvent::Silent { number }),
+            BookEvent::GraceOver => (self.grace_over(), BookEvent::GraceOver),
+            BookEvent::Restart => (self.restart(), BookEvent::Restart),
+        };
+        (upshot, Act::Event { event, reply })
     }
 
-    fn answer(&mut self, bytes: &[u8]) -> Said
-        ensures step { Steps self.old.state (HearsAnswer bytes.now) (doing_of result.doing) (answer_of result.store) (given_of result.reply) self.new.state }
-        ensures counts { self.new.refusals ≡ counted (answer_of result.store) self.old.refusals }
-        ensures fed { doing_of result.doing ≡ Applied }
+    fn local(&mut self, connection: u64, line: Vec<u8>) -> (Upshot, Act)
+        ensures step { Steps self.old.state (AsksLine connection line.items) result.0 self.new.state }
+        ensures event { happened result.1 ≡ AsksLine connection line.items }
+        ensures noted { gave result.1 ≡ result.0.given }
+        ensures counts { self.new.refusals ≡ counted result.0.store self.old.refusals }
+    {
+        let (doing, answer) = match self.line(connection, &line) {
+            Ok(answer) => (Doing::Applied, answer),
+            Err(Starved) => (Doing::Starved, LocalAnswer::Starved),
+        };
+        let act = Act::Line {
+            connection,
+            line,
+            answer: Snapshot::of(&answer),
+        };
+        let upshot = Upshot {
+            doing,
+            store: StoreAnswer::NotAsked,
+            reply: Reply::Says(answer),
+        };
+        (upshot, act)
+    }
+
+    fn answer(&mut self, bytes: &[u8]) -> (Upshot, Reply)
+        ensures step { Steps self.old.state (HearsAnswer bytes.now) result.0 self.new.state }
+        ensures noted { given_of result.1 ≡ result.0.given }
+        ensures counts { self.new.refusals ≡ counted result.0.store self.old.refusals }
+        ensures fed { result.0.doing ≡ Applied }
     {
         let reading = AnswerReading::read(bytes);
-        Said::nothing(answered(&mut self.world, &reading))
+        nothing(answered(&mut self.world, &reading))
     }
 
-    fn silent(&mut self, number: u64) -> Said
-        ensures step { IsStep self.old.state (Silent number) (doing_of result.doing) (answer_of result.store) (given_of result.reply) self.new.state }
-        ensures counts { self.new.refusals ≡ counted (answer_of result.store) self.old.refusals }
-        ensures fed { doing_of result.doing ≡ Applied }
+    fn silent(&mut self, number: u64) -> (Upshot, Reply)
+        ensures step { IsStep self.old.state (Silent number) result.0 self.new.state }
+        ensures noted { given_of result.1 ≡ result.0.given }
+        ensures counts { self.new.refusals ≡ counted result.0.store self.old.refusals }
+        ensures fed { result.0.doing ≡ Applied }
     {
         self.world.silent(number);
-        Said::nothing(StoreAnswer::NotAsked)
+        nothing(StoreAnswer::NotAsked)
     }
 
-    fn grace_over(&mut self) -> Said
-        ensures step { IsStep self.old.state GraceOver (doing_of result.doing) (answer_of result.store) (given_of result.reply) self.new.state }
-        ensures counts { self.new.refusals ≡ counted (answer_of result.store) self.old.refusals }
-        ensures fed { doing_of result.doing ≡ Applied }
+    fn grace_over(&mut self) -> (Upshot, Reply)
+        ensures step { IsStep self.old.state GraceOver result.0 self.new.state }
+        ensures noted { given_of result.1 ≡ result.0.given }
+        ensures counts { self.new.refusals ≡ counted result.0.store self.old.refusals }
+        ensures fed { result.0.doing ≡ Applied }
     {
         self.world.grace_over();
-        Said::nothing(StoreAnswer::NotAsked)
+        nothing(StoreAnswer::NotAsked)
     }
 
-    fn restart(&mut self) -> Said
-        ensures step { IsStep self.old.state Restart (doing_of result.doing) (answer_of result.store) (given_of result.reply) self.new.state }
-        ensures counts { self.new.refusals ≡ counted (answer_of result.store) self.old.refusals }
+    fn restart(&mut self) -> (Upshot, Reply)
+        ensures step { IsStep self.old.state Restart result.0 self.new.state }
+        ensures noted { given_of result.1 ≡ result.0.given }
+        ensures counts { self.new.refusals ≡ counted result.0.store self.old.refusals }
     {
         let Ok(notices) = self.world.notices() else {
             return unstarted(Doing::Starved, StoreAnswer::NotAsked);
@@ -109,7 +143,7 @@ impl<R: RangeTable, S: HostStore> Shared<R, S> {
         match self.world.restart(notices) {
             Ok(()) => {
                 self.kept.clear();
-                Said::nothing(StoreAnswer::Yes)
+                nothing(StoreAnswer::Yes)
             }
             Err(StoreError::StoreRefused) => unstarted(Doing::Applied, StoreAnswer::Refused),
             Err(StoreError::Starved) => unstarted(Doing::Starved, StoreAnswer::NotAsked),
@@ -118,19 +152,18 @@ impl<R: RangeTable, S: HostStore> Shared<R, S> {
 }
 
 // The server did not begin anew, and there is nobody to answer.
-fn unstarted(doing: Doing, store: StoreAnswer) -> Said
-    ensures doing { result.doing ≡ doing }
-    ensures store { result.store ≡ store }
-    ensures given { given_of result.reply ≡ unbegun (doing_of doing) }
+fn unstarted(doing: Doing, store: StoreAnswer) -> (Upshot, Reply)
+    ensures upshot { result.0 ≡ comes_to (doing_of doing) (answer_of store) (unbegun (doing_of doing)) }
+    ensures noted { given_of result.1 ≡ unbegun (doing_of doing) }
 {
     let (reply, noted) = match doing {
         Doing::Applied => (Reply::StoreRefused, Reply::StoreRefused),
         Doing::Starved => (Reply::Starved, Reply::Starved),
     };
-    Said {
+    let upshot = Upshot {
         doing,
         store,
         reply,
-        noted: Gave::Reply(noted),
-    }
+    };
+    (upshot, noted)
 }

@@ -3,18 +3,32 @@ ghost use Rattle.std.specs.Prelude.{◌≡◌};
 ghost use Rattle.definitions.specs.Hosts.{NotAsked};
 ghost use Rattle.definitions.specs.Step.{State, Starved};
 ghost use Rattle.record_reading.specs.Values.{view_of_reading};
-ghost use Rattle.book.specs.Given.{given_of, starved_reading};
+ghost use Rattle.book.specs.Given.{comes_to, given_of, starved_reading};
 ghost use Rattle.book.specs.Notes.{happening_of, Steps};
 
 use crate::event::BookEvent;
 use crate::reply::Reply;
+use crate::upshot::{Doing, Upshot};
 use local_ops::{LocalAnswer, LocalCall};
+use lock_service::StoreAnswer;
 use record_reading::{AnswerReading, Reading};
 
 impl BookEvent {
-    /// What the event gives where there was no memory for it before it began: a call gets SYSTEM_ERR, and nothing changes.
-    pub fn starved(&self) -> Reply
-        ensures { (s : State) → Steps s (happening_of self.now) Starved NotAsked (given_of result) s }
+    /// What the event comes to where there was no memory for it before it began: a call gets SYSTEM_ERR, and nothing changes.
+    pub fn starved(&self) -> Upshot
+        ensures starves { result.doing ≡ Starved }
+        ensures unasked { result.store ≡ NotAsked }
+        ensures stays { (s : State) → Steps s (happening_of self.now) result s }
+    {
+        Upshot {
+            doing: Doing::Starved,
+            store: StoreAnswer::NotAsked,
+            reply: self.starved_reply(),
+        }
+    }
+
+    fn starved_reply(&self) -> Reply
+        ensures { (s : State) → Steps s (happening_of self.now) (comes_to Starved NotAsked (given_of result)) s }
     {
         match self {
             BookEvent::Take { record, .. } => starved_by(&Reading::read(record)),

@@ -4,14 +4,15 @@ ghost use Rattle.definitions.specs.Replies.{Asks};
 ghost use Rattle.definitions.specs.Step.{Take};
 ghost use Rattle.kept_replies.specs.Pairs.{asker};
 ghost use Rattle.record_reading.specs.Values.{view_of_call, view_of_refusal};
-ghost use Rattle.lock_service.specs.Planned.{answer_of, counted};
+ghost use Rattle.lock_service.specs.Planned.{counted};
 ghost use Rattle.lock_service.specs.Served.{call_of, served};
 ghost use Rattle.book.specs.Given.{given_of};
-ghost use Rattle.book.specs.Notes.{doing_of, IsStep, Steps, Takes};
+ghost use Rattle.book.specs.Notes.{IsStep, Steps, Takes};
 ghost use Rattle.book.specs.Readings.{refusal_of};
 
-use crate::said::Said;
+use crate::reply::Reply;
 use crate::shared::Shared;
+use crate::upshot::{Upshot, nothing, refuses, starved};
 use bytes::Bytes;
 use hosts_db::HostStore;
 use kept_replies::{Key, Peer};
@@ -22,32 +23,34 @@ use record_reading::{Call as AnyCall, Reading, Refusal};
 
 impl<R: RangeTable, S: HostStore> Shared<R, S> {
     /// A record of a peer: it is ignored, turned away, or given to its procedure, unless its reply is kept.
-    pub(crate) fn take(&mut self, peer: Peer, bytes: &Bytes) -> Said
-        ensures step { Steps self.old.state (Takes (asker peer) bytes.now) (doing_of result.doing) (answer_of result.store) (given_of result.reply) self.new.state }
-        ensures counts { self.new.refusals ≡ counted (answer_of result.store) self.old.refusals }
+    pub(crate) fn take(&mut self, peer: Peer, bytes: &Bytes) -> (Upshot, Reply)
+        ensures step { Steps self.old.state (Takes (asker peer) bytes.now) result.0 self.new.state }
+        ensures noted { given_of result.1 ≡ result.0.given }
+        ensures counts { self.new.refusals ≡ counted result.0.store self.old.refusals }
     {
         match Reading::read(bytes) {
-            Reading::Ignored => Said::nothing(StoreAnswer::NotAsked),
-            Reading::Turned { xid, refusal } => Said::refuses(xid, refusal),
+            Reading::Ignored => nothing(StoreAnswer::NotAsked),
+            Reading::Turned { xid, refusal } => refuses(xid, refusal),
             Reading::Asks { xid, call } => match Call::served(&call) {
                 Some(call) => self.called(peer, bytes, xid, &call),
-                None => Said::refuses(xid, unserved(&call)),
+                None => refuses(xid, unserved(&call)),
             },
         }
     }
 
-    fn called(&mut self, peer: Peer, bytes: &Bytes, xid: u32, call: &Call<'_>) -> Said
-        ensures step { IsStep self.old.state (Take (asker peer) bytes.now (Asks xid (call_of call.now))) (doing_of result.doing) (answer_of result.store) (given_of result.reply) self.new.state }
-        ensures counts { self.new.refusals ≡ counted (answer_of result.store) self.old.refusals }
+    fn called(&mut self, peer: Peer, bytes: &Bytes, xid: u32, call: &Call<'_>) -> (Upshot, Reply)
+        ensures step { IsStep self.old.state (Take (asker peer) bytes.now (Asks xid (call_of call.now))) result.0 self.new.state }
+        ensures noted { given_of result.1 ≡ result.0.given }
+        ensures counts { self.new.refusals ≡ counted result.0.store self.old.refusals }
     {
         let Ok(record) = bytes.clone() else {
-            return Said::starved(StoreAnswer::NotAsked, xid);
+            return starved(StoreAnswer::NotAsked, xid);
         };
         let key = Key { peer, record };
         match self.repeat(&key) {
             Ok(Some(said)) => said,
             Ok(None) => self.fresh(key, xid, call),
-            Err(Starved) => Said::starved(StoreAnswer::NotAsked, xid),
+            Err(Starved) => starved(StoreAnswer::NotAsked, xid),
         }
     }
 }

@@ -49,11 +49,6 @@ pub(crate) fn take(record: Bytes) -> BookEvent {
     }
 }
 
-// What the store answered the newest event.
-fn store_answer<R: RangeTable, S: HostStore>(book: &Book<R, S>) -> Option<StoreAnswer> {
-    book.newest().map(|entry| entry.store)
-}
-
 /// Whether a segment with room takes the event, and the store answers it so.
 pub(crate) fn happens<R: RangeTable, S: HostStore>(
     book: &mut Book<R, S>,
@@ -63,8 +58,7 @@ pub(crate) fn happens<R: RangeTable, S: HostStore>(
     if book.room() == 0 {
         return false;
     }
-    drop(book.apply(event));
-    store_answer(book) == Some(store)
+    book.apply(event).store == store
 }
 
 fn is_answered<R: RangeTable, S: HostStore>(
@@ -77,8 +71,9 @@ fn is_answered<R: RangeTable, S: HostStore>(
     if book.room() == 0 {
         return Ok(false);
     }
-    let frame = sent(&book.apply(take(record)));
-    Ok(is_reply(frame.as_slice(), xid, told) && store_answer(book) == Some(store))
+    let upshot = book.apply(take(record));
+    let frame = sent(&upshot.reply);
+    Ok(is_reply(frame.as_slice(), xid, told) && upshot.store == store)
 }
 
 /// Whether all lines are answered so.

@@ -136,11 +136,9 @@ fn happens<R: RangeTable, S: HostStore>(
     if book.room() == 0 {
         return Ok(Went::Wrong);
     }
-    let frame = sent(&book.apply(made));
-    let Some(entry) = book.newest() else {
-        return Ok(Went::Wrong);
-    };
-    Ok(match entry.doing {
+    let upshot = book.apply(made);
+    let frame = sent(&upshot.reply);
+    Ok(match upshot.doing {
         doing if !is_sent(frame.as_slice(), event, doing) => Went::Wrong,
         Doing::Applied => Went::Right,
         Doing::Starved => Went::Starved,

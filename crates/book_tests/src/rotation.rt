@@ -54,7 +54,7 @@ fn full<R: RangeTable, S: HostStore>(
 // Whether the segment has so many entries, with numbers from 1 on.
 fn is_full<R: RangeTable, S: HostStore>(closed: &Closed<R, S>) -> bool {
     let entries = closed.entries();
-    closed.first() == 1
+    closed.first() == Some(1)
         && entries.len() == SEGMENT
         && entries
             .iter()
@@ -79,7 +79,8 @@ fn rotates<R: RangeTable, S: HostStore>(
             && new.number() == 1_025
             && book.room() == 1_023
             && !book.check(&old)
-            && book.check(&new),
+            && book.check(&new)
+            && book.store().hosts().is_empty(),
     )
 }
 

@@ -1,16 +1,24 @@
 -- A take at a place.
 use Rattle.std.proofs.Common.{◌≡◌, ℕ, zero, suc, ◌<◌, ◌≤◌, inl, inr, List, [], ◌∷◌, ◌++◌, subst, length, Some, slice_get, slice_set, slice_index_or, refl, sym, ◌∙◌, ap, arith}
 use Rattle.std.proofs.lemmas.Bool.Decides.{nat_tests}
+use Rattle.definitions.specs.Hosts.{NotAsked}
 use Rattle.definitions.specs.Step.{Given, State}
 use Rattle.kept_replies.specs.Pairs.{asker}
+use Rattle.lock_service.specs.declared.plans.StoreAnswer.{StoreAnswer as Told}
+use Rattle.lock_service.specs.declared.plans.StoreAnswer.TheVariants as told
 use Rattle.lock_service.specs.Planned.{answer_of, counted}
-use Rattle.book.specs.Notes.{Takes, doing_of, Steps}
+use Rattle.book.specs.Given.{Upshot}
+use Rattle.book.specs.Journal.{TakesMemory}
+use Rattle.book.specs.Notes.{Happening, Takes, BeginsAnew, Steps}
+use Rattle.daemon_core.specs.declared.outcome.Outcome.{Outcome}
+use Rattle.daemon_core.specs.declared.outcome.Outcome.TheVariants.{Starved, NoSegment}
+use Rattle.daemon_core.specs.Outcomes.{doing_of, NeedsEntry}
 use Rattle.daemon_core.specs.declared.outputs.Outputs.{Outputs}
-use Rattle.daemon_core.specs.Outputs.{quiet, told_to}
+use Rattle.daemon_core.specs.Outputs.{quiet, upshot_of, told_to}
 use Rattle.daemon_core.specs.Untaken.{AreRecords, untaken}
 use Rattle.daemon_core.specs.Link.{Link, with_taken}
 use Rattle.daemon_core.specs.declared.event.Event.{Event}
-use Rattle.daemon_core.specs.Hub.{Hub, with_links, place_of, TakesAt, HubStep, Run}
+use Rattle.daemon_core.specs.Hub.{Hub, with_links, place_of, IsUnnoted, TakesAt, links_after, Happens, HubStep, Run}
 
 pub place_of-below : (number : ℕ) (links : List Link) (place : ℕ) → place_of number links ≡ Some place → place < length links
 place_of-below number links place e = grind (arith, nat_tests)
@@ -43,9 +51,10 @@ TakesAt-none old out place i link link' there none is =
 
 pub TakesAt-some : (old : Hub) (state : State) (refusals : ℕ) (out : Outputs) (place i : ℕ) (link link' : Link) (bytes : List ℕ) (given : Given) → slice_get old.links place ≡ Some link
     → (records : List (List ℕ)) × AreRecords link.received records × (slice_get (untaken records link.taken) i ≡ Some bytes) × (link' ≡ with_taken link i)
-    → Steps old.state (Takes (asker link.peer) bytes) (doing_of out.outcome) (answer_of out.store) given state → refusals ≡ counted (answer_of out.store) old.refusals
-    → out ≡ told_to link.number out.outcome out.store given → TakesAt (Some place) i old out (record { state = state; refusals = refusals; links = slice_set old.links place link' })
-TakesAt-some old state refusals out place i link link' bytes given there some step counts outputs =
+    → Steps old.state (Takes (asker link.peer) bytes) (upshot_of out given) state → refusals ≡ counted (answer_of out.store) old.refusals
+    → (out.outcome ≡ NoSegment → IsUnnoted (Takes (asker link.peer) bytes) old.state out state) → out ≡ told_to link.number out.outcome out.store given
+    → TakesAt (Some place) i old out (record { state = state; refusals = refusals; links = slice_set old.links place link' })
+TakesAt-some old state refusals out place i link link' bytes given there some step counts unnoted outputs =
     inl (record {
       link = link;
       there = there;
@@ -56,9 +65,45 @@ TakesAt-some old state refusals out place i link link' bytes given there some st
       given = given;
       step = step;
       refusals = counts;
+      unnoted = unnoted;
       links = ap (λ l. slice_set old.links place l) some.3;
       outputs = outputs;
     })
+
+-- ---- an event of the shared state
+
+not_asked : (store : Told) → answer_of store ≡ NotAsked → store ≡ told.NotAsked
+not_asked told.NotAsked e = refl
+not_asked told.Yes e = absurd cc
+not_asked told.Refused e = absurd cc
+
+pub links_after-kept : (store : Told) (links : List Link) → (store ≡ told.Yes → ⊥) → links_after BeginsAnew store links ≡ links
+links_after-kept told.NotAsked links unlike = refl
+links_after-kept told.Yes links unlike = absurd (unlike refl)
+links_after-kept told.Refused links unlike = refl
+
+-- what is told of an upshot
+module _ (out : Outputs) (outcome : Outcome) (upshot : Upshot) (is : out.outcome ≡ outcome) (store : answer_of out.store ≡ upshot.store) (doing : doing_of outcome ≡ upshot.doing) where
+  pub upshot_of-told : upshot_of out upshot.given ≡ upshot
+  upshot_of-told =
+      let became : doing_of out.outcome ≡ upshot.doing = ap doing_of is ∙ doing in λ i. record { doing = became i; store = store i; given = upshot.given }
+
+  module _ (event : Happening) (old new : State) (unasked : outcome ≡ NoSegment → upshot.store ≡ NotAsked) (unchanged : outcome ≡ NoSegment → new ≡ old) (needed : NeedsEntry event old) where
+    pub unnoted : out.outcome ≡ NoSegment → IsUnnoted event old out new
+    unnoted none = let same = sym is ∙ none in record { needed = needed; unasked = not_asked out.store (store ∙ unasked same); unchanged = unchanged same }
+
+    pub Happens-noted : (tell : Outcome → Told → Given → Outputs) (refusals counts : ℕ) (links more : List Link) → Steps old event upshot new → counts ≡ counted upshot.store refusals → (outcome ≡ Starved → TakesMemory event)
+        → more ≡ links_after event out.store links → out ≡ tell out.outcome out.store upshot.given
+        → Happens tell event (record { state = old; refusals = refusals; links = links }) out (record { state = new; refusals = counts; links = more })
+    Happens-noted tell refusals counts links more steps counted_is fed links_is outputs = record {
+      given = upshot.given;
+      step = subst (λ (u : Upshot). Steps old event u new) (sym upshot_of-told) steps;
+      refusals = rw store counted_is;
+      fed = λ met. fed (sym is ∙ met);
+      unnoted = unnoted;
+      links = links_is;
+      outputs = outputs;
+    }
 
 pub Run-more : (old mid new : Hub) (events : List Event) (outs : List Outputs) (event : Event) (out : Outputs) → Run old events outs mid → HubStep mid event out new
     → Run old (events ++ event ∷ []) (outs ++ out ∷ []) new

@@ -4,4 +4,3 @@ pub mod Sends
 pub mod SameRun
 pub mod Replays
 pub mod Told
-pub mod WrittenLemmas

@@ -1,20 +1,21 @@
 -- A run is a replay of the definitions' events, and what stands over those stands over it.
 use Rattle.std.proofs.Common.{◌≡◌, ℕ, List, [], ◌∷◌, ◌++◌, ◌⊎◌, Option, Some, None, inl, inr, refl, sym, ap, ◌∙◌, subst}
 use Rattle.definitions.specs.Bytes.{Bytes, Holds}
-use Rattle.definitions.specs.Hosts.{Hosts, StoreAnswer}
+use Rattle.definitions.specs.Hosts.{Hosts}
 use Rattle.definitions.specs.Phases.{Grace}
 use Rattle.definitions.specs.Shares.{Share}
 use Rattle.definitions.specs.World.{the_limits}
-use Rattle.definitions.specs.Step.{State, Doing as Became, Given, opening_state}
+use Rattle.definitions.specs.Step.{State, opening_state}
 use Rattle.definitions.specs.Replay.{Done, after, state_after}
 use Rattle.definitions.specs.Moves.{IsSound, IsReclaim, TableMove}
 use Rattle.definitions.specs.Standing.{IsShareReclaim, IsGrantless}
-use Rattle.book.specs.declared.entry.Doing.{Doing}
-use Rattle.book.specs.declared.entry.Doing.TheVariants.{Applied, Starved}
+use Rattle.book.specs.Given.{Upshot}
 use Rattle.book.specs.Notes.{Happening, Steps}
 use Rattle.kept_replies.specs.declared.key.Peer.{Peer}
 use Rattle.daemon_core.specs.declared.event.Event.{Event}
 use Rattle.daemon_core.specs.declared.event.Event.TheVariants.{Connect, Piece, Disconnect, Take, Send, Answer, Local, Silent, GraceOver, Restart}
+use Rattle.daemon_core.specs.declared.outcome.Outcome.{Outcome}
+use Rattle.daemon_core.specs.declared.outcome.Outcome.TheVariants.{Applied, Starved, NoSegment}
 use Rattle.daemon_core.specs.declared.outputs.Outputs.{Outputs}
 use Rattle.definitions.proofs.RunLaws.{run_is_sound}
 use Rattle.definitions.proofs.GraceLaws.{grace_grants_law}
@@ -31,13 +32,14 @@ pub record Replay (old new : State) : Type 0 where
 stays : (old : State) (new : State) → new ≡ old → Replay old new
 stays old new e = record { done = []; leads = sym e }
 
-by_step : (old new : State) (event : Happening) (doing : Became) (store : StoreAnswer) (given : Given) → Steps old event doing store given new → Replay old new
-by_step old new event doing store given s = record { done = (record { event = s.said; doing = doing; store = store }) ∷ []; leads = s.step.leaves }
+by_step : (old new : State) (event : Happening) (upshot : Upshot) → Steps old event upshot new → Replay old new
+by_step old new event upshot s = record { done = (record { event = s.said; doing = upshot.doing; store = upshot.store }) ∷ []; leads = s.step.leaves }
 
-connects : (place : Option ℕ) (o : Doing) (number : ℕ) (peer : Peer) (old new : Hub) (out : Outputs) → Connects place o number peer old out new → Replay old.state new.state
+connects : (place : Option ℕ) (o : Outcome) (number : ℕ) (peer : Peer) (old new : Hub) (out : Outputs) → Connects place o number peer old out new → Replay old.state new.state
 connects (Some place) o number peer old new out h = stays old.state new.state (ap (λ (x : Hub). x.state) h.0)
 connects None Applied number peer old new out h = stays old.state new.state (ap (λ (x : Hub). x.state) h.0)
 connects None Starved number peer old new out h = stays old.state new.state (ap (λ (x : Hub). x.state) h.0)
+connects None NoSegment number peer old new out h = absurd h
 
 disconnects : (place : Option ℕ) (old new : Hub) (out : Outputs) → Disconnects place old out new → Replay old.state new.state
 disconnects None old new out h = stays old.state new.state (ap (λ (x : Hub). x.state) h.0)
@@ -49,7 +51,7 @@ pieces (Some place) bytes old new out h = stays old.state new.state (ap (λ (x :
 
 takes : (place : Option ℕ) (i : ℕ) (old new : Hub) (out : Outputs) → TakesAt place i old out new → Replay old.state new.state
 takes None i old new out h = stays old.state new.state (ap (λ (x : Hub). x.state) h.0)
-takes (Some place) i old new out (inl h) = by_step old.state new.state _ _ _ h.given h.step
+takes (Some place) i old new out (inl h) = by_step old.state new.state _ _ h.step
 takes (Some place) i old new out (inr h) = stays old.state new.state (ap (λ (x : Hub). x.state) h.quiet.0)
 
 hub_step : (old new : Hub) (event : Event) (out : Outputs) → HubStep old event out new → Replay old.state new.state
@@ -57,12 +59,12 @@ hub_step old new (Connect number peer) out h = connects (place_of number old.lin
 hub_step old new (Piece number v) out h = pieces (place_of number old.links) v.items old new out h
 hub_step old new (Disconnect number) out h = disconnects (place_of number old.links) old new out h
 hub_step old new (Take number i) out h = takes (place_of number old.links) i old new out h
-hub_step old new Send out h = by_step old.state new.state _ _ _ h.given h.step
-hub_step old new (Answer bytes) out h = by_step old.state new.state _ _ _ h.given h.step
-hub_step old new (Local l line) out h = by_step old.state new.state _ _ _ h.given h.step
-hub_step old new (Silent number) out h = by_step old.state new.state _ _ _ h.given h.step
-hub_step old new GraceOver out h = by_step old.state new.state _ _ _ h.given h.step
-hub_step old new Restart out h = by_step old.state new.state _ _ _ h.given h.step
+hub_step old new Send out h = by_step old.state new.state _ _ h.step
+hub_step old new (Answer bytes) out h = by_step old.state new.state _ _ h.step
+hub_step old new (Local l line) out h = by_step old.state new.state _ _ h.step
+hub_step old new (Silent number) out h = by_step old.state new.state _ _ h.step
+hub_step old new GraceOver out h = by_step old.state new.state _ _ h.step
+hub_step old new Restart out h = by_step old.state new.state _ _ h.step
 
 behind : (done more : List Done) (s : State) → state_after the_limits s (done ++ more) ≡ state_after the_limits (state_after the_limits s done) more
 behind [] more s = refl
@@ -93,8 +95,8 @@ module _ (name : Bytes) (hosts : Hosts) (refusals : ℕ) (events : List Event) (
   nobody_waits : hub.state.world.phase ≡ Grace → hub.state.world.waiters ≡ []
   nobody_waits h = (grantless h).waiters
 
-  pub reclaims_only : hub.state.world.phase ≡ Grace → (event : Happening) (doing : Became) (store : StoreAnswer) (given : Given) (new : State) (step : Steps hub.state event doing store given new) → GrantsReclaimsOnly hub.state event doing store given new step
-  reclaims_only h event doing store given new step = record {
-    locks = subst (λ (s : State). TableMove (IsReclaim step.said) Grace hub.state.world.settings s.world.settings) step.step.leaves (grace_grants_law the_limits hub.state step.said doing store h (nobody_waits h)).0;
-    shares = subst (λ (s : State). (share : Share) → Holds s.world.shares share → Holds hub.state.world.shares share ⊎ IsShareReclaim step.said share) step.step.leaves (grace_shares_law the_limits hub.state step.said doing store h);
+  pub reclaims_only : hub.state.world.phase ≡ Grace → (event : Happening) (upshot : Upshot) (new : State) (step : Steps hub.state event upshot new) → GrantsReclaimsOnly hub.state event upshot new step
+  reclaims_only h event upshot new step = record {
+    locks = subst (λ (s : State). TableMove (IsReclaim step.said) Grace hub.state.world.settings s.world.settings) step.step.leaves (grace_grants_law the_limits hub.state step.said upshot.doing upshot.store h (nobody_waits h)).0;
+    shares = subst (λ (s : State). (share : Share) → Holds s.world.shares share → Holds hub.state.world.shares share ⊎ IsShareReclaim step.said share) step.step.leaves (grace_shares_law the_limits hub.state step.said upshot.doing upshot.store h);
   }

@@ -6,12 +6,14 @@ use Rattle.kept_replies.specs.declared.key.Peer.{Peer}
 use Rattle.kept_replies.specs.Pairs.{asker}
 use Rattle.lock_service.specs.declared.plans.StoreAnswer.{StoreAnswer}
 use Rattle.lock_service.specs.Planned.{answer_of, counted}
-use Rattle.book.specs.declared.entry.Doing.{Doing}
-use Rattle.book.specs.declared.entry.Doing.TheVariants.{Applied, Starved}
-use Rattle.book.specs.Notes.{Happening, Takes, SendsNext, HearsAnswer, AsksLine, FallsSilent, GraceEnds, BeginsAnew, doing_of, Steps, OneStep}
+use Rattle.book.specs.Given.{comes_to}
+use Rattle.book.specs.Notes.{Happening, Takes, SendsNext, HearsAnswer, AsksLine, FallsSilent, GraceEnds, BeginsAnew, Steps, OneStep}
 use Rattle.daemon_core.specs.declared.event.Event.{Event}
 use Rattle.daemon_core.specs.declared.event.Event.TheVariants.{Connect, Piece, Disconnect, Take, Send, Answer, Local, Silent, GraceOver, Restart}
+use Rattle.daemon_core.specs.declared.outcome.Outcome.{Outcome}
+use Rattle.daemon_core.specs.declared.outcome.Outcome.TheVariants.{Applied, Starved, NoSegment}
 use Rattle.daemon_core.specs.declared.outputs.Outputs.{Outputs}
+use Rattle.daemon_core.specs.Outcomes.{doing_of}
 use Rattle.daemon_core.specs.Outputs.{marked_by, told, told_call, told_line, told_to}
 use Rattle.daemon_core.specs.Untaken.{AreRecords, untaken}
 use Rattle.daemon_core.specs.Link.{Link, Hears, Receives, with_taken}
@@ -24,27 +26,29 @@ same-hub : (new end : Hub) → new.state ≡ end.state → new.refusals ≡ end.
 same-hub new end s r l = λ i. record { state = s i; refusals = r i; links = l i }
 
 -- what the events gave, and the states after them
-same-step : OneStep → (old new end : State) (event : Happening) (o p : Doing) (a b : StoreAnswer) (given other : Given) → o ≡ p → a ≡ b → Steps old event (doing_of o) (answer_of a) given new
-    → Steps old event (doing_of p) (answer_of b) other end → (given ≡ other) × (new ≡ end)
+same-step : OneStep → (old new end : State) (event : Happening) (o p : Outcome) (a b : StoreAnswer) (given other : Given) → o ≡ p → a ≡ b → Steps old event (comes_to (doing_of o) (answer_of a) given) new
+    → Steps old event (comes_to (doing_of p) (answer_of b) other) end → (given ≡ other) × (new ≡ end)
 same-step one old new end event o p a b given other e f x y =
-    one old new end event (doing_of p) (answer_of b) given other (subst (λ (q : Doing). Steps old event (doing_of q) (answer_of b) given new) e (subst (λ (q : StoreAnswer). Steps old event (doing_of o) (answer_of q) given new) f x)) y
+    one old new end event (doing_of p) (answer_of b) given other (subst (λ (q : Outcome). Steps old event (comes_to (doing_of q) (answer_of b) given) new) e (subst (λ (q : StoreAnswer). Steps old event (comes_to (doing_of o) (answer_of q) given) new) f x)) y
 
 quiet-same : (old new new' : Hub) (out out' : Outputs) → IsQuiet old out new → IsQuiet old out' new' → Same out out' new new'
 quiet-same old new new' out out' h h' = (h.1 ∙ sym h'.1, h.0 ∙ sym h'.0)
 
-Connects-same : (place : Option ℕ) (o o' : Doing) (number : ℕ) (peer : Peer) (old new new' : Hub) (out out' : Outputs) → o ≡ o' → Connects place o number peer old out new
+Connects-same : (place : Option ℕ) (o o' : Outcome) (number : ℕ) (peer : Peer) (old new new' : Hub) (out out' : Outputs) → o ≡ o' → Connects place o number peer old out new
     → Connects place o' number peer old out' new' → Same out out' new new'
 Connects-same (Some place) o o' number peer old new new' out out' e h h' = quiet-same old new new' out out' h h'
 Connects-same None Applied Applied number peer old new new' out out' e h h' = (h.1 ∙ sym h'.1, h.0 ∙ sym h'.0)
 Connects-same None Starved Starved number peer old new new' out out' e h h' = (h.1 ∙ sym h'.1, h.0 ∙ sym h'.0)
 Connects-same None Applied Starved number peer old new new' out out' e h h' = absurd cc
 Connects-same None Starved Applied number peer old new new' out out' e h h' = absurd cc
+Connects-same None NoSegment o' number peer old new new' out out' e h h' = absurd h
+Connects-same None o NoSegment number peer old new new' out out' e h h' = absurd h'
 
 Disconnects-same : (place : Option ℕ) (old new new' : Hub) (out out' : Outputs) → Disconnects place old out new → Disconnects place old out' new' → Same out out' new new'
 Disconnects-same None old new new' out out' h h' = (h.1 ∙ sym h'.1, h.0 ∙ sym h'.0)
 Disconnects-same (Some place) old new new' out out' h h' = (h.1 ∙ sym h'.1, h.0 ∙ sym h'.0)
 
-Hears-same : HasOneReading → (o o' : Doing) (old new new' : Link) (bytes : List ℕ) (out out' : Outputs) → o ≡ o' → Hears o old bytes out new → Hears o' old bytes out' new'
+Hears-same : HasOneReading → (o o' : Outcome) (old new new' : Link) (bytes : List ℕ) (out out' : Outputs) → o ≡ o' → Hears o old bytes out new → Hears o' old bytes out' new'
     → (out ≡ out') × (new ≡ new')
 Hears-same one Applied Applied old new new' bytes out out' e h h' =
     let links : new ≡ new' = h.0 ∙ sym h'.0 in
@@ -54,6 +58,8 @@ Hears-same one Applied Applied old new new' bytes out out' e h h' =
 Hears-same one Starved Starved old new new' bytes out out' e h h' = (h.1 ∙ sym h'.1, h.0 ∙ sym h'.0)
 Hears-same one Applied Starved old new new' bytes out out' e h h' = absurd cc
 Hears-same one Starved Applied old new new' bytes out out' e h h' = absurd cc
+Hears-same one NoSegment o' old new new' bytes out out' e h h' = absurd h
+Hears-same one o NoSegment old new new' bytes out out' e h h' = absurd h'
 
 Receives-same : HasOneReading → (receives : Bool) (old new new' : Link) (bytes : List ℕ) (out out' : Outputs) → out.outcome ≡ out'.outcome → Receives receives old bytes out new
     → Receives receives old bytes out' new' → (out ≡ out') × (new ≡ new')
@@ -94,18 +100,18 @@ Answers-same one step place i old new new' out out' e f h h' =
     let get : Link → List (List ℕ) → Option (List ℕ) = λ l rs. slice_get (untaken rs l.taken) i in
     let is' : slice_get (untaken h.records h.link.taken) i ≡ Some h'.bytes = ap (λ (rs : List (List ℕ)). get h.link rs) (sym records) ∙ (ap (λ (l : Link). get l h'.records) (sym link) ∙ h'.is) in
     let bytes : h'.bytes ≡ h.bytes = bytes-same (slice_get (untaken h.records h.link.taken) i) h'.bytes h.bytes is' h.is in
-    let Q : Link → List ℕ → Type 0 = λ l b. Steps old.state (Takes (asker l.peer) b) (doing_of out'.outcome) (answer_of out'.store) h'.given new'.state in
+    let Q : Link → List ℕ → Type 0 = λ l b. Steps old.state (Takes (asker l.peer) b) (comes_to (doing_of out'.outcome) (answer_of out'.store) h'.given) new'.state in
     let step' = subst (λ (b : List ℕ). Q h.link b) bytes (subst (λ (l : Link). Q l h'.bytes) link h'.step) in
     let same = same-step step old.state new.state new'.state (Takes (asker h.link.peer) h.bytes) out.outcome out'.outcome out.store out'.store h.given h'.given e f h.step step' in
     let links : new.links ≡ new'.links = h.links ∙ (ap (λ (l : Link). slice_set old.links place (with_taken l i)) (sym link) ∙ sym h'.links) in (
-      h.outputs ∙ ap (λ (o : Doing). told_to h.link.number o out.store h.given) e ∙ ap (λ (a : StoreAnswer). told_to h.link.number out'.outcome a h.given) f ∙ ap (λ (x : Given). told_to h.link.number out'.outcome out'.store x) same.0 ∙ ap (λ (l : Link). told_to l.number out'.outcome out'.store h'.given) (sym link) ∙ sym h'.outputs,
+      h.outputs ∙ ap (λ (o : Outcome). told_to h.link.number o out.store h.given) e ∙ ap (λ (a : StoreAnswer). told_to h.link.number out'.outcome a h.given) f ∙ ap (λ (x : Given). told_to h.link.number out'.outcome out'.store x) same.0 ∙ ap (λ (l : Link). told_to l.number out'.outcome out'.store h'.given) (sym link) ∙ sym h'.outputs,
       same-hub new new' same.1 (h.refusals ∙ ap (λ (a : StoreAnswer). counted (answer_of a) old.refusals) f ∙ sym h'.refusals) links,
     )
 
-Happens-same : OneStep → (tell : Doing → StoreAnswer → Given → Outputs) (event : Happening) (old new new' : Hub) (out out' : Outputs) → out.outcome ≡ out'.outcome → out.store ≡ out'.store → Happens tell event old out new → Happens tell event old out' new' → Same out out' new new'
+Happens-same : OneStep → (tell : Outcome → StoreAnswer → Given → Outputs) (event : Happening) (old new new' : Hub) (out out' : Outputs) → out.outcome ≡ out'.outcome → out.store ≡ out'.store → Happens tell event old out new → Happens tell event old out' new' → Same out out' new new'
 Happens-same step tell event old new new' out out' e f h h' =
     let same = same-step step old.state new.state new'.state event out.outcome out'.outcome out.store out'.store h.given h'.given e f h.step h'.step in (
-      h.outputs ∙ ap (λ (o : Doing). tell o out.store h.given) e ∙ ap (λ (a : StoreAnswer). tell out'.outcome a h.given) f ∙ ap (λ (x : Given). tell out'.outcome out'.store x) same.0 ∙ sym h'.outputs,
+      h.outputs ∙ ap (λ (o : Outcome). tell o out.store h.given) e ∙ ap (λ (a : StoreAnswer). tell out'.outcome a h.given) f ∙ ap (λ (x : Given). tell out'.outcome out'.store x) same.0 ∙ sym h'.outputs,
       same-hub new new' same.1 (h.refusals ∙ ap (λ (a : StoreAnswer). counted (answer_of a) old.refusals) f ∙ sym h'.refusals) (h.links ∙ ap (λ (a : StoreAnswer). links_after event a old.links) f ∙ sym h'.links),
     )
 

@@ -13,8 +13,10 @@ use Rattle.definitions.specs.Step.{Event, Take, Peer, Doing, Applied, Starved, G
 use Rattle.definitions.proofs.RepeatLaws.{repeat_law}
 use Rattle.kept_replies.specs.Pairs.{asker}
 use Rattle.lock_service.specs.Planned.{answer_of}
-use Rattle.book.specs.Notes.{doing_of, IsStep}
-use Rattle.daemon_core.specs.Outputs.{reply_to}
+use Rattle.book.specs.Given.{Upshot}
+use Rattle.book.specs.Notes.{IsStep}
+use Rattle.daemon_core.specs.Outcomes.{doing_of}
+use Rattle.daemon_core.specs.Outputs.{reply_to, upshot_of}
 use Rattle.daemon_core.specs.declared.outputs.Outputs.{Outputs}
 use Rattle.daemon_core.specs.Hub.{Hub, Answers}
 use Rattle.daemon_core.specs.Told.{early_refusal, stat_in, TellsStat, RefusalIsTold, AnswersRepeat, KeptIsGivenAgain}
@@ -56,30 +58,30 @@ says_early w version call stat store e = absurd cc
 
 -- ---- what a step gives for a record that asks for a call
 
-module _ (s new : State) (said : Event) (became : Doing) (store : StoreAnswer) (given : Given) (h : IsStep s said became store given new) (peer : Peer) (asked : Bytes) (xid : ℕ) (call : Call) (is : said ≡ Take peer asked (Asks xid call)) where
-  steps : (doing : Doing) → became ≡ doing → (given ≡ (step the_limits s (Take peer asked (Asks xid call)) doing store).given) × (new ≡ (step the_limits s (Take peer asked (Asks xid call)) doing store).state)
+module _ (s new : State) (said : Event) (u : Upshot) (h : IsStep s said u new) (peer : Peer) (asked : Bytes) (xid : ℕ) (call : Call) (is : said ≡ Take peer asked (Asks xid call)) where
+  steps : (doing : Doing) → u.doing ≡ doing → (u.given ≡ (step the_limits s (Take peer asked (Asks xid call)) doing u.store).given) × (new ≡ (step the_limits s (Take peer asked (Asks xid call)) doing u.store).state)
   steps doing e =
-      let to : Event → Doing → Stepped = λ event d. step the_limits s event d store in
-      let same : to said became ≡ to (Take peer asked (Asks xid call)) doing = ap (λ event. to event became) is ∙ ap (to (Take peer asked (Asks xid call))) e in
+      let to : Event → Doing → Stepped = λ event d. step the_limits s event d u.store in
+      let same : to said u.doing ≡ to (Take peer asked (Asks xid call)) doing = ap (λ event. to event u.doing) is ∙ ap (to (Take peer asked (Asks xid call))) e in
       (sym h.gives ∙ ap (λ (t : Stepped). t.given) same, sym h.leaves ∙ ap (λ (t : Stepped). t.state) same)
 
   -- where its reply is not kept
-  anew : became ≡ Applied → look s peer asked ≡ None → given ≡ Replies xid (ruled store (ruling the_limits s.world peer.local call)).outcome
-  anew e n = (steps Applied e).0 ∙ ap (λ (o : Option KeptPair). (taken the_limits s peer asked xid call store o).given) n
+  anew : u.doing ≡ Applied → look s peer asked ≡ None → u.given ≡ Replies xid (ruled u.store (ruling the_limits s.world peer.local call)).outcome
+  anew e n = (steps Applied e).0 ∙ ap (λ (o : Option KeptPair). (taken the_limits s peer asked xid call u.store o).given) n
 
   module _ (k : KeptPair) (there : look s peer asked ≡ Some k) where
     has_slots : Bool
     has_slots = leb (length k.letters) (slots_free the_limits s.world)
 
-    again : became ≡ Applied → (given ≡ (repeated the_limits s k).given) × (new ≡ (repeated the_limits s k).state)
+    again : u.doing ≡ Applied → (u.given ≡ (repeated the_limits s k).given) × (new ≡ (repeated the_limits s k).state)
     again e =
-        let same : taken the_limits s peer asked xid call store (look s peer asked) ≡ repeated the_limits s k = ap (taken the_limits s peer asked xid call store) there in
+        let same : taken the_limits s peer asked xid call u.store (look s peer asked) ≡ repeated the_limits s k = ap (taken the_limits s peer asked xid call u.store) there in
         ((steps Applied e).0 ∙ ap (λ (t : Stepped). t.given) same, (steps Applied e).1 ∙ ap (λ (t : Stepped). t.state) same)
 
-    wanting : became ≡ Starved → (given ≡ Replies xid SystemErr) × (new ≡ s)
+    wanting : u.doing ≡ Starved → (u.given ≡ Replies xid SystemErr) × (new ≡ s)
     wanting e =
-        let row : Option KeptPair → State = λ o. with_row_stored s call (asked_unless_kept the_limits s peer call o) store in
-        ((steps Starved e).0, (steps Starved e).1 ∙ ap row there ∙ unstored call store)
+        let row : Option KeptPair → State = λ o. with_row_stored s call (asked_unless_kept the_limits s peer call o) u.store in
+        ((steps Starved e).0, (steps Starved e).1 ∙ ap row there ∙ unstored call u.store)
       where
         unstored : (c : Call) (a : StoreAnswer) → with_row_stored s c None a ≡ s
         unstored (Nlm version (Locks b)) a = refl
@@ -97,14 +99,14 @@ module _ (place i : ℕ) (old new : Hub) (out : Outputs) (t : Answers place i ol
   tells xid version call stat is none applied early = record {
     outcome = (ruled (answer_of out.store) (nlm_answer the_limits old.state.world version call)).outcome;
     stat_is = says_early old.state.world version call stat (answer_of out.store) early;
-    sent = sent _ (anew old.state new.state t.step.said (doing_of out.outcome) (answer_of out.store) t.given t.step.step (asker t.link.peer) t.bytes xid (Nlm version call) is applied none);
+    sent = sent _ (anew old.state new.state t.step.said (upshot_of out t.given) t.step.step (asker t.link.peer) t.bytes xid (Nlm version call) is applied none);
   }
 
   pub repeats : (xid : ℕ) (call : Call) (k : KeptPair) → t.step.said ≡ Take (asker t.link.peer) t.bytes (Asks xid call) → look old.state (asker t.link.peer) t.bytes ≡ Some k → AnswersRepeat t.link xid k old out new
   repeats xid call k is there = record {
-    unapplied = subst (λ (s : State). IsUnapplied old.state.world s.world) (sym (steps old.state new.state t.step.said (doing_of out.outcome) (answer_of out.store) t.given t.step.step (asker t.link.peer) t.bytes xid call is (doing_of out.outcome) refl).1) (repeat_law the_limits old.state (asker t.link.peer) t.bytes xid call (doing_of out.outcome) (answer_of out.store) k there);
+    unapplied = subst (λ (s : State). IsUnapplied old.state.world s.world) (sym (steps old.state new.state t.step.said (upshot_of out t.given) t.step.step (asker t.link.peer) t.bytes xid call is (doing_of out.outcome) refl).1) (repeat_law the_limits old.state (asker t.link.peer) t.bytes xid call (doing_of out.outcome) (answer_of out.store) k there);
     again = λ applied slots.
-        let r = again old.state new.state t.step.said (doing_of out.outcome) (answer_of out.store) t.given t.step.step (asker t.link.peer) t.bytes xid call is k there applied in
+        let r = again old.state new.state t.step.said (upshot_of out t.given) t.step.step (asker t.link.peer) t.bytes xid call is k there applied in
         let both : repeated the_limits old.state k ≡ record { given = Replies k.xid k.outcome; state = record { world = with_all_due old.state.world k.letters; kept = moved_to_front k old.state.kept } } = rw slots refl in
         record {
           sent = sent (Replies k.xid k.outcome) (r.0 ∙ ap (λ (x : Stepped). x.given) both);
@@ -112,11 +114,11 @@ module _ (place i : ℕ) (old new : Hub) (out : Outputs) (t : Answers place i ol
           kept = ap (λ (s : State). s.kept) r.1 ∙ ap (λ (x : Stepped). x.state.kept) both;
         };
     full = λ applied slots.
-        let r = again old.state new.state t.step.said (doing_of out.outcome) (answer_of out.store) t.given t.step.step (asker t.link.peer) t.bytes xid call is k there applied in
+        let r = again old.state new.state t.step.said (upshot_of out t.given) t.step.step (asker t.link.peer) t.bytes xid call is k there applied in
         let both : repeated the_limits old.state k ≡ record { given = Replies k.xid SystemErr; state = old.state } = rw slots refl in
         record { sent = sent (Replies k.xid SystemErr) (r.0 ∙ ap (λ (x : Stepped). x.given) both); state = r.1 ∙ ap (λ (x : Stepped). x.state) both };
     starved = λ starves.
-        let r = wanting old.state new.state t.step.said (doing_of out.outcome) (answer_of out.store) t.given t.step.step (asker t.link.peer) t.bytes xid call is k there starves in
+        let r = wanting old.state new.state t.step.said (upshot_of out t.given) t.step.step (asker t.link.peer) t.bytes xid call is k there starves in
         record { sent = sent (Replies xid SystemErr) r.0; state = r.1 };
   }
 

@@ -9,13 +9,15 @@ use Rattle.kept_replies.specs.Pairs.{asker}
 use Rattle.lock_service.specs.declared.plans.StoreAnswer.{StoreAnswer}
 use Rattle.lock_service.specs.declared.plans.StoreAnswer.TheVariants.{NotAsked, Yes, Refused}
 use Rattle.lock_service.specs.Planned.{answer_of, counted}
-use Rattle.book.specs.declared.entry.Doing.{Doing}
-use Rattle.book.specs.declared.entry.Doing.TheVariants.{Applied, Starved}
-use Rattle.book.specs.Notes.{Happening, Takes, SendsNext, HearsAnswer, AsksLine, FallsSilent, GraceEnds, BeginsAnew, doing_of, Steps}
+use Rattle.book.specs.Journal.{TakesMemory}
+use Rattle.book.specs.Notes.{Happening, Takes, SendsNext, HearsAnswer, AsksLine, FallsSilent, GraceEnds, BeginsAnew, Steps}
+use Rattle.daemon_core.specs.declared.outcome.Outcome.{Outcome}
+use Rattle.daemon_core.specs.declared.outcome.Outcome.TheVariants.{Applied, Starved, NoSegment}
 use Rattle.daemon_core.specs.declared.event.Event.{Event}
 use Rattle.daemon_core.specs.declared.event.Event.TheVariants.{Connect, Piece, Disconnect, Take, Send, Answer, Local, Silent, GraceOver, Restart}
 use Rattle.daemon_core.specs.declared.outputs.Outputs.{Outputs}
-use Rattle.daemon_core.specs.Outputs.{quiet, starved, told, told_call, told_line, told_to, bytes_sent}
+use Rattle.daemon_core.specs.Outcomes.{NeedsEntry}
+use Rattle.daemon_core.specs.Outputs.{quiet, starved, upshot_of, told, told_call, told_line, told_to, bytes_sent}
 use Rattle.daemon_core.specs.Untaken.{AreRecords, untaken}
 use Rattle.daemon_core.specs.Link.{Link, fresh, with_taken, Receives}
 
@@ -39,10 +41,11 @@ abbrev pub IsQuiet : Hub → Outputs → Hub → Type 0
 IsQuiet old out new = (new ≡ old) × (out ≡ quiet)
 
 -- a connection whose number is in use doesn't begin
-abbrev pub Connects : Option ℕ → Doing → ℕ → Peer → Hub → Outputs → Hub → Type 0
+abbrev pub Connects : Option ℕ → Outcome → ℕ → Peer → Hub → Outputs → Hub → Type 0
 Connects (Some place) outcome number peer old out new = IsQuiet old out new
 Connects None Applied number peer old out new = (new ≡ with_links old (old.links ++ fresh number peer ∷ [])) × (out ≡ quiet)
 Connects None Starved number peer old out new = (new ≡ old) × (out ≡ starved)
+Connects None NoSegment number peer old out new = ⊥
 
 abbrev pub Disconnects : Option ℕ → Hub → Outputs → Hub → Type 0
 Disconnects None old out new = IsQuiet old out new
@@ -60,6 +63,12 @@ abbrev pub Pieces : Option ℕ → List ℕ → Hub → Outputs → Hub → Type
 Pieces None bytes old out new = IsQuiet old out new
 Pieces (Some place) bytes old out new = Brings place bytes old out new
 
+-- an event that needs an entry has none: no store is asked, and nothing changes
+pub record IsUnnoted (event : Happening) (old : State) (out : Outputs) (new : State) : Type 0 where
+  pub needed : NeedsEntry event old
+  pub unasked : out.store ≡ NotAsked
+  pub unchanged : new ≡ old
+
 -- the record of all the bytes that is the i-th of those that were not taken is answered
 pub record Answers (place i : ℕ) (old : Hub) (out : Outputs) (new : Hub) : Type 0 where
   pub link : Link
@@ -69,8 +78,9 @@ pub record Answers (place i : ℕ) (old : Hub) (out : Outputs) (new : Hub) : Typ
   pub bytes : List ℕ
   pub is : slice_get (untaken records link.taken) i ≡ Some bytes
   pub given : Given
-  pub step : Steps old.state (Takes (asker link.peer) bytes) (doing_of out.outcome) (answer_of out.store) given new.state
+  pub step : Steps old.state (Takes (asker link.peer) bytes) (upshot_of out given) new.state
   pub refusals : new.refusals ≡ counted (answer_of out.store) old.refusals
+  pub unnoted : out.outcome ≡ NoSegment → IsUnnoted (Takes (asker link.peer) bytes) old.state out new.state
   pub links : new.links ≡ slice_set old.links place (with_taken link i)
   pub outputs : out ≡ told_to link.number out.outcome out.store given
 
@@ -111,11 +121,13 @@ links_after (AsksLine l line) store links = links
 links_after (FallsSilent number) store links = links
 links_after GraceEnds store links = links
 
--- an event of the shared state, and what is told of it
-pub record Happens (tell : Doing → StoreAnswer → Given → Outputs) (event : Happening) (old : Hub) (out : Outputs) (new : Hub) : Type 0 where
+-- an event of the shared state, and what is told of it: a sending, an answer, a silence and the end of grace starve only where there is no segment for their entry
+pub record Happens (tell : Outcome → StoreAnswer → Given → Outputs) (event : Happening) (old : Hub) (out : Outputs) (new : Hub) : Type 0 where
   pub given : Given
-  pub step : Steps old.state event (doing_of out.outcome) (answer_of out.store) given new.state
+  pub step : Steps old.state event (upshot_of out given) new.state
   pub refusals : new.refusals ≡ counted (answer_of out.store) old.refusals
+  pub fed : out.outcome ≡ Starved → TakesMemory event
+  pub unnoted : out.outcome ≡ NoSegment → IsUnnoted event old.state out new.state
   pub links : new.links ≡ links_after event out.store old.links
   pub outputs : out ≡ tell out.outcome out.store given
 
@@ -139,7 +151,7 @@ Run old (event ∷ events) (out ∷ outs) new = (mid : Hub) × HubStep old event
 Run old [] (out ∷ outs) new = ⊥
 Run old (event ∷ events) [] new = ⊥
 
--- the events met want of memory in the same way, and the store answered alike
+-- the same became of the events, and the store answered alike
 abbrev pub AreAlike : List Outputs → List Outputs → Type 0
 AreAlike [] [] = Unit {0}
 AreAlike (out ∷ outs) (other ∷ others) = (out.outcome ≡ other.outcome) × (out.store ≡ other.store) × AreAlike outs others

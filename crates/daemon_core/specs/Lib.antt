@@ -1,3 +1,5 @@
+pub mod Outcomes
+pub mod Rooms
 pub mod Sending
 pub mod Addressed
 pub mod Outputs

@@ -3,11 +3,13 @@ use Rattle.std.specs.Prelude.{ℕ, List, [], Bool, true, false, cond, Option, So
 use Rattle.definitions.specs.Step.{Given, Nothing, Replies, Says, Sends, IsStarved, IsRefused}
 use Rattle.record_mark.specs.Sent.{marked}
 use Rattle.local_ops.specs.Texts.{reply_text}
-use Rattle.book.specs.declared.entry.Doing.{Doing}
-use Rattle.book.specs.declared.entry.Doing.TheVariants.{Applied, Starved}
+use Rattle.lock_service.specs.Planned.{answer_of}
+use Rattle.daemon_core.specs.declared.outcome.Outcome.{Outcome}
+use Rattle.daemon_core.specs.declared.outcome.Outcome.TheVariants.{Applied, Starved, NoSegment}
+use Rattle.daemon_core.specs.Outcomes.{doing_of}
 use Rattle.lock_service.specs.declared.plans.StoreAnswer.{StoreAnswer}
 use Rattle.lock_service.specs.declared.plans.StoreAnswer.TheVariants.{NotAsked}
-use Rattle.book.specs.Given.{record_of}
+use Rattle.book.specs.Given.{Upshot, comes_to, record_of}
 use Rattle.daemon_core.specs.Sending.{Sending, ToClient, ToLocal, addressee, gets_records}
 use Rattle.daemon_core.specs.declared.outputs.Outputs.{Outputs}
 use Rattle.daemon_core.specs.declared.event.Refusal.{Refusal}
@@ -20,6 +22,10 @@ quiet = heard None
 
 abbrev pub starved : Outputs
 starved = record { outcome = Starved; store = NotAsked; sent = None; refusal = Some Refusal.Starved }
+
+-- there was no segment for its entry
+abbrev pub unnoted : Outputs
+unnoted = record { outcome = NoSegment; store = NotAsked; sent = None; refusal = Some Refusal.Starved }
 
 -- a stream that breaks the rule of record marking is refused, and all else goes on
 abbrev pub marked_by : Bool → Outputs
@@ -61,21 +67,25 @@ refusal_of (Replies xid outcome) = None
 refusal_of (Says line) = None
 refusal_of (Sends call letter) = None
 
+-- what the event came to that gave this
+abbrev pub upshot_of : Outputs → Given → Upshot
+upshot_of out given = comes_to (doing_of out.outcome) (answer_of out.store) given
+
 -- of an event that sends nothing
-abbrev pub told : Doing → StoreAnswer → Given → Outputs
-told doing store given = record { outcome = doing; store = store; sent = None; refusal = refusal_of given }
+abbrev pub told : Outcome → StoreAnswer → Given → Outputs
+told outcome store given = record { outcome = outcome; store = store; sent = None; refusal = refusal_of given }
 
 -- of the sending of a call
-abbrev pub told_call : Doing → StoreAnswer → Given → Outputs
-told_call doing store given = record { outcome = doing; store = store; sent = sent_on given; refusal = refusal_of given }
+abbrev pub told_call : Outcome → StoreAnswer → Given → Outputs
+told_call outcome store given = record { outcome = outcome; store = store; sent = sent_on given; refusal = refusal_of given }
 
 -- of a line that came on a local connection
-abbrev pub told_line : ℕ → Doing → StoreAnswer → Given → Outputs
-told_line l doing store given = record { outcome = doing; store = store; sent = line_to l given; refusal = refusal_of given }
+abbrev pub told_line : ℕ → Outcome → StoreAnswer → Given → Outputs
+told_line l outcome store given = record { outcome = outcome; store = store; sent = line_to l given; refusal = refusal_of given }
 
 -- of a record that came on a connection
-abbrev pub told_to : ℕ → Doing → StoreAnswer → Given → Outputs
-told_to number doing store given = record { outcome = doing; store = store; sent = reply_to number given; refusal = refusal_of given }
+abbrev pub told_to : ℕ → Outcome → StoreAnswer → Given → Outputs
+told_to number outcome store given = record { outcome = outcome; store = store; sent = reply_to number given; refusal = refusal_of given }
 
 -- the bytes that are sent: a record as one fragment, and a line as it is
 abbrev pub bytes_sent : Option Sending → List ℕ

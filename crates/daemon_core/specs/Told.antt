@@ -7,8 +7,8 @@ use Rattle.definitions.specs.Replies.{Call, Nlm, Outcome, Success, SystemErr, Re
 use Rattle.definitions.specs.World.{World, the_limits, slots_free, with_all_due}
 use Rattle.definitions.specs.Step.{Take, Applied, Starved, KeptPair, Replies, look, moved_to_front, IsUnapplied}
 use Rattle.kept_replies.specs.Pairs.{asker}
-use Rattle.book.specs.Notes.{doing_of}
 use Rattle.daemon_core.specs.Link.{Link}
+use Rattle.daemon_core.specs.Outcomes.{doing_of}
 use Rattle.daemon_core.specs.Outputs.{reply_to}
 use Rattle.daemon_core.specs.declared.outputs.Outputs.{Outputs}
 use Rattle.daemon_core.specs.Hub.{Hub, Answers}

@@ -8,7 +8,9 @@ ghost use Rattle.daemon_core.specs.Hub.{Hub, opening, place_of, Connects, Discon
 use crate::connection::Connection;
 use crate::event::Event;
 use crate::noted::{has_room, note};
-use crate::outputs::{Outputs, make_quiet, make_sent, make_starved, tell, tell_line, tell_to};
+use crate::outputs::{
+    Outputs, make_quiet, make_sent, make_starved, make_unnoted, tell, tell_line, tell_to,
+};
 use book::{Book, BookEvent, StoreAnswer};
 use hosts_db::HostStore;
 use kept_replies::Peer;
@@ -111,15 +113,19 @@ impl<R: RangeTable, S: HostStore> Daemon<R, S> {
         let Some(record) = connection.take(index) else {
             return make_quiet();
         };
-        let noted = note(self.alloc, &mut self.book, BookEvent::Take { peer, record });
-        tell_to(number, noted)
+        let event = BookEvent::Take { peer, record };
+        let (outcome, upshot) = note(self.alloc, &mut self.book, event);
+        tell_to(number, outcome, upshot)
     }
 
     fn send(&mut self) -> Outputs
         ensures { Happens told_call SendsNext self.old result self.new }
     {
+        if !self.book.has_due() {
+            return make_quiet();
+        }
         if !has_room(self.alloc, &mut self.book) {
-            return make_starved();
+            return make_unnoted();
         }
         let Some((_, to, frame)) = self.book.next_call() else {
             return make_quiet();
@@ -130,36 +136,41 @@ impl<R: RangeTable, S: HostStore> Daemon<R, S> {
     fn answer(&mut self, bytes: Vec<u8>) -> Outputs
         ensures { Happens told (HearsAnswer bytes.items) self.old result self.new }
     {
-        tell(note(self.alloc, &mut self.book, BookEvent::Answer { bytes }))
+        let (outcome, upshot) = note(self.alloc, &mut self.book, BookEvent::Answer { bytes });
+        tell(outcome, upshot)
     }
 
     fn local(&mut self, connection: u64, line: Vec<u8>) -> Outputs
         ensures { Happens (told_line connection) (AsksLine connection line.items) self.old result self.new }
     {
         let event = BookEvent::Local { connection, line };
-        tell_line(connection, note(self.alloc, &mut self.book, event))
+        let (outcome, upshot) = note(self.alloc, &mut self.book, event);
+        tell_line(connection, outcome, upshot)
     }
 
     fn silent(&mut self, number: u64) -> Outputs
         ensures { Happens told (FallsSilent number) self.old result self.new }
     {
-        tell(note(self.alloc, &mut self.book, BookEvent::Silent { number }))
+        let (outcome, upshot) = note(self.alloc, &mut self.book, BookEvent::Silent { number });
+        tell(outcome, upshot)
     }
 
     fn grace_over(&mut self) -> Outputs
         ensures { Happens told GraceEnds self.old result self.new }
     {
-        tell(note(self.alloc, &mut self.book, BookEvent::GraceOver))
+        let (outcome, upshot) = note(self.alloc, &mut self.book, BookEvent::GraceOver);
+        tell(outcome, upshot)
     }
 
     fn restart(&mut self) -> Outputs
         ensures { Happens told BeginsAnew self.old result self.new }
     {
-        let noted = note(self.alloc, &mut self.book, BookEvent::Restart);
-        if let StoreAnswer::Yes = noted.store {
+        let (outcome, upshot) = note(self.alloc, &mut self.book, BookEvent::Restart);
+        let outputs = tell(outcome, upshot);
+        if let StoreAnswer::Yes = outputs.store {
             self.connections.clear();
         }
-        tell(noted)
+        outputs
     }
 
     /// How many whole records of the connection there are that were not taken; none, if it isn't there.
@@ -170,6 +181,14 @@ impl<R: RangeTable, S: HostStore> Daemon<R, S> {
             None => 0,
             Some(place) => self.connections[place].waiting(),
         }
+    }
+
+    /// The store of hosts, to be read: its rows are the hosts of the state.
+    pub fn store(&self) -> &S
+        ensures rows { S.rows result.now ≡ self.now.state.world.hosts }
+        ensures refusals { S.refusals result.now ≡ self.now.refusals }
+    {
+        self.book.store()
     }
 
     /// One event, and what comes of it.

@@ -6,6 +6,7 @@ mod daemon;
 mod event;
 mod law;
 mod noted;
+mod outcome;
 mod output;
 mod outputs;
 mod sent;
@@ -17,8 +18,9 @@ pub use crate::law::{
     early_refusal_is_told, grace_grants_reclaims_only, grace_tells_of_no_grant,
     kept_reply_is_given_again, one_run, runs_are_sound,
 };
+pub use crate::outcome::Outcome;
 pub use crate::outputs::Outputs;
 pub use crate::sent::{Addressee, Sent};
-pub use book::{Doing, HostName, StoreAnswer};
+pub use book::{HostName, StoreAnswer};
 pub use kept_replies::Peer;
-pub use local_ops::WriteFault;
+pub use written::WriteFault;

@@ -1,63 +1,66 @@
 //! Events take the book, in segments of its journal.
 
-ghost use Rattle.std.specs.Prelude.{◌≡◌, ◌<◌, true};
-ghost use Rattle.lock_service.specs.Planned.{answer_of, counted};
-ghost use Rattle.book.specs.Given.{given_of};
-ghost use Rattle.book.specs.Notes.{happening_of, doing_of, Steps};
-ghost use Rattle.book.specs.Journal.{room_of};
+ghost use Rattle.std.specs.Prelude.{◌≡◌, ◌<◌, true, false};
+ghost use Rattle.definitions.specs.Hosts.{NotAsked};
+ghost use Rattle.lock_service.specs.Planned.{counted};
+ghost use Rattle.book.specs.Notes.{happening_of, Steps};
+ghost use Rattle.book.specs.Journal.{room_of, rotated, TakesMemory};
+ghost use Rattle.daemon_core.specs.Outcomes.{doing_of};
+ghost use Rattle.daemon_core.specs.Rooms.{BeginsWhereFull};
 
-use book::{Book, BookEvent, Doing, Reply, Segment, StoreAnswer};
+use crate::outcome::Outcome;
+use book::{Book, BookEvent, Segment, Upshot};
 use hosts_db::HostStore;
 use range_table::RangeTable;
 use std::alloc::Global;
 
-/// What became of an event, what the store answered, and what the event gives.
-#[derive(Drop)]
-pub(crate) struct Noted {
-    pub(crate) doing: Doing,
-    pub(crate) store: StoreAnswer,
-    pub(crate) reply: Reply,
-}
-
-/// One event takes the book. Where the segment is full and no fresh one can be had, it starves.
+/// One event takes the book: what became of it, and what it came to. Where the segment is full and no fresh one can be had it
+/// has no entry.
 pub(crate) fn note<R: RangeTable, S: HostStore>(
     alloc: Global,
     book: &mut Book<R, S>,
     event: BookEvent,
-) -> Noted
-    ensures step { Steps book.old.journal.end (happening_of event) (doing_of result.doing) (answer_of result.store) (given_of result.reply) book.new.journal.end }
-    ensures counts { book.new.refusals ≡ counted (answer_of result.store) book.old.refusals }
+) -> (Outcome, Upshot)
+    ensures outcome { doing_of result.0 ≡ result.1.doing }
+    ensures step { Steps book.old.journal.end (happening_of event) result.1 book.new.journal.end }
+    ensures counts { book.new.refusals ≡ counted result.1.store book.old.refusals }
+    ensures fed { result.0 ≡ Outcome.Starved → TakesMemory (happening_of event) }
+
+    // Without an entry no store is asked, and nothing changes.
+    ensures unasked { result.0 ≡ Outcome.NoSegment → result.1.store ≡ NotAsked }
+    ensures unchanged { result.0 ≡ Outcome.NoSegment → book.new.journal.end ≡ book.old.journal.end }
 {
     if !has_room(alloc, book) {
-        return Noted {
-            doing: Doing::Starved,
-            store: StoreAnswer::NotAsked,
-            reply: event.starved(),
-        };
+        return (Outcome::NoSegment, event.starved());
     }
-    let reply = book.apply(event);
-    match book.newest() {
-        Some(entry) => Noted {
-            doing: entry.doing,
-            store: entry.store,
-            reply,
-        },
-        None => unreachable!(),
-    }
+    let upshot = book.apply(event);
+    (Outcome::from(upshot.doing), upshot)
 }
 
-// Whether there is room for one entry more, in this segment or in a fresh one.
+/// Whether there is room for one entry more, in the segment that stands or, where that is full, in a fresh one. That none could
+/// be had where the answer is false is the allocator's word, which no contract names.
 pub(crate) fn has_room<R: RangeTable, S: HostStore>(alloc: Global, book: &mut Book<R, S>) -> bool
+    ensures room { result ≡ true → 0 < room_of book.new.journal }
+    ensures full { result ≡ false → room_of book.old.journal ≡ 0 }
+    ensures begins { BeginsWhereFull book.old book.new }
     ensures end { book.new.journal.end ≡ book.old.journal.end }
     ensures refusals { book.new.refusals ≡ book.old.refusals }
-    ensures room { result ≡ true → 0 < room_of book.new.journal }
 {
     if book.room() > 0 {
         return true;
     }
-    let Ok(fresh) = Segment::new(alloc) else {
-        return false;
-    };
+    match Segment::new(alloc) {
+        Ok(fresh) => begins(book, fresh),
+        Err(_) => false,
+    }
+}
+
+// The fresh segment begins. Whether it has room: it has none only where all numbers are given.
+fn begins<R: RangeTable, S: HostStore>(book: &mut Book<R, S>, fresh: Segment) -> bool
+    ensures room { result ≡ true → 0 < room_of book.new.journal }
+    ensures given { result ≡ false → room_of book.new.journal ≡ 0 }
+    ensures begins { book.new ≡ rotated book.old }
+{
     drop(book.rotate(fresh));
     book.room() > 0
 }

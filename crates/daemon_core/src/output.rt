@@ -2,30 +2,15 @@
 
 ghost use Rattle.std.specs.Prelude.{cond};
 ghost use Rattle.record_mark.specs.Sent.{marked};
-ghost use Rattle.local_ops.specs.Written.{Wrote};
+ghost use Rattle.written.specs.Written.{Wrote};
 ghost use Rattle.daemon_core.specs.Addressed.{addressee_of};
 ghost use Rattle.daemon_core.specs.Sending.{gets_records};
 
 use crate::sent::Addressee;
-use local_ops::WriteFault;
 use record_mark::last_mark;
 use std::io::Write;
+use written::{WriteFault, write_whole};
 use xdr_core::Frame;
-
-/// Writes all the bytes, or a front of them where a write fails.
-fn write_whole<W: Write>(writer: &mut W, bytes: &[u8]) -> Result<(), WriteFault>
-    ensures { Wrote (W.contents writer.old) (W.contents writer.new) result bytes.now }
-{
-    let mut rest = bytes;
-    while !rest.is_empty() {
-        match writer.write(rest) {
-            Ok(0) => return Err(WriteFault),
-            Ok(count) => rest = &rest[count..],
-            Err(_) => return Err(WriteFault),
-        }
-    }
-    Ok(())
-}
 
 /// Writes a record of one fragment (RFC 5531, section 11).
 fn write_record<W: Write>(writer: &mut W, frame: &Frame) -> Result<(), WriteFault>

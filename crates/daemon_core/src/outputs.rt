@@ -2,23 +2,24 @@
 
 ghost use Rattle.std.specs.Prelude.{◌≡◌, Some, None};
 ghost use Rattle.call_records.specs.Dests.{dest_of};
-ghost use Rattle.book.specs.declared.entry.Doing.TheVariants.{Applied};
+ghost use Rattle.lock_service.specs.Planned.{answer_of};
+ghost use Rattle.daemon_core.specs.declared.outcome.Outcome.TheVariants.{Applied};
 ghost use Rattle.lock_service.specs.declared.plans.StoreAnswer.TheVariants.{NotAsked};
 ghost use Rattle.daemon_core.specs.Sending.{addressee};
 ghost use Rattle.book.specs.Given.{given_of};
-ghost use Rattle.daemon_core.specs.Outputs.{quiet, starved, heard, refusal_of, reply_to, line_to, told, told_line, told_to};
+ghost use Rattle.daemon_core.specs.Outputs.{quiet, starved, unnoted, heard, refusal_of, reply_to, line_to, told, told_line, told_to};
 
 use crate::event::Refusal;
-use crate::noted::Noted;
+use crate::outcome::Outcome;
 use crate::sent::Sent;
-use book::{Dest, Doing, Reply, StoreAnswer};
+use book::{Dest, Reply, StoreAnswer, Upshot};
 use xdr_core::Frame;
 
-/// What comes of an event: whether it was done, what the store answered it, what is sent, and the refusal of an event that
+/// What comes of an event: what became of it, what the store answered it, what is sent, and the refusal of an event that
 /// has nobody to answer.
 #[derive(Drop)]
 pub struct Outputs {
-    pub outcome: Doing,
+    pub outcome: Outcome,
     pub store: StoreAnswer,
     pub sent: Option<Sent>,
     pub refusal: Option<Refusal>,
@@ -36,7 +37,7 @@ pub(crate) fn make_heard(refusal: Option<Refusal>) -> Outputs
     ensures { result ≡ heard refusal }
 {
     Outputs {
-        outcome: Doing::Applied,
+        outcome: Outcome::Applied,
         store: StoreAnswer::NotAsked,
         sent: None,
         refusal,
@@ -48,7 +49,19 @@ pub(crate) fn make_starved() -> Outputs
     ensures { result ≡ starved }
 {
     Outputs {
-        outcome: Doing::Starved,
+        outcome: Outcome::Starved,
+        store: StoreAnswer::NotAsked,
+        sent: None,
+        refusal: Some(Refusal::Starved),
+    }
+}
+
+/// There was no segment for its entry.
+pub(crate) fn make_unnoted() -> Outputs
+    ensures { result ≡ unnoted }
+{
+    Outputs {
+        outcome: Outcome::NoSegment,
         store: StoreAnswer::NotAsked,
         sent: None,
         refusal: Some(Refusal::Starved),
@@ -56,38 +69,44 @@ pub(crate) fn make_starved() -> Outputs
 }
 
 /// Of an event that sends nothing.
-pub(crate) fn tell(noted: Noted) -> Outputs
-    ensures { result ≡ told noted.doing noted.store (given_of noted.reply) }
+pub(crate) fn tell(outcome: Outcome, upshot: Upshot) -> Outputs
+    ensures outcome { result.outcome ≡ outcome }
+    ensures store { answer_of result.store ≡ upshot.store }
+    ensures told { result ≡ told result.outcome result.store upshot.given }
 {
     Outputs {
-        outcome: noted.doing,
-        store: noted.store,
+        outcome,
+        store: upshot.store,
+        refusal: refusal_in(&upshot.reply),
         sent: None,
-        refusal: refusal_in(&noted.reply),
     }
 }
 
 /// Of a record that came on this connection.
-pub(crate) fn tell_to(number: u64, noted: Noted) -> Outputs
-    ensures { result ≡ told_to number noted.doing noted.store (given_of noted.reply) }
+pub(crate) fn tell_to(number: u64, outcome: Outcome, upshot: Upshot) -> Outputs
+    ensures outcome { result.outcome ≡ outcome }
+    ensures store { answer_of result.store ≡ upshot.store }
+    ensures told { result ≡ told_to number result.outcome result.store upshot.given }
 {
     Outputs {
-        outcome: noted.doing,
-        store: noted.store,
-        refusal: refusal_in(&noted.reply),
-        sent: send(number, noted.reply),
+        outcome,
+        store: upshot.store,
+        refusal: refusal_in(&upshot.reply),
+        sent: send(number, upshot.reply),
     }
 }
 
 /// Of a line that came on this local connection.
-pub(crate) fn tell_line(connection: u64, noted: Noted) -> Outputs
-    ensures { result ≡ told_line connection noted.doing noted.store (given_of noted.reply) }
+pub(crate) fn tell_line(connection: u64, outcome: Outcome, upshot: Upshot) -> Outputs
+    ensures outcome { result.outcome ≡ outcome }
+    ensures store { answer_of result.store ≡ upshot.store }
+    ensures told { result ≡ told_line connection result.outcome result.store upshot.given }
 {
     Outputs {
-        outcome: noted.doing,
-        store: noted.store,
-        refusal: refusal_in(&noted.reply),
-        sent: send_line(connection, noted.reply),
+        outcome,
+        store: upshot.store,
+        refusal: refusal_in(&upshot.reply),
+        sent: send_line(connection, upshot.reply),
     }
 }
 
@@ -96,7 +115,7 @@ pub(crate) fn make_sent(to: Dest, frame: Frame) -> Outputs
     ensures { result ≡ record { outcome = Applied; store = NotAsked; sent = Some (record { to = addressee (dest_of to); bytes = frame }); refusal = None } }
 {
     Outputs {
-        outcome: Doing::Applied,
+        outcome: Outcome::Applied,
         store: StoreAnswer::NotAsked,
         sent: Some(Sent::call(to, frame)),
         refusal: None,

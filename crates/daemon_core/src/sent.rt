@@ -8,13 +8,13 @@ ghost use Rattle.daemon_core.specs.Addressed.{addressee_of};
 ghost use Rattle.daemon_core.specs.Outputs.{bytes_sent};
 ghost use Rattle.local_ops.specs.Answers.{reply_of};
 ghost use Rattle.local_ops.specs.Texts.{reply_text};
-ghost use Rattle.local_ops.specs.Written.{Wrote};
+ghost use Rattle.written.specs.Written.{Wrote};
 
 use crate::output::write_frame;
 use book::{Dest, HostName, LocalAnswer, Reply};
-use local_ops::WriteFault;
 use std::io::Write;
 use std::marker::Model;
+use written::WriteFault;
 use xdr_core::Frame;
 
 /// Whom something is sent to.

@@ -1,4 +1,4 @@
--- Appending goes on.
+-- Parts, digits and pieces of a line.
 use Rattle.std.proofs.Common.{◌≡◌, ℕ, zero, suc, ◌-◌, ◌<◌, get_or, subst, arith, ◌/◌, ◌%◌, List, [], ◌∷◌, ◌++◌, Option, Some, None, take, drop, length, slice_index, refl, sym, ◌∙◌, ap, append_assoc}
 use Rattle.std.proofs.lemmas.Grind.{common_steps}
 use Rattle.std.proofs.lemmas.List.{append-nil, take-append-drop}
@@ -7,56 +7,13 @@ use Rattle.std.specs.Prelude.{Result, Ok, Err, IsErr, codes}
 use Rattle.std.specs.List.{flat_map}
 use Rattle.hex.specs.Hex.{encode_with}
 use Rattle.local_ops.specs.Texts.{spaced, line}
-use Rattle.local_ops.specs.Written.{WroteFront, Wrote}
-
-pub Appends-nil : (a : Option (List ℕ)) → Appends a a []
-Appends-nil None = tt
-Appends-nil (Some xs) = sym (append-nil xs)
-
-pub Appends-more : (a b d : Option (List ℕ)) (x y : List ℕ) → Appends a b x → Appends b d y → Appends a d (x ++ y)
-Appends-more None b d x y p q = tt
-Appends-more (Some xs) None d x y p q = absurd p
-Appends-more (Some xs) (Some ys) None x y p q = absurd q
-Appends-more (Some xs) (Some ys) (Some zs) x y p q = q ∙ (ap (λ (s : List ℕ). s ++ y) p ∙ append_assoc xs x y)
-
--- a front, and then a front of the rest
-pub WroteFront-after : (a b d : Option (List ℕ)) (x y : List ℕ) → Appends a b x → WroteFront b d y → WroteFront a d (x ++ y)
-WroteFront-after a b d x y p w = record {
-  front = x ++ w.front;
-  rest = w.rest;
-  parts = append_assoc x w.front w.rest ∙ ap (λ (s : List ℕ). x ++ s) w.parts;
-  appends = Appends-more a b d x w.front p w.appends;
-}
-
--- a front of the bytes, whatever else was to be written after them
-pub WroteFront-longer : (a b : Option (List ℕ)) (x y : List ℕ) → WroteFront a b x → WroteFront a b (x ++ y)
-WroteFront-longer a b x y w = record {
-  front = w.front;
-  rest = w.rest ++ y;
-  parts = sym (append_assoc w.front w.rest y) ∙ ap (λ (s : List ℕ). s ++ y) w.parts;
-  appends = w.appends;
-}
-
--- what is written after other bytes
-pub Wrote-after : {E : Type 0} (a b d : Option (List ℕ)) (r : Result (Unit {0}) E) (x y : List ℕ) → Appends a b x → Wrote b d r y → Wrote a d r (x ++ y)
-Wrote-after a b d (Ok done) x y p w = Appends-more a b d x y p w
-Wrote-after a b d (Err fault) x y p w = WroteFront-after a b d x y p w
-
--- a loop's next part
-pub parts-next : (front left bytes : List ℕ) (count : ℕ) → front ++ left ≡ bytes → (front ++ take count left) ++ drop count left ≡ bytes
-parts-next front left bytes count e = append_assoc front (take count left) (drop count left) ∙ (ap (λ (s : List ℕ). front ++ s) (take-append-drop count left) ∙ e)
+use Rattle.written.specs.Written.{WroteFront, Wrote}
+use Rattle.written.proofs.Appending.{Appends-more, WroteFront-after, WroteFront-longer, Wrote-failed}
 
 pub encode_with-append : (t xs ys : List ℕ) → encode_with t (xs ++ ys) ≡ encode_with t xs ++ encode_with t ys
 unfolding encode_with
 encode_with-append t [] ys = refl
 encode_with-append t (b ∷ xs) ys = ap (λ s. slice_index t (b / 16) ∷ slice_index t (b % 16) ∷ s) (encode_with-append t xs ys)
-
-pub take_all-drop : (left : List ℕ) (count : ℕ) → take (length left - count) (drop count left) ≡ drop count left
-take_all-drop left count = grind (arith, common_steps)
-
-pub Wrote-failed : {E : Type 0} (a b : Option (List ℕ)) (r : Result (Unit {0}) E) (x : List ℕ) → IsErr r → WroteFront a b x → Wrote a b r x
-Wrote-failed a b (Ok done) x e w = absurd cc
-Wrote-failed a b (Err fault) x e w = w
 
 -- ---- parts one behind the other
 

@@ -1,5 +1,4 @@
 pub mod Texts
-pub mod Written
 pub mod Answers
 pub mod Grammar
 pub mod Reading

@@ -8,14 +8,15 @@ ghost use Rattle.definitions.specs.Owners.{Remote};
 ghost use Rattle.definitions.specs.Replies.{LineHeld};
 ghost use Rattle.local_ops.specs.Texts.{reply_text, owner_text, mode_text, spaced};
 ghost use Rattle.local_ops.specs.Answers.{reply_of};
-ghost use Rattle.local_ops.specs.Written.{Wrote};
+ghost use Rattle.written.specs.Written.{Wrote};
 
-use crate::output::{WriteFault, write_hex, write_parts};
+use crate::output::{write_hex, write_parts};
 use crate::text::mode_text_of;
 use itoa::Buffer;
 use owner_ids::Owner;
 use range_table::Mode;
 use std::io::Write;
+use written::WriteFault;
 
 /// What a line is answered, but for the table and the hosts.
 #[derive(Drop)]

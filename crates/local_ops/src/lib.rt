@@ -17,4 +17,4 @@ pub use call::LocalCall;
 pub use fields::BadLine;
 pub use granted::put_granted;
 pub use law::one_line;
-pub use output::WriteFault;
+pub use written::WriteFault;

@@ -2,16 +2,11 @@
 
 ghost use Rattle.std.specs.List.{flat_map};
 ghost use Rattle.hex.specs.Hex.{encode_lower};
-ghost use Rattle.local_ops.specs.Written.{Wrote};
+ghost use Rattle.written.specs.Written.{Wrote};
 
 use crate::text::short_hex;
 use std::io::Write;
-use thiserror::Error;
-
-/// A write failed: a front of the bytes was written.
-#[derive(Clone, Copy, Debug, PartialEq, Eq, Error)]
-#[error("24 WriteFault")]
-pub struct WriteFault;
+use written::{WriteFault, write_whole};
 
 /// Writes the parts, one behind the other.
 pub(crate) fn write_parts<W: Write>(writer: &mut W, parts: &[&[u8]]) -> Result<(), WriteFault>
@@ -33,21 +28,6 @@ pub(crate) fn write_hex<W: Write>(writer: &mut W, bytes: &[u8]) -> Result<(), Wr
         let (front, behind) = rest.split_at(rest.len().min(64));
         write_whole(writer, short_hex(front, &mut room))?;
         rest = behind;
-    }
-    Ok(())
-}
-
-/// Writes all the bytes, or a front of them where a write fails.
-fn write_whole<W: Write>(writer: &mut W, bytes: &[u8]) -> Result<(), WriteFault>
-    ensures { Wrote (W.contents writer.old) (W.contents writer.new) result bytes.now }
-{
-    let mut rest = bytes;
-    while !rest.is_empty() {
-        match writer.write(rest) {
-            Ok(0) => return Err(WriteFault),
-            Ok(count) => rest = &rest[count..],
-            Err(_) => return Err(WriteFault),
-        }
     }
     Ok(())
 }

@@ -4,8 +4,9 @@ use Rattle.std.specs.Prelude.{codes}
 use Rattle.owner_ids.specs.Said.{said}
 use Rattle.owner_ranges.specs.Same.{mode_of}
 use Rattle.local_ops.specs.Texts.{spaced, owner_text, mode_text}
-use Rattle.local_ops.specs.Written.{Wrote}
-use Rattle.local_ops.proofs.Writing.{Wrote-after, failed-first, failed-then, held_text}
+use Rattle.written.specs.Written.{Wrote}
+use Rattle.written.proofs.Appending.{Wrote-after}
+use Rattle.local_ops.proofs.Writing.{failed-first, failed-then, held_text}
 use Rattle.local_ops.proofs.answer.write_held.Goals as goal
 
 pub returns-in_err-write_range : goal.returns-in_err-write_range

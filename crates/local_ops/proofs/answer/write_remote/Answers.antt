@@ -4,8 +4,9 @@ use Rattle.std.proofs.lemmas.Int.{to_z-of_z}
 use Rattle.std.specs.Io.KnownBytes.{Appends}
 use Rattle.std.specs.Fmt.{signed_decimal}
 use Rattle.hex.specs.Hex.{encode_lower}
-use Rattle.local_ops.specs.Written.{Wrote, WroteFront}
-use Rattle.local_ops.proofs.Writing.{Appends-more, Wrote-after, failed-first, failed-then, remote_text}
+use Rattle.written.specs.Written.{Wrote, WroteFront}
+use Rattle.written.proofs.Appending.{Appends-more, Wrote-after}
+use Rattle.local_ops.proofs.Writing.{failed-first, failed-then, remote_text}
 use Rattle.local_ops.proofs.answer.write_remote.Goals as goal
 
 pub returns-in_err-write_parts : goal.returns-in_err-write_parts

@@ -1,6 +1,6 @@
 use Rattle.std.proofs.Common.{◌+◌, ◌∷◌, List, ℕ, take, ap, sym, ◌∙◌}
 use Rattle.local_ops.specs.Reading.{fields_of}
-use Rattle.local_ops.proofs.Writing.{take_all-drop}
+use Rattle.written.proofs.Appending.{take_all-drop}
 use Rattle.local_ops.proofs.Cuts.{cut_at, uncut}
 use Rattle.local_ops.proofs.fields.split_field.Goals as goal
 

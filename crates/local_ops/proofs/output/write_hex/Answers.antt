@@ -1,6 +1,7 @@
 use Rattle.std.proofs.Common.{◌++◌, [], refl}
 use Rattle.hex.specs.Hex.{encode_with, lower_digits}
-use Rattle.local_ops.proofs.Writing.{Appends-nil, hex-next, hex-failed, split-next, Wrote-failed}
+use Rattle.written.proofs.Appending.{Appends-nil, Wrote-failed}
+use Rattle.local_ops.proofs.Writing.{hex-next, hex-failed, split-next}
 use Rattle.local_ops.proofs.output.write_hex.Goals as goal
 
 pub loop-rest-init : goal.loop-rest-init

@@ -1,4 +1,5 @@
-use Rattle.local_ops.proofs.Writing.{WroteFront-parts, Wrote-failed}
+use Rattle.written.proofs.Appending.{Wrote-failed}
+use Rattle.local_ops.proofs.Writing.{WroteFront-parts}
 use Rattle.local_ops.proofs.output.write_parts.Goals as goal
 
 pub returns-in_err-write_whole : goal.returns-in_err-write_whole

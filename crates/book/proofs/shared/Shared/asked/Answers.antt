@@ -5,14 +5,14 @@ use Rattle.owner_ids.specs.Said.{said}
 use Rattle.book.proofs.Lines.{done}
 use Rattle.book.proofs.shared.Shared.asked.Goals as goal
 
-pub returns-in-Close-clause-step : goal.returns-in-Close-clause-step
-returns-in-Close-clause-step g c =
+pub returns-in-Close-clause-ok : goal.returns-in-Close-clause-ok
+returns-in-Close-clause-ok g c =
     let s : State = record { world = c.self.inside.world.world; kept = c.self.inside.kept } in
-    rw (← c.self.view_is, c.in-Close.is, c.says-in-Close.ensures.doing, c.says-in-Close.ensures.store, c.says-in-Close.ensures.given)
+    rw (← c.self.view_is, c.in-Close.is)
     (done s (Close (said c.in-Close.owner) c.in-Close.file) LineOk c.close_file.new.world.world (λ l. refl) c.close_file.ensures.world)
 
-pub returns-in-SetLockWait-clause-step : goal.returns-in-SetLockWait-clause-step
-returns-in-SetLockWait-clause-step g c = elim c.in-SetLockWait.is [
+pub returns-in-SetLockWait-clause-ok : goal.returns-in-SetLockWait-clause-ok
+returns-in-SetLockWait-clause-ok g c = elim c.in-SetLockWait.is [
   | inl e ↦ rw e.2 c.bad.ensures.step
   | inr e ↦ elim e [
     | inl e ↦ rw e c.bad.ensures.step

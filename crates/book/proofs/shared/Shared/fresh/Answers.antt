@@ -11,7 +11,7 @@ use Rattle.book.proofs.shared.Shared.fresh.Goals as goal
 pub returns-in_default-agree-clause-step : goal.returns-in_default-agree-clause-step
 returns-in_default-agree-clause-step g c =
     let s : State = record { world = c.self.inside.world.world; kept = c.self.inside.kept } in
-    rw (← c.self.view_is, c.starved-in_default-agree.ensures.doing, c.starved-in_default-agree.ensures.store, c.starved-in_default-agree.ensures.given, c.in_default-agree.ensures.err.0)
+    rw (← c.self.view_is, c.starved-in_default-agree.ensures.upshot, c.in_default-agree.ensures.err.0)
     (starved_early s (asker c.args.key.peer) c.args.key.record c.args.xid (call_of c.args.call.now))
 
 pub returns-in-Ok-keep-clause-step : goal.returns-in-Ok-keep-clause-step
@@ -23,12 +23,12 @@ returns-in-Ok-keep-clause-step g c =
     let ruling = c.commit-outcome.ensures.answer s.world c.in-Ok-agree.ensures.world in
     let outcome : outcome_of c.outcome.result.now.value ≡ a.outcome = c.outcome.ensures s.world ∙ sym (ap (λ (x : Answered). x.outcome) ruling) in
     let none = rw (← c.self.view_is) at c.requires in
-    rw (← c.self.view_is, c.answers.ensures.doing, c.answers.ensures.store, c.answers.ensures.given, c.settle.ensures.world, c.in-Ok-keep.ensures.ok a.world, outcome)
+    rw (← c.self.view_is, c.answers.ensures.upshot, c.settle.ensures.world, c.in-Ok-keep.ensures.ok a.world, outcome)
     (done s (asker c.args.key.peer) c.args.key.record c.args.xid call none c.in-Ok.plan store a c.in-Ok.ensures.plan ruling c.in-Ok-agree.ensures.answer c.in-Ok-agree.ensures.limit)
 
 pub returns-in-Err-clause-step : goal.returns-in-Err-clause-step
 returns-in-Err-clause-step g c =
     let s : State = record { world = c.self.inside.world.world; kept = c.self.inside.kept } in
     let none = rw (← c.self.view_is) at c.requires in
-    rw (← c.self.view_is, c.starved-in-Err.ensures.doing, c.starved-in-Err.ensures.store, c.starved-in-Err.ensures.given, c.abandon.ensures.world, c.in-Ok-agree.ensures.world, c.in-Err.ensures.err)
+    rw (← c.self.view_is, c.starved-in-Err.ensures.upshot, c.abandon.ensures.world, c.in-Ok-agree.ensures.world, c.in-Err.ensures.err)
     (starved_late s (asker c.args.key.peer) c.args.key.record c.args.xid c.args.call.now none c.in-Ok.plan (answer_of c.in-Ok-agree.store) c.in-Ok.ensures.plan c.in-Ok.ensures.asks c.in-Ok-agree.ensures.answer c.in-Ok-agree.ensures.limit)

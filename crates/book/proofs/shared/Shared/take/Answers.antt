@@ -9,17 +9,17 @@ use Rattle.book.proofs.shared.Shared.take.Goals as goal
 pub returns-in-Ignored-clause-step : goal.returns-in-Ignored-clause-step
 returns-in-Ignored-clause-step g c =
     let read = subst (λ (bytes : List ℕ). IsReading bytes Ignored) c.deref.ensures c.in-Ignored.ensures in
-    rw (c.nothing.ensures.doing, c.nothing.ensures.store, c.nothing.ensures.given) (ignored c.args.self.now.state (asker c.args.peer) c.args.bytes.now read)
+    rw c.nothing.ensures.upshot (ignored c.args.self.now.state (asker c.args.peer) c.args.bytes.now read)
 
 pub returns-in-Turned-clause-step : goal.returns-in-Turned-clause-step
 returns-in-Turned-clause-step g c =
     let why = view_of_refusal c.in-Turned.refusal in
     let read = subst (λ (bytes : List ℕ). IsReading bytes (Turned c.in-Turned.xid why)) c.deref.ensures c.in-Turned.ensures in
-    rw (c.refuses.ensures.doing, c.refuses.ensures.store, c.refuses.ensures.given) (turned c.args.self.now.state (asker c.args.peer) c.args.bytes.now c.in-Turned.xid why read)
+    rw c.refuses.ensures.upshot (turned c.args.self.now.state (asker c.args.peer) c.args.bytes.now c.in-Turned.xid why read)
 
 pub returns-in-None-clause-step : goal.returns-in-None-clause-step
 returns-in-None-clause-step g c =
     let call = view_of_call c.in-Asks.call in
     let read = subst (λ (bytes : List ℕ). IsReading bytes (Asks c.in-Asks.xid call)) c.deref.ensures c.in-Asks.ensures in
-    rw (c.refuses-in-None.ensures.doing, c.refuses-in-None.ensures.store, c.refuses-in-None.ensures.given, c.unserved.ensures)
+    rw (c.refuses-in-None.ensures.upshot, c.unserved.ensures)
     (unserved c.args.self.now.state (asker c.args.peer) c.args.bytes.now c.in-Asks.xid call read c.in-None.ensures)

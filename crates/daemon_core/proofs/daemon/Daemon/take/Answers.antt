@@ -1,8 +1,9 @@
-use Rattle.std.proofs.Common.{◌≡◌, Some, refl, sym, ◌∙◌}
-use Rattle.book.specs.Given.{given_of}
+use Rattle.std.proofs.Common.{◌≡◌, Some, sym, ◌∙◌}
+use Rattle.kept_replies.specs.Pairs.{asker}
+use Rattle.book.specs.Notes.{Takes}
 use Rattle.daemon_core.specs.Outputs.{told_to}
 use Rattle.daemon_core.specs.Hub.{Hub, place_of}
-use Rattle.daemon_core.proofs.HubLemmas.{place_of-below, get-there, TakesAt-none, TakesAt-some}
+use Rattle.daemon_core.proofs.HubLemmas.{place_of-below, get-there, TakesAt-none, TakesAt-some, upshot_of-told, unnoted}
 use Rattle.daemon_core.proofs.daemon.Daemon.take.Goals as goal
 
 pub returns-in_default-take : goal.returns-in_default-take
@@ -18,10 +19,12 @@ returns g c =
     let place : place_of c.args.number c.self.inside.connections.items ≡ Some c.in-Some.place = rw (← c.deref.ensures.value) (sym c.find.ensures ∙ c.in-Some.is) in
     let there = get-there c.self.inside.connections.items c.in-Some.place _ (place_of-below _ _ _ place) c.index_mut-connection.ensures.value in
     let link = c.index_mut-connection.result.now in
-    let given = given_of c.note-noted.result.reply in
-    let out = told_to c.number-number.result c.note-noted.result.doing c.note-noted.result.store given in
-    let step = rw c.peer-peer.ensures at c.note-noted.ensures.step in
-    let outputs : out ≡ told_to link.number c.note-noted.result.doing c.note-noted.result.store given = rw c.number-number.ensures refl in
+    let note = c.note-outcome in
+    let told = c.tell_to in
+    let same = upshot_of-told told.result note.result.0 note.result.1 told.ensures.outcome told.ensures.store note.ensures.outcome in
+    let step = rw c.peer-peer.ensures at note.ensures.step in
+    let alone = unnoted told.result note.result.0 note.result.1 told.ensures.outcome told.ensures.store note.ensures.outcome (Takes (asker link.peer) c.in-Some-take.record) old.state note.new.book.journal.end note.ensures.unasked note.ensures.unchanged tt in
+    let outputs : told.result ≡ told_to link.number told.result.outcome told.result.store note.result.1.given = rw (← c.number-number.ensures) told.ensures.told in
     rw (← c.self.view_is)
-    (rw (place, c.tell_to.ensures)
-    (TakesAt-some old c.note-noted.new.book.journal.end c.note-noted.new.book.refusals out c.in-Some.place c.args.index link c.take.new.self c.in-Some-take.record given there c.in-Some-take.ensures.some step c.note-noted.ensures.counts outputs))
+    (rw place
+    (TakesAt-some old note.new.book.journal.end note.new.book.refusals told.result c.in-Some.place c.args.index link c.take.new.self c.in-Some-take.record note.result.1.given there c.in-Some-take.ensures.some (rw same step) (rw told.ensures.store note.ensures.counts) alone outputs))

@@ -1,0 +1,106 @@
+//! What an event comes to.
+ghost use Rattle.std.specs.Prelude.{◌≡◌};
+ghost use Rattle.definitions.specs.Hosts.{NotAsked};
+ghost use Rattle.definitions.specs.Step.{Applied, Starved as IsStarved, Nothing, Replies};
+ghost use Rattle.definitions.specs.Replies.{SystemErr, Refuses};
+ghost use Rattle.call_outcome.specs.Values.{outcome_of};
+ghost use Rattle.record_reading.specs.Values.{view_of_refusal};
+ghost use Rattle.lock_service.specs.Planned.{answer_of};
+ghost use Rattle.book.specs.Given.{comes_to, given_of};
+
+use crate::reply::Reply;
+use call_outcome::Outcome;
+use lock_service::StoreAnswer;
+use record_reading::Refusal;
+use std::alloc::Global;
+use std::marker::Model;
+use std::sync::Arc;
+
+/// Whether an event was done, or met want of memory.
+#[derive(Clone, Copy, Debug, PartialEq, Eq)]
+pub enum Doing {
+    Applied,
+    Starved,
+}
+
+/// What an event came to: what became of it, what the store answered, and what it gives. Contracts see it in the words of
+/// `definitions`.
+#[derive(Drop)]
+pub struct Upshot {
+    pub doing: Doing,
+    pub store: StoreAnswer,
+    pub reply: Reply,
+}
+
+impl Model for Upshot {
+    ghost use Rattle.lock_service.specs.Planned.{answer_of};
+    ghost use Rattle.book.specs.Given.{Upshot, comes_to, doing_of, given_of};
+
+    ghost Value = { Upshot };
+
+    ghost view = { λ u. comes_to (doing_of u.doing) (answer_of u.store) (given_of u.reply) };
+}
+
+// The events below give their reply twice: to whoever asked, and to the journal.
+
+// Nobody is answered.
+pub(crate) fn nothing(store: StoreAnswer) -> (Upshot, Reply)
+    ensures upshot { result.0 ≡ comes_to Applied (answer_of store) Nothing }
+    ensures noted { given_of result.1 ≡ Nothing }
+{
+    let upshot = Upshot {
+        doing: Doing::Applied,
+        store,
+        reply: Reply::Nothing,
+    };
+    (upshot, Reply::Nothing)
+}
+
+// The call of this xid is not given to a procedure.
+pub(crate) fn refuses(xid: u32, refusal: Refusal) -> (Upshot, Reply)
+    ensures upshot { result.0 ≡ comes_to Applied NotAsked (Replies xid (Refuses (view_of_refusal refusal))) }
+    ensures noted { given_of result.1 ≡ Replies xid (Refuses (view_of_refusal refusal)) }
+{
+    let upshot = Upshot {
+        doing: Doing::Applied,
+        store: StoreAnswer::NotAsked,
+        reply: Reply::Refuses { xid, refusal },
+    };
+    (upshot, Reply::Refuses { xid, refusal })
+}
+
+// There was no memory for the call of this xid, when the store had answered so.
+pub(crate) fn starved(store: StoreAnswer, xid: u32) -> (Upshot, Reply)
+    ensures upshot { result.0 ≡ comes_to IsStarved (answer_of store) (Replies xid SystemErr) }
+    ensures noted { given_of result.1 ≡ Replies xid SystemErr }
+{
+    let upshot = Upshot {
+        doing: Doing::Starved,
+        store,
+        reply: Reply::SystemErr { xid },
+    };
+    (upshot, Reply::SystemErr { xid })
+}
+
+// The call of this xid was done, and its outcome is shared with the journal.
+pub(crate) fn answers(
+    store: StoreAnswer,
+    xid: u32,
+    outcome: Arc<Outcome, Global>,
+    noted: Arc<Outcome, Global>,
+) -> (Upshot, Reply)
+    requires { outcome_of noted.value ≡ outcome_of outcome.value }
+    ensures upshot { result.0 ≡ comes_to Applied (answer_of store) (Replies xid (outcome_of outcome.value)) }
+    ensures noted { given_of result.1 ≡ Replies xid (outcome_of outcome.value) }
+{
+    let upshot = Upshot {
+        doing: Doing::Applied,
+        store,
+        reply: Reply::Answers { xid, outcome },
+    };
+    let noted = Reply::Answers {
+        xid,
+        outcome: noted,
+    };
+    (upshot, noted)
+}

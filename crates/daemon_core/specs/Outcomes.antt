@@ -1,0 +1,30 @@
+-- What became of an event, as the definitions have it.
+use Rattle.std.specs.Prelude.{◌≡◌, IsSome}
+use Rattle.definitions.specs.Outgoing.{next_due}
+use Rattle.definitions.specs.Step.{State, Doing, Applied, Starved}
+use Rattle.book.specs.declared.upshot.Doing.{Doing as Became}
+use Rattle.book.specs.declared.upshot.Doing.TheVariants as doing
+use Rattle.book.specs.Notes.{Happening, Takes, SendsNext, HearsAnswer, AsksLine, FallsSilent, GraceEnds, BeginsAnew}
+use Rattle.daemon_core.specs.declared.outcome.Outcome.{Outcome}
+use Rattle.daemon_core.specs.declared.outcome.Outcome.TheVariants as outcome
+
+-- an event without an entry has starved
+abbrev pub doing_of : Outcome → Doing
+doing_of outcome.Applied = Applied
+doing_of outcome.Starved = Starved
+doing_of outcome.NoSegment = Starved
+
+-- of an event that has an entry
+abbrev pub noted_as : Became → Outcome
+noted_as doing.Applied = outcome.Applied
+noted_as doing.Starved = outcome.Starved
+
+-- a sending has an entry where a call is due, and each other event has one
+abbrev pub NeedsEntry : Happening → State → Type 0
+NeedsEntry SendsNext s = IsSome (next_due s.world.calls)
+NeedsEntry (Takes peer bytes) s = Unit {0}
+NeedsEntry (HearsAnswer bytes) s = Unit {0}
+NeedsEntry (AsksLine l line) s = Unit {0}
+NeedsEntry (FallsSilent number) s = Unit {0}
+NeedsEntry GraceEnds s = Unit {0}
+NeedsEntry BeginsAnew s = Unit {0}

@@ -1,0 +1,28 @@
+//! What became of an event.
+
+use book::Doing;
+
+/// What became of an event.
+#[derive(Clone, Copy, Debug, PartialEq, Eq)]
+pub enum Outcome {
+    /// It was done.
+    Applied,
+    /// It met want of memory.
+    Starved,
+    /// The segment of the journal is full and there is no memory for a fresh one: the event has no entry and changed nothing.
+    NoSegment,
+}
+
+impl From<Doing> for Outcome {
+    ghost use Rattle.std.specs.Prelude.{◌≡◌};
+    ghost use Rattle.daemon_core.specs.Outcomes.{noted_as};
+
+    ghost from_gives = { λ doing outcome. outcome ≡ noted_as doing };
+
+    fn from(doing: Doing) -> Outcome {
+        match doing {
+            Doing::Applied => Outcome::Applied,
+            Doing::Starved => Outcome::Starved,
+        }
+    }
+}

@@ -1,4 +1,0 @@
-pub mod FaultOf
-pub mod Written
-pub mod Answered
-pub mod Pipe

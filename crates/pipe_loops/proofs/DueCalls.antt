@@ -1,0 +1,121 @@
+-- What a sending does, and the calls that are due after it.
+use Rattle.std.proofs.Common.{◌≡◌, ℕ, suc, ◌<◌, ◌⊎◌, inl, inr, Bool, true, false, cond, List, [], ◌∷◌, Option, Some, None, refl, sym, ◌∙◌, ap, subst, arith}
+use Rattle.std.specs.Prelude.{IsSome}
+use Rattle.definitions.specs.Hosts.{StoreAnswer, NotAsked, Yes, Refused}
+use Rattle.definitions.specs.Outgoing.{Outgoing, next_due, after_sending, ends_when_sent, once_more}
+use Rattle.definitions.specs.Step.{State, Event, Send, Doing, Applied, Starved, Given, Nothing, Sends as Gives, IsStarved, sent}
+use Rattle.book.specs.Given.{comes_to}
+use Rattle.book.specs.Notes.{IsStep}
+use Rattle.lock_service.specs.Planned.{answer_of, counted}
+use Rattle.lock_service.specs.declared.plans.StoreAnswer.{StoreAnswer as Answered}
+use Rattle.daemon_core.specs.declared.event.Event.TheVariants.{Send as Sending}
+use Rattle.daemon_core.specs.declared.event.Refusal.{Refusal}
+use Rattle.daemon_core.specs.declared.outcome.Outcome.{Outcome}
+use Rattle.daemon_core.specs.declared.outcome.Outcome.TheVariants as outcome
+use Rattle.daemon_core.specs.Outcomes.{doing_of}
+use Rattle.daemon_core.specs.declared.outputs.Outputs.{Outputs}
+use Rattle.daemon_core.specs.Sending.{Sending as Sent}
+use Rattle.daemon_core.specs.Outputs.{sent_on, refusal_of}
+use Rattle.daemon_core.specs.Hub.{Hub, HubStep}
+use Rattle.pipe_loops.specs.Answered.{NothingDue, SendStarves}
+
+-- how many calls are due
+abbrev pub due_count : List Outgoing → ℕ
+due_count [] = 0
+due_count (c ∷ calls) = cond c.is_due (suc (due_count calls)) (due_count calls)
+
+fewer : (calls : List Outgoing) (c : Outgoing) → next_due calls ≡ Some c → suc (due_count (after_sending calls)) ≡ due_count calls
+fewer [] c e = cc
+fewer (d ∷ calls) c e = go d.is_due refl (ends_when_sent d.letter.message) e (fewer calls c)
+  where
+    go : (b : Bool) → d.is_due ≡ b → (ends : Bool) → cond b (Some d) (next_due calls) ≡ Some c → (next_due calls ≡ Some c → suc (due_count (after_sending calls)) ≡ due_count calls)
+        → suc (due_count (cond b (cond ends calls (once_more d ∷ calls)) (d ∷ after_sending calls))) ≡ cond b (suc (due_count calls)) (due_count calls)
+    go true is true h more = refl
+    go true is false h more = refl
+    go false is ends h more = rw is (more h)
+
+-- ---- a step of the definitions
+
+-- it starved; or nothing is due; or the call that is due first was sent
+abbrev Gave : State → Doing → StoreAnswer → Given → State → Type 0
+Gave s doing store given new =
+    ((given ≡ IsStarved) × (doing ≡ Starved))
+    ⊎ (((given ≡ Nothing) × (next_due s.world.calls ≡ None) × (new ≡ s) × (store ≡ NotAsked))
+    ⊎ ((c : Outgoing) × (given ≡ Gives c.number c.letter) × (suc (due_count new.world.calls) ≡ due_count s.world.calls)))
+
+not_asked : (s : State) (store : StoreAnswer) (given : Given) (new : State) → IsStep s Send (comes_to Applied store given) new → store ≡ NotAsked
+not_asked s NotAsked given new h = refl
+not_asked s Yes given new h = let f = h.fits in cc
+not_asked s Refused given new h = let f = h.fits in cc
+
+gave : (s : State) (doing : Doing) (store : StoreAnswer) (given : Given) (new : State) → IsStep s Send (comes_to doing store given) new → Gave s doing store given new
+gave s Starved store given new h = inl (sym h.gives, refl)
+gave s Applied store given new h = inr (go (next_due s.world.calls) refl h.gives h.leaves)
+  where
+    go : (o : Option Outgoing) → next_due s.world.calls ≡ o → (sent s o).given ≡ given → (sent s o).state ≡ new
+        → ((given ≡ Nothing) × (next_due s.world.calls ≡ None) × (new ≡ s) × (store ≡ NotAsked))
+        ⊎ ((c : Outgoing) × (given ≡ Gives c.number c.letter) × (suc (due_count new.world.calls) ≡ due_count s.world.calls))
+    go None n gives leaves = inl (sym gives, n, sym leaves, not_asked s store given new h)
+    go (Some c) n gives leaves =
+        let left : new.world.calls ≡ after_sending s.world.calls = ap (λ (t : State). t.world.calls) (sym leaves) in
+        inr (c, sym gives, ap (λ (cs : List Outgoing). suc (due_count cs)) left ∙ fewer s.world.calls c n)
+
+-- ---- a step of the daemon
+
+unsegmented : (o : Outcome) → doing_of o ≡ Starved → (o ≡ outcome.Starved → ⊥) → o ≡ outcome.NoSegment
+unsegmented outcome.Applied e fed = cc
+unsegmented outcome.Starved e fed = absurd (fed refl)
+unsegmented outcome.NoSegment e fed = refl
+
+asked-none : (store : Answered) (refusals : ℕ) → answer_of store ≡ NotAsked → counted (answer_of store) refusals ≡ refusals
+asked-none store refusals e = ap (λ (a : StoreAnswer). counted a refusals) e
+
+module _ (old new : Hub) (out : Outputs) (step : HubStep old Sending out new) where
+  gave_here : Gave old.state (doing_of out.outcome) (answer_of out.store) step.given new.state
+  gave_here =
+      let P : Event → Type 0 = λ e. IsStep old.state e (comes_to (doing_of out.outcome) (answer_of out.store) step.given) new.state in
+      gave old.state (doing_of out.outcome) (answer_of out.store) step.given new.state (subst P step.step.reads step.step.step)
+
+  sent_is : out.sent ≡ sent_on step.given
+  sent_is = ap (λ (o : Outputs). o.sent) step.outputs
+
+  refusal_is : out.refusal ≡ refusal_of step.given
+  refusal_is = ap (λ (o : Outputs). o.refusal) step.outputs
+
+  -- a call that is sent is no longer due
+  pub lowers : IsSome out.sent → due_count new.state.world.calls < due_count old.state.world.calls
+  lowers some = go gave_here
+    where
+      nothing_sent : out.sent ≡ None → ⊥
+      nothing_sent e = let P : Option Sent → Type 0 = λ o. IsSome o in let n = subst P e some in cc
+
+      go : Gave old.state (doing_of out.outcome) (answer_of out.store) step.given new.state → due_count new.state.world.calls < due_count old.state.world.calls
+      go (inl h) = absurd (nothing_sent (sent_is ∙ ap sent_on h.0))
+      go (inr (inl h)) = absurd (nothing_sent (sent_is ∙ ap sent_on h.0))
+      go (inr (inr h)) = let n = h.2 in omega (arith, n)
+
+  -- a sending that gives nothing and is not refused finds nothing due
+  pub finds_none : out.sent ≡ None → out.refusal ≡ None → (new ≡ old) × NothingDue new
+  finds_none none agreed = go gave_here
+    where
+      same : (a b : Hub) → a.state ≡ b.state → a.refusals ≡ b.refusals → a.links ≡ b.links → a ≡ b
+      same a b s r l = ap (λ x. record { state = x; refusals = a.refusals; links = a.links }) s ∙ ap (λ x. record { state = b.state; refusals = x; links = a.links }) r ∙ ap (λ x. record { state = b.state; refusals = b.refusals; links = x }) l
+
+      go : Gave old.state (doing_of out.outcome) (answer_of out.store) step.given new.state → (new ≡ old) × NothingDue new
+      go (inl h) = let r : None ≡ refusal_of IsStarved = sym agreed ∙ refusal_is ∙ ap refusal_of h.0 in cc
+      go (inr (inl h)) = (
+        same new old h.2 (step.refusals ∙ asked-none out.store old.refusals h.3) step.links,
+        ap (λ (s : State). next_due s.world.calls) h.2 ∙ h.1,
+      )
+      go (inr (inr h)) = let r : None ≡ sent_on (Gives h.0.number h.0.letter) = sym none ∙ sent_is ∙ ap sent_on h.1 in cc
+
+  -- it is refused where there is no segment for its entry alone
+  pub starves : (r : Refusal) → out.refusal ≡ Some r → (r ≡ Refusal.Starved) × SendStarves old new
+  starves r met = go gave_here
+    where
+      go : Gave old.state (doing_of out.outcome) (answer_of out.store) step.given new.state → (r ≡ Refusal.Starved) × SendStarves old new
+      go (inl h) =
+          let is : Some r ≡ Some Refusal.Starved = sym met ∙ refusal_is ∙ ap refusal_of h.0 in
+          (cc, record { out = out; step = step; met = unsegmented out.outcome h.1 step.fed })
+      go (inr (inl h)) = let e : Some r ≡ refusal_of Nothing = sym met ∙ refusal_is ∙ ap refusal_of h.0 in cc
+      go (inr (inr h)) = let e : Some r ≡ refusal_of (Gives h.0.number h.0.letter) = sym met ∙ refusal_is ∙ ap refusal_of h.1 in cc

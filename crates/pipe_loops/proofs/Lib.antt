@@ -1,0 +1,5 @@
+pub mod ReadLemmas
+pub mod DueCalls
+pub mod PipeLemmas
+pub mod AnsweredLemmas
+pub mod Beginnings

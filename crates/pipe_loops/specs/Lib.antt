@@ -1,0 +1,4 @@
+pub mod FaultOf
+pub mod Reads
+pub mod Answered
+pub mod Pipe

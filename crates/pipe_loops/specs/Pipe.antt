@@ -1,0 +1,208 @@
+-- One stream from a reader to a writer, as a run of the daemon.
+use Rattle.std.specs.Prelude.{◌≡◌, ℕ, ◌+◌, ◌<◌, ◌≤◌, ◌⊎◌, List, [], ◌∷◌, ◌++◌, length, take, Option, Some, None, Result, Ok, Err}
+use Rattle.std.specs.List.{flat_map}
+use Rattle.std.specs.Option.{option_to_list}
+use Rattle.std.specs.Io.KnownBytes.{Appends, Keeps, Consumes, IsAtEnd}
+use Rattle.daemon_core.specs.declared.event.Event.{Event}
+use Rattle.daemon_core.specs.declared.event.Event.TheVariants.{Connect, Piece, GraceOver, Restart}
+use Rattle.daemon_core.specs.declared.outputs.Outputs.{Outputs}
+use Rattle.daemon_core.specs.declared.event.Refusal.{Refusal}
+use Rattle.kept_replies.specs.declared.key.Peer.{Peer}
+use Rattle.daemon_core.specs.Hub.{Hub, place_of, Waits, HubStep, Run, all_bytes_sent}
+use Rattle.pipe_loops.specs.declared.fault.Fault.{Fault}
+use Rattle.pipe_loops.specs.declared.fault.Fault.TheVariants.{Starved, RecordTooLong, StoreRefused, ReadFault, WriteFault}
+use Rattle.pipe_loops.specs.FaultOf.{fault_of}
+use Rattle.pipe_loops.specs.Answered.{AnswersEach, AnswersPart, taken_in, in_order, Breaks}
+
+-- the event brings these bytes to the pipe's connection, which has the number 0
+abbrev pub IsPiece : Event → List ℕ → Type 0
+IsPiece (Piece number v) bytes = (number ≡ 0) × (v.items ≡ bytes)
+IsPiece _ bytes = ⊥
+
+-- a piece comes, and then so many records are whole and were not taken
+pub record Hears (old : Hub) (bytes : List ℕ) (heard : Outputs) (whole : ℕ) (new : Hub) : Type 0 where
+  pub piece : Event
+  pub is : IsPiece piece bytes
+  pub step : HubStep old piece heard new
+  pub waits : Waits (place_of 0 new.links) new whole
+
+-- a piece comes, and then each record that is whole is answered, in order, with the calls that are due behind it
+pub record Turn (old : Hub) (bytes : List ℕ) (outs : List Outputs) (new : Hub) : Type 0 where
+  pub heard : Outputs
+  pub mid : Hub
+  pub answers : List (List Outputs)
+  pub hears : Hears old bytes heard (length answers) mid
+  pub each : AnswersEach mid answers new
+  pub all : outs ≡ heard ∷ in_order answers
+
+-- or some of them are, the last of them perhaps in part
+pub record SomeTurn (old : Hub) (bytes : List ℕ) (outs : List Outputs) (new : Hub) : Type 0 where
+  pub heard : Outputs
+  pub mid : Hub
+  pub whole : ℕ
+  pub hears : Hears old bytes heard whole mid
+  pub answers : List (List Outputs)
+  pub next : Hub
+  pub each : AnswersEach mid answers next
+  pub last : List Outputs
+  pub part : AnswersPart next last new
+  pub some : length answers + taken_in last ≤ whole
+  pub all : outs ≡ heard ∷ (in_order answers ++ last)
+
+-- what the piece was refused
+abbrev pub met_by : Outputs → List Refusal
+met_by out = option_to_list out.refusal
+
+abbrev pub Turns : Hub → List (List ℕ) → List Outputs → List Refusal → Hub → Type 0
+Turns old [] outs met new = (new ≡ old) × (outs ≡ []) × (met ≡ [])
+Turns old (piece ∷ pieces) outs met new =
+    (mid : Hub) × (first : List Outputs) × (rest : List Outputs) × (later : List Refusal) × (turn : Turn old piece first mid) × Turns mid pieces rest later new
+    × (outs ≡ first ++ rest) × (met ≡ met_by turn.heard ++ later)
+
+-- the server begins anew, its grace period is over, and the pipe's connection begins
+abbrev pub beginning : Peer → List Event
+beginning pipe = Restart ∷ GraceOver ∷ Connect 0 pipe ∷ []
+
+-- what the events were refused
+abbrev pub refusals : List Outputs → List Refusal
+refusals outs = flat_map (λ (o : Outputs). option_to_list o.refusal) outs
+
+-- so it begins, and then come these pieces
+pub record PipeRun (pipe : Peer) (start : Hub) (pieces : List (List ℕ)) (outs : List Outputs) (met : List Refusal) (end : Hub) : Type 0 where
+  pub begun : Hub
+  pub firsts : List Outputs
+  pub begins : Run start (beginning pipe) firsts begun
+  pub agreed : refusals firsts ≡ []
+  pub rest : List Outputs
+  pub turns : Turns begun pieces rest met end
+  pub all : outs ≡ firsts ++ rest
+
+abbrev pub joined : List (List ℕ) → List ℕ
+joined pieces = flat_map (λ p. p) pieces
+
+-- ---- the records that are whole after a piece
+
+pub record AnswersAll (old new : Hub) (before after : Option (List ℕ)) : Type 0 where
+  pub answers : List (List Outputs)
+  pub waits : Waits (place_of 0 old.links) old (length answers)
+  pub each : AnswersEach old answers new
+  pub wrote : Appends before after (all_bytes_sent (in_order answers))
+
+pub record AnswersSome (fault : Fault) (old new : Hub) (before after : Option (List ℕ)) : Type 0 where
+  pub whole : ℕ
+  pub waits : Waits (place_of 0 old.links) old whole
+  pub answers : List (List Outputs)
+  pub next : Hub
+  pub each : AnswersEach old answers next
+  pub last : List Outputs
+  pub mid : Hub
+  pub part : AnswersPart next last mid
+  pub some : length answers + taken_in last ≤ whole
+  pub breaks : Breaks fault mid new before after (in_order answers ++ last)
+
+abbrev pub AnswersWaiting : Result (Unit {0}) Fault → Hub → Hub → Option (List ℕ) → Option (List ℕ) → Type 0
+AnswersWaiting (Ok done) old new before after = AnswersAll old new before after
+AnswersWaiting (Err fault) old new before after = AnswersSome fault old new before after
+
+-- ---- a piece and the records after it
+
+-- all that is sent was written
+pub record WholeTurn (old new : Hub) (bytes : List ℕ) (before after : Option (List ℕ)) (met : List Refusal) : Type 0 where
+  pub outs : List Outputs
+  pub turn : Turn old bytes outs new
+  pub wrote : Appends before after (all_bytes_sent outs)
+  pub met_is : met_by turn.heard ≡ met
+
+pub record BrokenTurn (fault : Fault) (old new : Hub) (bytes : List ℕ) (before after : Option (List ℕ)) : Type 0 where
+  pub outs : List Outputs
+  pub mid : Hub
+  pub turn : SomeTurn old bytes outs mid
+  pub breaks : Breaks fault mid new before after outs
+
+-- where memory is wanting it was for the piece or for a sending
+abbrev pub TurnEnds : Result (Unit {0}) Fault → Hub → Hub → List ℕ → Option (List ℕ) → Option (List ℕ) → Type 0
+TurnEnds (Ok done) old new bytes before after = WholeTurn old new bytes before after []
+TurnEnds (Err Starved) old new bytes before after = WholeTurn old new bytes before after (Refusal.Starved ∷ []) ⊎ BrokenTurn Starved old new bytes before after
+TurnEnds (Err RecordTooLong) old new bytes before after = WholeTurn old new bytes before after (Refusal.RecordTooLong ∷ [])
+TurnEnds (Err StoreRefused) old new bytes before after = ⊥
+TurnEnds (Err WriteFault) old new bytes before after = BrokenTurn WriteFault old new bytes before after
+TurnEnds (Err ReadFault) old new bytes before after = ⊥
+
+-- ---- the beginning
+
+-- an event that sends nothing and is not refused; or it is, and that is the fault
+abbrev pub Passes : Result (Unit {0}) Fault → Event → Hub → Hub → Type 0
+Passes (Ok done) event old new = (out : Outputs) × HubStep old event out new × (out.refusal ≡ None)
+Passes (Err fault) event old new = (out : Outputs) × HubStep old event out new × (why : Refusal) × (out.refusal ≡ Some why) × (fault ≡ fault_of why)
+
+pub record BeginsAll (pipe : Peer) (old new : Hub) : Type 0 where
+  pub outs : List Outputs
+  pub run : Run old (beginning pipe) outs new
+  pub agreed : refusals outs ≡ []
+
+-- an event of the beginning is refused, and nothing comes after it
+pub record BeginsSome (pipe : Peer) (why : Refusal) (old new : Hub) : Type 0 where
+  pub count : ℕ
+  pub outs : List Outputs
+  pub run : Run old (take count (beginning pipe)) outs new
+  pub met_is : refusals outs ≡ why ∷ []
+
+abbrev pub Begins : Peer → Result (Unit {0}) Fault → Hub → Hub → Type 0
+Begins pipe (Ok done) old new = BeginsAll pipe old new
+Begins pipe (Err fault) old new = (why : Refusal) × (fault ≡ fault_of why) × BeginsSome pipe why old new × (why ≡ Refusal.RecordTooLong → ⊥)
+
+-- ---- the whole loop
+
+-- what was read came as these pieces, at most so many, all that is sent for them was written, and nothing else
+pub record EndsAt (pipe : Peer) (start : Hub) (most : ℕ) (unread left before after : Option (List ℕ)) (met : List Refusal) (hub : Hub) : Type 0 where
+  pub pieces : List (List ℕ)
+  pub few : length pieces ≤ most
+  pub outs : List Outputs
+  pub run : PipeRun pipe start pieces outs met hub
+  pub read : Consumes unread left (joined pieces)
+  pub wrote : Appends before after (all_bytes_sent outs)
+
+abbrev pub WholePipe : Peer → Hub → ℕ → Option (List ℕ) → Option (List ℕ) → Option (List ℕ) → Option (List ℕ) → List Refusal → Type 0
+WholePipe pipe start most unread left before after met = (hub : Hub) × EndsAt pipe start most unread left before after met hub
+
+-- it ended within the turn of the last piece
+pub record BrokenPipe (fault : Fault) (pipe : Peer) (start : Hub) (most : ℕ) (unread left before after : Option (List ℕ)) : Type 0 where
+  pub pieces : List (List ℕ)
+  pub few : length pieces < most
+  pub outs : List Outputs
+  pub mid : Hub
+  pub run : PipeRun pipe start pieces outs [] mid
+  pub last : List ℕ
+  pub more : List Outputs
+  pub next : Hub
+  pub turn : SomeTurn mid last more next
+  pub end : Hub
+  pub read : Consumes unread left (joined pieces ++ last)
+  pub breaks : Breaks fault next end before after (outs ++ more)
+
+-- nothing was read or written
+pub record Untouched (unread left before after : Option (List ℕ)) : Type 0 where
+  pub read : Keeps unread left
+  pub wrote : Keeps before after
+
+-- the beginning was refused
+pub record Unbegun (pipe : Peer) (start : Hub) (why : Refusal) (unread left before after : Option (List ℕ)) : Type 0 where
+  pub end : Hub
+  pub some : BeginsSome pipe why start end
+  pub untouched : Untouched unread left before after
+
+-- memory is wanted for the daemon, by its beginning, for the place of a piece before it is read, by a piece, or for the entry of a sending. No contract can name that there was none for the daemon or for a place
+abbrev pub PipeStarves : Peer → Hub → ℕ → Option (List ℕ) → Option (List ℕ) → Option (List ℕ) → Option (List ℕ) → Type 0
+PipeStarves pipe start bound unread left before after =
+    (Untouched unread left before after ⊎ Unbegun pipe start Refusal.Starved unread left before after)
+    ⊎ ((WholePipe pipe start bound unread left before after [] ⊎ WholePipe pipe start bound unread left before after (Refusal.Starved ∷ []))
+    ⊎ BrokenPipe Starved pipe start bound unread left before after)
+
+-- at most `bound` pieces are read, and the end is a piece of no bytes. A ReadFault comes after `bound` pieces, or where a read failed, which no contract can name: it left what is left to read as it was
+abbrev pub PipeEnds : Peer → Hub → ℕ → Result (Unit {0}) Fault → Option (List ℕ) → Option (List ℕ) → Option (List ℕ) → Option (List ℕ) → Type 0
+PipeEnds pipe start bound (Ok done) unread left before after = ((most : ℕ) × (most < bound) × WholePipe pipe start most unread left before after []) × IsAtEnd left
+PipeEnds pipe start bound (Err ReadFault) unread left before after = WholePipe pipe start bound unread left before after []
+PipeEnds pipe start bound (Err RecordTooLong) unread left before after = WholePipe pipe start bound unread left before after (Refusal.RecordTooLong ∷ [])
+PipeEnds pipe start bound (Err Starved) unread left before after = PipeStarves pipe start bound unread left before after
+PipeEnds pipe start bound (Err StoreRefused) unread left before after = Unbegun pipe start Refusal.StoreRefused unread left before after
+PipeEnds pipe start bound (Err WriteFault) unread left before after = BrokenPipe WriteFault pipe start bound unread left before after

@@ -1,0 +1,76 @@
+//! What ends the program.
+
+ghost use Rattle.std.specs.Prelude.{◌≡◌};
+
+use daemon_core::Refusal;
+use owner_ids::Starved;
+use thiserror::Error;
+use written::WriteFault;
+
+/// What ends a loop before its input does. It is printed by number and name.
+#[derive(Clone, Copy, Debug, PartialEq, Eq, Error)]
+pub enum Fault {
+    /// A growth was refused.
+    #[error("1 Starved")]
+    Starved,
+    /// The stream has a record that would be longer than 8,192 bytes (RFC 5531, section 11).
+    #[error("10 RecordTooLong")]
+    RecordTooLong,
+    /// The store of hosts refused.
+    #[error("19 StoreRefused")]
+    StoreRefused,
+    /// A read failed, or there were too many.
+    #[error("23 ReadFault")]
+    ReadFault,
+    /// A write failed.
+    #[error("24 WriteFault")]
+    WriteFault,
+}
+
+impl From<Refusal> for Fault {
+    ghost use Rattle.pipe_loops.specs.FaultOf.{fault_of};
+
+    ghost from_gives = { λ r f. f ≡ fault_of r };
+
+    fn from(refusal: Refusal) -> Fault {
+        match refusal {
+            Refusal::Starved => Fault::Starved,
+            Refusal::RecordTooLong => Fault::RecordTooLong,
+            Refusal::StoreRefused => Fault::StoreRefused,
+        }
+    }
+}
+
+impl From<WriteFault> for Fault {
+    ghost use Rattle.pipe_loops.specs.FaultOf.{failed_write};
+
+    ghost from_gives = { λ w f. f ≡ failed_write };
+
+    fn from(_fault: WriteFault) -> Fault {
+        Fault::WriteFault
+    }
+}
+
+/// A read failed.
+#[derive(Clone, Copy, Debug, PartialEq, Eq)]
+pub(crate) struct FailedRead;
+
+impl From<FailedRead> for Fault {
+    ghost use Rattle.pipe_loops.specs.FaultOf.{failed_read};
+
+    ghost from_gives = { λ r f. f ≡ failed_read };
+
+    fn from(_failed: FailedRead) -> Fault {
+        Fault::ReadFault
+    }
+}
+
+impl From<Starved> for Fault {
+    ghost use Rattle.pipe_loops.specs.FaultOf.{starved};
+
+    ghost from_gives = { λ s f. f ≡ starved };
+
+    fn from(_starved: Starved) -> Fault {
+        Fault::Starved
+    }
+}

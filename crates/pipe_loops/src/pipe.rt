@@ -1,0 +1,203 @@
+//! One stream of records from a reader, and to a writer what it is answered and what is due behind each answer.
+
+ghost use Rattle.std.specs.Prelude.{◌≡◌, ◌<◌, ℕ, List, [], Option, IfOk, vec_len};
+ghost use Rattle.kept_replies.specs.declared.key.Peer.{Peer};
+ghost use Rattle.pipe_loops.specs.Reads.{ReadsPiece};
+ghost use Rattle.daemon_core.specs.Hub.{Hub, opening};
+ghost use Rattle.pipe_loops.specs.Answered.{SendsNext, SendsDue, AnswersNext};
+ghost use Rattle.pipe_loops.specs.Pipe.{AnswersWaiting, TurnEnds, EndsAt, Passes, Begins, PipeEnds};
+
+use crate::fault::{FailedRead, Fault};
+use crate::output::write_outputs;
+use daemon_core::{Daemon, Event, Peer};
+use hosts_db::HostStore;
+use letters::ShortBytes;
+use owner_ids::Starved;
+use range_table::RangeTable;
+use std::alloc::Global;
+use std::io::{Read, Write};
+
+/// The number of the only connection.
+const CONNECTION: u64 = 0;
+
+/// The most bytes that are read at once.
+const PIECE: usize = 8192;
+
+/// The place of a piece.
+fn make_place(alloc: Global) -> Result<Vec<u8>, Starved>
+    ensures { IfOk result (λ place. vec_len place ≡ PIECE) }
+{
+    Ok(vec![in alloc; 0u8; PIECE]?)
+}
+
+/// Reads what there is, up to what the place has room for.
+fn read_piece<R: Read>(reader: &mut R, mut place: Vec<u8>) -> Result<Vec<u8>, FailedRead>
+    requires { 0 < vec_len place }
+    ensures { ReadsPiece (R.remaining reader.old) (R.remaining reader.new) result }
+{
+    match reader.read(place.as_mut_slice()) {
+        Ok(count) => {
+            place.truncate(count);
+            Ok(place)
+        }
+        Err(_) => Err(FailedRead),
+    }
+}
+
+/// Sends the call of the server's own that is due first. Whether there was one.
+fn send_next<T: RangeTable, S: HostStore, W: Write>(
+    daemon: &mut Daemon<T, S>,
+    writer: &mut W,
+) -> Result<bool, Fault>
+    ensures { SendsNext result daemon.old daemon.new (W.contents writer.old) (W.contents writer.new) }
+{
+    let outputs = daemon.step(Event::Send);
+    if let Some(refusal) = outputs.refusal {
+        return Err(Fault::from(refusal));
+    }
+    if outputs.sent.is_none() {
+        return Ok(false);
+    }
+    write_outputs(writer, &outputs)?;
+    Ok(true)
+}
+
+/// Sends every call of the server's own that is due, in order.
+fn send_due<T: RangeTable, S: HostStore, W: Write>(
+    daemon: &mut Daemon<T, S>,
+    writer: &mut W,
+) -> Result<(), Fault>
+    ensures { SendsDue result daemon.old daemon.new (W.contents writer.old) (W.contents writer.new) }
+{
+    while send_next(daemon, writer)? {}
+    Ok(())
+}
+
+/// Answers the oldest whole record, and sends every call that is due then.
+fn answer_next<T: RangeTable, S: HostStore, W: Write>(
+    daemon: &mut Daemon<T, S>,
+    writer: &mut W,
+) -> Result<(), Fault>
+    ensures { AnswersNext result daemon.old daemon.new (W.contents writer.old) (W.contents writer.new) }
+{
+    let outputs = daemon.step(Event::Take(CONNECTION, 0));
+    write_outputs(writer, &outputs)?;
+    drop(outputs);
+    send_due(daemon, writer)
+}
+
+/// Answers each record that is whole, in order, with the calls that are due behind it.
+fn answer_waiting<T: RangeTable, S: HostStore, W: Write>(
+    daemon: &mut Daemon<T, S>,
+    writer: &mut W,
+) -> Result<(), Fault>
+    ensures { AnswersWaiting result daemon.old daemon.new (W.contents writer.old) (W.contents writer.new) }
+{
+    for _answered in 0..daemon.waiting(CONNECTION) {
+        answer_next(daemon, writer)?;
+    }
+    Ok(())
+}
+
+/// Hands in a piece and answers the records that are whole then. A fault of the stream is told after
+/// the answers to the records before it.
+fn turn<T: RangeTable, S: HostStore, W: Write>(
+    daemon: &mut Daemon<T, S>,
+    writer: &mut W,
+    piece: Vec<u8>,
+) -> Result<(), Fault>
+    ensures { TurnEnds result daemon.old daemon.new piece.items (W.contents writer.old) (W.contents writer.new) }
+{
+    let heard = daemon.step(Event::Piece(CONNECTION, piece));
+    let refused = heard.refusal;
+    drop(heard);
+    let answered = answer_waiting(daemon, writer);
+    // What was sent before a fault goes out, too.
+    let flushed = writer.flush();
+    answered?;
+    if flushed.is_err() {
+        return Err(Fault::WriteFault);
+    }
+    match refused {
+        None => Ok(()),
+        Some(refusal) => Err(Fault::from(refusal)),
+    }
+}
+
+/// Reads to the end, and answers each piece as it comes.
+fn answer_pieces<T: RangeTable, S: HostStore, R: Read, W: Write>(
+    alloc: Global,
+    daemon: &mut Daemon<T, S>,
+    reader: &mut R,
+    writer: &mut W,
+    bound: u64,
+) -> Result<(), Fault>
+    ensures { (pipe : Peer) (start : Hub) (unread before : Option (List ℕ)) → EndsAt pipe start 0 unread (R.remaining reader.old) before (W.contents writer.old) [] daemon.old
+        → PipeEnds pipe start bound result unread (R.remaining reader.new) before (W.contents writer.new) }
+{
+    for _turn in 0..bound {
+        // The place is got first, so that no byte is lost.
+        let place = make_place(alloc)?;
+        let piece = read_piece(reader, place)?;
+        if piece.is_empty() {
+            return Ok(());
+        }
+        turn(daemon, writer, piece)?;
+    }
+    Err(Fault::ReadFault)
+}
+
+/// Does an event that nobody asked for. It ends the program where it is refused.
+fn pass<T: RangeTable, S: HostStore>(daemon: &mut Daemon<T, S>, event: Event) -> Result<(), Fault>
+    ensures { Passes result event daemon.old daemon.new }
+{
+    match daemon.step(event).refusal {
+        None => Ok(()),
+        Some(refusal) => Err(Fault::from(refusal)),
+    }
+}
+
+/// The server begins anew, its grace period is over, and the pipe's connection begins.
+fn begin<T: RangeTable, S: HostStore>(daemon: &mut Daemon<T, S>) -> Result<(), Fault>
+    ensures { Begins Peer.PIPE result daemon.old daemon.new }
+{
+    pass(daemon, Event::Restart)?;
+    pass(daemon, Event::GraceOver)?;
+    pass(daemon, Event::Connect(CONNECTION, Peer::PIPE))
+}
+
+/// Begins, reads a stream to its end, and writes what each whole record is answered, and the calls that are due behind it,
+/// in order, and nothing else.
+fn answer_stream<T: RangeTable, S: HostStore, R: Read, W: Write>(
+    alloc: Global,
+    daemon: &mut Daemon<T, S>,
+    reader: &mut R,
+    writer: &mut W,
+    bound: u64,
+) -> Result<(), Fault>
+    ensures { PipeEnds Peer.PIPE daemon.old bound result (R.remaining reader.old) (R.remaining reader.new) (W.contents writer.old) (W.contents writer.new) }
+{
+    begin(daemon)?;
+    answer_pieces(alloc, daemon, reader, writer, bound)
+}
+
+/// A daemon with this table, which has no runs, and this store, begins, reads a stream to its end, and writes what each
+/// whole record is answered, and the calls of the server's own that are due behind it, in order, and nothing else. An end
+/// inside a record is no fault. After `bound` reads that were not the end it gives up with `ReadFault`.
+pub fn pipe_loop<T: RangeTable + Drop, S: HostStore + Drop, R: Read, W: Write>(
+    alloc: Global,
+    table: T,
+    store: S,
+    own_name: ShortBytes,
+    reader: &mut R,
+    writer: &mut W,
+    bound: u64,
+) -> Result<(), Fault>
+    requires { T.settings table ≡ [] }
+    ensures { PipeEnds Peer.PIPE (opening own_name (S.rows store) (S.refusals store)) bound result (R.remaining reader.old) (R.remaining reader.new) (W.contents writer.old) (W.contents writer.new) }
+{
+    let mut daemon = Daemon::new(alloc, table, store, own_name)?;
+    let ended = answer_stream(alloc, &mut daemon, reader, writer, bound);
+    drop(daemon);
+    ended
+}
