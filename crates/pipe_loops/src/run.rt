@@ -5,7 +5,7 @@ use crate::pipe::pipe_loop;
 use crate::words::is_pipe;
 use hosts_db::{MemHosts, StoreError};
 use letters::ShortBytes;
-use range_table::FlatTable;
+use range_arena::ArenaTable;
 use std::alloc::Global;
 use std::env;
 use std::io::{self, BufWriter};
@@ -57,7 +57,7 @@ fn run_pipe<R: AllocGlobal + Input + Print>(rt: &R) -> Result<(), Fault> {
         Ok(writer) => writer,
         Err(_) => return Err(Fault::Starved),
     };
-    let table = FlatTable::new(alloc)?;
+    let table = ArenaTable::new(alloc)?;
     let store = no_hosts(alloc)?;
     pipe_loop(
         alloc,
