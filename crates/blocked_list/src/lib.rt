@@ -8,8 +8,6 @@ mod cycles;
 mod grants;
 pub mod laws;
 mod slots;
-#[cfg(test)]
-mod tests;
 mod waiter;
 
 pub use cycles::BlockError;

@@ -5,8 +5,6 @@
 mod copies;
 mod outcome;
 mod result;
-#[cfg(test)]
-mod tests;
 
 pub use outcome::Outcome;
 pub use result::{CallResult, ShareRes};

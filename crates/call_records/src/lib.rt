@@ -4,8 +4,6 @@
 mod callee;
 mod dest;
 mod record;
-#[cfg(test)]
-mod tests;
 
 pub use dest::{Dest, HostName};
 pub use record::put_record;

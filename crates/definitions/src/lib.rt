@@ -5,5 +5,3 @@ pub mod carried;
 pub mod laws;
 pub mod own_state;
 pub mod rows;
-#[cfg(test)]
-mod tests;

@@ -5,8 +5,6 @@
 mod access;
 mod share;
 mod shares;
-#[cfg(test)]
-mod tests;
 
 pub use access::Access;
 pub use owner_ids::Starved;

@@ -5,9 +5,6 @@ ghost use Rattle.std.specs.Prelude.{◌≡◌};
 ghost use Rattle.definitions.specs.Phases.{admits as is_admitted};
 ghost use Rattle.grace.specs.Meanings.{phase_of, kind_of};
 
-#[cfg(test)]
-mod tests;
-
 /// Where the daemon is after a restart.
 #[derive(Clone, Copy, Debug, PartialEq, Eq)]
 pub enum Phase {

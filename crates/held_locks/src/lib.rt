@@ -8,6 +8,3 @@ mod locks;
 
 pub use asked::{Change, Holder, Request};
 pub use locks::Locks;
-
-#[cfg(test)]
-mod tests;

@@ -8,8 +8,6 @@ mod refusals;
 mod rows;
 mod search;
 mod store;
-#[cfg(test)]
-mod tests;
 
 pub use error::StoreError;
 pub use host_rows::HostRows;

@@ -7,6 +7,3 @@ mod replies;
 
 pub use key::{Key, Peer};
 pub use replies::{Kept, KeptReplies, MOST_KEPT};
-
-#[cfg(test)]
-mod tests;

@@ -9,8 +9,6 @@ mod lock;
 mod message;
 mod results;
 mod short;
-#[cfg(test)]
-mod tests;
 
 pub use caller::Caller;
 pub use letter::{Destination, Letter};

@@ -8,8 +8,6 @@ mod fields;
 mod granted;
 mod law;
 mod output;
-#[cfg(test)]
-mod tests;
 mod text;
 
 pub use answer::LocalAnswer;

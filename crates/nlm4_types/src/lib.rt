@@ -27,6 +27,3 @@ pub use results::{Holder, Res, TestRes};
 pub use shares::{ShareArgs, ShareRes};
 pub use stat::Stat;
 pub use version::Version;
-
-#[cfg(test)]
-mod tests;

@@ -12,6 +12,3 @@ pub use call::{NsmCall, is_known, one_call};
 pub use error::CallError;
 pub use messages::{NsmMessage, NsmResult};
 pub use results::{MonitorRes, SmStat, SmStatRes};
-
-#[cfg(test)]
-mod tests;

@@ -4,8 +4,6 @@
 
 mod call;
 mod calls;
-#[cfg(test)]
-mod tests;
 
 pub use call::{Call, MOST_SENDINGS};
 pub use calls::OutCalls;

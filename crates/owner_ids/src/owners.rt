@@ -150,6 +150,3 @@ impl OwnerOrder for Owners {
 
     ghost exact = { λ owners. number_exact (named owners) };
 }
-
-#[cfg(test)]
-mod tests;

@@ -10,6 +10,3 @@ pub use calls::{
     refuses, runs, set, used, used_after, used_of,
 };
 pub use numbers::{holds_nothing, intern, release};
-
-#[cfg(test)]
-mod tests;

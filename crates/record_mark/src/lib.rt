@@ -6,8 +6,6 @@ mod assembler;
 mod law;
 mod progress;
 mod sent;
-#[cfg(test)]
-mod tests;
 
 pub use crate::assembler::{Assembler, MarkError};
 pub use crate::law::{one_reading, sent_is_one_record};

@@ -10,6 +10,3 @@ pub use answer::AnswerReading;
 pub use call::{Call, Refusal};
 pub use law::{one_answer_reading, one_reading};
 pub use reading::Reading;
-
-#[cfg(test)]
-mod tests;

@@ -8,8 +8,6 @@ mod call;
 mod header;
 mod law;
 mod reply;
-#[cfg(test)]
-mod tests;
 
 pub use answer::{Answer, AnswerOutcome};
 pub use auth::{AuthSys, OpaqueAuth};

@@ -4,8 +4,6 @@
 
 mod cells;
 mod list;
-#[cfg(test)]
-mod tests;
 mod tier;
 
 pub use list::TieredList;

@@ -1,0 +1,5 @@
+//! Who waits for a lock: worked rows over the flat table, the limit, and a random script beside plain lists.
+mod plain;
+mod rows;
+mod script;
+mod tables;
