@@ -2,7 +2,6 @@
 //! tells it (RFC 5531, section 9).
 #![tactic(auto)]
 
-mod copies;
 mod outcome;
 mod result;
 

@@ -3,6 +3,7 @@
 #![tactic(auto)]
 
 mod caller;
+mod copies;
 mod lent;
 mod letter;
 mod lock;

@@ -44,7 +44,7 @@ fn a_granted_msg(rt: HostRuntime) -> Result<(), Fail> {
         exclusive: true,
         lock: lock(rt.alloc())?,
     };
-    let letter = to_host(rt.alloc(), message)?;
+    let letter = to_host(rt.alloc(), message)?.copy(rt.alloc())?;
     assert_eq!(rt; told(&letter), (true, true, true, false));
     assert_eq!(rt; letter.to().host(), Some(b"b".as_slice()));
     assert_eq!(rt; granted_handle(&letter), Some(b"B".as_slice()));
@@ -93,7 +93,8 @@ fn a_line(rt: HostRuntime) -> Result<(), Fail> {
     let letter = Letter::new(
         Destination::Connection(3),
         Message::GrantedLine { mode, lock },
-    );
+    )
+    .copy(rt.alloc())?;
     assert_eq!(rt; told(&letter), (false, false, false, true));
     assert!(rt; letter.to().host().is_none() && letter.message().granted_lock().is_none());
     Ok(())

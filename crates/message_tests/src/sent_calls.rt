@@ -1,7 +1,7 @@
 //! Records of the server's own calls, word by word.
 use crate::words::words;
 use call_records::{Dest, put_record};
-use letters::{Caller, Destination, Holder, Lock, Message, MyId, Res, ShortBytes, TestRes};
+use letters::{Caller, Destination, Holder, Letter, Lock, Message, MyId, Res, ShortBytes, TestRes};
 use nlm4_types::{Stat, Version};
 use std::alloc::{AllocError, Global};
 use std::process::Abort;
@@ -12,6 +12,19 @@ use xdr_core::Frame;
 fn is_record(rt: &impl Abort, number: u64, message: &Message, text: &str) -> bool {
     let mut f = Frame::new();
     put_record(number, message, &mut f).is_ok() && f.as_slice() == words(rt, text).as_slice()
+}
+
+/// Whether the record of the call of this number is these words, and so is that of its letter's copy.
+fn tells(
+    rt: &impl Abort,
+    alloc: Global,
+    number: u64,
+    message: Message,
+    text: &str,
+) -> Result<bool, AllocError> {
+    let letter = Letter::new(Destination::Connection(1), message);
+    let copy = letter.copy(alloc)?;
+    Ok(is_record(rt, number, letter.message(), text) && is_record(rt, number, copy.message(), text))
 }
 
 fn granted_to_b(alloc: Global) -> Result<Message, AllocError> {
@@ -32,7 +45,7 @@ fn granted_to_b(alloc: Global) -> Result<Message, AllocError> {
 fn granted(rt: HostRuntime) -> Result<(), Fail> {
     let message = granted_to_b(rt.alloc())?;
     let text = "1 0 2 186b5 4 5 0 0 0 0 8 1 1 1 1 62000000 4 01020304 1 42000000 8 0 0 0 a";
-    assert!(rt; is_record(&rt, (1 << 32) + 1, &message, text));
+    assert!(rt; tells(&rt, rt.alloc(), (1 << 32) + 1, message, text)?);
     Ok(())
 }
 
@@ -66,10 +79,10 @@ fn test_result(alloc: Global) -> Result<Message, AllocError> {
 fn results(rt: HostRuntime) -> Result<(), Fail> {
     let lock = lock_result(rt.alloc())?;
     let text = "1 0 2 186b5 4 c 0 0 0 0 4 7 0";
-    assert!(rt; is_record(&rt, (1 << 32) + 1, &lock, text), "lock");
+    assert!(rt; tells(&rt, rt.alloc(), (1 << 32) + 1, lock, text)?, "lock");
     let test = test_result(rt.alloc())?;
     let text = "2 0 2 186b5 4 b 0 0 0 0 4 3 1 1 7 1 41000000 0 0 0 a";
-    assert!(rt; is_record(&rt, (1 << 32) + 2, &test, text), "test");
+    assert!(rt; tells(&rt, rt.alloc(), (1 << 32) + 2, test, text)?, "test");
     Ok(())
 }
 
@@ -99,10 +112,13 @@ fn status_of_a(alloc: Global) -> Result<Message, AllocError> {
 fn notices(rt: HostRuntime) -> Result<(), Fail> {
     let notify = notice(rt.alloc())?;
     let text = "1 0 2 186b8 1 6 0 0 0 0 6 73657276 65720000 3";
-    assert!(rt; is_record(&rt, (3 << 32) + 1, &notify, text), "notify");
+    assert!(rt;
+        tells(&rt, rt.alloc(), (3 << 32) + 1, notify, text)?,
+        "notify"
+    );
     let status = status_of_a(rt.alloc())?;
     let text = "9 0 2 30d40 1 ffffffff 0 0 0 0 1 61000000 5 00010203 04050607 08090a0b 0c0d0e0f";
-    assert!(rt; is_record(&rt, 9, &status, text), "status");
+    assert!(rt; tells(&rt, rt.alloc(), 9, status, text)?, "status");
     Ok(())
 }
 
