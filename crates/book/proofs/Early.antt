@@ -1,30 +1,22 @@
 -- An event that met want of memory before it began.
-use Rattle.std.proofs.Common.{◌≡◌, ℕ, refl, ap, Option, Some, None}
+use Rattle.std.proofs.Common.{ℕ, refl}
 use Rattle.definitions.specs.Bytes.{Bytes}
 use Rattle.definitions.specs.Hosts.{NotAsked}
-use Rattle.definitions.specs.Replies.{Call, Reading, Ignored, Turned, Asks, AnswerReading, Line, LineStarved}
+use Rattle.definitions.specs.Replies.{Reading, Ignored, Turned, Asks, AnswerReading, Line, LineStarved}
 use Rattle.definitions.specs.Step.{Peer, State, Take, Answer, Local, Silent, GraceOver, Restart, Starved, IsStarved, Says}
 use Rattle.record_reading.specs.Readings.{IsReading}
 use Rattle.record_reading.specs.Answers.{IsAnswerReading}
-use Rattle.lock_service.specs.Served.{served}
 use Rattle.local_ops.specs.Grammar.{Reads as LineReads}
-use Rattle.book.specs.Readings.{served_reading, asks_served, refusal_of, served_line}
+use Rattle.book.specs.Readings.{served_line}
 use Rattle.book.specs.Given.{starved_reading, comes_to}
 use Rattle.book.specs.Notes.{Takes, HearsAnswer, AsksLine, FallsSilent, GraceEnds, BeginsAnew, IsStep, Steps}
 use Rattle.book.proofs.Calls.{starved_early}
 
 module _ (s : State) (peer : Peer) (bytes : Bytes) where
-  by_reading : (whole said : Reading) → IsReading bytes whole → said ≡ served_reading whole → IsStep s (Take peer bytes said) (comes_to Starved NotAsked (starved_reading whole)) s → Steps s (Takes peer bytes) (comes_to Starved NotAsked (starved_reading whole)) s
-  by_reading whole said read is step = record { said = Take peer bytes said; reads = (said, record { whole = whole; read = read; is = is }, refl); step = step }
-
-  asked : (xid : _) (call : Call) → IsReading bytes (Asks xid call) → (o : Option Call) → o ≡ served call → Steps s (Takes peer bytes) (comes_to Starved NotAsked (starved_reading (Asks xid call))) s
-  asked xid call read (Some known) is = by_reading (Asks xid call) (Asks xid known) read (ap (λ (o : Option Call). asks_served xid call o) is) (starved_early s peer bytes xid known)
-  asked xid call read None is = by_reading (Asks xid call) (Turned xid (refusal_of call)) read (ap (λ (o : Option Call). asks_served xid call o) is) (record { gives = refl; leaves = refl; fits = refl })
-
   pub taken : (whole : Reading) → IsReading bytes whole → Steps s (Takes peer bytes) (comes_to Starved NotAsked (starved_reading whole)) s
-  taken Ignored read = by_reading Ignored Ignored read refl (record { gives = refl; leaves = refl; fits = refl })
-  taken (Turned xid why) read = by_reading (Turned xid why) (Turned xid why) read refl (record { gives = refl; leaves = refl; fits = refl })
-  taken (Asks xid call) read = asked xid call read (served call) refl
+  taken Ignored read = record { said = Take peer bytes Ignored; reads = (Ignored, read, refl); step = record { gives = refl; leaves = refl; fits = refl } }
+  taken (Turned xid why) read = record { said = Take peer bytes (Turned xid why); reads = (Turned xid why, read, refl); step = record { gives = refl; leaves = refl; fits = refl } }
+  taken (Asks xid call) read = record { said = Take peer bytes (Asks xid call); reads = (Asks xid call, read, refl); step = starved_early s peer bytes xid call }
 
 pub answer : (s : State) (bytes : Bytes) (reading : AnswerReading) → IsAnswerReading bytes reading → Steps s (HearsAnswer bytes) (comes_to Starved NotAsked IsStarved) s
 answer s bytes reading read = record { said = Answer reading; reads = (reading, read, refl); step = record { gives = refl; leaves = refl; fits = refl } }

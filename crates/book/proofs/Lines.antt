@@ -32,12 +32,12 @@ read_as s new l bytes whole upshot read step = record { said = Local l (served_l
 
 -- whether it was answered or starved
 module _ {E : Type 0} (s new : State) (l : ℕ) (bytes : Bytes) (whole : Line) (read : LineReads bytes whole) where
-  pub answered : (r : Result LocalAnswer E) → IfOk r (λ answer. (k : ℕ) → IsStep s (Local k (served_line whole)) (comes_to Applied NotAsked (Says (reply_of answer))) new)
+  pub answered : (r : Result LocalAnswer E) → IfOk r (λ answer. IsStep s (Local l (served_line whole)) (comes_to Applied NotAsked (Says (reply_of answer))) new)
       → IfOk r (λ answer. Steps s (AsksLine l bytes) (comes_to Applied NotAsked (Says (reply_of answer))) new)
-  answered (Ok answer) step = read_as s new l bytes whole _ read (step l)
+  answered (Ok answer) step = read_as s new l bytes whole _ read step
   answered (Err e) step = tt
 
-  pub unanswered : (r : Result LocalAnswer E) → OnErr r ((k : ℕ) → IsStep s (Local k (served_line whole)) (comes_to Starved NotAsked (Says LineStarved)) new)
+  pub unanswered : (r : Result LocalAnswer E) → OnErr r (IsStep s (Local l (served_line whole)) (comes_to Starved NotAsked (Says LineStarved)) new)
       → OnErr r (Steps s (AsksLine l bytes) (comes_to Starved NotAsked (Says LineStarved)) new)
   unanswered (Ok answer) step = tt
-  unanswered (Err e) step = read_as s new l bytes whole _ read (step l)
+  unanswered (Err e) step = read_as s new l bytes whole _ read step

@@ -6,7 +6,7 @@ use Rattle.definitions.specs.Hosts.{NotAsked}
 use Rattle.definitions.specs.World.{the_limits}
 use Rattle.definitions.specs.Step.{State, Applied, Starved, Sends}
 use Rattle.definitions.specs.Replay.{Entry, IsLegal as IsLegalFrom}
-use Rattle.lock_service.specs.Planned.{counted}
+use Rattle.call_plans.specs.Planned.{counted}
 use Rattle.call_records.specs.declared.dest.Dest.{Dest}
 use Rattle.call_records.specs.Dests.{dest_of}
 use Rattle.book.specs.Given.{Upshot, comes_to, record_of}

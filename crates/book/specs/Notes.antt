@@ -7,7 +7,7 @@ use Rattle.definitions.specs.World.{the_limits}
 use Rattle.definitions.specs.Step.{Peer, Event, Take, Send, Answer, Local, Silent, GraceOver, Restart, Doing, Given, Says, Sends, State}
 use Rattle.definitions.specs.Replay.{after, fits}
 use Rattle.kept_replies.specs.Pairs.{asker}
-use Rattle.lock_service.specs.Planned.{answer_of}
+use Rattle.call_plans.specs.Planned.{answer_of}
 use Rattle.book.specs.declared.event.BookEvent.{BookEvent}
 use Rattle.book.specs.declared.event.BookEvent.TheVariants as event
 use Rattle.book.specs.declared.entry.Act.{Act}
@@ -16,7 +16,8 @@ use Rattle.book.specs.declared.entry.Entry.{Entry}
 use Rattle.local_ops.specs.Answers.{reply_of}
 use Rattle.book.specs.Given.{Upshot, comes_to, doing_of, given_of}
 use Rattle.record_reading.specs.Answers.{IsAnswerReading}
-use Rattle.book.specs.Readings.{IsServed, IsServedLine}
+use Rattle.record_reading.specs.Readings.{IsReading}
+use Rattle.book.specs.Readings.{IsServedLine}
 
 pub data Happening : Type 0 where
   Takes : Peer → Bytes → Happening
@@ -55,7 +56,7 @@ note_of e = record { number = e.number; event = happened e.act; upshot = comes_t
 
 -- the event of the definitions, whose record, answer or line has its reading
 abbrev pub Reads : Happening → Event → Type 0
-Reads (Takes peer asked) e = (reading : Reading) × IsServed asked reading × (e ≡ Take peer asked reading)
+Reads (Takes peer asked) e = (reading : Reading) × IsReading asked reading × (e ≡ Take peer asked reading)
 Reads SendsNext e = e ≡ Send
 Reads (HearsAnswer bytes) e = (reading : AnswerReading) × IsAnswerReading bytes reading × (e ≡ Answer reading)
 Reads (AsksLine l bytes) e = (line : Line) × IsServedLine bytes line × (e ≡ Local l line)

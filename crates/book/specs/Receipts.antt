@@ -1,5 +1,5 @@
 -- What a receipt tells of an entry.
-use Rattle.std.specs.Prelude.{ℕ, Bool, true, false, ◌&&◌, ◌==◌, cond, not, List, ◌-◌, length, slice_get, Option, Some, None, option_map}
+use Rattle.std.specs.Prelude.{ℕ, Bool, true, false, ◌&&◌, ◌==◌, cond, not, List, ◌-◌, length, slice_get, Option, option_map}
 use Rattle.definitions.specs.Bytes.{Bytes, same_bytes, is_any}
 use Rattle.definitions.specs.Step.{Peer}
 use Rattle.book.specs.Given.{record_of}

@@ -1,14 +1,15 @@
 //! A call whose reply isn't kept.
-ghost use Rattle.std.specs.Prelude.{◌≡◌, ◌&&◌, None, IfOk, OnOk, OnErr};
-ghost use Rattle.definitions.specs.World.{World as SaidWorld};
-ghost use Rattle.definitions.specs.Replies.{Asks};
-ghost use Rattle.definitions.specs.Step.{Take, is_success, is_kept_kind};
+ghost use Rattle.std.specs.Prelude.{◌≡◌, ◌&&◌, [], true, cond, None, OnOk, OnErr};
+ghost use Rattle.definitions.specs.World.{World as SaidWorld, the_limits};
+ghost use Rattle.definitions.specs.Nlm as nlm;
+ghost use Rattle.definitions.specs.Replies.{Asks, Nlm};
+ghost use Rattle.nlm4_types.specs.Call.{view_of_call as view_of_nlm_call};
+ghost use Rattle.definitions.specs.Step.{Take, is_success, is_kept_kind, is_restart as restarts, kept_after};
 ghost use Rattle.kept_replies.specs.Pairs.{asker, at_key};
 ghost use Rattle.call_outcome.specs.Values.{outcome_of};
-ghost use Rattle.lock_service.specs.Planned.{counted};
-ghost use Rattle.lock_service.specs.Served.{call_of};
+ghost use Rattle.call_plans.specs.Planned.{answer_of, counted, told_in};
+ghost use Rattle.record_reading.specs.Values.{view_of_call};
 ghost use Rattle.book.specs.Given.{given_of};
-ghost use Rattle.book.specs.Shared.{with_reply};
 ghost use Rattle.book.specs.Notes.{IsStep};
 
 use crate::kept::KeptReply;
@@ -16,35 +17,39 @@ use crate::reply::Reply;
 use crate::shared::Shared;
 use crate::upshot::{Upshot, answers, starved};
 use call_outcome::Outcome;
+use call_plans::Told;
 use hosts_db::HostStore;
-use kept_replies::{KeptReplies, Key};
-use lock_service::{Call, Procedure, StoreAnswer, abandon, agree, commit, plan};
-use lock_world::World;
+use kept_replies::{KeptReplies, Key, Peer};
+use lock_service::{Call, StoreAnswer, abandon, agree, commit, plan};
+use nlm4_types::NlmCall;
+use nsm_types::NsmCall;
 use owner_ids::Starved;
 use range_table::RangeTable;
 use std::alloc::Global;
-use std::sync::Arc;
 
 impl<R: RangeTable, S: HostStore> Shared<R, S> {
     /// The call is planned, all memory is got, the store is asked, the reply is kept, the plan is done, and what waited for
     /// it is granted.
     pub(crate) fn fresh(&mut self, key: Key, xid: u32, call: &Call<'_>) -> (Upshot, Reply)
         requires { at_key key self.old.state.kept ≡ None }
-        ensures step { IsStep self.old.state (Take (asker key.peer) key.record (Asks xid (call_of call.now))) result.0 self.new.state }
+        ensures step { IsStep self.old.state (Take (asker key.peer) key.record (Asks xid (view_of_call call.now))) result.0 self.new.state }
         ensures noted { given_of result.1 ≡ result.0.given }
         ensures counts { self.new.refusals ≡ counted result.0.store self.old.refusals }
     {
-        let Ok(plan) = plan(&self.world, key.peer.is_local, call) else {
+        let peer = key.peer;
+        let Ok(plan) = plan(&self.world, peer.is_local, call) else {
             return starved(StoreAnswer::NotAsked, xid);
         };
         let Ok(store) = agree(&mut self.world, &plan) else {
             return starved(StoreAnswer::NotAsked, xid);
         };
-        match keep(&mut self.kept, key, xid, call, plan.outcome(store)) {
-            Ok(noted) => {
+        let alloc = self.world.alloc();
+        match keep(&mut self.kept, alloc, key, xid, call, plan.told(store)) {
+            Ok(()) => {
                 let outcome = commit(&mut self.world, plan, store);
                 self.world.settle();
-                answers(store, xid, outcome, noted)
+                clear_at_restart(&mut self.kept, peer, call, store);
+                answers(store, xid, outcome.told, outcome.noted)
             }
             Err(Starved) => {
                 abandon(&mut self.world, &plan);
@@ -55,34 +60,80 @@ impl<R: RangeTable, S: HostStore> Shared<R, S> {
     }
 }
 
-// Keeps the reply of a call where its kind is kept, and shares it once more for the journal. Starved: nothing has changed.
+// Keeps what is told of a call, where its kind is kept. Nothing else takes memory. Starved: nothing has changed.
 fn keep(
     kept: &mut KeptReplies<KeptReply>,
+    alloc: Global,
     key: Key,
     xid: u32,
     call: &Call<'_>,
-    outcome: &Arc<Outcome, Global>,
-) -> Result<Arc<Outcome, Global>, Starved>
+    told: &Told,
+) -> Result<(), Starved>
     requires { at_key key kept.old ≡ None }
-    ensures ok { OnOk result ((w : SaidWorld) → kept.new ≡ with_reply w (asker key.peer) key.record xid (call_of call.now) (outcome_of outcome.now.value) kept.old) }
-    ensures shared { IfOk result (λ noted. outcome_of noted.value ≡ outcome_of outcome.now.value) }
-    ensures err { OnErr result (kept.new ≡ kept.old) }
+    ensures ok { OnOk result ((w : SaidWorld) → kept.new ≡ kept_after the_limits (asker key.peer) key.record xid (view_of_call call.now) (told_in told.now w) kept.old) }
+    ensures stays { OnErr result (kept.new ≡ kept.old) }
+    ensures fed { OnErr result (is_kept_kind (view_of_call call.now) ≡ true) }
 {
-    let noted = Arc::try_clone(outcome)?;
-    if is_kept(call, outcome) {
-        let outcome = Arc::try_clone(outcome)?;
-        kept.keep(key, KeptReply { xid, outcome })?;
+    if is_kept(call, &told.outcome.told) {
+        let reply = KeptReply::of(alloc, xid, told)?;
+        kept.keep(key, reply)?;
     }
-    Ok(noted)
+    Ok(())
 }
 
 // Whether the reply of such a call is kept: it was done, and it may have changed something.
 fn is_kept(call: &Call<'_>, outcome: &Outcome) -> bool
-    ensures { result ≡ (is_success (outcome_of outcome.now) && is_kept_kind (call_of call.now)) }
+    ensures { result ≡ (is_success (outcome_of outcome.now) && is_kept_kind (view_of_call call.now)) }
 {
-    let is_done = matches!(outcome, Outcome::Success(_));
-    match call.procedure {
-        Procedure::Null | Procedure::Test(_) | Procedure::GrantedRes(_) => false,
-        _ => is_done,
+    is_done(outcome) && is_of_kept_kind(call)
+}
+
+fn is_done(outcome: &Outcome) -> bool
+    ensures { result ≡ is_success (outcome_of outcome.now) }
+{
+    matches!(outcome, Outcome::Success(_))
+}
+
+fn is_of_kept_kind(call: &Call<'_>) -> bool
+    ensures { result ≡ is_kept_kind (view_of_call call.now) }
+{
+    match call {
+        Call::Nlm(_, call) => changes_something(call),
+        Call::Nsm(_) => false,
+    }
+}
+
+// Whether a call of the lock manager is of a kind that may change something, and tells of it.
+fn changes_something(call: &NlmCall<'_>) -> bool
+    ensures { (version : nlm.Version) → result ≡ is_kept_kind (Nlm version (view_of_nlm_call call.now)) }
+{
+    match call {
+        NlmCall::Null => false,
+        NlmCall::Test(_) | NlmCall::TestMsg(_) | NlmCall::GrantedRes(_) => false,
+        _ => true,
+    }
+}
+
+// A restart forgets what is kept.
+fn clear_at_restart(
+    kept: &mut KeptReplies<KeptReply>,
+    peer: Peer,
+    call: &Call<'_>,
+    store: StoreAnswer,
+)
+    ensures { kept.new ≡ cond (restarts (asker peer) (view_of_call call.now) (answer_of store)) [] kept.old }
+{
+    if is_restart(peer, call, store) {
+        kept.clear();
+    }
+}
+
+// Whether the call began the state anew (XNFS, SM_SIMU_CRASH).
+fn is_restart(peer: Peer, call: &Call<'_>, store: StoreAnswer) -> bool
+    ensures { result ≡ restarts (asker peer) (view_of_call call.now) (answer_of store) }
+{
+    match call {
+        Call::Nsm(NsmCall::SimuCrash) => peer.is_local && store == StoreAnswer::Yes,
+        _ => false,
     }
 }

@@ -1,25 +1,55 @@
 //! Replies that are kept.
+ghost use Rattle.std.specs.Prelude.{◌≡◌, IfOk};
 ghost use Rattle.call_outcome.specs.Values.{outcome_of};
 
 use call_outcome::Outcome;
+use call_plans::Told;
 use kept_replies::Kept;
+use letters::Letter;
+use owner_ids::Starved;
 use std::alloc::Global;
 use std::sync::Arc;
 
-/// A reply, under the number that it carries. No call goes with a reply yet.
+/// A reply, under the number that it carries, and the calls of the server's own that became due with it.
 #[derive(Drop)]
 pub(crate) struct KeptReply {
     pub(crate) xid: u32,
     pub(crate) outcome: Arc<Outcome, Global>,
+    pub(crate) letters: Vec<Letter>,
 }
 
 impl Kept for KeptReply {
-    ghost use Rattle.std.specs.Prelude.{[]};
     ghost use Rattle.call_outcome.specs.Values.{outcome_of};
 
     ghost xid = { λ k. k.xid };
 
     ghost outcome = { λ k. outcome_of k.outcome.value };
 
-    ghost letters = { λ _. [] };
+    ghost letters = { λ k. k.letters.items };
+}
+
+impl KeptReply {
+    // What is kept of a call to which this is told.
+    pub(crate) fn of(alloc: Global, xid: u32, told: &Told) -> Result<KeptReply, Starved>
+        ensures xid { IfOk result (λ kept. kept.xid ≡ xid) }
+        ensures outcome { IfOk result (λ kept. outcome_of kept.outcome.value ≡ outcome_of told.now.outcome.told.value) }
+        ensures letters { IfOk result (λ kept. kept.letters.items ≡ told.now.due.items) }
+    {
+        Ok(KeptReply {
+            xid,
+            outcome: Arc::try_clone(&told.outcome.told)?,
+            letters: copies_of(alloc, &told.due)?,
+        })
+    }
+}
+
+// The same letters again, in memory of their own.
+pub(crate) fn copies_of(alloc: Global, letters: &[Letter]) -> Result<Vec<Letter>, Starved>
+    ensures { IfOk result (λ copies. copies.items ≡ letters.now) }
+{
+    let mut copies = Vec::with_capacity(alloc, letters.len())?;
+    for letter in letters {
+        copies.push_reserved(letter.copy(alloc)?);
+    }
+    Ok(copies)
 }

@@ -13,7 +13,7 @@ ghost use Rattle.definitions.specs.Replies.{BadLine as IsBad};
 use crate::shared::Shared;
 use hosts_db::HostStore;
 use local_ops::{LocalAnswer, LocalCall};
-use lock_service::{close_file, get_lock, set_lock};
+use lock_service::{SetLine, close_file, get_lock, set_lock};
 use owner_ids::Starved;
 use range_table::RangeTable;
 
@@ -26,14 +26,14 @@ impl<R: RangeTable, S: HostStore> Shared<R, S> {
         ensures refusals { self.new.refusals ≡ self.old.refusals }
     {
         match LocalCall::read(bytes) {
-            Ok(call) => self.asked(&call),
+            Ok(call) => self.asked(connection, &call),
             Err(_) => Ok(self.bad()),
         }
     }
 
-    fn asked(&mut self, call: &LocalCall) -> Result<LocalAnswer, Starved>
-        ensures ok { IfOk result (λ answer. (l : ℕ) → IsStep self.old.state (Local l (served_line (line_of call.now))) (comes_to Applied NotAsked (Says (reply_of answer))) self.new.state) }
-        ensures err { OnErr result ((l : ℕ) → IsStep self.old.state (Local l (served_line (line_of call.now))) (comes_to IsStarved NotAsked (Says LineStarved)) self.new.state) }
+    fn asked(&mut self, connection: u64, call: &LocalCall) -> Result<LocalAnswer, Starved>
+        ensures ok { IfOk result (λ answer. IsStep self.old.state (Local connection (served_line (line_of call.now))) (comes_to Applied NotAsked (Says (reply_of answer))) self.new.state) }
+        ensures err { OnErr result (IsStep self.old.state (Local connection (served_line (line_of call.now))) (comes_to IsStarved NotAsked (Says LineStarved)) self.new.state) }
         ensures refusals { self.new.refusals ≡ self.old.refusals }
     {
         match call {
@@ -42,13 +42,29 @@ impl<R: RangeTable, S: HostStore> Shared<R, S> {
                 self.world.settle();
                 Ok(answer)
             }
-            LocalCall::SetLock { mode, lock } => set_lock(&mut self.world, *mode, lock),
+            LocalCall::SetLock { mode, lock } => {
+                let line = SetLine {
+                    connection,
+                    waits: false,
+                    mode: *mode,
+                    lock,
+                };
+                set_lock(&mut self.world, &line)
+            }
+            LocalCall::SetLockWait { mode, lock } => {
+                let line = SetLine {
+                    connection,
+                    waits: true,
+                    mode: *mode,
+                    lock,
+                };
+                set_lock(&mut self.world, &line)
+            }
             LocalCall::Close { owner, file } => {
                 close_file(&mut self.world, owner, file);
                 Ok(LocalAnswer::Done)
             }
-            LocalCall::SetLockWait { .. } | LocalCall::Table | LocalCall::Hosts | LocalCall::Stop =>
-                Ok(self.bad()),
+            LocalCall::Table | LocalCall::Hosts | LocalCall::Stop => Ok(self.bad()),
         }
     }
 

@@ -7,9 +7,10 @@ ghost use Rattle.kept_replies.specs.Pairs.{asker, at_key};
 ghost use Rattle.book.specs.Given.{given_of};
 ghost use Rattle.book.specs.Notes.{IsStep};
 
+use crate::kept::copies_of;
 use crate::reply::Reply;
 use crate::shared::Shared;
-use crate::upshot::{Upshot, answers};
+use crate::upshot::{Upshot, answers, too_few_places};
 use hosts_db::HostStore;
 use kept_replies::Key;
 use lock_service::StoreAnswer;
@@ -18,8 +19,9 @@ use range_table::RangeTable;
 use std::sync::Arc;
 
 impl<R: RangeTable, S: HostStore> Shared<R, S> {
-    /// The reply that is kept under the key, which is now the newest use; whatever the call asks, nothing else changes.
-    /// Starved: nothing has changed.
+    /// The reply that is kept under the key, which is now the newest use, and the calls that went with it, due again;
+    /// whatever the call asks, nothing else changes. Where too few places are free for those calls, nothing changes, and
+    /// the reply is SYSTEM_ERR. Starved: nothing has changed.
     pub(crate) fn repeat(&mut self, key: &Key) -> Result<Option<(Upshot, Reply)>, Starved>
         ensures found { IfOk result (λ found. IfSome found (λ said. (xid : ℕ) (call : Asked) → IsStep self.old.state (Take (asker key.now.peer) key.now.record (Asks xid call)) said.0 self.new.state)) }
         ensures noted { IfOk result (λ found. IfSome found (λ said. given_of said.1 ≡ said.0.given)) }
@@ -32,9 +34,14 @@ impl<R: RangeTable, S: HostStore> Shared<R, S> {
             return Ok(None);
         };
         let xid = kept.xid;
+        if kept.letters.len() > self.world.free_slots() {
+            return Ok(Some(too_few_places(xid)));
+        }
+        let letters = copies_of(self.world.alloc(), &kept.letters)?;
         let outcome = Arc::try_clone(&kept.outcome)?;
         let noted = Arc::try_clone(&kept.outcome)?;
         let _ = self.kept.find(key);
+        self.world.tell(letters);
         Ok(Some(answers(StoreAnswer::NotAsked, xid, outcome, noted)))
     }
 }

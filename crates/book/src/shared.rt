@@ -1,7 +1,7 @@
 //! The shared state: the world and the kept replies.
 ghost use Rattle.std.specs.Prelude.{◌≡◌, [], IfOk};
 ghost use Rattle.definitions.specs.Step.{opening_state, Silent, GraceOver, Restart, Applied, Starved as HasStarved};
-ghost use Rattle.lock_service.specs.Planned.{answer_of, counted};
+ghost use Rattle.call_plans.specs.Planned.{answer_of, counted};
 ghost use Rattle.book.specs.Given.{comes_to, doing_of, given_of, unbegun};
 ghost use Rattle.book.specs.Journal.{TakesMemory};
 ghost use Rattle.book.specs.Notes.{gave, happened, happening_of, AsksLine, HearsAnswer, IsStep, Steps};

@@ -5,7 +5,7 @@ ghost use Rattle.definitions.specs.Step.{Applied, Starved as IsStarved, Nothing,
 ghost use Rattle.definitions.specs.Replies.{SystemErr, Refuses};
 ghost use Rattle.call_outcome.specs.Values.{outcome_of};
 ghost use Rattle.record_reading.specs.Values.{view_of_refusal};
-ghost use Rattle.lock_service.specs.Planned.{answer_of};
+ghost use Rattle.call_plans.specs.Planned.{answer_of};
 ghost use Rattle.book.specs.Given.{comes_to, given_of};
 
 use crate::reply::Reply;
@@ -33,7 +33,7 @@ pub struct Upshot {
 }
 
 impl Model for Upshot {
-    ghost use Rattle.lock_service.specs.Planned.{answer_of};
+    ghost use Rattle.call_plans.specs.Planned.{answer_of};
     ghost use Rattle.book.specs.Given.{Upshot, comes_to, doing_of, given_of};
 
     ghost Value = { Upshot };
@@ -77,6 +77,19 @@ pub(crate) fn starved(store: StoreAnswer, xid: u32) -> (Upshot, Reply)
     let upshot = Upshot {
         doing: Doing::Starved,
         store,
+        reply: Reply::SystemErr { xid },
+    };
+    (upshot, Reply::SystemErr { xid })
+}
+
+// The call of this xid came again, and there are too few places for the calls that went with it.
+pub(crate) fn too_few_places(xid: u32) -> (Upshot, Reply)
+    ensures upshot { result.0 ≡ comes_to Applied NotAsked (Replies xid SystemErr) }
+    ensures noted { given_of result.1 ≡ Replies xid SystemErr }
+{
+    let upshot = Upshot {
+        doing: Doing::Applied,
+        store: StoreAnswer::NotAsked,
         reply: Reply::SystemErr { xid },
     };
     (upshot, Reply::SystemErr { xid })

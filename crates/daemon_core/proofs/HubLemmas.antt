@@ -4,9 +4,9 @@ use Rattle.std.proofs.lemmas.Bool.Decides.{nat_tests}
 use Rattle.definitions.specs.Hosts.{NotAsked}
 use Rattle.definitions.specs.Step.{Given, State}
 use Rattle.kept_replies.specs.Pairs.{asker}
-use Rattle.lock_service.specs.declared.plans.StoreAnswer.{StoreAnswer as Told}
-use Rattle.lock_service.specs.declared.plans.StoreAnswer.TheVariants as told
-use Rattle.lock_service.specs.Planned.{answer_of, counted}
+use Rattle.call_plans.specs.declared.plans.StoreAnswer.{StoreAnswer as Told}
+use Rattle.call_plans.specs.declared.plans.StoreAnswer.TheVariants as told
+use Rattle.call_plans.specs.Planned.{answer_of, counted}
 use Rattle.book.specs.Given.{Upshot}
 use Rattle.book.specs.Journal.{TakesMemory}
 use Rattle.book.specs.Notes.{Happening, Takes, BeginsAnew, Steps}

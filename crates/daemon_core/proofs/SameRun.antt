@@ -4,8 +4,8 @@ use Rattle.record_mark.specs.Stream.{Splits, HasOneReading}
 use Rattle.definitions.specs.Step.{Given, State}
 use Rattle.kept_replies.specs.declared.key.Peer.{Peer}
 use Rattle.kept_replies.specs.Pairs.{asker}
-use Rattle.lock_service.specs.declared.plans.StoreAnswer.{StoreAnswer}
-use Rattle.lock_service.specs.Planned.{answer_of, counted}
+use Rattle.call_plans.specs.declared.plans.StoreAnswer.{StoreAnswer}
+use Rattle.call_plans.specs.Planned.{answer_of, counted}
 use Rattle.book.specs.Given.{comes_to}
 use Rattle.book.specs.Notes.{Happening, Takes, SendsNext, HearsAnswer, AsksLine, FallsSilent, GraceEnds, BeginsAnew, Steps, OneStep}
 use Rattle.daemon_core.specs.declared.event.Event.{Event}

@@ -12,7 +12,7 @@ use Rattle.definitions.specs.World.{World, the_limits, slots_free, with_all_due}
 use Rattle.definitions.specs.Step.{Event, Take, Peer, Doing, Applied, Starved, Given, Replies, State, Stepped, KeptPair, applied, taken, repeated, look, step, with_row_stored, asked_unless_kept, moved_to_front, IsUnapplied}
 use Rattle.definitions.proofs.RepeatLaws.{repeat_law}
 use Rattle.kept_replies.specs.Pairs.{asker}
-use Rattle.lock_service.specs.Planned.{answer_of}
+use Rattle.call_plans.specs.Planned.{answer_of}
 use Rattle.book.specs.Given.{Upshot}
 use Rattle.book.specs.Notes.{IsStep}
 use Rattle.daemon_core.specs.Outcomes.{doing_of}

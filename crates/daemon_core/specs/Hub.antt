@@ -6,9 +6,9 @@ use Rattle.definitions.specs.Hosts.{Hosts}
 use Rattle.definitions.specs.Step.{Given, State, opening_state}
 use Rattle.kept_replies.specs.declared.key.Peer.{Peer}
 use Rattle.kept_replies.specs.Pairs.{asker}
-use Rattle.lock_service.specs.declared.plans.StoreAnswer.{StoreAnswer}
-use Rattle.lock_service.specs.declared.plans.StoreAnswer.TheVariants.{NotAsked, Yes, Refused}
-use Rattle.lock_service.specs.Planned.{answer_of, counted}
+use Rattle.call_plans.specs.declared.plans.StoreAnswer.{StoreAnswer}
+use Rattle.call_plans.specs.declared.plans.StoreAnswer.TheVariants.{NotAsked, Yes, Refused}
+use Rattle.call_plans.specs.Planned.{answer_of, counted}
 use Rattle.book.specs.Journal.{TakesMemory}
 use Rattle.book.specs.Notes.{Happening, Takes, SendsNext, HearsAnswer, AsksLine, FallsSilent, GraceEnds, BeginsAnew, Steps}
 use Rattle.daemon_core.specs.declared.outcome.Outcome.{Outcome}

@@ -3,12 +3,12 @@ use Rattle.std.specs.Prelude.{ℕ, List, [], Bool, true, false, cond, Option, So
 use Rattle.definitions.specs.Step.{Given, Nothing, Replies, Says, Sends, IsStarved, IsRefused}
 use Rattle.record_mark.specs.Sent.{marked}
 use Rattle.local_ops.specs.Texts.{reply_text}
-use Rattle.lock_service.specs.Planned.{answer_of}
+use Rattle.call_plans.specs.Planned.{answer_of}
 use Rattle.daemon_core.specs.declared.outcome.Outcome.{Outcome}
 use Rattle.daemon_core.specs.declared.outcome.Outcome.TheVariants.{Applied, Starved, NoSegment}
 use Rattle.daemon_core.specs.Outcomes.{doing_of}
-use Rattle.lock_service.specs.declared.plans.StoreAnswer.{StoreAnswer}
-use Rattle.lock_service.specs.declared.plans.StoreAnswer.TheVariants.{NotAsked}
+use Rattle.call_plans.specs.declared.plans.StoreAnswer.{StoreAnswer}
+use Rattle.call_plans.specs.declared.plans.StoreAnswer.TheVariants.{NotAsked}
 use Rattle.book.specs.Given.{Upshot, comes_to, record_of}
 use Rattle.daemon_core.specs.Sending.{Sending, ToClient, ToLocal, addressee, gets_records}
 use Rattle.daemon_core.specs.declared.outputs.Outputs.{Outputs}

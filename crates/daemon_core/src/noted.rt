@@ -2,7 +2,7 @@
 
 ghost use Rattle.std.specs.Prelude.{◌≡◌, ◌<◌, true, false};
 ghost use Rattle.definitions.specs.Hosts.{NotAsked};
-ghost use Rattle.lock_service.specs.Planned.{counted};
+ghost use Rattle.call_plans.specs.Planned.{counted};
 ghost use Rattle.book.specs.Notes.{happening_of, Steps};
 ghost use Rattle.book.specs.Journal.{room_of, rotated, TakesMemory};
 ghost use Rattle.daemon_core.specs.Outcomes.{doing_of};

@@ -2,9 +2,9 @@
 
 ghost use Rattle.std.specs.Prelude.{◌≡◌, Some, None};
 ghost use Rattle.call_records.specs.Dests.{dest_of};
-ghost use Rattle.lock_service.specs.Planned.{answer_of};
+ghost use Rattle.call_plans.specs.Planned.{answer_of};
 ghost use Rattle.daemon_core.specs.declared.outcome.Outcome.TheVariants.{Applied};
-ghost use Rattle.lock_service.specs.declared.plans.StoreAnswer.TheVariants.{NotAsked};
+ghost use Rattle.call_plans.specs.declared.plans.StoreAnswer.TheVariants.{NotAsked};
 ghost use Rattle.daemon_core.specs.Sending.{addressee};
 ghost use Rattle.book.specs.Given.{given_of};
 ghost use Rattle.daemon_core.specs.Outputs.{quiet, starved, unnoted, heard, refusal_of, reply_to, line_to, told, told_line, told_to};

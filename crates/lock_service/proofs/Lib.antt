@@ -1,3 +1,2 @@
-pub mod Locking
-pub mod LineRules
-pub mod Idle
+pub mod Rules
+pub mod Tellings

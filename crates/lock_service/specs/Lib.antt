@@ -1,5 +1,5 @@
-pub mod Served
-pub mod Planned
+pub mod Verdicts
+pub mod Asks
 pub mod Locking
-pub mod Answers
 pub mod Lined
+pub mod MayAsk

@@ -1,24 +1,29 @@
--- What a line of a local connection comes to, where nobody waits.
-use Rattle.std.specs.Prelude.{cond}
-use Rattle.definitions.specs.Settings.{Setting, Request, setting_of}
-use Rattle.definitions.specs.Conflict.{conflicts}
-use Rattle.definitions.specs.Starts.{is_short, refuses}
-use Rattle.definitions.specs.World.{World, with_setting}
+-- What a line of a local connection comes to.
+use Rattle.std.specs.Prelude.{ℕ, Bool, true, false}
+use Rattle.definitions.specs.Lines.{line_ask}
+use Rattle.definitions.specs.LockRules.{LockAsk}
+use Rattle.definitions.specs.World.{World}
 use Rattle.definitions.specs.Rulings.{Told}
-use Rattle.definitions.specs.Replies.{LineReply, LineOk, LineAgain, LineNolck}
-use Rattle.definitions.specs.Lines.{line_says}
+use Rattle.definitions.specs.Replies.{Line, LineReply, SetLock, SetLockWait}
+use Rattle.letters.specs.Meanings.{local_lock_of}
 use Rattle.local_ops.specs.Answers.{reply_of}
-use Rattle.lock_service.specs.Planned.{changed}
+use Rattle.owner_ranges.specs.Same.{mode_of, held_mode}
+use Rattle.range_table.specs.declared.run.Mode.{Mode}
+use Rattle.call_plans.specs.Planned.{changed}
 use Rattle.lock_service.specs.declared.local.LinePlan.{LinePlan}
+use Rattle.lock_service.specs.declared.local.SetLine as line
 
 abbrev pub line_planned : LinePlan → World → Told LineReply
 line_planned p w = record { says = reply_of p.answer; world = changed p.change w }
 
--- a lock that is had at once or not at all
-abbrev pub locked_now : World → Request → Told LineReply
-locked_now w r =
-    cond (conflicts w.settings r) (line_says w LineAgain)
-    (cond (is_short 65536 w.settings) (line_says w LineNolck) (line_says (with_setting w (setting_of r)) LineOk))
+-- `setlk`, or `setlkw`, which waits
+abbrev pub set_line_if : Bool → line.SetLine → Line
+set_line_if true s = SetLockWait (held_mode s.mode) (local_lock_of s.lock.now)
+set_line_if false s = SetLock (held_mode s.mode) (local_lock_of s.lock.now)
 
-abbrev pub unlocked_now : World → Setting → Told LineReply
-unlocked_now w s = cond (refuses 65536 w.settings s) (line_says w LineNolck) (line_says (with_setting w s) LineOk)
+-- what the lock rules are asked by a line with a mode, where so many places are free
+abbrev pub lock_asked : line.SetLine → Mode → ℕ → LockAsk
+lock_asked s mode free = line_ask s.connection free s.waits (mode_of mode) (local_lock_of s.lock.now)
+
+abbrev pub set_line_of : line.SetLine → Line
+set_line_of s = set_line_if s.waits s

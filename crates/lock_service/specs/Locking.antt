@@ -1,26 +1,36 @@
--- The two lock calls that are served.
-use Rattle.std.specs.Prelude.{ℕ, Bool, true, false, not, ◌&&◌, cond, Option, None}
+-- The three calls that lock.
+use Rattle.std.specs.Prelude.{ℕ, Bool, true, false, Option, None}
 use Rattle.definitions.specs.Nlm as nlm
-use Rattle.definitions.specs.Nlm.{Stat, DENIED}
-use Rattle.definitions.specs.Outgoing.{Granted}
-use Rattle.definitions.specs.World.{World}
-use Rattle.definitions.specs.Rulings.{Told, Ruling, stays}
-use Rattle.definitions.specs.LockRules.{NewHost, LockAsk, blocked_lock}
-use Rattle.definitions.specs.Answer.{lock_ask, caller_row}
+use Rattle.definitions.specs.World.{World, the_limits}
+use Rattle.definitions.specs.Rulings.{Told, Ruling}
+use Rattle.definitions.specs.LockRules.{NewHost}
+use Rattle.definitions.specs.Answer.{caller_row, lock_answer, nm_lock_answer, lock_msg_answer}
+use Rattle.lock_service.specs.declared.lock.LockCall.{LockCall}
+use Rattle.lock_service.specs.declared.lock.LockCall.TheVariants as call
 
--- LOCK, whose host is monitored, or NM_LOCK
-abbrev pub lock_call : Bool → nlm.LockArgs → nlm.NlmCall
-lock_call true a = nlm.Locks a
-lock_call false a = nlm.NmLock a
+abbrev pub answer_by : LockCall → World → nlm.Version → nlm.LockArgs → Ruling (Told nlm.Stat)
+answer_by call.Lock w version a = lock_answer the_limits w version a
+answer_by call.NmLock w version a = nm_lock_answer the_limits w version a
+answer_by call.LockMsg w version a = lock_msg_answer the_limits w version a
 
-abbrev pub row_if : Bool → nlm.LockArgs → Option NewHost
-row_if true a = caller_row a
-row_if false a = None
+-- its host gets a row
+abbrev pub is_monitored : LockCall → Bool
+is_monitored call.Lock = true
+is_monitored call.NmLock = false
+is_monitored call.LockMsg = true
 
--- what the rules are asked by either
-abbrev pub asked_by : nlm.Version → Bool → nlm.LockArgs → ℕ → LockAsk
-asked_by version monitored a slots = lock_ask a (row_if monitored a) (Granted version a.exclusive a.alock) slots
+abbrev pub row_by : LockCall → nlm.LockArgs → Option NewHost
+row_by call.Lock a = caller_row a
+row_by call.NmLock a = None
+row_by call.LockMsg a = caller_row a
 
--- what they say where another lock is in the way
-abbrev pub kept_out : World → LockAsk → Ruling (Told Stat)
-kept_out w a = cond (a.block && not a.reclaim) (blocked_lock w a) (stays w DENIED)
+abbrev pub is_message : LockCall → Bool
+is_message call.Lock = false
+is_message call.NmLock = false
+is_message call.LockMsg = true
+
+-- the places that its answer takes
+abbrev pub reserved_by : LockCall → ℕ
+reserved_by call.Lock = 0
+reserved_by call.NmLock = 0
+reserved_by call.LockMsg = 1

@@ -1,27 +1,19 @@
 //! Copies of what a call says.
-ghost use Rattle.std.specs.Prelude.{◌≡◌, false, IfOk};
+ghost use Rattle.std.specs.Prelude.{◌≡◌, IfOk};
 ghost use Rattle.definitions.specs.Ranges.{owner_of as owner_said, mode_of as mode_said, last_of, request_of};
 ghost use Rattle.nlm4_types.specs.Lock.{view_of_lock};
-ghost use Rattle.nlm4_types.specs.Stat.{view_of_stat};
 ghost use Rattle.owner_ids.specs.Said.{said};
 ghost use Rattle.owner_ranges.specs.Same.{mode_of as held_mode_of};
-ghost use Rattle.definitions.specs.World.{World as SaidWorld};
-ghost use Rattle.definitions.specs.Rulings.{stays};
-ghost use Rattle.definitions.specs.Answer.{res as res_said, by_reply};
-ghost use Rattle.definitions.specs.Replies.{Success, ResResult};
-ghost use Rattle.call_outcome.specs.Values.{outcome_of};
 ghost use Rattle.lock_world.specs.Whole.{IsShown};
-ghost use Rattle.lock_service.specs.Planned.{IsPlan, AsksOnlyIf, request_wanted};
+ghost use Rattle.call_plans.specs.Planned.{request_wanted};
 
 use crate::checks::Place;
-use crate::plans::{Answer, Change, Plan, Wanted};
-use call_outcome::{CallResult, Outcome};
-use letters::{Res, ShortBytes};
-use nlm4_types::{Lock, Netobj, Stat, WIDE};
+use call_plans::Wanted;
+use letters::ShortBytes;
+use nlm4_types::{Lock, Netobj, WIDE};
 use owner_ids::{Owner, Starved};
 use range_table::Mode;
 use std::alloc::Global;
-use std::sync::Arc;
 
 /// The owner that a call names.
 pub(crate) fn owner_of(alloc: Global, alock: &Lock<'_, WIDE>) -> Result<Owner, Starved>
@@ -46,7 +38,7 @@ pub(crate) fn mode_of(exclusive: bool) -> Mode
 }
 
 /// The lock that a call asks for, whose bytes are these.
-#[tactic(auto, using(crate::proofs::Locking::same_request))]
+#[tactic(auto, using(crate::proofs::Rules::same_request))]
 pub(crate) fn wanted_of(
     alloc: Global,
     place: &Place,
@@ -72,40 +64,4 @@ pub(crate) fn cookie_of(alloc: Global, cookie: &Netobj<'_>) -> Result<ShortBytes
     ensures { IfOk result (λ copy. copy ≡ cookie.now.bytes.now) }
 {
     Ok(ShortBytes::copy_of(alloc, cookie.bytes)?)
-}
-
-/// An outcome for all who will keep it.
-pub(crate) fn shared(alloc: Global, outcome: Outcome) -> Result<Arc<Outcome, Global>, Starved>
-    ensures { IfOk result (λ made. made.value ≡ outcome) }
-{
-    match Arc::new(alloc, outcome) {
-        Ok(made) => Ok(made),
-        Err(_) => Err(Starved),
-    }
-}
-
-/// The reply of a status.
-pub(crate) fn replied(
-    alloc: Global,
-    cookie: &Netobj<'_>,
-    stat: Stat,
-) -> Result<Arc<Outcome, Global>, Starved>
-    ensures { IfOk result (λ made. outcome_of made.value ≡ Success (ResResult (res_said cookie.now.bytes.now (view_of_stat stat)))) }
-{
-    let cookie = cookie_of(alloc, cookie)?;
-    shared(
-        alloc,
-        Outcome::Success(CallResult::Res(Res { cookie, stat })),
-    )
-}
-
-/// A status is told, and nothing changes.
-pub(crate) fn says(alloc: Global, cookie: &Netobj<'_>, stat: Stat) -> Result<Plan, Starved>
-    ensures plan { IfOk result (λ made. (w : SaidWorld) → IsPlan (by_reply cookie.now.bytes.now (stays w (view_of_stat stat))) w made) }
-    ensures asks { IfOk result (AsksOnlyIf false) }
-{
-    Ok(Plan::Decided(Answer {
-        outcome: replied(alloc, cookie, stat)?,
-        change: Change::Nothing,
-    }))
 }

@@ -3,11 +3,10 @@ ghost use Rattle.std.specs.Prelude.{false, IfOk};
 ghost use Rattle.definitions.specs.Nlm as nlm;
 ghost use Rattle.definitions.specs.World.{World as SaidWorld, the_limits};
 ghost use Rattle.definitions.specs.Answer.{nlm_answer};
-ghost use Rattle.lock_service.specs.Planned.{IsPlan, AsksOnlyIf};
+ghost use Rattle.call_plans.specs.Planned.{IsPlan, AsksOnlyIf};
 
-use crate::copies::shared;
-use crate::plans::{Answer, Change, Plan};
 use call_outcome::{CallResult, Outcome};
+use call_plans::{Answer, Change, Plan, Told};
 use nlm4_types::Notify;
 use owner_ids::Starved;
 use std::alloc::Global;
@@ -17,7 +16,7 @@ pub(crate) fn plan(alloc: Global, args: &Notify<'_>) -> Result<Plan, Starved>
     ensures asks { IfOk result (AsksOnlyIf false) }
 {
     Ok(Plan::Decided(Answer {
-        outcome: shared(alloc, Outcome::Success(CallResult::Nothing))?,
+        told: Told::reply(alloc, Outcome::Success(CallResult::Nothing))?,
         change: Change::DropHost(Vec::from_slice(alloc, args.name.bytes)?),
     }))
 }

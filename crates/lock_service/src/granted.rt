@@ -4,11 +4,11 @@ ghost use Rattle.definitions.specs.Nlm as nlm;
 ghost use Rattle.definitions.specs.World.{World as SaidWorld, the_limits};
 ghost use Rattle.definitions.specs.Answer.{nlm_answer};
 ghost use Rattle.nlm4_types.specs.Results.{view_of_res};
-ghost use Rattle.lock_service.specs.Planned.{IsPlan, AsksOnlyIf};
+ghost use Rattle.call_plans.specs.Planned.{IsPlan, AsksOnlyIf};
 
-use crate::copies::{cookie_of, shared};
-use crate::plans::{Answer, Change, Plan};
+use crate::copies::cookie_of;
 use call_outcome::{CallResult, Outcome};
+use call_plans::{Answer, Change, Plan, Told};
 use nlm4_types::Res;
 use owner_ids::Starved;
 use std::alloc::Global;
@@ -18,7 +18,7 @@ pub(crate) fn plan(alloc: Global, args: &Res<'_>) -> Result<Plan, Starved>
     ensures asks { IfOk result (AsksOnlyIf false) }
 {
     Ok(Plan::Decided(Answer {
-        outcome: shared(alloc, Outcome::Success(CallResult::Nothing))?,
+        told: Told::reply(alloc, Outcome::Success(CallResult::Nothing))?,
         change: Change::GrantAnswered {
             cookie: cookie_of(alloc, &args.cookie)?,
             stat: args.stat,

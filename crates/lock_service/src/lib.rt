@@ -2,8 +2,6 @@
 //! nothing; then all memory is got; then the store is asked, at most once; and then the plan is done, without memory.
 #![tactic(auto)]
 
-mod answers;
-mod call;
 mod cancel;
 mod checks;
 mod copies;
@@ -11,18 +9,19 @@ mod free_all;
 mod granted;
 mod local;
 mod lock;
+mod lock_ask;
+mod lock_rules;
+mod message_call;
+mod messages;
 mod null;
-mod plans;
-mod readings;
 mod share;
 mod steps;
 mod test;
 mod unlock;
 mod unshare;
+mod verdict;
 
-pub use answers::{answered, granted_res};
-pub use call::{Call, Procedure};
-pub use local::{LinePlan, close_file, get_lock, plan_set, set_lock};
-pub use owner_ids::Starved;
-pub use plans::{Answer, Change, Plan, Range, Row, StoreAnswer, Wanted};
-pub use steps::{abandon, agree, answer, ask, commit, plan, prepare};
+pub use call_plans::{Plan, Starved, StoreAnswer, abandon, agree, answered, commit, prepare};
+pub use local::{LinePlan, SetLine, close_file, get_lock, plan_set, set_lock};
+pub use record_reading::Call;
+pub use steps::{answer, plan};

@@ -1,35 +1,54 @@
-//! Lines of local programs that wait for nobody: `getlk`, `setlk` and `close` (POSIX, fcntl and close).
-ghost use Rattle.std.specs.Prelude.{◌≡◌, ◌<◌, ◌^◌, ℕ, None, Some, IfOk, IfErr, OnErr};
-ghost use Rattle.definitions.specs.World.{the_limits, settled};
-ghost use Rattle.definitions.specs.Ranges.{last_of as last_byte, line_request, line_unlock};
-ghost use Rattle.definitions.specs.Replies.{SetLock, Close};
-ghost use Rattle.definitions.specs.Lines.{line_refusal, line_answer, get_unless, shown_run};
+//! Lines of local programs: `getlk`, `setlk`, `setlkw` and `close` (POSIX, fcntl and close).
+ghost use Rattle.std.specs.Prelude.{◌≡◌, ◌<◌, ◌^◌, ℕ, false, None, Some, IfOk, IfErr, OnErr};
+ghost use Rattle.definitions.specs.Hosts.{NotAsked};
+ghost use Rattle.definitions.specs.LockRules.{lock_rules as lock_rules_said, unlock_rules as unlock_rules_said};
+ghost use Rattle.definitions.specs.World.{World as SaidWorld, the_limits, settled, slots_free};
+ghost use Rattle.definitions.specs.Ranges.{last_of as last_byte, line_unlock};
+ghost use Rattle.definitions.specs.Replies.{Close};
+ghost use Rattle.definitions.specs.Rulings.{ruled};
+ghost use Rattle.definitions.specs.Lines.{line_refusal, line_answer, line_told, line_word, get_unless, shown_run};
 ghost use Rattle.owner_ids.specs.Said.{said};
-ghost use Rattle.owner_ranges.specs.Same.{mode_of, held_mode};
+ghost use Rattle.owner_ranges.specs.Same.{mode_of};
 ghost use Rattle.letters.specs.Meanings.{local_lock_of};
 ghost use Rattle.held_locks.specs.Asked.{shown};
 ghost use Rattle.local_ops.specs.Answers.{reply_of};
-ghost use Rattle.lock_service.specs.Planned.{FitsChange, IsForgottenIfIdle, setting_of};
-ghost use Rattle.lock_service.specs.declared.plans.Change.TheVariants.{Nothing};
-ghost use Rattle.lock_service.specs.Lined.{line_planned, locked_now, unlocked_now};
+ghost use Rattle.nlm4_types.specs.Stat.{view_of_stat};
+ghost use Rattle.call_plans.specs.Planned.{setting_of, FitsChange, IsForgottenIfIdle};
+ghost use Rattle.call_plans.specs.declared.plans.Change.TheVariants.{Nothing};
+ghost use Rattle.lock_service.specs.Lined.{line_planned, lock_asked, set_line_of};
+ghost use Rattle.lock_service.specs.Verdicts.{verdict_in, FitsIn, IsVerdict, OnlyAsksIf};
 
 use crate::checks::{Place, last_of};
-use crate::plans::{Change, Range};
-use crate::steps;
+use crate::lock_ask::{Grant, LockAsk};
+use crate::lock_rules::lock_rules;
 use crate::test::shown_len;
+use crate::unlock::unlock_rules;
+use crate::verdict::Verdict;
+use call_plans::{Change, Range, Wanted, prepare_change};
 use grace::{CallKind, admits};
 use hosts_db::HostStore;
 use letters::LocalLock;
 use local_ops::LocalAnswer;
 use lock_world::World;
+use nlm4_types::Stat;
 use owner_ids::{Owner, Starved};
 use range_table::{FileId, Mode, RangeTable};
 
-/// What is to be done for `setlk`: what is answered, and what changes. The store isn't asked.
+/// What is to be done for `setlk` or `setlkw`: what is answered, and what changes. The store isn't asked.
 #[derive(Drop)]
 pub struct LinePlan {
     pub answer: LocalAnswer,
     pub change: Change,
+}
+
+/// A line that sets a lock, or takes one away where it has no mode, on the local connection of this number.
+#[derive(Clone, Copy)]
+pub struct SetLine<'r> {
+    pub connection: u64,
+    /// Whether it waits where another owner's lock is in the way: `setlkw`.
+    pub waits: bool,
+    pub mode: Option<Mode>,
+    pub lock: &'r LocalLock,
 }
 
 /// The bytes that a line names, or what it is refused for.
@@ -91,23 +110,23 @@ fn held_by(found: &held_locks::Holder<'_>) -> Result<LocalAnswer, Starved>
     })
 }
 
-/// What `setlk` is to do: a lock that is had at once or not at all, or an unlock. Changes nothing.
+/// What such a line is to do. Changes nothing.
 pub fn plan_set<R: RangeTable, S: HostStore>(
     world: &World<R, S>,
-    mode: Option<Mode>,
-    lock: &LocalLock,
+    line: &SetLine<'_>,
 ) -> Result<LinePlan, Starved>
-    ensures plan { IfOk result (λ made. (l : ℕ) → line_planned made world.now.world ≡ line_answer the_limits world.now.world l (SetLock (held_mode mode) (local_lock_of lock.now))) }
+    ensures plan { IfOk result (λ made. line_planned made world.now.world ≡ line_answer the_limits world.now.world line.now.connection (set_line_of line.now)) }
     ensures fits { IfOk result (λ made. FitsChange made.change world.now.world) }
 {
-    let place = match place_of(world, lock) {
+    let place = match place_of(world, line.lock) {
         Ok(place) => place,
         Err(refusal) => return Ok(says(refusal)),
     };
-    match mode {
-        Some(mode) => plan_lock(world, &place, mode, lock),
-        None => plan_unlock(world, &place, lock),
-    }
+    let verdict = match line.mode {
+        Some(mode) => lock_verdict(world, &place, mode, line)?,
+        None => unlock_verdict(world, &place, line.lock)?,
+    };
+    Ok(told_by_line(verdict))
 }
 
 fn says(answer: LocalAnswer) -> LinePlan
@@ -119,86 +138,118 @@ fn says(answer: LocalAnswer) -> LinePlan
     }
 }
 
-fn plan_lock<R: RangeTable, S: HostStore>(
+// The verdict in a line's word. It never asks the store.
+fn told_by_line(verdict: Verdict) -> LinePlan
+    requires { OnlyAsksIf false verdict }
+    ensures plan { (w : SaidWorld) → line_planned result w ≡ line_told (ruled NotAsked (verdict_in verdict w)) }
+    ensures fits { (w : SaidWorld) → FitsIn verdict w → FitsChange result.change w }
+{
+    match verdict {
+        Verdict::Decided { stat, change } => LinePlan {
+            answer: word_of(stat),
+            change,
+        },
+        Verdict::AfterStore { .. } => unreachable!(),
+    }
+}
+
+// A status in a line's word; the last of them are never a lock's.
+fn word_of(stat: Stat) -> LocalAnswer
+    ensures { reply_of result ≡ line_word (view_of_stat stat) }
+{
+    match stat {
+        Stat::Granted => LocalAnswer::Done,
+        Stat::Denied => LocalAnswer::Again,
+        Stat::DeniedNolocks => LocalAnswer::NoLocks,
+        Stat::Blocked => LocalAnswer::Wait,
+        Stat::DeniedGracePeriod => LocalAnswer::Grace,
+        Stat::Deadlck => LocalAnswer::Deadlock,
+        Stat::Fbig => LocalAnswer::TooFar,
+        Stat::Rofs | Stat::StaleFh | Stat::Failed => LocalAnswer::Bad,
+    }
+}
+
+// As for LOCK, without a row.
+fn lock_verdict<R: RangeTable, S: HostStore>(
     world: &World<R, S>,
     place: &Place,
     mode: Mode,
-    lock: &LocalLock,
-) -> Result<LinePlan, Starved>
-    requires file { place.now.file ≡ lock.now.file }
-    requires first { place.now.first ≡ lock.now.offset }
-    requires last { place.now.last ≡ last_byte lock.now.offset lock.now.len }
-    ensures plan { IfOk result (λ made. line_planned made world.now.world ≡ locked_now world.now.world (line_request (mode_of mode) (local_lock_of lock.now))) }
-    ensures fits { IfOk result (λ made. FitsChange made.change world.now.world) }
+    line: &SetLine<'_>,
+) -> Result<Verdict, Starved>
+    requires file { place.now.file ≡ line.now.lock.now.file }
+    requires first { place.now.first ≡ line.now.lock.now.offset }
+    requires last { place.now.last ≡ last_byte line.now.lock.now.offset line.now.lock.now.len }
+    ensures verdict { IfOk result (λ made. IsVerdict (lock_rules_said the_limits world.now.world (lock_asked line.now mode (slots_free the_limits world.now.world))) 0 world.now.world made) }
+    ensures asks { IfOk result (OnlyAsksIf false) }
 {
-    let wanted = held_locks::Request {
+    let wanted = Wanted {
         file: place.file,
-        owner: &lock.owner,
+        owner: line.lock.owner.clone()?,
         first: place.first,
         last: place.last,
         mode,
     };
-    if world.conflicts(&wanted) {
-        return Ok(says(LocalAnswer::Again));
-    }
-    if world.is_short() {
-        return Ok(says(LocalAnswer::NoLocks));
-    }
-    Ok(LinePlan {
-        answer: LocalAnswer::Done,
-        change: Change::Set(range_of(place, lock, Some(mode))?),
-    })
+    let ask = LockAsk {
+        wanted,
+        block: line.waits,
+        reclaim: false,
+        row: None,
+        grant: Grant::Line {
+            connection: line.connection,
+            mode,
+            lock: line.lock,
+        },
+        reserved: 0,
+    };
+    lock_rules(world, ask)
 }
 
-fn plan_unlock<R: RangeTable, S: HostStore>(
+fn unlock_verdict<R: RangeTable, S: HostStore>(
     world: &World<R, S>,
     place: &Place,
     lock: &LocalLock,
-) -> Result<LinePlan, Starved>
+) -> Result<Verdict, Starved>
     requires file { place.now.file ≡ lock.now.file }
     requires first { place.now.first ≡ lock.now.offset }
     requires last { place.now.last ≡ last_byte lock.now.offset lock.now.len }
-    ensures plan { IfOk result (λ made. line_planned made world.now.world ≡ unlocked_now world.now.world (line_unlock (local_lock_of lock.now))) }
-    ensures fits { IfOk result (λ made. FitsChange made.change world.now.world) }
+    ensures verdict { IfOk result (λ made. IsVerdict (unlock_rules_said the_limits world.now.world (line_unlock (local_lock_of lock.now))) 0 world.now.world made) }
+    ensures asks { IfOk result (OnlyAsksIf false) }
 {
-    let range = range_of(place, lock, None)?;
-    if world.refuses(&range.change()) {
-        return Ok(says(LocalAnswer::NoLocks));
-    }
-    Ok(LinePlan {
-        answer: LocalAnswer::Done,
-        change: Change::Set(range),
-    })
+    let range = unlocked_range(place, lock)?;
+    Ok(unlock_rules(world, range))
 }
 
-// What the line's owner is to hold there.
-fn range_of(place: &Place, lock: &LocalLock, mode: Option<Mode>) -> Result<Range, Starved>
-    ensures { IfOk result (λ range. setting_of range ≡ record { file = place.now.file; owner = said lock.now.owner; first = place.now.first; last = place.now.last; mode = held_mode mode }) }
+// What the line's owner is to hold there: nothing.
+fn unlocked_range(place: &Place, lock: &LocalLock) -> Result<Range, Starved>
+    requires file { place.now.file ≡ lock.now.file }
+    requires first { place.now.first ≡ lock.now.offset }
+    requires last { place.now.last ≡ last_byte lock.now.offset lock.now.len }
+    ensures setting { IfOk result (λ range. setting_of range ≡ line_unlock (local_lock_of lock.now)) }
+    ensures mode { IfOk result (λ range. range.mode ≡ None) }
 {
     Ok(Range {
         file: place.file,
         owner: lock.owner.clone()?,
         first: place.first,
         last: place.last,
-        mode,
+        mode: None,
     })
 }
 
-/// Does what `setlk` asks, and then grants what waited for it. What is answered, and the world after it, are those of the
+/// Does what the line asks, and then grants what waited for it. What is answered, and the world after it, are those of the
 /// rules. Starved: the world stays.
 pub fn set_lock<R: RangeTable, S: HostStore>(
     world: &mut World<R, S>,
-    mode: Option<Mode>,
-    lock: &LocalLock,
+    line: &SetLine<'_>,
 ) -> Result<LocalAnswer, Starved>
-    ensures reply { IfOk result (λ answer. (l : ℕ) → reply_of answer ≡ (line_answer the_limits world.old.world l (SetLock (held_mode mode) (local_lock_of lock.now))).says) }
-    ensures world { IfOk result (λ answer. (l : ℕ) → world.new.world ≡ settled the_limits (line_answer the_limits world.old.world l (SetLock (held_mode mode) (local_lock_of lock.now))).world) }
+    ensures reply { IfOk result (λ answer. reply_of answer ≡ (line_answer the_limits world.old.world line.now.connection (set_line_of line.now)).says) }
+    ensures world { IfOk result (λ answer. world.new.world ≡ settled the_limits (line_answer the_limits world.old.world line.now.connection (set_line_of line.now)).world) }
     ensures err { OnErr result (world.new.world ≡ world.old.world) }
     ensures refusals { world.new.refusals ≡ world.old.refusals }
 {
-    let LinePlan { answer, change } = plan_set(world, mode, lock)?;
-    steps::prepare_change(world, &change)?;
-    steps::change(world, change);
+    let LinePlan { answer, change } = plan_set(world, line)?;
+    prepare_change(world, &change)?;
+    call_plans::change(world, change);
     world.settle();
     Ok(answer)
 }

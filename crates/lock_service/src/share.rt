@@ -7,12 +7,12 @@ ghost use Rattle.definitions.specs.Rulings.{decided};
 ghost use Rattle.nlm4_types.specs.Stat.{view_of_stat};
 ghost use Rattle.nlm4_types.specs.Access.{view_of_access};
 ghost use Rattle.nlm4_types.specs.Share.{view_of_shareargs};
-ghost use Rattle.lock_service.specs.Planned.{IsPlan, AsksOnlyIf, FitsChange, changed};
+ghost use Rattle.call_plans.specs.Planned.{IsPlan, AsksOnlyIf, FitsChange, changed};
 
 use crate::checks::check_file;
-use crate::copies::{cookie_of, shared};
-use crate::plans::{Answer, Change, Plan};
+use crate::copies::cookie_of;
 use call_outcome::{CallResult, Outcome, ShareRes};
+use call_plans::{Answer, Change, Plan, Told};
 use dos_shares::{Access, Share, ShareError};
 use grace::CallKind;
 use hosts_db::HostStore;
@@ -61,7 +61,7 @@ pub(crate) fn told(
         sequence: 0,
     };
     Ok(Plan::Decided(Answer {
-        outcome: shared(alloc, Outcome::Success(CallResult::ShareRes(res)))?,
+        told: Told::reply(alloc, Outcome::Success(CallResult::ShareRes(res)))?,
         change,
     }))
 }

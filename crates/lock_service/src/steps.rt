@@ -1,24 +1,27 @@
-//! The four steps in which a call is answered.
-ghost use Rattle.std.specs.Prelude.{◌≡◌, ◌↔◌, [], IfOk, OnOk, OnErr, IsErr, IsTrue};
-ghost use Rattle.definitions.specs.World.{World as SaidWorld, the_limits, settled, with_setting};
-ghost use Rattle.definitions.specs.Starts.{refuses};
+//! A call is planned, by its procedure, and answered.
+ghost use Rattle.std.specs.Prelude.{◌≡◌, IfOk, OnErr};
+ghost use Rattle.definitions.specs.Replies.{Nlm};
+ghost use Rattle.definitions.specs.World.{the_limits, settled};
 ghost use Rattle.definitions.specs.Rulings.{ruled};
-ghost use Rattle.definitions.specs.Answer.{ruling};
+ghost use Rattle.definitions.specs.Answer.{nlm_answer, ruling};
 ghost use Rattle.definitions.specs.Replay.{may_leave_row};
 ghost use Rattle.call_outcome.specs.Values.{outcome_of};
-ghost use Rattle.lock_world.specs.Seen.{KeepsKnown};
-ghost use Rattle.lock_service.specs.Served.{call_of};
-ghost use Rattle.lock_service.specs.Planned.{answer_of, stored, counted, planned, IsAnswerTo, IsWithin, AsksOnlyIf, IsPlan, Fits, FitsChange, CanAsk, IsReady, IsReadyFor, MayHold, IsForgotten, IsForgottenFor, IsForgottenBy, IsForgottenUnder, KeepsOthers, KeepsOthersFor, changed, setting_of};
+ghost use Rattle.nlm4_types.specs.Call.{view_of_call as view_of_nlm_call};
+ghost use Rattle.nlm4_types.specs.Version.{view_of_version};
+ghost use Rattle.record_reading.specs.Values.{view_of_call};
+ghost use Rattle.call_plans.specs.Planned.{answer_of, AsksOnlyIf, IsPlan};
+ghost use Rattle.lock_service.specs.MayAsk.{may_ask};
 
-use crate::answers::granted_res;
-use crate::call::{Call, Procedure};
-use crate::plans::{Change, Plan, Range, StoreAnswer};
-use crate::{cancel, free_all, granted, lock, null, share, test, unlock, unshare};
+use crate::lock::LockCall;
+use crate::{cancel, free_all, granted, lock, messages, null, share, test, unlock, unshare};
 use call_outcome::Outcome;
-use hosts_db::{HostStore, StoreError};
+use call_plans::{Plan, StoreAnswer, agree, commit};
+use hosts_db::HostStore;
 use lock_world::World;
+use nlm4_types::{NlmCall, Version};
 use owner_ids::Starved;
-use range_table::{NoRuns, RangeTable};
+use range_table::RangeTable;
+use record_reading::Call;
 use std::alloc::Global;
 use std::sync::Arc;
 
@@ -28,202 +31,43 @@ pub fn plan<R: RangeTable, S: HostStore>(
     local: bool,
     call: &Call<'_>,
 ) -> Result<Plan, Starved>
-    ensures plan { IfOk result (λ made. IsPlan (ruling the_limits world.now.world local (call_of call.now)) world.now.world made) }
-    ensures asks { IfOk result (AsksOnlyIf (may_leave_row (call_of call.now))) }
+    ensures plan { IfOk result (λ made. IsPlan (ruling the_limits world.now.world local (view_of_call call.now)) world.now.world made) }
+    ensures asks { IfOk result (AsksOnlyIf (may_ask (view_of_call call.now))) }
 {
-    let _unused = local;
-    match &call.procedure {
-        Procedure::Null => null::plan(world.alloc()),
-        Procedure::Test(args) => test::plan(world, call.version, args),
-        Procedure::Lock(args) => lock::plan(world, call.version, args, true),
-        Procedure::Cancel(args) => cancel::plan(world, args),
-        Procedure::Unlock(args) => unlock::plan(world, args),
-        Procedure::GrantedRes(args) => granted::plan(world.alloc(), args),
-        Procedure::NmLock(args) => lock::plan(world, call.version, args, false),
-        Procedure::Share(args) => share::plan(world, args),
-        Procedure::Unshare(args) => unshare::plan(world, args),
-        Procedure::FreeAll(args) => free_all::plan(world.alloc(), args),
+    match call {
+        Call::Nlm(version, call) => plan_nlm(world, *version, call),
+        Call::Nsm(call) => status_calls::plan(world, local, call),
     }
 }
 
-/// Gets all memory that doing the plan takes. The world stays, and who was known is known. Starved: the plan can't be
-/// done.
-pub fn prepare<R: RangeTable, S: HostStore>(
-    world: &mut World<R, S>,
-    plan: &Plan,
-) -> Result<(), Starved>
-    ensures world { world.new.world ≡ world.old.world }
-    ensures refusals { world.new.refusals ≡ world.old.refusals }
-    ensures known { KeepsKnown world.old world.new }
-    ensures ready { OnOk result (IsReady plan.now world.new) }
+fn plan_nlm<R: RangeTable, S: HostStore>(
+    world: &World<R, S>,
+    version: Version,
+    call: &NlmCall<'_>,
+) -> Result<Plan, Starved>
+    ensures plan { IfOk result (λ made. IsPlan (nlm_answer the_limits world.now.world (view_of_version version) (view_of_nlm_call call.now)) world.now.world made) }
+    ensures asks { IfOk result (AsksOnlyIf (may_leave_row (Nlm (view_of_version version) (view_of_nlm_call call.now)))) }
 {
-    match plan {
-        Plan::Decided(answer) => prepare_change(world, &answer.change),
-        Plan::AfterRow { agreed, .. } => prepare_change(world, &agreed.change),
-    }
-}
-
-pub(crate) fn prepare_change<R: RangeTable, S: HostStore>(
-    world: &mut World<R, S>,
-    change: &Change,
-) -> Result<(), Starved>
-    ensures world { world.new.world ≡ world.old.world }
-    ensures refusals { world.new.refusals ≡ world.old.refusals }
-    ensures known { KeepsKnown world.old world.new }
-    ensures ready { OnOk result (IsReadyFor change.now world.new) }
-{
-    match change {
-        Change::Set(range) => prepare_range(world, range),
-        Change::Wait(wanted, _) => world.admit(&wanted.owner),
-        Change::Nothing
-        | Change::Cancel(_)
-        | Change::Share(_)
-        | Change::Unshare(_)
-        | Change::DropHost(_)
-        | Change::GrantAnswered { .. } => Ok(()),
-    }
-}
-
-fn prepare_range<R: RangeTable, S: HostStore>(
-    world: &mut World<R, S>,
-    range: &Range,
-) -> Result<(), Starved>
-    ensures world { world.new.world ≡ world.old.world }
-    ensures refusals { world.new.refusals ≡ world.old.refusals }
-    ensures known { KeepsKnown world.old world.new }
-    ensures ready { OnOk result (MayHold range.now world.new) }
-{
-    match range.mode {
-        Some(_) => world.admit(&range.owner),
-        None => Ok(()),
-    }
-}
-
-/// Gives a plan up that was prepared and isn't to be done: whoever was made known for it alone is known no more. The world
-/// stays.
-pub fn abandon<R: RangeTable, S: HostStore>(world: &mut World<R, S>, plan: &Plan)
-    ensures world { world.new.world ≡ world.old.world }
-    ensures refusals { world.new.refusals ≡ world.old.refusals }
-    ensures forgotten { IsForgotten plan.now world.old.world world.new }
-    ensures others { KeepsOthers plan.now world.old world.new }
-{
-    match plan {
-        Plan::Decided(answer) => forget(world, &answer.change),
-        Plan::AfterRow { agreed, .. } => forget(world, &agreed.change),
-    }
-}
-
-// Forgets who was to hold a lock or to wait for one, unless he holds one or waits.
-fn forget<R: RangeTable, S: HostStore>(world: &mut World<R, S>, change: &Change)
-    ensures world { world.new.world ≡ world.old.world }
-    ensures refusals { world.new.refusals ≡ world.old.refusals }
-    ensures forgotten { IsForgottenFor change.now world.old.world world.new }
-    ensures others { KeepsOthersFor change.now world.old world.new }
-{
-    match change {
-        Change::Set(range) => world.forget_idle(&range.owner),
-        Change::Wait(wanted, _) => world.forget_idle(&wanted.owner),
-        _ => {}
-    }
-}
-
-/// Asks the store, where the plan does. The rows are changed exactly where it answers yes, and a refusal is counted.
-/// Starved: the store had no memory of its own, and nothing has changed.
-pub fn ask<R: RangeTable, S: HostStore>(
-    world: &mut World<R, S>,
-    plan: &Plan,
-) -> Result<StoreAnswer, Starved>
-    requires { CanAsk plan.now world.old.world }
-    ensures answer { IfOk result (λ answer. IsAnswerTo plan.now (answer_of answer)) }
-    ensures world { IfOk result (λ answer. world.new.world ≡ stored plan.now (answer_of answer) world.old.world) }
-    ensures limit { IfOk result (λ answer. IsWithin plan.now (answer_of answer) world.old.world) }
-    ensures refusals { IfOk result (λ answer. world.new.refusals ≡ counted (answer_of answer) world.old.refusals) }
-    ensures starved { OnErr result (world.new ≡ world.old) }
-    ensures fits { Fits plan.now world.old.world → Fits plan.now world.new.world }
-    ensures ready { IsReady plan.now world.old → IsReady plan.now world.new }
-{
-    match plan {
-        Plan::Decided(_) => Ok(StoreAnswer::NotAsked),
-        Plan::AfterRow { row, .. } => match world.monitor(row.name.as_slice(), row.state) {
-            Ok(()) => Ok(StoreAnswer::Yes),
-            Err(StoreError::StoreRefused) => Ok(StoreAnswer::Refused),
-            Err(StoreError::Starved) => Err(Starved),
-        },
-    }
-}
-
-/// Does what the plan says, under the store's answer, without memory. What is answered, and the world after it, are those
-/// of the rules for the world of which the plan was made.
-pub fn commit<R: RangeTable, S: HostStore>(
-    world: &mut World<R, S>,
-    plan: Plan,
-    store: StoreAnswer,
-) -> Arc<Outcome, Global>
-    requires fits { Fits plan world.old.world }
-    requires ready { IsReady plan world.old }
-    ensures answer { (w : SaidWorld) → world.old.world ≡ stored plan (answer_of store) w → record { outcome = outcome_of result.value; due = []; world = world.new.world } ≡ ruled (answer_of store) (planned plan w) }
-    ensures refusals { world.new.refusals ≡ world.old.refusals }
-    ensures forgotten { IsForgottenUnder (answer_of store) plan world.new }
-{
-    match (plan, store) {
-        (Plan::Decided(answer), _) => {
-            change(world, answer.change);
-            answer.outcome
+    let alloc = world.alloc();
+    match call {
+        NlmCall::Null => null::plan(alloc),
+        NlmCall::Test(args) => test::plan(world, version, args),
+        NlmCall::Lock(args) => {
+            lock::verdict(world, version, args, LockCall::Lock)?.by_reply(alloc, &args.cookie)
         }
-        (Plan::AfterRow { agreed, .. }, StoreAnswer::Yes) => {
-            change(world, agreed.change);
-            agreed.outcome
+        NlmCall::Cancel(args) => cancel::verdict(world, args)?.by_reply(alloc, &args.cookie),
+        NlmCall::Unlock(args) => unlock::verdict(world, args)?.by_reply(alloc, &args.cookie),
+        NlmCall::TestMsg(args) => messages::test_msg(world, version, args),
+        NlmCall::LockMsg(args) => messages::lock_msg(world, version, args),
+        NlmCall::CancelMsg(args) => messages::cancel_msg(world, version, args),
+        NlmCall::UnlockMsg(args) => messages::unlock_msg(world, version, args),
+        NlmCall::GrantedRes(args) => granted::plan(alloc, args),
+        NlmCall::NmLock(args) => {
+            lock::verdict(world, version, args, LockCall::NmLock)?.by_reply(alloc, &args.cookie)
         }
-        (
-            Plan::AfterRow {
-                agreed,
-                refused,
-                ..
-            },
-            StoreAnswer::NotAsked | StoreAnswer::Refused,
-        ) => {
-            forget(world, &agreed.change);
-            refused
-        }
-    }
-}
-
-fn set<R: RangeTable, S: HostStore>(world: &mut World<R, S>, range: &Range) -> Result<(), NoRuns>
-    requires { MayHold range.now world.old }
-    ensures refused { IsErr result ↔ IsTrue (refuses 65536 world.old.world.settings (setting_of range.now)) }
-    ensures ok { OnOk result (world.new.world ≡ with_setting world.old.world (setting_of range.now)) }
-    ensures err { OnErr result (world.new.world ≡ world.old.world) }
-    ensures refusals { world.new.refusals ≡ world.old.refusals }
-{
-    world.set(&range.change())
-}
-
-pub(crate) fn change<R: RangeTable, S: HostStore>(world: &mut World<R, S>, change: Change)
-    requires fits { FitsChange change world.old.world }
-    requires ready { IsReadyFor change world.old }
-    ensures world { world.new.world ≡ changed change world.old.world }
-    ensures refusals { world.new.refusals ≡ world.old.refusals }
-    ensures forgotten { IsForgottenBy change world.new }
-{
-    match change {
-        Change::Nothing => {}
-        Change::Set(range) => {
-            let _ = set(world, &range);
-            if range.mode.is_none() {
-                world.forget_idle(&range.owner);
-            }
-        }
-        Change::Wait(wanted, letter) => world.wait(&wanted.request(), letter),
-        Change::Cancel(wanted) => {
-            let _ = world.cancel(&wanted.request());
-            world.forget_idle(&wanted.owner);
-        }
-        Change::Share(share) => {
-            let _ = world.share(share);
-        }
-        Change::Unshare(share) => world.unshare(&share),
-        Change::DropHost(name) => world.drop_host(&name),
-        Change::GrantAnswered { cookie, stat } => granted_res(world, cookie.as_slice(), stat),
+        NlmCall::Share(args) => share::plan(world, args),
+        NlmCall::Unshare(args) => unshare::plan(world, args),
+        NlmCall::FreeAll(args) => free_all::plan(alloc, args),
     }
 }
 
@@ -234,39 +78,13 @@ pub fn answer<R: RangeTable, S: HostStore>(
     local: bool,
     call: &Call<'_>,
 ) -> Result<(Arc<Outcome, Global>, StoreAnswer), Starved>
-    ensures reply { IfOk result (λ told. outcome_of told.0.value ≡ (ruled (answer_of told.1) (ruling the_limits world.old.world local (call_of call.now))).outcome) }
-    ensures world { IfOk result (λ told. world.new.world ≡ settled the_limits (ruled (answer_of told.1) (ruling the_limits world.old.world local (call_of call.now))).world) }
+    ensures reply { IfOk result (λ told. outcome_of told.0.value ≡ (ruled (answer_of told.1) (ruling the_limits world.old.world local (view_of_call call.now))).outcome) }
+    ensures world { IfOk result (λ told. world.new.world ≡ settled the_limits (ruled (answer_of told.1) (ruling the_limits world.old.world local (view_of_call call.now))).world) }
     ensures err { OnErr result (world.new.world ≡ world.old.world) }
 {
     let plan = plan(world, local, call)?;
     let store = agree(world, &plan)?;
     let outcome = commit(world, plan, store);
     world.settle();
-    Ok((outcome, store))
-}
-
-/// Gets all memory that the plan takes, and asks the store. Starved: the plan is given up, and the world stays.
-pub fn agree<R: RangeTable, S: HostStore>(
-    world: &mut World<R, S>,
-    plan: &Plan,
-) -> Result<StoreAnswer, Starved>
-    requires fits { Fits plan.now world.old.world }
-    requires asks { CanAsk plan.now world.old.world }
-    ensures answer { IfOk result (λ answer. IsAnswerTo plan.now (answer_of answer)) }
-    ensures limit { IfOk result (λ answer. IsWithin plan.now (answer_of answer) world.old.world) }
-    ensures world { IfOk result (λ answer. world.new.world ≡ stored plan.now (answer_of answer) world.old.world) }
-    ensures counts { IfOk result (λ answer. world.new.refusals ≡ counted (answer_of answer) world.old.refusals) }
-    ensures fits { OnOk result (Fits plan.now world.new.world) }
-    ensures ready { OnOk result (IsReady plan.now world.new) }
-    ensures err { OnErr result ((world.new.world ≡ world.old.world) × (world.new.refusals ≡ world.old.refusals)) }
-    ensures forgotten { OnErr result (IsForgotten plan.now world.new.world world.new) }
-{
-    let agreed = match prepare(world, plan) {
-        Ok(()) => ask(world, plan),
-        Err(starved) => Err(starved),
-    };
-    if agreed.is_err() {
-        abandon(world, plan);
-    }
-    agreed
+    Ok((outcome.told, store))
 }

@@ -11,12 +11,12 @@ ghost use Rattle.owner_ids.specs.Said.{said};
 ghost use Rattle.letters.specs.Meanings.{test_res_of, holder_of as holder_told};
 ghost use Rattle.held_locks.specs.Asked.{shown};
 ghost use Rattle.lock_world.specs.Whole.{IsShown};
-ghost use Rattle.lock_service.specs.Planned.{IsPlan, AsksOnlyIf};
+ghost use Rattle.call_plans.specs.Planned.{IsPlan, AsksOnlyIf};
 
 use crate::checks::place_of;
-use crate::copies::{cookie_of, mode_of, owner_of, shared};
-use crate::plans::{Answer, Change, Plan};
+use crate::copies::{cookie_of, mode_of, owner_of};
 use call_outcome::{CallResult, Outcome};
+use call_plans::{Answer, Change, Plan, Told};
 use grace::CallKind;
 use hosts_db::HostStore;
 use letters::{Holder, ShortBytes, TestRes};
@@ -39,7 +39,7 @@ pub(crate) fn plan<R: RangeTable, S: HostStore>(
 {
     let res = test_res(world, args)?;
     Ok(Plan::Decided(Answer {
-        outcome: shared(
+        told: Told::reply(
             world.alloc(),
             Outcome::Success(CallResult::TestRes(version, res)),
         )?,
@@ -47,7 +47,7 @@ pub(crate) fn plan<R: RangeTable, S: HostStore>(
     }))
 }
 
-fn test_res<R: RangeTable, S: HostStore>(
+pub(crate) fn test_res<R: RangeTable, S: HostStore>(
     world: &World<R, S>,
     args: &TestArgs<'_, WIDE>,
 ) -> Result<TestRes, Starved>

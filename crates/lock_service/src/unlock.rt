@@ -1,14 +1,16 @@
-//! UNLOCK: an owner is to hold nothing of a range (XNFS, NLM_UNLOCK).
-ghost use Rattle.std.specs.Prelude.{false, IfOk};
-ghost use Rattle.definitions.specs.Nlm as nlm;
+//! UNLOCK and UNLOCK_MSG: an owner is to hold nothing of a range (XNFS, NLM_UNLOCK and NLM_UNLOCK_MSG).
+ghost use Rattle.std.specs.Prelude.{◌≡◌, ℕ, false, None, IfOk};
+ghost use Rattle.definitions.specs.LockRules.{unlock_rules as rules_said};
 ghost use Rattle.definitions.specs.World.{the_limits};
-ghost use Rattle.definitions.specs.Answer.{nlm_answer};
+ghost use Rattle.definitions.specs.Answer.{unlock_answer};
 ghost use Rattle.nlm4_types.specs.Arguments.{view_of_unlockargs};
-ghost use Rattle.lock_service.specs.Planned.{IsPlan, AsksOnlyIf};
+ghost use Rattle.call_plans.specs.Planned.{setting_of};
+ghost use Rattle.lock_service.specs.Verdicts.{IsVerdict, OnlyAsksIf};
 
 use crate::checks::place_of;
-use crate::copies::{owner_of, replied, says};
-use crate::plans::{Answer, Change, Plan, Range};
+use crate::copies::owner_of;
+use crate::verdict::Verdict;
+use call_plans::{Change, Range};
 use grace::CallKind;
 use hosts_db::HostStore;
 use lock_world::World;
@@ -16,30 +18,41 @@ use nlm4_types::{Stat, UnlockArgs, WIDE};
 use owner_ids::Starved;
 use range_table::RangeTable;
 
-pub(crate) fn plan<R: RangeTable, S: HostStore>(
+pub(crate) fn verdict<R: RangeTable, S: HostStore>(
     world: &World<R, S>,
     args: &UnlockArgs<'_, WIDE>,
-) -> Result<Plan, Starved>
-    ensures plan { IfOk result (λ made. (version : nlm.Version) → IsPlan (nlm_answer the_limits world.now.world version (nlm.Unlock (view_of_unlockargs args.now))) world.now.world made) }
-    ensures asks { IfOk result (AsksOnlyIf false) }
+) -> Result<Verdict, Starved>
+    ensures verdict { IfOk result (λ made. (reserved : ℕ) → IsVerdict (unlock_answer the_limits world.now.world (view_of_unlockargs args.now)) reserved world.now.world made) }
+    ensures asks { IfOk result (OnlyAsksIf false) }
 {
-    let alloc = world.alloc();
     let place = match place_of(world, CallKind::Unlocking, &args.alock) {
         Ok(place) => place,
-        Err(stat) => return says(alloc, &args.cookie, stat),
+        Err(stat) => return Ok(Verdict::says(stat)),
     };
     let range = Range {
         file: place.file,
-        owner: owner_of(alloc, &args.alock)?,
+        owner: owner_of(world.alloc(), &args.alock)?,
         first: place.first,
         last: place.last,
         mode: None,
     };
+    Ok(unlock_rules(world, range))
+}
+
+/// UNLOCK, and a line's `u`: refused where the table is short of runs and the unlock would raise their number.
+pub(crate) fn unlock_rules<R: RangeTable, S: HostStore>(
+    world: &World<R, S>,
+    range: Range,
+) -> Verdict
+    requires { range.mode ≡ None }
+    ensures verdict { (reserved : ℕ) → IsVerdict (rules_said the_limits world.now.world (setting_of range)) reserved world.now.world result }
+    ensures asks { OnlyAsksIf false result }
+{
     if world.refuses(&range.change()) {
-        return says(alloc, &args.cookie, Stat::DeniedNolocks);
+        return Verdict::says(Stat::DeniedNolocks);
     }
-    Ok(Plan::Decided(Answer {
-        outcome: replied(alloc, &args.cookie, Stat::Granted)?,
+    Verdict::Decided {
+        stat: Stat::Granted,
         change: Change::Set(range),
-    }))
+    }
 }

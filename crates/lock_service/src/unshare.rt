@@ -4,11 +4,11 @@ ghost use Rattle.definitions.specs.Nlm as nlm;
 ghost use Rattle.definitions.specs.World.{the_limits};
 ghost use Rattle.definitions.specs.Answer.{nlm_answer};
 ghost use Rattle.nlm4_types.specs.Share.{view_of_shareargs};
-ghost use Rattle.lock_service.specs.Planned.{IsPlan, AsksOnlyIf};
+ghost use Rattle.call_plans.specs.Planned.{IsPlan, AsksOnlyIf};
 
 use crate::checks::check_file;
-use crate::plans::{Change, Plan};
 use crate::share::{share_of, told};
+use call_plans::{Change, Plan};
 use grace::CallKind;
 use hosts_db::HostStore;
 use lock_world::World;

@@ -1,6 +1,9 @@
 -- Lists that are made item by item.
-use Rattle.std.proofs.Common.{◌≡◌, ◌<◌, ◌+◌, ℕ, List, [], ◌∷◌, ◌++◌, sym, ap, ◌∙◌, refl, map, take, length, get_or, arith}
-use Rattle.std.proofs.lemmas.List.{take_more, map-append, length-append}
+use Rattle.std.proofs.Common.{◌≡◌, ◌<◌, ◌+◌, ℕ, Bool, true, cond, List, [], ◌∷◌, ◌++◌, sym, ap, ◌∙◌, refl, map, take, drop, length, get_or, arith}
+use Rattle.std.specs.List.{filter}
+use Rattle.std.proofs.lemmas.List.{take_more, take-append-drop, map-append, length-append}
+use Rattle.std.proofs.lemmas.List.Elements.{filter-append}
+use Rattle.std.proofs.lemmas.List.Filters.{length-filter_more}
 use Rattle.definitions.specs.Outgoing.{Letter, due_now}
 use Rattle.definitions.specs.World.{World, with_due, with_all_due}
 
@@ -20,3 +23,14 @@ due_calls w (l ∷ letters) = due_calls (with_due w l) letters ∙ (let e = leng
 pub due_waiters : (w : World) (letters : List Letter) → (with_all_due w letters).waiters ≡ w.waiters
 due_waiters w [] = refl
 due_waiters w (l ∷ letters) = due_waiters (with_due w l) letters
+
+pub due_settings : (w : World) (letters : List Letter) → (with_all_due w letters).settings ≡ w.settings
+due_settings w [] = refl
+due_settings w (l ∷ letters) = due_settings (with_due w l) letters
+
+-- of the items that pass, fewer stand before one that passes than in all
+pub fewer_before : {X : Type 0} (p : X → Bool) (xs : List X) (i : ℕ) (x : X) → i < length xs → x ≡ get_or xs i x → p x ≡ true → length (filter p (take i xs)) < length (filter p xs)
+fewer_before p xs i x l is e =
+    let more = length-filter_more p xs i x l ∙ ap (λ y. length (filter p (take i xs)) + cond (p y) 1 0) (sym is) ∙ ap (λ b. length (filter p (take i xs)) + cond b 1 0) e in
+    let all = ap (λ ys. length (filter p ys)) (sym (take-append-drop (i + 1) xs)) ∙ ap length (filter-append p (take (i + 1) xs) (drop (i + 1) xs)) ∙ length-append (filter p (take (i + 1) xs)) (filter p (drop (i + 1) xs)) in
+    omega arith

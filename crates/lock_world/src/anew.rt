@@ -2,8 +2,8 @@
 ghost use Rattle.std.specs.Prelude.{◌≡◌, ℕ, ◌+◌, ◌<◌, ◌≤◌, [], length, map, pos, OnOk, OnErr, IfOk};
 ghost use Rattle.definitions.specs.Hosts.{Begin, after_store, next_own};
 ghost use Rattle.definitions.specs.Outgoing.{ToHost, Notify};
-ghost use Rattle.definitions.specs.World.{opening, restarted, restart_letter, with_due, with_all_due};
-ghost use Rattle.hosts_db.specs.Calls.{Counts, IsNotStarved};
+ghost use Rattle.definitions.specs.World.{opening, restarted, restart_letter, with_due, with_all_due, with_hosts, slots_free, the_limits};
+ghost use Rattle.hosts_db.specs.Calls.{Counts, Makes, IsNotStarved};
 
 use crate::unsettled::Unsettled;
 use crate::world::{World, first_number};
@@ -53,31 +53,56 @@ impl<R: RangeTable, S: HostStore> World<R, S> {
         ensures counts { Counts result self.old.refusals self.new.refusals }
         ensures not_starved { IsNotStarved result }
     {
-        let own = self.store.start()?;
-        self.empty(own);
-        self.tell(notices);
+        self.start()?;
+        self.begin(notices);
         Ok(())
     }
 
-    // As at the opening, in this own state.
-    fn empty(&mut self, own: u32)
-        requires { own ≡ self.old.world.hosts.own }
+    /// Stores the next own state, and changes nothing else yet. Where the store answers an error, which is never want of
+    /// memory, the world stays.
+    pub fn start(&mut self) -> Result<(), StoreError>
+        ensures world { self.new.world ≡ with_hosts self.old.world self.new.world.hosts }
+        ensures makes { Makes result self.old.world.hosts self.new.world.hosts (after_store self.old.world.hosts Begin) }
+        ensures counts { Counts result self.old.refusals self.new.refusals }
+        ensures not_starved { IsNotStarved result }
+        ensures names { self.new.names ≡ self.old.names }
+    {
+        self.store.start()?;
+        Ok(())
+    }
+
+    /// As at the opening, in the own state that is stored: with the store's rows, in grace, and these notices due. Nobody is
+    /// known. It takes no memory.
+    pub fn begin(&mut self, notices: Vec<Letter>)
+        requires { length notices.items ≤ 8192 }
+        ensures world { self.new.world ≡ with_all_due (opening self.old.world.own_name self.old.world.hosts) notices.items }
+        ensures refusals { self.new.refusals ≡ self.old.refusals }
+        ensures names { self.new.names ≡ [] }
+    {
+        self.empty();
+        self.tell(notices);
+    }
+
+    // As at the opening, in the own state that is stored.
+    fn empty(&mut self)
         ensures world { self.new.world ≡ opening self.old.world.own_name self.old.world.hosts }
         ensures refusals { self.new.refusals ≡ self.old.refusals }
+        ensures names { self.new.names ≡ [] }
     {
         self.locks.clear();
         self.slots.clear();
         self.shares.clear();
         self.calls.clear();
         self.phase = Phase::Grace;
-        self.next = first_number(own);
+        self.next = first_number(self.store.own());
         self.unsettled = Unsettled::Nowhere;
     }
 
     /// The calls become due, in their order, under the next numbers. As many places are free.
     pub fn tell(&mut self, letters: Vec<Letter>)
-        requires { length self.old.world.waiters + length self.old.world.calls + length letters.items ≤ 8192 }
+        requires { length letters.items ≤ slots_free the_limits self.old.world }
         ensures world { self.new.world ≡ with_all_due self.old.world letters.items }
+        ensures names { self.new.names ≡ self.old.names }
         ensures refusals { self.new.refusals ≡ self.old.refusals }
     {
         for letter in letters {
@@ -87,8 +112,9 @@ impl<R: RangeTable, S: HostStore> World<R, S> {
 
     // A call becomes due, under the next number.
     fn make_due(&mut self, letter: Letter)
-        requires { length self.old.world.waiters + length self.old.world.calls < 8192 }
+        requires { 0 < slots_free the_limits self.old.world }
         ensures world { self.new.world ≡ with_due self.old.world letter }
+        ensures names { self.new.names ≡ self.old.names }
         ensures refusals { self.new.refusals ≡ self.old.refusals }
     {
         let _ = self.slots.take(1);

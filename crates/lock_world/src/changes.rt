@@ -4,11 +4,9 @@ ghost use Rattle.definitions.specs.Owners.{Owner as SaidOwner, is_of_host};
 ghost use Rattle.definitions.specs.Phases.{Normal};
 ghost use Rattle.definitions.specs.Starts.{refuses};
 ghost use Rattle.definitions.specs.Shares.{is_denied, has_no_room, with_share, without_share};
-ghost use Rattle.definitions.specs.Hosts.{has_row, after_store, is_past_limit, Monitor};
-ghost use Rattle.definitions.specs.World.{with_setting, with_hosts, without_host_of};
+ghost use Rattle.definitions.specs.World.{with_setting, without_host_of};
 ghost use Rattle.owner_ids.specs.Said.{said};
 ghost use Rattle.held_locks.specs.Asked.{changed};
-ghost use Rattle.hosts_db.specs.Calls.{Counts, Makes, IsPastLimit};
 ghost use Rattle.lock_world.specs.Seen.{IsIdle, Knows, KeepsKnown};
 ghost use Rattle.lock_world.specs.Whole.{IsShown};
 
@@ -17,7 +15,7 @@ use crate::world::World;
 use dos_shares::{Share, ShareError};
 use grace::Phase;
 use held_locks::Change;
-use hosts_db::{HostStore, StoreError};
+use hosts_db::HostStore;
 use owner_ids::{Owner, Starved};
 use range_table::{NoRuns, RangeTable};
 
@@ -94,19 +92,6 @@ impl<R: RangeTable, S: HostStore> World<R, S> {
         let before = self.calls.len();
         self.calls.drop_host(name);
         self.slots.give(before - self.calls.len());
-    }
-
-    /// Stores the row of a host that has none. Where the store answers an error the world stays.
-    pub fn monitor(&mut self, name: &[u8], state: i32) -> Result<(), StoreError>
-        requires fits { length name.now ≤ 1024 }
-        requires new { has_row self.old.world.hosts name.now ≡ false }
-        ensures world { self.new.world ≡ with_hosts self.old.world self.new.world.hosts }
-        ensures makes { Makes result self.old.world.hosts self.new.world.hosts (after_store self.old.world.hosts (Monitor name.now state)) }
-        ensures counts { Counts result self.old.refusals self.new.refusals }
-        ensures limit { IsPastLimit result (is_past_limit 4096 1024 self.old.world.hosts (Monitor name.now state)) }
-        ensures names { self.new.names ≡ self.old.names }
-    {
-        self.store.monitor(name, state)
     }
 
     /// The grace period is over.

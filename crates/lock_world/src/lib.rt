@@ -6,6 +6,7 @@ mod anew;
 mod answers;
 mod changes;
 mod closing;
+mod hosts;
 mod readings;
 mod sends;
 mod settle;

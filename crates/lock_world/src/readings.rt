@@ -2,7 +2,6 @@
 ghost use Rattle.std.specs.Prelude.{◌≡◌, ◌≤◌, ◌<◌, ◌^◌, IfSome};
 ghost use Rattle.definitions.specs.Starts.{first_conflict, is_short, refuses};
 ghost use Rattle.definitions.specs.Conflict.{conflicts};
-ghost use Rattle.definitions.specs.Hosts.{has_row};
 ghost use Rattle.owner_ids.specs.Said.{said};
 ghost use Rattle.held_locks.specs.Asked.{asked, changed, shown_found};
 ghost use Rattle.lock_world.specs.Whole.{IsShown};
@@ -46,12 +45,5 @@ impl<R: RangeTable, S: HostStore> World<R, S> {
         ensures { result ≡ refuses 65536 self.now.world.settings (changed change.now) }
     {
         self.locks.refuses(change)
-    }
-
-    /// Whether the host has a row.
-    pub fn has_row(&self, name: &[u8]) -> bool
-        ensures { result ≡ has_row self.now.world.hosts name.now }
-    {
-        self.store.host(name).is_some()
     }
 }

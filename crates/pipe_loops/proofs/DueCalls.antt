@@ -6,8 +6,8 @@ use Rattle.definitions.specs.Outgoing.{Outgoing, next_due, after_sending, ends_w
 use Rattle.definitions.specs.Step.{State, Event, Send, Doing, Applied, Starved, Given, Nothing, Sends as Gives, IsStarved, sent}
 use Rattle.book.specs.Given.{comes_to}
 use Rattle.book.specs.Notes.{IsStep}
-use Rattle.lock_service.specs.Planned.{answer_of, counted}
-use Rattle.lock_service.specs.declared.plans.StoreAnswer.{StoreAnswer as Answered}
+use Rattle.call_plans.specs.Planned.{answer_of, counted}
+use Rattle.call_plans.specs.declared.plans.StoreAnswer.{StoreAnswer as Answered}
 use Rattle.daemon_core.specs.declared.event.Event.TheVariants.{Send as Sending}
 use Rattle.daemon_core.specs.declared.event.Refusal.{Refusal}
 use Rattle.daemon_core.specs.declared.outcome.Outcome.{Outcome}

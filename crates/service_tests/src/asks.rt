@@ -4,10 +4,10 @@ ghost use Rattle.std.specs.Prelude.{◌≤◌, length};
 use crate::calls::CallStep;
 use call_outcome::{CallResult, Outcome};
 use letters::TestRes;
-use lock_service::{Procedure, StoreAnswer};
+use lock_service::StoreAnswer;
 use nlm4_types::{
-    Access, CancelArgs, Lock, LockArgs, Netobj, Notify, Res, ShareArgs, Stat, TestArgs, UnlockArgs,
-    WIDE,
+    Access, CancelArgs, Lock, LockArgs, Netobj, NlmCall, Notify, Res, ShareArgs, Stat, TestArgs,
+    UnlockArgs, WIDE,
 };
 use xdr_core::Opaque;
 
@@ -241,28 +241,28 @@ fn share(who: Who, mode: Access, access: Access) -> ShareArgs<'static> {
 }
 
 impl Step {
-    /// The procedure that a client calls, or none.
-    pub(crate) fn procedure(self) -> Option<Procedure<'static>> {
+    /// What a client calls, or nothing.
+    pub(crate) fn call(self) -> Option<NlmCall<'static>> {
         Some(match self {
             Step::GraceOver | Step::CountsKnown | Step::HasRow(_) | Step::Calls(_) => return None,
-            Step::Null => Procedure::Null,
-            Step::Locks(who, offset, len) => Procedure::Lock(lock(who, &FILE, offset, len)),
-            Step::LocksLongHandle(who) => Procedure::Lock(lock(who, &LONG, 0, 1)),
-            Step::Reclaims(who, offset, len) => Procedure::Lock(reclaim(who, offset, len)),
-            Step::NmLocks(who, offset, len) => Procedure::NmLock(lock(who, &FILE, offset, len)),
-            Step::Waits(who, offset, len) => Procedure::Lock(wait(who, offset, len)),
+            Step::Null => NlmCall::Null,
+            Step::Locks(who, offset, len) => NlmCall::Lock(lock(who, &FILE, offset, len)),
+            Step::LocksLongHandle(who) => NlmCall::Lock(lock(who, &LONG, 0, 1)),
+            Step::Reclaims(who, offset, len) => NlmCall::Lock(reclaim(who, offset, len)),
+            Step::NmLocks(who, offset, len) => NlmCall::NmLock(lock(who, &FILE, offset, len)),
+            Step::Waits(who, offset, len) => NlmCall::Lock(wait(who, offset, len)),
             Step::WaitsToShare(who, offset, len) => {
-                Procedure::Lock(wait_to_share(who, offset, len))
+                NlmCall::Lock(wait_to_share(who, offset, len))
             }
-            Step::NmWaits(who, offset, len) => Procedure::NmLock(wait(who, offset, len)),
-            Step::Cancels(who, offset, len) => Procedure::Cancel(cancel(who, offset, len)),
-            Step::Unlocks(who, offset, len) => Procedure::Unlock(unlock(who, offset, len)),
-            Step::SaysOfFirst(stat) => Procedure::GrantedRes(grant_answer(&COOKIES[0], stat)),
-            Step::SaysOfSecond(stat) => Procedure::GrantedRes(grant_answer(&COOKIES[1], stat)),
-            Step::Tests(who) => Procedure::Test(test(who)),
-            Step::Shares(who, mode, access) => Procedure::Share(share(who, mode, access)),
-            Step::Unshares(who) => Procedure::Unshare(share(who, Access::None, Access::Read)),
-            Step::FreesAll(who) => Procedure::FreeAll(Notify {
+            Step::NmWaits(who, offset, len) => NlmCall::NmLock(wait(who, offset, len)),
+            Step::Cancels(who, offset, len) => NlmCall::Cancel(cancel(who, offset, len)),
+            Step::Unlocks(who, offset, len) => NlmCall::Unlock(unlock(who, offset, len)),
+            Step::SaysOfFirst(stat) => NlmCall::GrantedRes(grant_answer(&COOKIES[0], stat)),
+            Step::SaysOfSecond(stat) => NlmCall::GrantedRes(grant_answer(&COOKIES[1], stat)),
+            Step::Tests(who) => NlmCall::Test(test(who)),
+            Step::Shares(who, mode, access) => NlmCall::Share(share(who, mode, access)),
+            Step::Unshares(who) => NlmCall::Unshare(share(who, Access::None, Access::Read)),
+            Step::FreesAll(who) => NlmCall::FreeAll(Notify {
                 name: Opaque { bytes: who.name() },
                 state: 5,
             }),

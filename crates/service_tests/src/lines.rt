@@ -1,10 +1,10 @@
 //! Lines of local programs, as they are answered.
 use hosts_db::{HostStore, MemHosts};
-use letters::ShortBytes;
+use letters::{LocalLock, ShortBytes};
 use local_ops::{LocalAnswer, LocalCall};
-use lock_service::{close_file, get_lock, set_lock};
+use lock_service::{SetLine, close_file, get_lock, set_lock};
 use lock_world::{Starved, World};
-use range_table::{FlatTable, RangeTable};
+use range_table::{FlatTable, Mode, RangeTable};
 use std::alloc::Global;
 use std::test::*;
 
@@ -14,13 +14,29 @@ pub(crate) fn answered<R: RangeTable, S: HostStore>(
 ) -> Result<LocalAnswer, Starved> {
     match LocalCall::read(line) {
         Ok(LocalCall::GetLock { mode, lock }) => get_lock(world, mode, &lock),
-        Ok(LocalCall::SetLock { mode, lock }) => set_lock(world, mode, &lock),
+        Ok(LocalCall::SetLock { mode, lock }) => set(world, false, mode, &lock),
+        Ok(LocalCall::SetLockWait { mode, lock }) => set(world, true, mode, &lock),
         Ok(LocalCall::Close { owner, file }) => {
             close_file(world, &owner, &file);
             Ok(LocalAnswer::Done)
         }
         _ => Ok(LocalAnswer::Bad),
     }
+}
+
+fn set<R: RangeTable, S: HostStore>(
+    world: &mut World<R, S>,
+    waits: bool,
+    mode: Option<Mode>,
+    lock: &LocalLock,
+) -> Result<LocalAnswer, Starved> {
+    let line = SetLine {
+        connection: 5,
+        waits,
+        mode,
+        lock,
+    };
+    set_lock(world, &line)
 }
 
 /// Adds the answer to each line.
@@ -70,7 +86,7 @@ fn local_lines(rt: HostRuntime) -> Result<(), Fail> {
         b"setlk p1 aa w 9223372036854775807 2",
         b"close p1 aa",
     ];
-    let after: [&[u8]; 16] = [
+    let after: [&[u8]; 19] = [
         b"setlk p1 aa w 5 0",
         b"setlk p1 aa r 7 1",
         b"setlk p1 aa u 6 1",
@@ -87,10 +103,13 @@ fn local_lines(rt: HostRuntime) -> Result<(), Fail> {
         b"close p1 aa",
         b"getlk d1 aa w 0 0",
         b"getlk p1 bb r 9 1",
+        b"setlkw p1 bb w 9 1",
+        b"setlkw p1 bb w 9 1",
+        b"setlkw d1 bb u 0 8",
     ];
     let text = answers(rt.alloc(), &in_grace, &after)?;
     let want =
-        b"grace\ngrace\nfbig\nok\nok\nok\nok\nheld w 5 1 p1\nheld r 7 1 p1\nheld w 8 0 p1\nfbig\nbad\nagain\nok\nok\nok\nheld w 5 1 p1\nok\nfree\nheld w 0 0 d1\n";
+        b"grace\ngrace\nfbig\nok\nok\nok\nok\nheld w 5 1 p1\nheld r 7 1 p1\nheld w 8 0 p1\nfbig\nbad\nagain\nok\nok\nok\nheld w 5 1 p1\nok\nfree\nheld w 0 0 d1\nwait\nwait\nok\n";
     assert_eq!(rt; text.as_slice(), want.as_slice());
     Ok(())
 }

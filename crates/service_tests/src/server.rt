@@ -3,9 +3,9 @@ use crate::asks::{GRANTED, Step, Told, Who, lock};
 use crate::calls;
 use hosts_db::{FULL_QUOTA, HostRow, MemHosts};
 use letters::ShortBytes;
-use lock_service::{Call, Procedure, answer};
+use lock_service::{Call, answer};
 use lock_world::{Starved, World};
-use nlm4_types::Version;
+use nlm4_types::{NlmCall, Version};
 use range_table::FlatTable;
 use std::alloc::{AllocError, Global};
 
@@ -82,15 +82,14 @@ impl Server {
         }
     }
 
-    fn asked(&mut self, procedure: Procedure<'_>) -> Result<Told, Starved> {
-        let version = Version::V4;
-        let (outcome, _) = answer(&mut self.world, true, &Call { version, procedure })?;
+    fn asked(&mut self, call: NlmCall<'_>) -> Result<Told, Starved> {
+        let (outcome, _) = answer(&mut self.world, true, &Call::Nlm(Version::V4, call))?;
         Ok(Told::by(&outcome))
     }
 
     fn told(&mut self, step: Step) -> Result<Told, Starved> {
-        match step.procedure() {
-            Some(procedure) => self.asked(procedure),
+        match step.call() {
+            Some(call) => self.asked(call),
             None => self.shown(step),
         }
     }
@@ -132,7 +131,7 @@ impl Server {
     fn locks_byte(&mut self, number: u32) -> Result<Told, Starved> {
         let fh = (number / 64).to_be_bytes();
         let offset = (number % 64) as u64 * 2;
-        self.asked(Procedure::NmLock(lock(Who::A, &fh, offset, 1)))
+        self.asked(NlmCall::NmLock(lock(Who::A, &fh, offset, 1)))
     }
 
     // Up to the first that isn't granted.

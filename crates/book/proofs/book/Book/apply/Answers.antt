@@ -1,7 +1,7 @@
 use Rattle.std.proofs.Common.{arith, ◌≡◌, ◌+◌, ◌<◌, sym, ap, ◌∙◌}
 use Rattle.std.specs.Prelude.{vec_len}
 use Rattle.std.proofs.lemmas.Grind.{common_steps}
-use Rattle.lock_service.specs.Planned.{answer_of}
+use Rattle.call_plans.specs.Planned.{answer_of}
 use Rattle.book.specs.declared.entry.TheConstants.{SEGMENT}
 use Rattle.book.specs.Given.{Upshot, comes_to, doing_of}
 use Rattle.book.specs.Notes.{Note, gave, happening_of}

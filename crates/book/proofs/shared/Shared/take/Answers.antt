@@ -3,7 +3,7 @@ use Rattle.definitions.specs.Replies.{Ignored, Turned, Asks}
 use Rattle.kept_replies.specs.Pairs.{asker}
 use Rattle.record_reading.specs.Values.{view_of_refusal, view_of_call}
 use Rattle.record_reading.specs.Readings.{IsReading}
-use Rattle.book.proofs.Records.{ignored, turned, unserved}
+use Rattle.book.proofs.Records.{ignored, turned, asked}
 use Rattle.book.proofs.shared.Shared.take.Goals as goal
 
 pub returns-in-Ignored-clause-step : goal.returns-in-Ignored-clause-step
@@ -17,9 +17,8 @@ returns-in-Turned-clause-step g c =
     let read = subst (λ (bytes : List ℕ). IsReading bytes (Turned c.in-Turned.xid why)) c.deref.ensures c.in-Turned.ensures in
     rw c.refuses.ensures.upshot (turned c.args.self.now.state (asker c.args.peer) c.args.bytes.now c.in-Turned.xid why read)
 
-pub returns-in-None-clause-step : goal.returns-in-None-clause-step
-returns-in-None-clause-step g c =
+pub returns-in-Asks-clause-step : goal.returns-in-Asks-clause-step
+returns-in-Asks-clause-step g c =
     let call = view_of_call c.in-Asks.call in
     let read = subst (λ (bytes : List ℕ). IsReading bytes (Asks c.in-Asks.xid call)) c.deref.ensures c.in-Asks.ensures in
-    rw (c.refuses-in-None.ensures.upshot, c.unserved.ensures)
-    (unserved c.args.self.now.state (asker c.args.peer) c.args.bytes.now c.in-Asks.xid call read c.in-None.ensures)
+    asked c.args.self.now.state (asker c.args.peer) c.args.bytes.now c.in-Asks.xid call _ _ read c.called.ensures.step

@@ -13,7 +13,8 @@ loop-letter-preserved g c =
       tt,
       c.make_due.ensures.world ∙ ap (λ (w : SaidWorld). with_due w c.in-Some.letter) before.2 ∙ sym (all_due_more _ c.loop-letter.yielded c.in-Some.letter),
       append_assoc c.loop-letter.yielded (c.in-Some.letter ∷ []) _ ∙ (ap (λ xs. c.loop-letter.yielded ++ xs) (sym next.0) ∙ before.3),
-      c.make_due.ensures.refusals ∙ before.4,
+      c.make_due.ensures.names ∙ before.4,
+      c.make_due.ensures.refusals ∙ before.5,
     )
 
 pub make_due-requires : goal.make_due-requires

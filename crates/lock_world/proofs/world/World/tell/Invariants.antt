@@ -9,4 +9,5 @@ invariant-loop-letter g l =
     × (goal.iterator-loop-letter g).is_finite l.letter-iterator
     × (l.self.world ≡ with_all_due l.fn.self.world l.yielded)
     × (l.yielded ++ into_iter_items l.letter-iterator ≡ l.fn.letters.items)
+    × (l.self.names ≡ l.fn.self.names)
     × (l.self.refusals ≡ l.fn.self.refusals)

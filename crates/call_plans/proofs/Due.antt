@@ -1,0 +1,50 @@
+-- Calls that become due make nobody idle and nobody known.
+use Rattle.std.proofs.Common.{◌≡◌, subst, false, None, Some, List}
+use Rattle.definitions.specs.Bytes.{is_any}
+use Rattle.definitions.specs.Outgoing.{Letter}
+use Rattle.definitions.specs.Owners.{Owner, same_owner}
+use Rattle.definitions.specs.Settings.{Setting, mode_at}
+use Rattle.definitions.specs.Waits.{Waiter}
+use Rattle.definitions.specs.World.{World, with_all_due}
+use Rattle.owner_ids.specs.Names.{named}
+use Rattle.owner_ids.specs.Said.{said}
+use Rattle.lock_world.specs.Seen.{Seen, Knows, IsIdle}
+use Rattle.lock_world.proofs.Notices.{due_settings, due_waiters}
+use Rattle.call_plans.specs.declared.plans.Change.{Change}
+use Rattle.call_plans.specs.declared.plans.Change.TheVariants as change
+use Rattle.call_plans.specs.Planned.{IsForgottenIfIdle, IsForgottenBy, IsForgottenFor}
+
+pub idle_before : (w : World) (letters : List Letter) (x : Owner) → IsIdle (with_all_due w letters) x → IsIdle w x
+idle_before w letters x idle = record {
+  holds_nothing = λ file byte. subst (λ (settings : List Setting). mode_at settings file x byte ≡ None) (due_settings w letters) (idle.holds_nothing file byte);
+  waits_not = subst (λ (waiters : List Waiter). is_any (λ (y : Waiter). same_owner y.request.owner x) waiters ≡ false) (due_waiters w letters) idle.waits_not;
+}
+
+module _ (letters : List Letter) (s v : Seen) (world : v.world ≡ with_all_due s.world letters) (names : v.names ≡ s.names) where
+  known_before : (x : Owner) → Knows v x → Knows s x
+  known_before x knows = (knows.0, subst (λ ns. named ns knows.0 ≡ Some x) names knows.1)
+
+  one_still : (x : Owner) → IsForgottenIfIdle x s.world s → IsForgottenIfIdle x v.world v
+  one_still x h idle knows = h (idle_before s.world letters x (subst (λ w. IsIdle w x) world idle)) (known_before x knows)
+
+  pub by_still : (c : Change) → IsForgottenBy c s → IsForgottenBy c v
+  by_still change.Nothing h = tt
+  by_still (change.Set r) h = one_still (said r.owner) h
+  by_still (change.Wait x letter) h = one_still (said x.owner) h
+  by_still (change.Cancel x) h = one_still (said x.owner) h
+  by_still (change.Share x) h = tt
+  by_still (change.Unshare x) h = tt
+  by_still (change.DropHost name) h = λ x is knows. h x is (known_before x knows)
+  by_still (change.GrantAnswered cookie stat) h = tt
+  by_still (change.Restart notices) h = λ x knows. h x (known_before x knows)
+
+  pub for_still : (c : Change) → IsForgottenFor c s.world s → IsForgottenFor c v.world v
+  for_still change.Nothing h = tt
+  for_still (change.Set r) h = one_still (said r.owner) h
+  for_still (change.Wait x letter) h = one_still (said x.owner) h
+  for_still (change.Cancel x) h = tt
+  for_still (change.Share x) h = tt
+  for_still (change.Unshare x) h = tt
+  for_still (change.DropHost name) h = tt
+  for_still (change.GrantAnswered cookie stat) h = tt
+  for_still (change.Restart notices) h = tt

@@ -1,0 +1,249 @@
+-- What a plan says: what the store is asked, and what follows.
+use Rattle.std.specs.Prelude.{◌≡◌, ◌≢◌, ◌⊎◌, ◌<◌, ◌≤◌, ℕ, ◌+◌, Bool, true, false, List, [], ◌∷◌, length, Some, None}
+use Rattle.definitions.specs.Owners.{Owner, is_of_host}
+use Rattle.definitions.specs.Settings.{Setting, Request}
+use Rattle.definitions.specs.Starts.{refuses}
+use Rattle.definitions.specs.Shares.{is_denied, has_no_room, with_share, without_share}
+use Rattle.definitions.specs.Hosts as hosts
+use Rattle.definitions.specs.Hosts.{StoreCall, StoreAnswer, NotAsked, Yes, Refused, has_row, after_store, is_past_limit}
+use Rattle.definitions.specs.Outgoing.{Letter}
+use Rattle.definitions.specs.Waits.{is_waiting, without_waiter}
+use Rattle.definitions.specs.World.{World, the_limits, slots_free, with_setting, with_waiter, with_hosts, with_due, with_all_due, without_host_of, opening}
+use Rattle.definitions.specs.Grants.{granted_res_rules}
+use Rattle.definitions.specs.Replies.{Success, NoResult}
+use Rattle.definitions.specs.Rulings.{Ruling, decided}
+use Rattle.definitions.specs.Answer.{Answered}
+use Rattle.letters.specs.Meanings.{my_id_of}
+use Rattle.nlm4_types.specs.Stat.{view_of_stat}
+use Rattle.owner_ids.specs.Said.{said}
+use Rattle.owner_ranges.specs.Same.{mode_of, held_mode}
+use Rattle.call_outcome.specs.Values.{outcome_of}
+use Rattle.lock_world.specs.Seen.{Seen, Knows, KeepsKnown, IsIdle}
+use Rattle.call_plans.specs.declared.plans.Range as range
+use Rattle.call_plans.specs.declared.plans.Wanted as wanted
+use Rattle.call_plans.specs.declared.plans.Asked.{Asked}
+use Rattle.call_plans.specs.declared.plans.Asked.TheVariants as asks
+use Rattle.call_plans.specs.declared.plans.Told as told
+use Rattle.call_plans.specs.declared.plans.Change.{Change}
+use Rattle.call_plans.specs.declared.plans.Change.TheVariants as change
+use Rattle.call_plans.specs.declared.plans.Answer as answer
+use Rattle.call_plans.specs.declared.plans.Plan.{Plan}
+use Rattle.call_plans.specs.declared.plans.Plan.TheVariants as plan
+use Rattle.call_plans.specs.declared.plans.StoreAnswer.{StoreAnswer as Said}
+use Rattle.call_plans.specs.declared.plans.StoreAnswer.TheVariants as store
+
+abbrev pub setting_of : range.Range → Setting
+setting_of r = record { file = r.file; owner = said r.owner; first = r.first; last = r.last; mode = held_mode r.mode }
+
+abbrev pub request_wanted : wanted.Wanted → Request
+request_wanted x = record { file = x.file; owner = said x.owner; first = x.first; last = x.last; mode = mode_of x.mode }
+
+abbrev pub changed : Change → World → World
+changed change.Nothing w = w
+changed (change.Set r) w = with_setting w (setting_of r)
+changed (change.Wait x letter) w = with_waiter w (record { request = request_wanted x; letter = letter })
+changed (change.Cancel x) w = record w { waiters = without_waiter (request_wanted x) w.waiters }
+changed (change.Share s) w = record w { shares = with_share s w.shares }
+changed (change.Unshare s) w = record w { shares = without_share s w.shares }
+changed (change.DropHost name) w = without_host_of w name.items
+changed (change.GrantAnswered cookie stat) w = (granted_res_rules the_limits w cookie (view_of_stat stat)).world
+changed (change.Restart notices) w = with_all_due (opening w.own_name w.hosts) notices.items
+
+-- what is told in a world: its calls are due in it
+abbrev pub told_in : told.Told → World → Answered
+told_in t w = record { outcome = outcome_of t.outcome.told.value; due = t.due.items; world = with_all_due w t.due.items }
+
+-- an empty reply, behind which this call is due
+abbrev pub sent_back : Letter → World → Answered
+sent_back letter w = record { outcome = Success NoResult; due = letter ∷ []; world = with_due w letter }
+
+abbrev pub answered : answer.Answer → World → Answered
+answered a w = told_in a.told (changed a.change w)
+
+abbrev pub asked_of : Asked → StoreCall
+asked_of (asks.Monitor name state) = hosts.Monitor name state
+asked_of (asks.Seen name state) = hosts.Seen name state
+asked_of (asks.Watched mon_name my_id bytes) = hosts.Watched mon_name (my_id_of my_id) bytes
+asked_of (asks.Unwatched mon_name my_id) = hosts.Unwatched mon_name (my_id_of my_id)
+asked_of asks.Begin = hosts.Begin
+
+abbrev pub answer_of : Said → StoreAnswer
+answer_of store.NotAsked = NotAsked
+answer_of store.Yes = Yes
+answer_of store.Refused = Refused
+
+-- the world once the store has made the change that it was asked for
+abbrev pub after_asked : Asked → World → World
+after_asked call w = with_hosts w (after_store w.hosts (asked_of call))
+
+-- what the plan comes to in a world
+abbrev pub planned : Plan → World → Ruling Answered
+planned (plan.Decided a) w = decided (answered a w)
+planned (plan.AfterStore call agreed refused) w = record {
+  asks = Some (asked_of call);
+  agreed = answered agreed (after_asked call w);
+  refused = told_in refused w;
+}
+
+-- the calls that become due under this answer of the store
+abbrev pub due_under : StoreAnswer → Plan → List Letter
+due_under store (plan.Decided a) = a.told.due.items
+due_under NotAsked (plan.AfterStore call agreed refused) = refused.due.items
+due_under Yes (plan.AfterStore call agreed refused) = agreed.told.due.items
+due_under Refused (plan.AfterStore call agreed refused) = refused.due.items
+
+-- the world once the store has answered
+abbrev pub stored : Plan → StoreAnswer → World → World
+stored (plan.Decided a) store w = w
+stored (plan.AfterStore call agreed refused) NotAsked w = w
+stored (plan.AfterStore call agreed refused) Yes w = after_asked call w
+stored (plan.AfterStore call agreed refused) Refused w = w
+
+-- the store is asked exactly where the plan asks it
+abbrev pub IsAnswerTo : Plan → StoreAnswer → Type 0
+IsAnswerTo (plan.Decided a) store = store ≡ NotAsked
+IsAnswerTo (plan.AfterStore call agreed refused) store = store ≢ NotAsked
+
+-- the store says yes to nothing that is past a limit
+abbrev pub IsWithin : Plan → StoreAnswer → World → Type 0
+IsWithin (plan.Decided a) store w = Unit {0}
+IsWithin (plan.AfterStore call agreed refused) store w = store ≡ Yes → is_past_limit 4096 1024 w.hosts (asked_of call) ≡ false
+
+-- the store is asked only where that is allowed
+abbrev pub AsksOnlyIf : Bool → Plan → Type 0
+AsksOnlyIf allowed (plan.Decided a) = Unit {0}
+AsksOnlyIf allowed (plan.AfterStore call agreed refused) = allowed ≡ true
+
+abbrev pub counted : StoreAnswer → ℕ → ℕ
+counted NotAsked refusals = refusals
+counted Yes refusals = refusals
+counted Refused refusals = refusals + 1
+
+-- ---- when a plan can be done
+
+-- the change is refused by no table
+abbrev pub FitsChange : Change → World → Type 0
+FitsChange change.Nothing w = Unit {0}
+FitsChange (change.Set r) w = refuses 65536 w.settings (setting_of r) ≡ false
+FitsChange (change.Wait x letter) w = 0 < slots_free the_limits w
+FitsChange (change.Cancel x) w = is_waiting (request_wanted x) w.waiters ≡ true
+FitsChange (change.Share s) w = (is_denied w.shares s ≡ false) × (has_no_room 16384 w.shares s ≡ false)
+FitsChange (change.Unshare s) w = Unit {0}
+FitsChange (change.DropHost name) w = Unit {0}
+FitsChange (change.GrantAnswered cookie stat) w = Unit {0}
+FitsChange (change.Restart notices) w = length notices.items ≤ 8192
+
+-- the calls that become due find their places
+abbrev pub FitsDue : told.Told → World → Type 0
+FitsDue t w = length t.due.items ≤ slots_free the_limits w
+
+abbrev pub FitsAnswer : answer.Answer → World → Type 0
+FitsAnswer a w = FitsChange a.change w × FitsDue a.told (changed a.change w)
+
+-- the plan can be done in the world in which the store is asked, whatever that answers
+abbrev pub Fits : Plan → World → Type 0
+Fits (plan.Decided a) w = FitsAnswer a w
+Fits (plan.AfterStore call agreed refused) w = FitsAnswer agreed (after_asked call w) × FitsDue refused w
+
+-- and then it can be done in the world after that answer
+abbrev pub FitsUnder : StoreAnswer → Plan → World → Type 0
+FitsUnder store (plan.Decided a) w = FitsAnswer a w
+FitsUnder NotAsked (plan.AfterStore call agreed refused) w = FitsDue refused w
+FitsUnder Yes (plan.AfterStore call agreed refused) w = FitsAnswer agreed w
+FitsUnder Refused (plan.AfterStore call agreed refused) w = FitsDue refused w
+
+-- the row that is stored is of a host that has none
+abbrev pub CanAskFor : Asked → World → Type 0
+CanAskFor (asks.Monitor name state) w = has_row w.hosts name ≡ false
+CanAskFor (asks.Seen name state) w = Unit {0}
+CanAskFor (asks.Watched mon_name my_id bytes) w = Unit {0}
+CanAskFor (asks.Unwatched mon_name my_id) w = Unit {0}
+CanAskFor asks.Begin w = Unit {0}
+
+abbrev pub CanAsk : Plan → World → Type 0
+CanAsk (plan.Decided a) w = Unit {0}
+CanAsk (plan.AfterStore call agreed refused) w = CanAskFor call w
+
+-- whoever is to hold a lock, or to wait for one, is known
+abbrev pub MayHold : range.Range → Seen → Type 0
+MayHold r s = (r.mode ≡ None) ⊎ Knows s (said r.owner)
+
+abbrev pub IsReadyFor : Change → Seen → Type 0
+IsReadyFor change.Nothing s = Unit {0}
+IsReadyFor (change.Set r) s = MayHold r s
+IsReadyFor (change.Wait x letter) s = Knows s (said x.owner)
+IsReadyFor (change.Cancel x) s = Unit {0}
+IsReadyFor (change.Share x) s = Unit {0}
+IsReadyFor (change.Unshare x) s = Unit {0}
+IsReadyFor (change.DropHost name) s = Unit {0}
+IsReadyFor (change.GrantAnswered cookie stat) s = Unit {0}
+IsReadyFor (change.Restart notices) s = Unit {0}
+
+abbrev pub IsReady : Plan → Seen → Type 0
+IsReady (plan.Decided a) s = IsReadyFor a.change s
+IsReady (plan.AfterStore call agreed refused) s = IsReadyFor agreed.change s
+
+-- ---- when a plan is given up
+
+-- who was to hold a lock or to wait for one, and holds nothing and waits for nothing in this world, has no number
+abbrev pub IsForgottenIfIdle : Owner → World → Seen → Type 0
+IsForgottenIfIdle x w s = IsIdle w x → Knows s x → ⊥
+
+abbrev pub IsForgottenFor : Change → World → Seen → Type 0
+IsForgottenFor change.Nothing w s = Unit {0}
+IsForgottenFor (change.Set r) w s = IsForgottenIfIdle (said r.owner) w s
+IsForgottenFor (change.Wait x letter) w s = IsForgottenIfIdle (said x.owner) w s
+IsForgottenFor (change.Cancel x) w s = Unit {0}
+IsForgottenFor (change.Share x) w s = Unit {0}
+IsForgottenFor (change.Unshare x) w s = Unit {0}
+IsForgottenFor (change.DropHost name) w s = Unit {0}
+IsForgottenFor (change.GrantAnswered cookie stat) w s = Unit {0}
+IsForgottenFor (change.Restart notices) w s = Unit {0}
+
+abbrev pub IsForgotten : Plan → World → Seen → Type 0
+IsForgotten (plan.Decided a) w s = IsForgottenFor a.change w s
+IsForgotten (plan.AfterStore call agreed refused) w s = IsForgottenFor agreed.change w s
+
+-- whoever the change names, and holds nothing and waits for nothing once it is done, has no number
+abbrev pub IsForgottenBy : Change → Seen → Type 0
+IsForgottenBy change.Nothing s = Unit {0}
+IsForgottenBy (change.Set r) s = IsForgottenIfIdle (said r.owner) s.world s
+IsForgottenBy (change.Wait x letter) s = IsForgottenIfIdle (said x.owner) s.world s
+IsForgottenBy (change.Cancel x) s = IsForgottenIfIdle (said x.owner) s.world s
+IsForgottenBy (change.Share x) s = Unit {0}
+IsForgottenBy (change.Unshare x) s = Unit {0}
+IsForgottenBy (change.DropHost name) s = (x : Owner) → is_of_host name.items x ≡ true → Knows s x → ⊥
+IsForgottenBy (change.GrantAnswered cookie stat) s = Unit {0}
+IsForgottenBy (change.Restart notices) s = (x : Owner) → Knows s x → ⊥
+
+-- and so where the plan is done under this answer of the store
+abbrev pub IsForgottenUnder : StoreAnswer → Plan → Seen → Type 0
+IsForgottenUnder store (plan.Decided a) s = IsForgottenBy a.change s
+IsForgottenUnder Yes (plan.AfterStore call agreed refused) s = IsForgottenBy agreed.change s
+IsForgottenUnder NotAsked (plan.AfterStore call agreed refused) s = IsForgottenFor agreed.change s.world s
+IsForgottenUnder Refused (plan.AfterStore call agreed refused) s = IsForgottenFor agreed.change s.world s
+
+-- everybody else who was known still is
+abbrev pub KeepsOthersThan : Owner → Seen → Seen → Type 0
+KeepsOthersThan x before after = (y : Owner) → y ≢ x → Knows before y → Knows after y
+
+abbrev pub KeepsOthersFor : Change → Seen → Seen → Type 0
+KeepsOthersFor change.Nothing before after = KeepsKnown before after
+KeepsOthersFor (change.Set r) before after = KeepsOthersThan (said r.owner) before after
+KeepsOthersFor (change.Wait x letter) before after = KeepsOthersThan (said x.owner) before after
+KeepsOthersFor (change.Cancel x) before after = KeepsKnown before after
+KeepsOthersFor (change.Share x) before after = KeepsKnown before after
+KeepsOthersFor (change.Unshare x) before after = KeepsKnown before after
+KeepsOthersFor (change.DropHost name) before after = KeepsKnown before after
+KeepsOthersFor (change.GrantAnswered cookie stat) before after = KeepsKnown before after
+KeepsOthersFor (change.Restart notices) before after = KeepsKnown before after
+
+abbrev pub KeepsOthers : Plan → Seen → Seen → Type 0
+KeepsOthers (plan.Decided a) before after = KeepsOthersFor a.change before after
+KeepsOthers (plan.AfterStore call agreed refused) before after = KeepsOthersFor agreed.change before after
+
+-- the plan is what the rules say of a call in this world
+pub record IsPlan (ruling : Ruling Answered) (w : World) (p : Plan) : Type 0 where
+  pub ruled : planned p w ≡ ruling
+  pub fits : Fits p w
+  pub asks : CanAsk p w

@@ -1,0 +1,14 @@
+//! What is to be done for a call, and the steps in which it is done: a plan changes nothing; then all memory is got; then
+//! the store is asked, at most once; and then the plan is done, without memory.
+#![tactic(auto)]
+
+mod answers;
+mod plans;
+mod readings;
+mod steps;
+mod told;
+
+pub use answers::{answered, granted_res};
+pub use owner_ids::Starved;
+pub use plans::{Answer, Asked, Change, Plan, Range, Shared, StoreAnswer, Told, Wanted};
+pub use steps::{abandon, agree, ask, change, commit, prepare, prepare_change};

@@ -1,0 +1,131 @@
+//! What is to be done for a call.
+ghost use Rattle.std.specs.Prelude.{◌≡◌, ◌≤◌, ◌<◌, ◌^◌};
+ghost use Rattle.call_outcome.specs.Values.{outcome_of};
+ghost use Rattle.owner_ids.specs.Said.{said};
+ghost use Rattle.lock_world.specs.Whole.{IsShown};
+ghost use Rattle.lock_world.proofs.OneProof.{shown_prop};
+
+use call_outcome::Outcome;
+use letters::{Letter, MyId, ShortBytes};
+use nlm4_types::Stat;
+use owner_ids::Owner;
+use range_table::{FileId, Mode};
+use std::alloc::Global;
+use std::sync::Arc;
+
+/// What an owner is to hold from the first to the last byte: a mode, or nothing.
+#[derive(Drop)]
+pub struct Range {
+    pub file: FileId,
+    pub owner: Owner,
+    pub first: u64,
+    pub last: u64,
+    pub mode: Option<Mode>,
+    pub ghost ordered: { first ≤ last },
+    pub ghost inside: { last < 2 ^ 63 },
+    pub ghost shown: { IsShown (said owner) } by { shown_prop (said owner) },
+}
+
+/// A lock that an owner wants, from the first to the last byte.
+#[derive(Drop)]
+pub struct Wanted {
+    pub file: FileId,
+    pub owner: Owner,
+    pub first: u64,
+    pub last: u64,
+    pub mode: Mode,
+    pub ghost ordered: { first ≤ last },
+    pub ghost inside: { last < 2 ^ 63 },
+    pub ghost shown: { IsShown (said owner) } by { shown_prop (said owner) },
+}
+
+/// What is asked of the store (XNFS, NSM).
+#[derive(Drop)]
+pub enum Asked {
+    /// The row of a host that has none: its name, and its state as the call gave it.
+    Monitor {
+        name: ShortBytes,
+        state: i32,
+    },
+    /// The state that a host has told.
+    Seen {
+        name: ShortBytes,
+        state: i32,
+    },
+    /// A watch, and the row of its host where that has none.
+    Watched {
+        mon_name: ShortBytes,
+        my_id: MyId,
+        private_bytes: [u8; 16],
+    },
+    /// No watch of a watcher any more: of one host, or of all.
+    Unwatched {
+        mon_name: Option<ShortBytes>,
+        my_id: MyId,
+    },
+    /// The next own state.
+    Begin,
+}
+
+/// What changes, from copies that the plan owns.
+#[derive(Drop)]
+pub enum Change {
+    Nothing,
+    Set(Range),
+    /// The owner waits for the lock, behind all who wait, and the letter tells of the grant.
+    Wait(Wanted, Letter),
+    /// The owner, which waits for the lock, waits for it no longer.
+    Cancel(Wanted),
+    Share(dos_shares::Share),
+    /// The share of that file and owner goes, whatever it denies and does.
+    Unshare(dos_shares::Share),
+    /// All that a host of this name has.
+    DropHost(Vec<u8>),
+    /// What a client says of a grant, whose call carried this cookie (XNFS, NLM_GRANTED_RES).
+    GrantAnswered { cookie: ShortBytes, stat: Stat },
+    /// All begins anew in the own state that is stored, and these notices become due (XNFS, SM_SIMU_CRASH).
+    Restart(Vec<Letter>),
+}
+
+/// An outcome, shared: one for whoever asked, one for the journal. So that nothing is got once the store has answered.
+#[derive(Drop)]
+pub struct Shared {
+    pub told: Arc<Outcome, Global>,
+    pub noted: Arc<Outcome, Global>,
+    pub ghost same: { outcome_of noted.value ≡ outcome_of told.value },
+}
+
+/// What is told: the outcome, and the calls of the server's own that become due for it.
+#[derive(Drop)]
+pub struct Told {
+    pub outcome: Shared,
+    pub due: Vec<Letter>,
+}
+
+/// What is told, and what changes before it.
+#[derive(Drop)]
+pub struct Answer {
+    pub told: Told,
+    pub change: Change,
+}
+
+/// What is to be done for a call. It asks the store at most once, and owns all that it will keep.
+#[derive(Drop)]
+pub enum Plan {
+    /// The store isn't asked.
+    Decided(Answer),
+    /// The store is asked first. Where it refuses, nothing changes but that calls become due.
+    AfterStore {
+        asked: Asked,
+        agreed: Answer,
+        refused: Told,
+    },
+}
+
+/// What the store answered.
+#[derive(Clone, Copy, Debug, PartialEq, Eq)]
+pub enum StoreAnswer {
+    NotAsked,
+    Yes,
+    Refused,
+}

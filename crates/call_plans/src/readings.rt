@@ -1,0 +1,69 @@
+//! What is read of a plan.
+ghost use Rattle.std.specs.Prelude.{◌≡◌};
+ghost use Rattle.definitions.specs.World.{World as SaidWorld};
+ghost use Rattle.definitions.specs.Rulings.{ruled};
+ghost use Rattle.call_outcome.specs.Values.{outcome_of};
+ghost use Rattle.definitions.specs.Settings.{setting_of as setting_said};
+ghost use Rattle.held_locks.specs.Asked.{asked, changed as change_said};
+ghost use Rattle.call_plans.specs.Planned.{answer_of, planned, request_wanted, setting_of};
+
+use crate::plans::{Plan, Range, StoreAnswer, Told, Wanted};
+
+impl Range {
+    /// The same, as the locks are told.
+    pub fn change(&self) -> held_locks::Change<'_>
+        ensures { change_said result ≡ setting_of self.now }
+    {
+        held_locks::Change {
+            file: self.file,
+            owner: &self.owner,
+            first: self.first,
+            last: self.last,
+            mode: self.mode,
+        }
+    }
+}
+
+impl Wanted {
+    /// The same, as the locks are asked.
+    pub fn request(&self) -> held_locks::Request<'_>
+        ensures { asked result ≡ request_wanted self.now }
+    {
+        held_locks::Request {
+            file: self.file,
+            owner: &self.owner,
+            first: self.first,
+            last: self.last,
+            mode: self.mode,
+        }
+    }
+
+    /// What its owner holds once it has the lock.
+    pub fn into_range(self) -> Range
+        ensures { setting_of result ≡ setting_said (request_wanted self) }
+    {
+        Range {
+            file: self.file,
+            owner: self.owner,
+            first: self.first,
+            last: self.last,
+            mode: Some(self.mode),
+        }
+    }
+}
+
+impl Plan {
+    /// What will be told under this answer of the store, known before the plan is done.
+    pub fn told(&self, store: StoreAnswer) -> &Told
+        ensures outcome { (w : SaidWorld) → outcome_of result.now.outcome.told.value ≡ (ruled (answer_of store) (planned self.now w)).outcome }
+        ensures due { (w : SaidWorld) → result.now.due.items ≡ (ruled (answer_of store) (planned self.now w)).due }
+    {
+        match (self, store) {
+            (Plan::Decided(answer), _) => &answer.told,
+            (Plan::AfterStore { agreed, .. }, StoreAnswer::Yes) => &agreed.told,
+            (Plan::AfterStore { refused, .. }, StoreAnswer::NotAsked | StoreAnswer::Refused) => {
+                refused
+            }
+        }
+    }
+}

@@ -1,0 +1,305 @@
+//! The steps in which a plan is done.
+ghost use Rattle.std.specs.Prelude.{◌≡◌, ◌↔◌, IfOk, OnOk, OnErr, IsErr, IsTrue};
+ghost use Rattle.definitions.specs.Hosts.{after_store, is_past_limit};
+ghost use Rattle.definitions.specs.World.{World as SaidWorld, with_hosts, with_setting};
+ghost use Rattle.hosts_db.specs.Calls.{Counts, Makes, IsPastLimit};
+ghost use Rattle.definitions.specs.Starts.{refuses};
+ghost use Rattle.definitions.specs.Rulings.{ruled};
+ghost use Rattle.call_outcome.specs.Values.{outcome_of};
+ghost use Rattle.letters.specs.Meanings.{my_id_of};
+ghost use Rattle.std.specs.Option.{option_copied};
+ghost use Rattle.lock_world.specs.Seen.{KeepsKnown};
+ghost use Rattle.call_plans.specs.Planned.{answer_of, answered, asked_of, told_in, stored, counted, planned, due_under};
+ghost use Rattle.call_plans.specs.Planned.{IsAnswerTo, IsWithin, Fits, FitsChange, FitsAnswer, FitsDue, FitsUnder, CanAsk, CanAskFor, IsReady, IsReadyFor, MayHold};
+ghost use Rattle.call_plans.specs.Planned.{IsForgotten, IsForgottenFor, IsForgottenBy, IsForgottenUnder, KeepsOthers, KeepsOthersFor, changed, setting_of};
+
+use crate::answers::granted_res;
+use crate::plans::{Answer, Asked, Change, Plan, Range, Shared, StoreAnswer, Told};
+use hosts_db::{HostStore, StoreError};
+use letters::{MyId, ShortBytes};
+use lock_world::World;
+use owner_ids::Starved;
+use range_table::{NoRuns, RangeTable};
+
+/// Gets all memory that doing the plan takes. The world stays, and who was known is known. Starved: the plan can't be
+/// done.
+pub fn prepare<R: RangeTable, S: HostStore>(
+    world: &mut World<R, S>,
+    plan: &Plan,
+) -> Result<(), Starved>
+    ensures world { world.new.world ≡ world.old.world }
+    ensures refusals { world.new.refusals ≡ world.old.refusals }
+    ensures known { KeepsKnown world.old world.new }
+    ensures ready { OnOk result (IsReady plan.now world.new) }
+{
+    match plan {
+        Plan::Decided(answer) => prepare_change(world, &answer.change),
+        Plan::AfterStore { agreed, .. } => prepare_change(world, &agreed.change),
+    }
+}
+
+/// Gets all memory that the change takes. The world stays, and who was known is known.
+pub fn prepare_change<R: RangeTable, S: HostStore>(
+    world: &mut World<R, S>,
+    change: &Change,
+) -> Result<(), Starved>
+    ensures world { world.new.world ≡ world.old.world }
+    ensures refusals { world.new.refusals ≡ world.old.refusals }
+    ensures known { KeepsKnown world.old world.new }
+    ensures ready { OnOk result (IsReadyFor change.now world.new) }
+{
+    match change {
+        Change::Set(range) => prepare_range(world, range),
+        Change::Wait(wanted, _) => world.admit(&wanted.owner),
+        Change::Nothing
+        | Change::Cancel(_)
+        | Change::Share(_)
+        | Change::Unshare(_)
+        | Change::DropHost(_)
+        | Change::GrantAnswered { .. }
+        | Change::Restart(_) => Ok(()),
+    }
+}
+
+fn prepare_range<R: RangeTable, S: HostStore>(
+    world: &mut World<R, S>,
+    range: &Range,
+) -> Result<(), Starved>
+    ensures world { world.new.world ≡ world.old.world }
+    ensures refusals { world.new.refusals ≡ world.old.refusals }
+    ensures known { KeepsKnown world.old world.new }
+    ensures ready { OnOk result (MayHold range.now world.new) }
+{
+    match range.mode {
+        Some(_) => world.admit(&range.owner),
+        None => Ok(()),
+    }
+}
+
+/// Gives a plan up that was prepared and isn't to be done: whoever was made known for it alone is known no more. The world
+/// stays.
+pub fn abandon<R: RangeTable, S: HostStore>(world: &mut World<R, S>, plan: &Plan)
+    ensures world { world.new.world ≡ world.old.world }
+    ensures refusals { world.new.refusals ≡ world.old.refusals }
+    ensures forgotten { IsForgotten plan.now world.old.world world.new }
+    ensures others { KeepsOthers plan.now world.old world.new }
+{
+    match plan {
+        Plan::Decided(answer) => forget(world, &answer.change),
+        Plan::AfterStore { agreed, .. } => forget(world, &agreed.change),
+    }
+}
+
+// Forgets who was to hold a lock or to wait for one, unless he holds one or waits.
+fn forget<R: RangeTable, S: HostStore>(world: &mut World<R, S>, change: &Change)
+    ensures world { world.new.world ≡ world.old.world }
+    ensures refusals { world.new.refusals ≡ world.old.refusals }
+    ensures forgotten { IsForgottenFor change.now world.old.world world.new }
+    ensures others { KeepsOthersFor change.now world.old world.new }
+{
+    match change {
+        Change::Set(range) => world.forget_idle(&range.owner),
+        Change::Wait(wanted, _) => world.forget_idle(&wanted.owner),
+        _ => {}
+    }
+}
+
+/// Asks the store, where the plan does. The rows are changed exactly where it answers yes, and a refusal is counted.
+/// Starved: the store had no memory of its own, and nothing has changed.
+pub fn ask<R: RangeTable, S: HostStore>(
+    world: &mut World<R, S>,
+    plan: &Plan,
+) -> Result<StoreAnswer, Starved>
+    requires { CanAsk plan.now world.old.world }
+    ensures answer { IfOk result (λ answer. IsAnswerTo plan.now (answer_of answer)) }
+    ensures world { IfOk result (λ answer. world.new.world ≡ stored plan.now (answer_of answer) world.old.world) }
+    ensures limit { IfOk result (λ answer. IsWithin plan.now (answer_of answer) world.old.world) }
+    ensures refusals { IfOk result (λ answer. world.new.refusals ≡ counted (answer_of answer) world.old.refusals) }
+    ensures starved { OnErr result (world.new ≡ world.old) }
+    ensures fits { IfOk result (λ answer. Fits plan.now world.old.world → FitsUnder (answer_of answer) plan.now world.new.world) }
+    ensures ready { IsReady plan.now world.old → IsReady plan.now world.new }
+{
+    match plan {
+        Plan::Decided(_) => Ok(StoreAnswer::NotAsked),
+        Plan::AfterStore { asked, .. } => match ask_for(world, asked) {
+            Ok(()) => Ok(StoreAnswer::Yes),
+            Err(StoreError::StoreRefused) => Ok(StoreAnswer::Refused),
+            Err(StoreError::Starved) => Err(Starved),
+        },
+    }
+}
+
+fn ask_for<R: RangeTable, S: HostStore>(
+    world: &mut World<R, S>,
+    asked: &Asked,
+) -> Result<(), StoreError>
+    requires { CanAskFor asked.now world.old.world }
+    ensures world { world.new.world ≡ with_hosts world.old.world world.new.world.hosts }
+    ensures makes { Makes result world.old.world.hosts world.new.world.hosts (after_store world.old.world.hosts (asked_of asked.now)) }
+    ensures counts { Counts result world.old.refusals world.new.refusals }
+    ensures limit { IsPastLimit result (is_past_limit 4096 1024 world.old.world.hosts (asked_of asked.now)) }
+    ensures names { world.new.names ≡ world.old.names }
+{
+    match asked {
+        Asked::Monitor { name, state } => world.monitor(name.as_slice(), *state),
+        Asked::Seen { name, state } => world.seen(name.as_slice(), *state),
+        Asked::Watched {
+            mon_name,
+            my_id,
+            private_bytes,
+        } => world.watch(mon_name.as_slice(), &lent(my_id), private_bytes),
+        Asked::Unwatched { mon_name, my_id } => world.unwatch(lent_name(mon_name), &lent(my_id)),
+        Asked::Begin => world.start(),
+    }
+}
+
+// A watcher as the store takes it.
+fn lent(my_id: &MyId) -> hosts_db::MyId<'_>
+    ensures { result ≡ my_id_of my_id.now }
+{
+    hosts_db::MyId::new(my_id.my_name.as_slice(), my_id.prog, my_id.vers, my_id.proc)
+}
+
+fn lent_name(name: &Option<ShortBytes>) -> Option<&[u8]>
+    ensures { option_copied result ≡ name.now }
+{
+    match name {
+        Some(name) => Some(name.as_slice()),
+        None => None,
+    }
+}
+
+/// Does what the plan says, under the store's answer, without memory. What is answered, the calls that become due, and the
+/// world after it, are those of the rules for the world of which the plan was made.
+pub fn commit<R: RangeTable, S: HostStore>(
+    world: &mut World<R, S>,
+    plan: Plan,
+    store: StoreAnswer,
+) -> Shared
+    requires fits { FitsUnder (answer_of store) plan world.old.world }
+    requires ready { IsReady plan world.old }
+    ensures answer { (w : SaidWorld) → world.old.world ≡ stored plan (answer_of store) w → record { outcome = outcome_of result.told.value; due = due_under (answer_of store) plan; world = world.new.world } ≡ ruled (answer_of store) (planned plan w) }
+    ensures refusals { world.new.refusals ≡ world.old.refusals }
+    ensures forgotten { IsForgottenUnder (answer_of store) plan world.new }
+{
+    match (plan, store) {
+        (Plan::Decided(answer), _) => do_answer(world, answer),
+        (Plan::AfterStore { agreed, .. }, StoreAnswer::Yes) => do_answer(world, agreed),
+        (
+            Plan::AfterStore {
+                agreed,
+                refused,
+                ..
+            },
+            StoreAnswer::NotAsked | StoreAnswer::Refused,
+        ) => refuse(world, &agreed.change, refused),
+    }
+}
+
+// The change isn't made, and this is told.
+fn refuse<R: RangeTable, S: HostStore>(
+    world: &mut World<R, S>,
+    change: &Change,
+    refused: Told,
+) -> Shared
+    requires { FitsDue refused world.old.world }
+    ensures told { record { outcome = outcome_of result.told.value; due = refused.due.items; world = world.new.world } ≡ told_in refused world.old.world }
+    ensures refusals { world.new.refusals ≡ world.old.refusals }
+    ensures forgotten { IsForgottenFor change.now world.new.world world.new }
+{
+    forget(world, change);
+    tell(world, refused)
+}
+
+// The change, and then the calls that become due.
+fn do_answer<R: RangeTable, S: HostStore>(world: &mut World<R, S>, answer: Answer) -> Shared
+    requires fits { FitsAnswer answer world.old.world }
+    requires ready { IsReadyFor answer.change world.old }
+    ensures told { record { outcome = outcome_of result.told.value; due = answer.told.due.items; world = world.new.world } ≡ answered answer world.old.world }
+    ensures refusals { world.new.refusals ≡ world.old.refusals }
+    ensures forgotten { IsForgottenBy answer.change world.new }
+{
+    let Answer {
+        told,
+        change: wanted,
+    } = answer;
+    change(world, wanted);
+    tell(world, told)
+}
+
+fn tell<R: RangeTable, S: HostStore>(world: &mut World<R, S>, told: Told) -> Shared
+    requires { FitsDue told world.old.world }
+    ensures told { record { outcome = outcome_of result.told.value; due = told.due.items; world = world.new.world } ≡ told_in told world.old.world }
+    ensures names { world.new.names ≡ world.old.names }
+    ensures refusals { world.new.refusals ≡ world.old.refusals }
+{
+    world.tell(told.due);
+    told.outcome
+}
+
+fn set<R: RangeTable, S: HostStore>(world: &mut World<R, S>, range: &Range) -> Result<(), NoRuns>
+    requires { MayHold range.now world.old }
+    ensures refused { IsErr result ↔ IsTrue (refuses 65536 world.old.world.settings (setting_of range.now)) }
+    ensures ok { OnOk result (world.new.world ≡ with_setting world.old.world (setting_of range.now)) }
+    ensures err { OnErr result (world.new.world ≡ world.old.world) }
+    ensures refusals { world.new.refusals ≡ world.old.refusals }
+{
+    world.set(&range.change())
+}
+
+/// Makes the change, without memory. No waiter is granted yet.
+pub fn change<R: RangeTable, S: HostStore>(world: &mut World<R, S>, change: Change)
+    requires fits { FitsChange change world.old.world }
+    requires ready { IsReadyFor change world.old }
+    ensures world { world.new.world ≡ changed change world.old.world }
+    ensures refusals { world.new.refusals ≡ world.old.refusals }
+    ensures forgotten { IsForgottenBy change world.new }
+{
+    match change {
+        Change::Nothing => {}
+        Change::Set(range) => {
+            let _ = set(world, &range);
+            if range.mode.is_none() {
+                world.forget_idle(&range.owner);
+            }
+        }
+        Change::Wait(wanted, letter) => world.wait(&wanted.request(), letter),
+        Change::Cancel(wanted) => {
+            let _ = world.cancel(&wanted.request());
+            world.forget_idle(&wanted.owner);
+        }
+        Change::Share(share) => {
+            let _ = world.share(share);
+        }
+        Change::Unshare(share) => world.unshare(&share),
+        Change::DropHost(name) => world.drop_host(&name),
+        Change::GrantAnswered { cookie, stat } => granted_res(world, cookie.as_slice(), stat),
+        Change::Restart(notices) => world.begin(notices),
+    }
+}
+
+/// Gets all memory that the plan takes, and asks the store. Starved: the plan is given up, and the world stays.
+pub fn agree<R: RangeTable, S: HostStore>(
+    world: &mut World<R, S>,
+    plan: &Plan,
+) -> Result<StoreAnswer, Starved>
+    requires fits { Fits plan.now world.old.world }
+    requires asks { CanAsk plan.now world.old.world }
+    ensures answer { IfOk result (λ answer. IsAnswerTo plan.now (answer_of answer)) }
+    ensures limit { IfOk result (λ answer. IsWithin plan.now (answer_of answer) world.old.world) }
+    ensures world { IfOk result (λ answer. world.new.world ≡ stored plan.now (answer_of answer) world.old.world) }
+    ensures counts { IfOk result (λ answer. world.new.refusals ≡ counted (answer_of answer) world.old.refusals) }
+    ensures fits { IfOk result (λ answer. FitsUnder (answer_of answer) plan.now world.new.world) }
+    ensures ready { OnOk result (IsReady plan.now world.new) }
+    ensures err { OnErr result ((world.new.world ≡ world.old.world) × (world.new.refusals ≡ world.old.refusals)) }
+    ensures forgotten { OnErr result (IsForgotten plan.now world.new.world world.new) }
+{
+    let agreed = match prepare(world, plan) {
+        Ok(()) => ask(world, plan),
+        Err(starved) => Err(starved),
+    };
+    if agreed.is_err() {
+        abandon(world, plan);
+    }
+    agreed
+}

@@ -1,0 +1,53 @@
+//! What is told, made of its parts.
+ghost use Rattle.std.specs.Prelude.{◌≡◌, ◌≤◌, IfOk};
+ghost use Rattle.call_outcome.specs.Values.{outcome_of};
+ghost use Rattle.definitions.specs.Answer.{gives};
+ghost use Rattle.definitions.specs.World.{World as SaidWorld, slots_free, the_limits};
+ghost use Rattle.call_plans.specs.Planned.{told_in, sent_back, FitsDue};
+
+use crate::plans::{Shared, Told};
+use call_outcome::{CallResult, Outcome};
+use letters::Letter;
+use owner_ids::Starved;
+use std::alloc::Global;
+use std::sync::Arc;
+
+impl Shared {
+    /// The outcome, for both.
+    pub fn of(alloc: Global, outcome: Outcome) -> Result<Shared, Starved>
+        ensures { IfOk result (λ made. made.told.value ≡ outcome) }
+    {
+        let told = match Arc::new(alloc, outcome) {
+            Ok(told) => told,
+            Err(_) => return Err(Starved),
+        };
+        let noted = Arc::try_clone(&told)?;
+        Ok(Shared { told, noted })
+    }
+}
+
+impl Told {
+    /// The outcome alone: no call of the server's own goes with it.
+    pub fn reply(alloc: Global, outcome: Outcome) -> Result<Told, Starved>
+        ensures told { IfOk result (λ made. (w : SaidWorld) → told_in made w ≡ gives w (outcome_of outcome)) }
+        ensures fits { IfOk result (λ made. (w : SaidWorld) → FitsDue made w) }
+    {
+        Ok(Told {
+            outcome: Shared::of(alloc, outcome)?,
+            due: Vec::new(alloc),
+        })
+    }
+
+    /// An empty reply, and one call of the server's own that tells the rest.
+    pub fn message(alloc: Global, letter: Letter) -> Result<Told, Starved>
+        ensures told { IfOk result (λ made. (w : SaidWorld) → told_in made w ≡ sent_back letter w) }
+        ensures fits { IfOk result (λ made. (w : SaidWorld) → 1 ≤ slots_free the_limits w → FitsDue made w) }
+    {
+        let mut due = Vec::with_capacity(alloc, 1)?;
+        due.push_reserved(letter);
+        Ok(Told {
+            outcome: Shared::of(alloc, Outcome::Success(CallResult::Nothing))?,
+            due,
+        })
+    }
+}

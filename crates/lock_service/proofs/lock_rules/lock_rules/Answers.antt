@@ -1,0 +1,16 @@
+use Rattle.std.proofs.Common.{sym, ap, ◌∙◌, subst}
+use Rattle.definitions.specs.Conflict.{conflicts}
+use Rattle.definitions.specs.Settings.{Request}
+use Rattle.definitions.specs.World.{the_limits, slots_free}
+use Rattle.lock_service.specs.Asks.{ask_of}
+use Rattle.lock_service.specs.Verdicts.{IsVerdict}
+use Rattle.lock_service.proofs.Rules.{no_room}
+use Rattle.lock_service.proofs.lock_rules.lock_rules.Goals as goal
+
+pub returns-then-is_short-clause-verdict : goal.returns-then-is_short-clause-verdict
+returns-then-is_short-clause-verdict g c =
+    let w = c.args.world.now.world in
+    let a = ask_of c.args.ask (slots_free the_limits w) in
+    let free = ap (λ (q : Request). conflicts w.settings q) (sym c.request.ensures) ∙ sym c.conflicts.ensures ∙ c.if-conflicts.false in
+    let short = sym c.is_short.ensures ∙ c.if-is_short.true in
+    subst (λ ruling. IsVerdict ruling c.args.ask.reserved w c.says.result) (sym (no_room w a free short)) (c.says.ensures.verdict c.args.ask.reserved w)

@@ -1,0 +1,84 @@
+-- What a lock call comes to, before it is known how it is told.
+use Rattle.std.specs.Prelude.{◌≡◌, ◌≤◌, ℕ, Bool, true, Some}
+use Rattle.definitions.specs.Bytes.{Bytes}
+use Rattle.definitions.specs.Hosts.{Hosts, StoreCall}
+use Rattle.definitions.specs.Nlm as nlm
+use Rattle.definitions.specs.Outgoing.{Message, LockResult, CancelResult, UnlockResult}
+use Rattle.definitions.specs.World.{World, the_limits, slots_free, with_hosts}
+use Rattle.definitions.specs.Rulings.{Told, Ruling, decided, each}
+use Rattle.definitions.specs.Answer.{by_reply, res, sent_back}
+use Rattle.nlm4_types.specs.declared.stat.Stat.{Stat}
+use Rattle.nlm4_types.specs.Stat.{view_of_stat}
+use Rattle.nlm4_types.specs.Version.{view_of_version}
+use Rattle.call_plans.specs.declared.plans.Change.{Change}
+use Rattle.call_plans.specs.declared.plans.Plan.{Plan}
+use Rattle.call_plans.specs.Planned.{changed, asked_of, after_asked, FitsChange, CanAskFor, IsPlan}
+use Rattle.lock_service.specs.declared.verdict.Verdict.{Verdict}
+use Rattle.lock_service.specs.declared.verdict.Verdict.TheVariants as verdict
+use Rattle.lock_service.specs.declared.message_call.MessageForm.{MessageForm}
+use Rattle.lock_service.specs.declared.message_call.MessageForm.TheVariants as form
+use Rattle.lock_service.specs.declared.message_call.MessageCall as call
+
+abbrev pub verdict_in : Verdict → World → Ruling (Told nlm.Stat)
+verdict_in (verdict.Decided stat change) w = decided (record { says = view_of_stat stat; world = changed change w })
+verdict_in (verdict.AfterStore asked stat change) w = record {
+  asks = Some (asked_of asked);
+  agreed = record { says = view_of_stat stat; world = changed change (after_asked asked w) };
+  refused = record { says = nlm.DENIED_NOLOCKS; world = w };
+}
+
+-- the change can be made in the world, and these many places are left for the calls that tell of it, if they were free before
+abbrev pub FitsIn : Verdict → World → Type 0
+FitsIn (verdict.Decided stat change) w = FitsChange change w
+FitsIn (verdict.AfterStore asked stat change) w = FitsChange change (after_asked asked w) × CanAskFor asked w
+
+abbrev pub LeavesRoomBy : ℕ → Change → World → Type 0
+LeavesRoomBy reserved change w = reserved ≤ slots_free the_limits w → reserved ≤ slots_free the_limits (changed change w)
+
+-- and so whatever row is stored
+abbrev pub LeavesRoomAfter : ℕ → Change → World → Type 0
+LeavesRoomAfter reserved change w = (hosts : Hosts) → LeavesRoomBy reserved change (with_hosts w hosts)
+
+abbrev pub LeavesRoom : ℕ → Verdict → World → Type 0
+LeavesRoom reserved (verdict.Decided stat change) w = LeavesRoomBy reserved change w
+LeavesRoom reserved (verdict.AfterStore asked stat change) w = LeavesRoomBy reserved change (after_asked asked w)
+
+-- the store is asked this first
+abbrev pub IsAfterRow : StoreCall → Stat → Change → Verdict → Type 0
+IsAfterRow call stat change (verdict.Decided s c) = ⊥
+IsAfterRow call stat change (verdict.AfterStore asked s c) = (asked_of asked ≡ call) × (s ≡ stat) × (c ≡ change)
+
+-- the verdict is what the rules say of a call in this world
+pub record IsVerdict (ruling : Ruling (Told nlm.Stat)) (reserved : ℕ) (w : World) (v : Verdict) : Type 0 where
+  pub ruled : verdict_in v w ≡ ruling
+  pub fits : FitsIn v w
+  pub room : LeavesRoom reserved v w
+
+-- and so where the change leaves the places that the telling takes
+abbrev pub IsVerdictWith : Change → Ruling (Told nlm.Stat) → World → Verdict → Type 0
+IsVerdictWith change ruling w v = (reserved : ℕ) → LeavesRoomBy reserved change w → LeavesRoomAfter reserved change w → IsVerdict ruling reserved w v
+
+-- the store is asked only where that is allowed
+abbrev pub OnlyAsksIf : Bool → Verdict → Type 0
+OnlyAsksIf allowed (verdict.Decided stat change) = Unit {0}
+OnlyAsksIf allowed (verdict.AfterStore asked stat change) = allowed ≡ true
+
+-- ---- how it is told
+
+-- the call that answers a message form
+abbrev pub result_message : MessageForm → nlm.Version → nlm.Res → Message
+result_message form.Lock version r = LockResult version r
+result_message form.Cancel version r = CancelResult version r
+result_message form.Unlock version r = UnlockResult version r
+
+abbrev pub message_said : call.MessageCall → nlm.Stat → Message
+message_said c stat = result_message c.form (view_of_version c.version) (res c.cookie.now stat)
+
+-- a plan that tells a verdict by the reply
+abbrev pub IsReplied : Bytes → Verdict → Plan → Type 0
+IsReplied cookie v p = (w : World) (ruling : Ruling (Told nlm.Stat)) → IsVerdict ruling 0 w v → IsPlan (by_reply cookie ruling) w p
+
+-- and one that tells it by a call to the caller's host, for which a place is free
+abbrev pub IsCalled : call.MessageCall → Verdict → Plan → Type 0
+IsCalled c v p =
+    (w : World) (ruling : Ruling (Told nlm.Stat)) → 1 ≤ slots_free the_limits w → IsVerdict ruling 1 w v → IsPlan (each (λ (t : Told nlm.Stat). sent_back (message_said c t.says) c.host.now t.world) ruling) w p

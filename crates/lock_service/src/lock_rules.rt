@@ -1,0 +1,194 @@
+//! LOCK, NM_LOCK, LOCK_MSG and the lines `setlk` and `setlkw`: one set of rules, in their order (XNFS, NLM_LOCK; POSIX,
+//! fcntl).
+ghost use Rattle.std.specs.Prelude.{◌≡◌, true, IfOk};
+ghost use Rattle.std.specs.Option.{is_some, option_map};
+ghost use Rattle.definitions.specs.Hosts.{Hosts, Monitor};
+ghost use Rattle.definitions.specs.LockRules.{lock_rules as rules_said, blocked_lock as blocked_said, after_row as after_row_said, row_asked};
+ghost use Rattle.definitions.specs.World.{the_limits, slots_free, with_hosts};
+ghost use Rattle.letters.specs.Meanings.{lock_of, message_of};
+ghost use Rattle.nlm4_types.specs.Lock.{view_of_lock};
+ghost use Rattle.nlm4_types.specs.Stat.{view_of_stat};
+ghost use Rattle.call_plans.specs.Planned.{changed, FitsChange};
+ghost use Rattle.lock_service.specs.Asks.{ask_of, call_letter_of, granted_by, kept_out as kept_out_said, letter_of, line_letter_of, new_host};
+ghost use Rattle.lock_service.specs.Verdicts.{IsAfterRow, IsVerdict, IsVerdictWith, OnlyAsksIf};
+
+use crate::lock_ask::{Grant, GrantCall, LockAsk, NewHost};
+use crate::verdict::Verdict;
+use call_plans::{Asked, Change};
+use hosts_db::HostStore;
+use letters::{Caller, Destination, Letter, LocalLock, Message, ShortBytes};
+use lock_world::World;
+use nlm4_types::Stat;
+use owner_ids::Starved;
+use range_table::{Mode, RangeTable};
+use std::alloc::Global;
+
+/// What the rules say of it. Changes nothing.
+pub(crate) fn lock_rules<R: RangeTable, S: HostStore>(
+    world: &World<R, S>,
+    ask: LockAsk<'_>,
+) -> Result<Verdict, Starved>
+    ensures verdict { IfOk result (λ made. IsVerdict (rules_said the_limits world.now.world (ask_of ask.entry (slots_free the_limits world.now.world))) ask.entry.reserved world.now.world made) }
+    ensures asks { IfOk result (OnlyAsksIf (is_some ask.entry.row)) }
+{
+    if world.conflicts(&ask.wanted.request()) {
+        return kept_out(world, ask);
+    }
+    if world.is_short() {
+        return Ok(Verdict::says(Stat::DeniedNolocks));
+    }
+    let change = Change::Set(ask.wanted.into_range());
+    behind_row(world, ask.row, Stat::Granted, change)
+}
+
+// Another lock is in the way: its owner waits, where it asked to. A reclaim never waits.
+fn kept_out<R: RangeTable, S: HostStore>(
+    world: &World<R, S>,
+    ask: LockAsk<'_>,
+) -> Result<Verdict, Starved>
+    ensures verdict { IfOk result (λ made. IsVerdict (kept_out_said world.now.world (ask_of ask.entry (slots_free the_limits world.now.world))) ask.entry.reserved world.now.world made) }
+    ensures asks { IfOk result (OnlyAsksIf (is_some ask.entry.row)) }
+{
+    if ask.reclaim || !ask.block {
+        return Ok(Verdict::says(Stat::Denied));
+    }
+    blocked(world, ask)
+}
+
+// Its owner waits, unless it waits for just this already, or that would close a cycle, or no place is free.
+fn blocked<R: RangeTable, S: HostStore>(
+    world: &World<R, S>,
+    ask: LockAsk<'_>,
+) -> Result<Verdict, Starved>
+    ensures verdict { IfOk result (λ made. IsVerdict (blocked_said world.now.world (ask_of ask.entry (slots_free the_limits world.now.world))) ask.entry.reserved world.now.world made) }
+    ensures asks { IfOk result (OnlyAsksIf (is_some ask.entry.row)) }
+{
+    if world.is_waiting(&ask.wanted.request()) {
+        return behind_row(world, ask.row, Stat::Blocked, Change::Nothing);
+    }
+    if world.closes_cycle(&ask.wanted.request()) {
+        return Ok(Verdict::says(Stat::Deadlck));
+    }
+    if world.free_slots() <= ask.reserved {
+        return Ok(Verdict::says(Stat::DeniedNolocks));
+    }
+    let letter = ask.grant.letter(world.alloc())?;
+    behind_row(
+        world,
+        ask.row,
+        Stat::Blocked,
+        Change::Wait(ask.wanted, letter),
+    )
+}
+
+// A status, and what changes, after the row of the host that has none.
+fn behind_row<R: RangeTable, S: HostStore>(
+    world: &World<R, S>,
+    row: Option<NewHost<'_>>,
+    stat: Stat,
+    change: Change,
+) -> Result<Verdict, Starved>
+    requires fits { FitsChange change world.now.world }
+    requires fits_after { (hosts : Hosts) → FitsChange change (with_hosts world.now.world hosts) }
+    ensures verdict { IfOk result (λ made. IsVerdictWith change (after_row_said world.now.world (row_asked world.now.world (option_map new_host row.entry)) (view_of_stat stat) (changed change)) world.now.world made) }
+    ensures asks { IfOk result (OnlyAsksIf (is_some row.entry)) }
+{
+    let Some(host) = row else {
+        return Ok(Verdict::Decided { stat, change });
+    };
+    if world.has_row(host.name) {
+        return Ok(Verdict::Decided { stat, change });
+    }
+    after_row(world.alloc(), &host, stat, change)
+}
+
+fn after_row(
+    alloc: Global,
+    host: &NewHost<'_>,
+    stat: Stat,
+    change: Change,
+) -> Result<Verdict, Starved>
+    ensures verdict { IfOk result (λ made. IsAfterRow (Monitor host.now.name.now host.now.state) stat change made) }
+    ensures asks { IfOk result (OnlyAsksIf true) }
+{
+    let asked = Asked::Monitor {
+        name: ShortBytes::copy_of(alloc, host.name)?,
+        state: host.state,
+    };
+    Ok(Verdict::AfterStore {
+        asked,
+        stat,
+        change,
+    })
+}
+
+impl Grant<'_> {
+    // What is sent when the lock is granted.
+    fn letter(&self, alloc: Global) -> Result<Letter, Starved>
+        ensures { IfOk result (λ letter. letter ≡ letter_of self.now) }
+    {
+        match self {
+            Grant::Call(call) => call.letter(alloc),
+            Grant::Line {
+                connection,
+                mode,
+                lock,
+            } => line_letter(*connection, *mode, lock),
+        }
+    }
+}
+
+fn line_letter(connection: u64, mode: Mode, lock: &LocalLock) -> Result<Letter, Starved>
+    ensures { IfOk result (λ letter. letter ≡ line_letter_of connection mode lock.now) }
+{
+    let lock = LocalLock {
+        owner: lock.owner.clone()?,
+        file: lock.file,
+        offset: lock.offset,
+        len: lock.len,
+    };
+    Ok(Letter::new(
+        Destination::Connection(connection),
+        Message::GrantedLine { mode, lock },
+    ))
+}
+
+impl GrantCall<'_> {
+    fn letter(&self, alloc: Global) -> Result<Letter, Starved>
+        ensures { IfOk result (λ letter. letter ≡ call_letter_of self.now) }
+    {
+        let name = self.lock.caller_name.bytes;
+        let host = ShortBytes::copy_of(alloc, name)?;
+        let lock = letters::Lock {
+            caller: Caller::copy_of(alloc, name, self.lock.svid, self.lock.oh.bytes)?,
+            fh: ShortBytes::copy_of(alloc, self.lock.fh.bytes)?,
+            l_offset: self.lock.l_offset,
+            l_len: self.lock.l_len,
+        };
+        Ok(Letter::new(Destination::Host(host), self.message(lock)))
+    }
+
+    fn message(&self, lock: letters::Lock) -> Message
+        requires { lock_of lock ≡ view_of_lock self.now.lock }
+        ensures { message_of result ≡ granted_by self.now }
+    {
+        let GrantCall {
+            version,
+            exclusive,
+            ..
+        } = *self;
+        if self.by_message {
+            Message::GrantedMsg {
+                version,
+                exclusive,
+                lock,
+            }
+        } else {
+            Message::Granted {
+                version,
+                exclusive,
+                lock,
+            }
+        }
+    }
+}

@@ -1,0 +1,67 @@
+//! SM_NOTIFY: a host tells its state. One that has begun anew loses what it held, and those who watch it are told (XNFS).
+ghost use Rattle.std.specs.Prelude.{◌≡◌, IfOk};
+ghost use Rattle.definitions.specs.Hosts.{Seen};
+ghost use Rattle.definitions.specs.World.{World as SaidWorld, the_limits};
+ghost use Rattle.definitions.specs.Answer.{notify_answer};
+ghost use Rattle.call_plans.specs.Planned.{asked_of, CanAskFor, IsPlan};
+ghost use Rattle.status_calls.specs.Dropping.{dropped_if_room};
+
+use crate::stat;
+use call_outcome::{CallResult, Outcome};
+use call_plans::{Answer, Asked, Change, Plan, Shared, Told};
+use hosts_db::HostStore;
+use letters::ShortBytes;
+use lock_world::World;
+use nsm_types::{Name, StatChge};
+use owner_ids::Starved;
+use range_table::RangeTable;
+use std::alloc::Global;
+
+/// Nothing changes for a host without a row, or whose state is the one that was seen.
+pub(crate) fn plan<R: RangeTable, S: HostStore>(
+    world: &World<R, S>,
+    args: &StatChge<'_>,
+) -> Result<Plan, Starved>
+    ensures { IfOk result (λ made. IsPlan (notify_answer the_limits world.now.world args.now.mon_name.bytes.now args.now.state) world.now.world made) }
+{
+    match world.row(args.mon_name.bytes) {
+        Some(row) if row.seen() != args.state => dropped(world, &args.mon_name, args.state),
+        _ => stat::nothing(world),
+    }
+}
+
+// The store is asked to keep the state, and then the host is dropped. It needs a place for each who watches the host.
+fn dropped<R: RangeTable, S: HostStore>(
+    world: &World<R, S>,
+    name: &Name<'_>,
+    state: i32,
+) -> Result<Plan, Starved>
+    ensures { IfOk result (λ made. IsPlan (dropped_if_room world.now.world name.now.bytes.now state) world.now.world made) }
+{
+    let alloc = world.alloc();
+    if world.watch_count(name.bytes) > world.free_slots() {
+        return stat::failed(world);
+    }
+    let told = Told {
+        outcome: Shared::of(alloc, Outcome::Success(CallResult::Nothing))?,
+        due: world.status_letters(name.bytes, state)?,
+    };
+    Ok(Plan::AfterStore {
+        asked: seen(alloc, name, state)?,
+        agreed: Answer {
+            told,
+            change: Change::DropHost(Vec::from_slice(alloc, name.bytes)?),
+        },
+        refused: Told::reply(alloc, Outcome::SystemErr)?,
+    })
+}
+
+fn seen(alloc: Global, name: &Name<'_>, state: i32) -> Result<Asked, Starved>
+    ensures asked { IfOk result (λ asked. asked_of asked ≡ Seen name.now.bytes.now state) }
+    ensures asks { IfOk result (λ asked. (w : SaidWorld) → CanAskFor asked w) }
+{
+    Ok(Asked::Seen {
+        name: ShortBytes::copy_of(alloc, name.bytes)?,
+        state,
+    })
+}

@@ -1,0 +1,110 @@
+//! SM_MON, SM_UNMON and SM_UNMON_ALL: who watches which host (XNFS). They act for a local peer alone.
+ghost use Rattle.std.specs.Prelude.{◌≡◌, true, IfOk};
+ghost use Rattle.definitions.specs.Hosts.{Unwatched};
+ghost use Rattle.definitions.specs.Nsm.{SmMon, SmUnmon, SmUnmonAll};
+ghost use Rattle.definitions.specs.Replies.{SystemErr};
+ghost use Rattle.definitions.specs.World.{the_limits};
+ghost use Rattle.definitions.specs.Answer.{gives, gives_state, nsm_answer, stored};
+ghost use Rattle.letters.specs.Meanings.{my_id_of};
+ghost use Rattle.nsm_types.specs.Arguments.{view_of_my_id};
+ghost use Rattle.call_plans.specs.Planned.{IsPlan};
+
+use crate::stat;
+use call_outcome::Outcome;
+use call_plans::{Answer, Asked, Change, Plan, Told};
+use hosts_db::HostStore;
+use letters::{self, ShortBytes};
+use lock_world::World;
+use nsm_types::{Mon, MonId, MonitorRes, MyId};
+use owner_ids::Starved;
+use range_table::RangeTable;
+use std::alloc::Global;
+
+/// SM_MON: the store is asked to keep the watch. STAT_FAIL to a peer that isn't local, and where the store refuses.
+pub(crate) fn mon<R: RangeTable, S: HostStore>(
+    world: &World<R, S>,
+    local: bool,
+    args: &Mon<'_>,
+) -> Result<Plan, Starved>
+    ensures { IfOk result (λ made. IsPlan (nsm_answer the_limits world.now.world local (SmMon args.now.mon_name.bytes.now (view_of_my_id args.now.my_id) args.now.private_bytes.bytes.now)) world.now.world made) }
+{
+    if !local {
+        return stat::plan(world, MonitorRes::Fail);
+    }
+    let alloc = world.alloc();
+    let mut private_bytes = [0; 16];
+    private_bytes.copy_from_slice(args.private_bytes.bytes);
+    let asked = Asked::Watched {
+        mon_name: ShortBytes::copy_of(alloc, args.mon_name.bytes)?,
+        my_id: copy_of(alloc, &args.my_id)?,
+        private_bytes,
+    };
+    Ok(Plan::AfterStore {
+        asked,
+        agreed: Answer {
+            told: stat::monitored(world, MonitorRes::Succ)?,
+            change: Change::Nothing,
+        },
+        refused: stat::monitored(world, MonitorRes::Fail)?,
+    })
+}
+
+/// SM_UNMON: the watch of that host and watcher goes.
+pub(crate) fn unmon<R: RangeTable, S: HostStore>(
+    world: &World<R, S>,
+    local: bool,
+    args: &MonId<'_>,
+) -> Result<Plan, Starved>
+    ensures { IfOk result (λ made. IsPlan (nsm_answer the_limits world.now.world local (SmUnmon args.now.mon_name.bytes.now (view_of_my_id args.now.my_id))) world.now.world made) }
+{
+    if !local {
+        return stat::state(world);
+    }
+    let mon_name = ShortBytes::copy_of(world.alloc(), args.mon_name.bytes)?;
+    unwatched(world, Some(mon_name), &args.my_id)
+}
+
+/// SM_UNMON_ALL: every watch of that watcher goes.
+pub(crate) fn unmon_all<R: RangeTable, S: HostStore>(
+    world: &World<R, S>,
+    local: bool,
+    my_id: &MyId<'_>,
+) -> Result<Plan, Starved>
+    ensures { IfOk result (λ made. IsPlan (nsm_answer the_limits world.now.world local (SmUnmonAll (view_of_my_id my_id.now))) world.now.world made) }
+{
+    if !local {
+        return stat::state(world);
+    }
+    unwatched(world, None, my_id)
+}
+
+// The store is asked to drop the watches of a watcher: of one host, or of all.
+fn unwatched<R: RangeTable, S: HostStore>(
+    world: &World<R, S>,
+    mon_name: Option<ShortBytes>,
+    my_id: &MyId<'_>,
+) -> Result<Plan, Starved>
+    ensures { IfOk result (λ made. IsPlan (stored world.now.world (Unwatched mon_name (view_of_my_id my_id.now)) gives_state (gives world.now.world SystemErr)) world.now.world made) }
+{
+    let alloc = world.alloc();
+    let my_id = copy_of(alloc, my_id)?;
+    Ok(Plan::AfterStore {
+        asked: Asked::Unwatched { mon_name, my_id },
+        agreed: Answer {
+            told: stat::own(world)?,
+            change: Change::Nothing,
+        },
+        refused: Told::reply(alloc, Outcome::SystemErr)?,
+    })
+}
+
+fn copy_of(alloc: Global, my_id: &MyId<'_>) -> Result<letters::MyId, Starved>
+    ensures { IfOk result (λ copy. my_id_of copy ≡ view_of_my_id my_id.now) }
+{
+    Ok(letters::MyId {
+        my_name: ShortBytes::copy_of(alloc, my_id.my_name.bytes)?,
+        prog: my_id.prog,
+        vers: my_id.vers,
+        proc: my_id.proc,
+    })
+}
