@@ -39,7 +39,7 @@ abbrev pub run_line : Run → Bytes
 run_line run = line (encode_lower run.file ∷ mode_text run.mode ∷ decimal run.first ∷ decimal run.last ∷ owner_text run.owner ∷ [])
 
 abbrev pub host_line : HostRow → Bytes
-host_line row = line (encode_lower row.name ∷ decimal row.epoch ∷ signed_decimal row.seen ∷ [])
+host_line row = line (encode_lower row.name ∷ decimal row.epoch ∷ signed_decimal row.seen ∷ decimal row.quota ∷ [])
 
 -- what a line is answered: one line, or a list with `end` behind it
 abbrev pub reply_text : LineReply → Bytes
