@@ -1,0 +1,22 @@
+-- What a parse found, and what is read of it.
+use Rattle.std.proofs.Common.{◌≡◌, Option, Some, None, sym, ◌∙◌, ap}
+use Rattle.std.specs.Option.{option_map}
+use Rattle.std.specs.Prelude.{Err}
+use Rattle.std.specs.Borrow.{Bor}
+use Rattle.clap.specs.Words.{Text, first_of, first_value, rows_of}
+use Rattle.clap.specs.declared.parser.matches.Found.{Found}
+use Rattle.clap.proofs.WalkLemmas.{first_value-rows}
+use Rattle.config.specs.Reads.{Reads, IsWrong}
+use Rattle.config.specs.declared.settings.Unread.{Unread}
+use Rattle.config.specs.declared.settings.Unread.TheVariants as unread
+
+-- a text that was found is that of the rows
+pub found_some : (f : Found) (id : Text) (r : Option (Bor Text)) (s : Bor Text) → option_map (λ x. x.now) r ≡ first_value f id → r ≡ Some s → first_of id (rows_of f) ≡ Some s.now
+found_some f id r s e is = sym (first_value-rows f id) ∙ (sym e ∙ ap (option_map (λ (x : Bor Text). x.now)) is)
+
+pub found_none : (f : Found) (id : Text) (r : Option (Bor Text)) → option_map (λ x. x.now) r ≡ first_value f id → r ≡ None → first_of id (rows_of f) ≡ None
+found_none f id r e is = sym (first_value-rows f id) ∙ (sym e ∙ ap (option_map (λ (x : Bor Text). x.now)) is)
+
+pub Reads-none : {X Y : Type 0} (view : X → Y) (u : Unread) (read : Option Y) → IsWrong u → read ≡ None → Reads view (Err u) read
+Reads-none view unread.Starved read w e = absurd w
+Reads-none view (unread.Wrong x) read w e = e

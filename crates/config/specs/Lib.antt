@@ -1,0 +1,4 @@
+pub mod Settings
+pub mod Lockd
+pub mod Reads
+pub mod Asked

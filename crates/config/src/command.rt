@@ -1,0 +1,247 @@
+//! The command lines, as `clap` knows them.
+
+ghost use Rattle.std.specs.Prelude.{◌≡◌, false, IfOk, codes};
+ghost use Rattle.clap.specs.Words.{app_of, rule_of, with_rule};
+ghost use Rattle.config.specs.Lockd.{flag_rule, value_rule, needed_rule, default_rule, bare_app, with_grace, with_own_ports, with_peer_ports, with_places, with_times, with_work, pipe_app, table_app, serve_app};
+
+use clap::{Arg, ArgAction, Command};
+use std::alloc::{AllocError, Global};
+
+/// The program's version.
+const VERSION: &str = "1.0.0";
+
+/// An option with a value.
+fn value<'a>(alloc: Global, id: &'a str, shown: &'a str, help: &'a str) -> Arg<'a>
+    ensures rule { rule_of result ≡ value_rule id.entry.now }
+    ensures local { result.global ≡ false }
+{
+    Arg::new(alloc, id)
+        .long(id)
+        .value_name(shown)
+        .help(help)
+        .action(ArgAction::Set)
+}
+
+/// One that has to be given.
+fn needed<'a>(alloc: Global, id: &'a str, shown: &'a str, help: &'a str) -> Arg<'a>
+    ensures rule { rule_of result ≡ needed_rule id.entry.now }
+    ensures local { result.global ≡ false }
+{
+    value(alloc, id, shown, help).required(true)
+}
+
+/// One with a default.
+fn defaulted<'a>(
+    alloc: Global,
+    id: &'a str,
+    shown: &'a str,
+    default: &'a str,
+    help: &'a str,
+) -> Arg<'a>
+    ensures rule { rule_of result ≡ default_rule id.entry.now default.entry.now }
+    ensures local { result.global ≡ false }
+{
+    value(alloc, id, shown, help).default_value(default)
+}
+
+/// An option without value.
+fn flag<'a>(alloc: Global, id: &'a str, help: &'a str) -> Arg<'a>
+    ensures rule { rule_of result ≡ flag_rule id.entry.now }
+    ensures local { result.global ≡ false }
+{
+    Arg::new(alloc, id)
+        .long(id)
+        .help(help)
+        .action(ArgAction::SetTrue)
+}
+
+fn bare<'a>(alloc: Global, name: &'a str, about: &'a str) -> Command<'a>
+    ensures { app_of result ≡ bare_app name.entry.now }
+{
+    Command::new(alloc, name).about(about).no_binary_name(true)
+}
+
+fn with_grace<'a>(alloc: Global, command: Command<'a>) -> Result<Command<'a>, AllocError>
+    ensures { IfOk result (λ r. app_of r ≡ with_grace (app_of command.entry)) }
+{
+    let grace = flag(alloc, "grace", "Begin in the grace period, and stay in it");
+    let name = defaulted(
+        alloc,
+        "name",
+        "NAME",
+        "server",
+        "The server's own name, 1 to 1,024 bytes",
+    );
+    let db = value(
+        alloc,
+        "db",
+        "FILE",
+        "The file of stored hosts; without it they are in memory",
+    );
+    command.arg(grace)?.arg(name)?.arg(db)
+}
+
+fn with_own_ports<'a>(alloc: Global, command: Command<'a>) -> Result<Command<'a>, AllocError>
+    ensures { IfOk result (λ r. app_of r ≡ with_own_ports (app_of command.entry)) }
+{
+    let port = needed(alloc, "port", "N", "The port for calls by record");
+    let local = needed(
+        alloc,
+        "local-port",
+        "N",
+        "The port for local programs, on loopback alone",
+    );
+    command.arg(port)?.arg(local)
+}
+
+fn with_peer_ports<'a>(alloc: Global, command: Command<'a>) -> Result<Command<'a>, AllocError>
+    ensures { IfOk result (λ r. app_of r ≡ with_peer_ports (app_of command.entry)) }
+{
+    let nlm = needed(
+        alloc,
+        "peer-nlm-port",
+        "N",
+        "The peers' port for program 100021",
+    );
+    let nsm = needed(
+        alloc,
+        "peer-nsm-port",
+        "N",
+        "The peers' port for program 100024",
+    );
+    let watch = needed(
+        alloc,
+        "watch-port",
+        "N",
+        "The peers' port for other programs",
+    );
+    command.arg(nlm)?.arg(nsm)?.arg(watch)
+}
+
+fn with_places<'a>(alloc: Global, command: Command<'a>) -> Result<Command<'a>, AllocError>
+    ensures { IfOk result (λ r. app_of r ≡ with_places (app_of command.entry)) }
+{
+    let db = needed(alloc, "db", "FILE", "The file of stored hosts");
+    let peers = needed(
+        alloc,
+        "peers",
+        "FILE",
+        "The file of peers: lines of a name, a space and an IP address",
+    );
+    let name = defaulted(
+        alloc,
+        "name",
+        "NAME",
+        "server",
+        "The server's own name, 1 to 1,024 bytes",
+    );
+    let bind = defaulted(
+        alloc,
+        "bind",
+        "ADDRESS",
+        "0.0.0.0",
+        "The IP address at which calls by record come in",
+    );
+    command.arg(db)?.arg(peers)?.arg(name)?.arg(bind)
+}
+
+fn with_times<'a>(alloc: Global, command: Command<'a>) -> Result<Command<'a>, AllocError>
+    ensures { IfOk result (λ r. app_of r ≡ with_times (app_of command.entry)) }
+{
+    let grace = defaulted(
+        alloc,
+        "grace-seconds",
+        "N",
+        "45",
+        "How long clients may reclaim after a start, 1 to 86400",
+    );
+    let silence = defaulted(
+        alloc,
+        "silence-seconds",
+        "N",
+        "5",
+        "How long an answer is waited for, 1 to 86400",
+    );
+    let idle = defaulted(
+        alloc,
+        "idle-seconds",
+        "N",
+        "600",
+        "How long a connection may be silent, 1 to 86400",
+    );
+    command.arg(grace)?.arg(silence)?.arg(idle)
+}
+
+fn with_work<'a>(alloc: Global, command: Command<'a>) -> Result<Command<'a>, AllocError>
+    ensures { IfOk result (λ r. app_of r ≡ with_work (app_of command.entry)) }
+{
+    let workers = defaulted(
+        alloc,
+        "workers",
+        "N",
+        "4",
+        "How many workers serve, 1 to 16",
+    );
+    let audit = flag(alloc, "audit", "Check the journal at the end");
+    command.arg(workers)?.arg(audit)
+}
+
+/// `lockd pipe`.
+pub(crate) fn pipe_command<'a>(alloc: Global) -> Result<Command<'a>, AllocError>
+    ensures { IfOk result (λ r. app_of r ≡ pipe_app) }
+{
+    let command = bare(
+        alloc,
+        "lockd pipe",
+        "Serve one record-marked stream on standard input",
+    );
+    with_grace(alloc, command)
+}
+
+/// `lockd table`.
+pub(crate) fn table_command<'a>(alloc: Global) -> Result<Command<'a>, AllocError>
+    ensures { IfOk result (λ r. app_of r ≡ table_app) }
+{
+    let command = bare(
+        alloc,
+        "lockd table",
+        "Serve the same, and print nothing but the locks at its end",
+    );
+    with_grace(alloc, command)
+}
+
+/// `lockd serve`.
+pub(crate) fn serve_command<'a>(alloc: Global) -> Result<Command<'a>, AllocError>
+    ensures { IfOk result (λ r. app_of r ≡ serve_app) }
+{
+    let command = bare(alloc, "lockd serve", "Serve over TCP");
+    let command = with_own_ports(alloc, command)?;
+    let command = with_peer_ports(alloc, command)?;
+    let command = with_places(alloc, command)?;
+    let command = with_times(alloc, command)?;
+    with_work(alloc, command)
+}
+
+/// `lockd` alone, which answers help, the version, and words that begin with no command.
+pub(crate) fn lockd_command<'a>(alloc: Global) -> Result<Command<'a>, AllocError> {
+    let pipe = bare(
+        alloc,
+        "pipe",
+        "Serve one record-marked stream on standard input",
+    );
+    let table = bare(
+        alloc,
+        "table",
+        "Serve the same, and print nothing but the locks at its end",
+    );
+    let serve = bare(alloc, "serve", "Serve over TCP");
+    Command::new(alloc, "lockd")
+        .about("The lock manager and status monitor of an NFS server")
+        .version(VERSION)
+        .no_binary_name(true)
+        .subcommand_required(true)
+        .disable_help_subcommand(true)
+        .subcommand(pipe)?
+        .subcommand(table)?
+        .subcommand(serve)
+}

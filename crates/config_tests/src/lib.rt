@@ -1,0 +1,5 @@
+//! Tests of the command line. There is nothing in it but tests.
+#![tactic(auto)]
+
+#[cfg(test)]
+mod words;
