@@ -1,5 +1,6 @@
 //! Calls and replies in their words (RFC 4506, RFC 5531; RFC 1813, appendix II), written by hand and not by the daemon's own
 //! codec.
+use crate::status::Status;
 use std::alloc::{AllocError, Global};
 
 /// An owner of locks, whose host it names.
@@ -23,7 +24,7 @@ impl Who {
     }
 
     // One byte of name, with its residual bytes.
-    fn name(self) -> u32 {
+    pub(crate) fn name(self) -> u32 {
         match self {
             Who::A => 0x6100_0000,
             Who::B => 0x6200_0000,
@@ -64,16 +65,23 @@ pub(crate) enum Asks {
     /// It waits no longer for that exclusive lock.
     Cancels(Who, u64, u64),
     NmLocks(Who, u64, u64),
+    /// An exclusive lock without a host's row, for which it waits where it must.
+    NmBlocks(Who, u64, u64),
     /// One byte of the file with this handle, and not of the file 01020304.
     LocksIn(u32, Who, u64),
     /// One byte of a file whose handle has 65 bytes.
     LocksLongHandle(Who),
     Tests(Who, u64, u64),
+    /// The same by message: the server calls with the result.
+    TestsByMessage(Who, u64, u64),
+    LocksByMessage(Who, u64, u64),
     Unlocks(Who, u64, u64),
     /// What it denies the others, and what it does.
     Shares(Who, u32, u32),
     Unshares(Who),
     FreesAll(Who),
+    /// Of the status monitor.
+    OfStatus(Status),
 }
 
 /// What is replied to a call of this xid.
@@ -89,6 +97,10 @@ pub(crate) enum Told {
     Held(Who, u64, u64),
     /// The same, with a lock of the open file description 7: its first byte and its length.
     HeldBySeven(u64, u64),
+    /// A SUCCESS with 0 where it is monitored, else 1, and the own state.
+    Monitored(u32, u32),
+    /// A SUCCESS with the own state.
+    State(u32),
 }
 
 pub(crate) fn put(bytes: &mut Vec<u8>, words: &[u32]) -> Result<(), AllocError> {
@@ -125,6 +137,25 @@ fn put_lock(
     put(bytes, &[4, xid, 0, 1])?;
     put_alock(bytes, who, offset, len)?;
     put(bytes, &[reclaim, 3])
+}
+
+// The same of the file with this handle.
+fn put_lock_in(
+    bytes: &mut Vec<u8>,
+    xid: u32,
+    fh: u32,
+    range: (Who, u64, u64),
+) -> Result<(), AllocError> {
+    put(bytes, &[4, xid, 0, 1])?;
+    put_alock_in(bytes, fh, range)?;
+    put(bytes, &[0, 3])
+}
+
+// The same of a file whose handle has 65 bytes.
+fn put_lock_of_long_handle(bytes: &mut Vec<u8>, xid: u32, who: Who) -> Result<(), AllocError> {
+    put(bytes, &[4, xid, 0, 1, 1, who.name(), 65])?;
+    bytes.extend_from_slice(&[5; 68])?;
+    put(bytes, &[1, who.oh(), who.svid(), 0, 0, 0, 1, 0, 3])
 }
 
 // A lock that is waited for.
@@ -164,6 +195,14 @@ fn put_share(
 }
 
 impl Asks {
+    // Program, version and procedure.
+    fn address(self) -> [u32; 3] {
+        match self {
+            Asks::OfStatus(asks) => [100_024, 1, asks.procedure()],
+            _ => [100_021, 4, self.procedure()],
+        }
+    }
+
     fn procedure(self) -> u32 {
         match self {
             Asks::Null => 0,
@@ -176,37 +215,36 @@ impl Asks {
             | Asks::LocksLongHandle(_) => 2,
             Asks::Cancels(..) => 3,
             Asks::Unlocks(..) => 4,
+            Asks::TestsByMessage(..) => 6,
+            Asks::LocksByMessage(..) => 7,
             Asks::Shares(..) => 20,
             Asks::Unshares(_) => 21,
-            Asks::NmLocks(..) => 22,
+            Asks::NmLocks(..) | Asks::NmBlocks(..) => 22,
             Asks::FreesAll(_) => 23,
+            Asks::OfStatus(asks) => asks.procedure(),
         }
     }
 
     fn put_arguments(self, bytes: &mut Vec<u8>, xid: u32) -> Result<(), AllocError> {
         match self {
             Asks::Null => Ok(()),
-            Asks::Locks(who, offset, len) | Asks::NmLocks(who, offset, len) => {
+            Asks::Locks(who, offset, len)
+            | Asks::NmLocks(who, offset, len)
+            | Asks::LocksByMessage(who, offset, len) => {
                 put_lock(bytes, xid, (who, offset, len), 0)
             }
             Asks::Reclaims(who, offset, len) => put_lock(bytes, xid, (who, offset, len), 1),
-            Asks::Blocks(who, offset, len) => put_block(bytes, xid, (who, offset, len), 1),
+            Asks::Blocks(who, offset, len) | Asks::NmBlocks(who, offset, len) => {
+                put_block(bytes, xid, (who, offset, len), 1)
+            }
             Asks::BlocksShared(who, offset, len) => put_block(bytes, xid, (who, offset, len), 0),
             Asks::Cancels(who, offset, len) => {
                 put(bytes, &[4, xid, 1, 1])?;
                 put_alock(bytes, who, offset, len)
             }
-            Asks::LocksIn(fh, who, offset) => {
-                put(bytes, &[4, xid, 0, 1])?;
-                put_alock_in(bytes, fh, (who, offset, 1))?;
-                put(bytes, &[0, 3])
-            }
-            Asks::LocksLongHandle(who) => {
-                put(bytes, &[4, xid, 0, 1, 1, who.name(), 65])?;
-                bytes.extend_from_slice(&[5; 68])?;
-                put(bytes, &[1, who.oh(), who.svid(), 0, 0, 0, 1, 0, 3])
-            }
-            Asks::Tests(who, offset, len) => {
+            Asks::LocksIn(fh, who, offset) => put_lock_in(bytes, xid, fh, (who, offset, 1)),
+            Asks::LocksLongHandle(who) => put_lock_of_long_handle(bytes, xid, who),
+            Asks::Tests(who, offset, len) | Asks::TestsByMessage(who, offset, len) => {
                 put(bytes, &[4, xid, 1])?;
                 put_alock(bytes, who, offset, len)
             }
@@ -217,16 +255,16 @@ impl Asks {
             Asks::Shares(who, deny, access) => put_share(bytes, xid, who, (deny, access)),
             Asks::Unshares(who) => put_share(bytes, xid, who, (0, 1)),
             Asks::FreesAll(who) => put(bytes, &[1, who.name(), 5]),
+            Asks::OfStatus(asks) => asks.put_arguments(bytes),
         }
     }
 
     /// The record of a call of this xid.
     pub(crate) fn record(self, alloc: Global, xid: u32) -> Result<Vec<u8>, AllocError> {
         let mut bytes = Vec::new(alloc);
-        put(
-            &mut bytes,
-            &[xid, 0, 2, 100_021, 4, self.procedure(), 0, 0, 0, 0],
-        )?;
+        put(&mut bytes, &[xid, 0, 2])?;
+        put(&mut bytes, &self.address())?;
+        put(&mut bytes, &[0, 0, 0, 0])?;
         self.put_arguments(&mut bytes, xid)?;
         Ok(bytes)
     }
@@ -241,6 +279,8 @@ impl Told {
             Told::Done => {}
             Told::Stat(stat) => put(&mut bytes, &[4, xid, stat])?,
             Told::ShareStat(stat) => put(&mut bytes, &[4, xid, stat, 0])?,
+            Told::Monitored(res, state) => put(&mut bytes, &[res, state])?,
+            Told::State(state) => put(&mut bytes, &[state])?,
             Told::Held(who, offset, len) => {
                 put(&mut bytes, &[4, xid, 1, 1, who.svid(), 1, who.oh()])?;
                 put_long(&mut bytes, offset)?;
@@ -285,6 +325,11 @@ pub(crate) fn answer_to_grant(alloc: Global, xid: u32, stat: u32) -> Result<Vec<
     let mut bytes = Vec::new(alloc);
     put(&mut bytes, &[xid, 1, 0, 0, 0, 0, 0, stat])?;
     Ok(bytes)
+}
+
+/// The reply of SUCCESS with nothing behind it to the call of this xid.
+pub(crate) fn empty_answer(alloc: Global, xid: u32) -> Result<Vec<u8>, AllocError> {
+    Told::Done.record(alloc, xid)
 }
 
 /// Appends a record as one fragment (RFC 5531, section 11).

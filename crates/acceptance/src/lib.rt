@@ -1,4 +1,4 @@
-//! The worked rows of the calls that wait for nobody, from bytes to bytes: what a client sends, and what it is sent.
+//! The worked rows, from bytes to bytes: what a client sends, what it is sent, and what the server calls.
 //! Each runs through `Daemon::run`, which cuts streams into records, reads them, does them in the book and writes what each
 //! is answered.
 #![tactic(auto)]
@@ -10,6 +10,10 @@ mod limits;
 #[cfg(test)]
 mod lines;
 #[cfg(test)]
+mod messages;
+#[cfg(test)]
+mod monitor;
+#[cfg(test)]
 mod notices;
 #[cfg(test)]
 mod repeats;
@@ -17,6 +21,8 @@ mod repeats;
 mod rows;
 #[cfg(test)]
 mod server;
+#[cfg(test)]
+mod status;
 #[cfg(test)]
 mod streams;
 #[cfg(test)]

@@ -1,10 +1,8 @@
 //! Lines of local programs, beside the calls of clients: all share one table.
 use crate::calls::{Asks, Told, Who, put, put_fragment};
-use crate::server::{Heard, Part, plays};
+use crate::server::{BEGINS, Heard, Part, plays};
 use std::alloc::{AllocError, Global};
 use std::test::*;
-
-const BEGINS: Part<'static> = Part::Begins { is_over: true };
 
 /// The reply to a TEST of one byte at 4 by `b`, under the xid 49, while the process 42 holds the bytes 3 to 5.
 const LOCAL_HOLDER_REPLY: [u32; 17] = [
@@ -133,7 +131,7 @@ fn bad_lines(rt: HostRuntime) -> Result<(), Fail> {
         ("getlk p1 aa u 0 1", "bad"),
         ("getlk p1 aa r 0 1 ", "bad"),
         ("setlk h61/7/41 aa w 0 1", "bad"),
-        ("setlkw p1 aa w 0 1", "bad"),
+        ("setlkw p1 aa w 0 1 ", "bad"),
         ("table", "bad"),
         ("hosts", "bad"),
         ("stop", "bad"),

@@ -1,4 +1,5 @@
 //! What the server itself calls once it has begun anew.
+use crate::status::notice;
 use daemon_core::{Addressee, Daemon, Event, Outputs};
 use hosts_db::{FULL_QUOTA, HostRow, HostStore, MemHosts};
 use letters::ShortBytes;
@@ -29,27 +30,10 @@ fn opened(alloc: Global) -> Result<Daemon<ArenaTable, MemHosts>, Fail> {
     Ok(Daemon::new(alloc, ArenaTable::new(alloc)?, store, name)?)
 }
 
-/// SM_NOTIFY of the own state 3 from `server`, under this xid, mark first.
-fn notice(xid: u32) -> Frame {
+/// SM_NOTIFY of the own state 3 under this xid, mark first.
+fn notice_of(xid: u32) -> Frame {
     let mut f = Frame::new();
-    let words = [
-        0x8000_0038,
-        xid,
-        0,
-        2,
-        100_024,
-        1,
-        6,
-        0,
-        0,
-        0,
-        0,
-        6,
-        0x7365_7276,
-        0x6572_0000,
-        3,
-    ];
-    for word in words {
+    for word in notice(xid, 3) {
         let _ = f.append(&word.to_be_bytes());
     }
     f
@@ -66,7 +50,7 @@ fn is_notice(outputs: &Outputs, name: &[u8], xid: u32) -> bool {
     let mut record = [0; NOTICE];
     let mut rest = record.as_mut_slice();
     let is_whole = sent.write(&mut rest).is_ok() && rest.is_empty();
-    to.as_slice() == name && is_whole && record.as_slice() == notice(xid).as_slice()
+    to.as_slice() == name && is_whole && record.as_slice() == notice_of(xid).as_slice()
 }
 
 fn sends<T: RangeTable, S: HostStore>(daemon: &mut Daemon<T, S>, name: &[u8], xid: u32) -> bool {

@@ -1,8 +1,8 @@
 //! A daemon over a table of ranges and hosts in memory, and what it sends. All but what makes it is generic, and so cheap
 //! to prove.
-ghost use Rattle.std.specs.Prelude.{◌≡◌, []};
+ghost use Rattle.std.specs.Prelude.{◌≡◌, ◌<◌, []};
 
-use crate::calls::{Asks, Grant, Told, Who, answer_to_grant, put_fragment};
+use crate::calls::{Asks, Grant, Told, Who, answer_to_grant, empty_answer, put, put_fragment};
 use daemon_core::{Addressee, Daemon, Event, Outputs, Peer, Refusal};
 use hosts_db::{FULL_QUOTA, HostRow, HostStore, MemHosts};
 use letters::ShortBytes;
@@ -14,10 +14,10 @@ use std::test::*;
 /// A call of this xid, and its reply.
 pub(crate) type Line = (u32, Asks, Told);
 
-const CONNECTION: u64 = 5;
+const CONNECTION: u64 = 7;
 
 // Of a local program.
-const LOCAL: u64 = 7;
+const LOCAL: u64 = 5;
 
 /// What comes to a server, one after another.
 #[derive(Clone, Copy)]
@@ -28,8 +28,9 @@ pub(crate) enum Part<'a> {
     Begins { is_over: bool },
     /// Its grace period ends.
     GraceEnds,
-    /// The connection of another peer takes its place.
+    /// A connection of another peer, or of the pipe, takes its place. The other peer isn't local.
     OtherPeer,
+    PipeAgain,
     /// These calls come in pieces of so many bytes, and get these replies.
     Calls(&'a [Line], usize),
     /// Each second of 128 bytes of so many files is locked.
@@ -40,13 +41,26 @@ pub(crate) enum Part<'a> {
     Lines(&'a [(&'a str, &'a str)]),
     /// A Send gives this call, to the host of whom it grants.
     Grants(Grant),
+    /// A Send gives these words, mark first, to this host.
+    Sends(&'static str, &'a [u32]),
+    /// A Send gives this line to the local connection, without its line feed.
+    SendsLine(&'static str),
     /// A Send gives nothing.
     NothingDue,
     /// The call of this xid is answered with this status.
     Answered(u32, u32),
+    /// The call of this xid is answered with a SUCCESS that has nothing behind it.
+    Acknowledged(u32),
     /// Nothing answers the call of this number under the own state 1.
     Silent(u32),
+    /// The stored hosts are those of these owners, in order of name, each with this epoch and this state, and the full quota.
+    Rows(&'a [(Who, u32, i32)]),
 }
+
+/// The server begins anew, with its grace period over, or in it.
+pub(crate) const BEGINS: Part<'static> = Part::Begins { is_over: true };
+
+pub(crate) const RESTARTS: Part<'static> = Part::Begins { is_over: false };
 
 /// What a stream gets: the bytes that are sent, and the refusal of its last piece.
 #[derive(Clone, Copy)]
@@ -61,11 +75,13 @@ const MOST_RECORDS: usize = 2;
 fn opened<T: RangeTable + Drop>(
     alloc: Global,
     table: T,
+    own: u32,
     hosts: Vec<HostRow>,
 ) -> Result<Daemon<T, MemHosts>, Fail>
-    requires { T.settings table ≡ [] }
+    requires table { T.settings table ≡ [] }
+    requires own { own < 2147483648 }
 {
-    let store = MemHosts::new(alloc, 0, hosts, Vec::new(alloc))?;
+    let store = MemHosts::new(alloc, own, hosts, Vec::new(alloc))?;
     let name = ShortBytes::copy_of(alloc, b"server")?;
     Ok(Daemon::new(alloc, table, store, name)?)
 }
@@ -140,9 +156,9 @@ fn grace_ends(alloc: Global) -> Result<Vec<Event>, Fail> {
     Ok(events)
 }
 
-fn other_peer(alloc: Global) -> Result<Vec<Event>, Fail> {
+fn other_peer(alloc: Global, is_local: bool) -> Result<Vec<Event>, Fail> {
     let peer = Peer {
-        is_local: false,
+        is_local,
         ..Peer::PIPE
     };
     let mut events = Vec::new(alloc);
@@ -203,11 +219,17 @@ fn is_heard<T: RangeTable, S: HostStore>(
     Ok(is_silent && refusal == heard.refusal && sent.as_slice() == heard.sent)
 }
 
-fn is_local(outputs: &Outputs) -> bool {
-    match &outputs.sent {
+// The line is sent, on the local connection.
+fn is_line(alloc: Global, outputs: &Outputs, line: &str) -> Result<bool, Fail> {
+    let is_local = match &outputs.sent {
         Some(sent) => matches!(sent.to(), Addressee::Local(LOCAL)),
         None => false,
-    }
+    };
+    let mut sent = Vec::new(alloc);
+    put_sent(&mut sent, outputs)?;
+    let mut told = Vec::from_slice(alloc, line.as_bytes())?;
+    told.push(b'\n')?;
+    Ok(is_local && sent.as_slice() == told.as_slice())
 }
 
 // The line is answered so, on its own connection.
@@ -216,16 +238,8 @@ fn is_answered<T: RangeTable, S: HostStore>(
     daemon: &mut Daemon<T, S>,
     (line, answer): (&str, &str),
 ) -> Result<bool, Fail> {
-    let mut events = Vec::new(alloc);
-    events.push(Event::Local(LOCAL, Vec::from_slice(alloc, line.as_bytes())?))?;
-    let outputs = daemon.run(events)?;
-    let mut sent = Vec::new(alloc);
-    for outputs in &outputs {
-        put_sent(&mut sent, outputs)?;
-    }
-    let mut told = Vec::from_slice(alloc, answer.as_bytes())?;
-    told.push(b'\n')?;
-    Ok(outputs.iter().all(is_local) && sent.as_slice() == told.as_slice())
+    let asks = Event::Local(LOCAL, Vec::from_slice(alloc, line.as_bytes())?);
+    is_line(alloc, &daemon.step(asks), answer)
 }
 
 fn are_answered<T: RangeTable, S: HostStore>(
@@ -241,11 +255,12 @@ fn are_answered<T: RangeTable, S: HostStore>(
     Ok(true)
 }
 
-// The call is sent to the host of whom it grants.
-fn is_granted<T: RangeTable, S: HostStore>(
+// This record is sent to this host.
+fn is_sent<T: RangeTable, S: HostStore>(
     alloc: Global,
     daemon: &mut Daemon<T, S>,
-    grant: Grant,
+    host: &str,
+    record: &[u8],
 ) -> Result<bool, Fail> {
     let outputs = daemon.step(Event::Send);
     let Some(call) = &outputs.sent else {
@@ -256,14 +271,61 @@ fn is_granted<T: RangeTable, S: HostStore>(
     };
     let mut sent = Vec::new(alloc);
     put_sent(&mut sent, &outputs)?;
+    Ok(to.as_slice() == host.as_bytes() && sent.as_slice() == record)
+}
+
+// The call is sent to the host of whom it grants.
+fn is_granted<T: RangeTable, S: HostStore>(
+    alloc: Global,
+    daemon: &mut Daemon<T, S>,
+    grant: Grant,
+) -> Result<bool, Fail> {
     let mut told = Vec::new(alloc);
     put_fragment(&mut told, &grant.record(alloc)?)?;
-    Ok(to.as_slice() == grant.who.host().as_bytes() && sent.as_slice() == told.as_slice())
+    is_sent(alloc, daemon, grant.who.host(), &told)
+}
+
+fn are_sent<T: RangeTable, S: HostStore>(
+    alloc: Global,
+    daemon: &mut Daemon<T, S>,
+    host: &str,
+    words: &[u32],
+) -> Result<bool, Fail> {
+    let mut told = Vec::new(alloc);
+    put(&mut told, words)?;
+    is_sent(alloc, daemon, host, &told)
+}
+
+fn are_rows<S: HostStore>(store: &S, rows: &[(Who, u32, i32)]) -> bool {
+    let hosts = store.hosts();
+    if hosts.len() != rows.len() {
+        return false;
+    }
+    for at in 0..rows.len() {
+        if at < hosts.len() && !is_row_of(&hosts[at], rows[at]) {
+            return false;
+        }
+    }
+    true
+}
+
+fn is_row_of(found: &HostRow, (who, epoch, seen): (Who, u32, i32)) -> bool {
+    found.name() == who.host().as_bytes()
+        && found.epoch() == epoch
+        && found.seen() == seen
+        && found.quota() == FULL_QUOTA
 }
 
 fn is_quiet<T: RangeTable, S: HostStore>(daemon: &mut Daemon<T, S>, event: Event) -> bool {
     let outputs = daemon.step(event);
     outputs.sent.is_none() && outputs.refusal.is_none()
+}
+
+fn answers<T: RangeTable, S: HostStore>(
+    daemon: &mut Daemon<T, S>,
+    answer: Vec<u8>,
+) -> Result<bool, Fail> {
+    Ok(is_quiet(daemon, Event::Answer(answer)))
 }
 
 fn locks_of(alloc: Global, fh: u32) -> Result<Vec<Line>, Fail> {
@@ -299,21 +361,20 @@ fn goes<T: RangeTable, S: HostStore>(
             Ok(sent_for(alloc, daemon, begun(alloc, is_over)?)?.is_empty())
         }
         Part::GraceEnds => Ok(sent_for(alloc, daemon, grace_ends(alloc)?)?.is_empty()),
-        Part::OtherPeer => Ok(sent_for(alloc, daemon, other_peer(alloc)?)?.is_empty()),
+        Part::OtherPeer => Ok(sent_for(alloc, daemon, other_peer(alloc, false)?)?.is_empty()),
+        Part::PipeAgain => Ok(sent_for(alloc, daemon, other_peer(alloc, true)?)?.is_empty()),
         Part::Calls(lines, most) => is_replied(alloc, daemon, lines, most),
         Part::Fills(files) => is_filled(alloc, daemon, files),
         Part::Bytes(stream, most, heard) => is_heard(alloc, daemon, (stream, most), heard),
         Part::Lines(lines) => are_answered(alloc, daemon, lines),
         Part::Grants(grant) => is_granted(alloc, daemon, grant),
+        Part::Sends(host, words) => are_sent(alloc, daemon, host, words),
+        Part::SendsLine(line) => is_line(alloc, &daemon.step(Event::Send), line),
         Part::NothingDue => Ok(is_quiet(daemon, Event::Send)),
-        Part::Answered(xid, stat) => {
-            let answer = Event::Answer(answer_to_grant(alloc, xid, stat)?);
-            Ok(is_quiet(daemon, answer))
-        }
-        Part::Silent(number) => {
-            let silent = Event::Silent((1 << 32) + number as u64);
-            Ok(is_quiet(daemon, silent))
-        }
+        Part::Answered(xid, stat) => answers(daemon, answer_to_grant(alloc, xid, stat)?),
+        Part::Acknowledged(xid) => answers(daemon, empty_answer(alloc, xid)?),
+        Part::Silent(number) => Ok(is_quiet(daemon, Event::Silent((1 << 32) + number as u64))),
+        Part::Rows(rows) => Ok(are_rows(daemon.store(), rows)),
     }
 }
 
@@ -332,7 +393,34 @@ fn go<T: RangeTable, S: HostStore>(
 
 /// Whether a server of these hosts sends just the replies of these parts, byte for byte.
 pub(crate) fn plays(alloc: Global, hosts: Vec<HostRow>, parts: &[Part<'_>]) -> Result<bool, Fail> {
-    let mut daemon = opened(alloc, ArenaTable::new(alloc)?, hosts)?;
+    plays_from(alloc, 0, hosts, parts)
+}
+
+/// The same from no host, and whether in the end nothing is due and the stored hosts are these.
+pub(crate) fn plays_to(
+    alloc: Global,
+    parts: &[Part<'_>],
+    rows: &[(Who, u32, i32)],
+) -> Result<bool, Fail> {
+    let mut daemon = opened(alloc, ArenaTable::new(alloc)?, 0, Vec::new(alloc))?;
+    let went = match go(alloc, &mut daemon, parts) {
+        Ok(true) => Ok(is_quiet(&mut daemon, Event::Send) && are_rows(daemon.store(), rows)),
+        other => other,
+    };
+    drop(daemon);
+    went
+}
+
+/// The same where the store's own state is `own`.
+pub(crate) fn plays_from(
+    alloc: Global,
+    own: u32,
+    hosts: Vec<HostRow>,
+    parts: &[Part<'_>],
+) -> Result<bool, Fail>
+    requires { own < 2147483648 }
+{
+    let mut daemon = opened(alloc, ArenaTable::new(alloc)?, own, hosts)?;
     let went = go(alloc, &mut daemon, parts);
     drop(daemon);
     went
@@ -350,7 +438,7 @@ fn send<T: RangeTable, S: HostStore>(
 
 /// What a server sends for calls that come in pieces of so many bytes.
 pub(crate) fn sent_by(alloc: Global, lines: &[Line], most: usize) -> Result<Vec<u8>, Fail> {
-    let mut daemon = opened(alloc, ArenaTable::new(alloc)?, Vec::new(alloc))?;
+    let mut daemon = opened(alloc, ArenaTable::new(alloc)?, 0, Vec::new(alloc))?;
     let sent = send(alloc, &mut daemon, lines, most);
     drop(daemon);
     sent
@@ -358,7 +446,7 @@ pub(crate) fn sent_by(alloc: Global, lines: &[Line], most: usize) -> Result<Vec<
 
 /// What a server over the flat table sends for these calls.
 pub(crate) fn sent_by_flat(alloc: Global, lines: &[Line]) -> Result<Vec<u8>, Fail> {
-    let mut daemon = opened(alloc, FlatTable::new(alloc)?, Vec::new(alloc))?;
+    let mut daemon = opened(alloc, FlatTable::new(alloc)?, 0, Vec::new(alloc))?;
     let sent = send(alloc, &mut daemon, lines, 8_192);
     drop(daemon);
     sent

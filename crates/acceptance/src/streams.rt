@@ -174,3 +174,16 @@ fn null_auth_sys(rt: HostRuntime) -> Result<(), Fail> {
     assert!(rt; is_sent_with(rt.alloc(), NULL_AUTH_SYS, (14, "00000011"), AUTH_ERROR)?);
     Ok(())
 }
+
+/// SM_STAT of `a`.
+const STAT: &str =
+    "80000030 0000000c 00000000 00000002 000186b8 00000001 00000001 00000000 00000000 00000000 00000000 00000001 61000000";
+
+const STAT_REPLY: &str =
+    "80000020 0000000c 00000001 00000000 00000000 00000000 00000000 00000000 00000001";
+
+#[test]
+fn stat_call(rt: HostRuntime) -> Result<(), Fail> {
+    assert!(rt; is_sent(rt.alloc(), &[STAT], &[STAT_REPLY], None)?);
+    Ok(())
+}

@@ -1,13 +1,12 @@
 //! Locks that are waited for, from bytes to bytes: who waits, who is granted, and what the server calls then (XNFS, NLM_LOCK,
 //! NLM_CANCEL and NLM_GRANTED).
 use crate::calls::{Asks, Grant, Told, Who};
-use crate::server::{Part, plays};
+use crate::server::{BEGINS, Part, plays};
 use std::alloc::Global;
 use std::test::*;
 
-const BEGINS: Part<'static> = Part::Begins { is_over: true };
-
-const fn grant(number: u32, who: Who, exclusive: u32, len: u64) -> Grant {
+/// A grant of the file's first bytes.
+pub(crate) const fn grant(number: u32, who: Who, exclusive: u32, len: u64) -> Grant {
     Grant {
         number,
         who,
@@ -110,5 +109,53 @@ fn refuses_grant(alloc: Global) -> Result<bool, Fail> {
 #[test]
 fn grant_refused(rt: HostRuntime) -> Result<(), Fail> {
     assert!(rt; refuses_grant(rt.alloc())?);
+    Ok(())
+}
+
+// The bytes of a local program come free, and it is told so on its own connection.
+fn grants_a_line(alloc: Global) -> Result<bool, Fail> {
+    let lock = [(126, Asks::Locks(Who::A, 0, 1), Told::Stat(0))];
+    let line = [("setlkw p9 01020304 w 0 1", "wait")];
+    let unlock = [(127, Asks::Unlocks(Who::A, 0, 1), Told::Stat(0))];
+    let parts = [
+        BEGINS,
+        Part::Calls(&lock, 64),
+        Part::Lines(&line),
+        Part::NothingDue,
+        Part::Calls(&unlock, 64),
+        Part::SendsLine("granted p9 01020304 w 0 1"),
+        Part::NothingDue,
+    ];
+    plays(alloc, Vec::new(alloc), &parts)
+}
+
+#[test]
+fn setlkw_granted(rt: HostRuntime) -> Result<(), Fail> {
+    assert!(rt; grants_a_line(rt.alloc())?);
+    Ok(())
+}
+
+// Only who asks by a blocking LOCK gets a row, and he has one place.
+fn stores_waiters(alloc: Global) -> Result<bool, Fail> {
+    let first = [
+        (133, Asks::Locks(Who::A, 0, 1), Told::Stat(0)),
+        (134, Asks::NmBlocks(Who::B, 0, 1), Told::Stat(3)),
+    ];
+    let last = [(135, Asks::Blocks(Who::B, 0, 1), Told::Stat(3))];
+    let before = [(Who::A, 1, 3)];
+    let after = [(Who::A, 1, 3), (Who::B, 1, 3)];
+    let parts = [
+        BEGINS,
+        Part::Calls(&first, 64),
+        Part::Rows(&before),
+        Part::Calls(&last, 64),
+        Part::Rows(&after),
+    ];
+    plays(alloc, Vec::new(alloc), &parts)
+}
+
+#[test]
+fn rows_of_waiters(rt: HostRuntime) -> Result<(), Fail> {
+    assert!(rt; stores_waiters(rt.alloc())?);
     Ok(())
 }
