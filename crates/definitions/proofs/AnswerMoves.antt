@@ -6,24 +6,25 @@ use Rattle.definitions.specs.Bytes.{Bytes, without}
 use Rattle.definitions.specs.Owners.{is_of_host, same_owner}
 use Rattle.definitions.specs.Bytes.{same_bytes}
 use Rattle.definitions.specs.Settings.{Mode, Request}
-use Rattle.definitions.specs.Starts.{refuses}
+use Rattle.definitions.specs.Quotas.{quotas_of, is_refused}
 use Rattle.definitions.specs.Shares.{is_denied, has_no_room, with_share}
 use Rattle.definitions.specs.Phases.{Phase, Grace, Normal, CallKind, Testing, Locking, Cancelling, Unlocking, Sharing, Unsharing, LocalLocking, admits}
 use Rattle.definitions.specs.Nlm.{Version, Stat, DENIED, DENIED_GRACE_PERIOD, STALE_FH, FBIG, Lock, LockArgs, CancelArgs, UnlockArgs, ShareArgs, NlmCall, Null, Test, Locks, Cancel, Unlock, TestMsg, LockMsg, CancelMsg, UnlockMsg, GrantedRes, ShareCall, Unshare, NmLock, FreeAll}
 use Rattle.definitions.specs.Nsm.{NsmCall, SmNull, SmStat, SmMon, SmUnmon, SmUnmonAll, SmSimuCrash, SmNotify}
-use Rattle.definitions.specs.Hosts.{Hosts, HostRow, Begin, Seen, StoreAnswer, NotAsked, Yes, Refused, after_store, row_of, watches_of}
-use Rattle.definitions.specs.Outgoing.{Outgoing, Letter, Message, Granted, GrantedMsg, LockResult, CancelResult, UnlockResult, Notify, Destination, ToHost, ToConnection, LocalLock, call_of_xid, call_of_cookie}
+use Rattle.definitions.specs.Hosts.{Hosts, HostRow, Begin, Seen, StoreAnswer, NotAsked, Yes, Refused, after_store, row_of, watches_of, Acked, Quota, has_row}
+use Rattle.definitions.specs.Outgoing.{Outgoing, Letter, Message, Granted, GrantedMsg, Notify, Destination, ToHost, ToConnection, LocalLock, call_of_xid, call_of_cookie}
 use Rattle.definitions.specs.Ranges.{top, last_of, is_too_far, is_stale, range_refusal, file_refusal, request_of, unlock_of, line_unlock}
-use Rattle.definitions.specs.Replies.{Call, Nlm, Nsm, SystemErr, AnswerReading, Unreadable, AcceptedSuccess, OtherAnswer, Line, GetLock, SetLock, SetLockWait, Close, Table, HostList, Stop, BadLine, LineReply, LineFbig, LineGrace}
+use Rattle.definitions.specs.Replies.{Call, Nlm, Nsm, SystemErr, AnswerReading, Unreadable, AcceptedSuccess, OtherAnswer, Line, GetLock, SetLock, SetLockWait, Close, Table, HostList, SetQuota, Stop, BadLine, LineReply, LineAbsent, LineFbig, LineGrace}
 use Rattle.definitions.specs.Waits.{Waiter}
-use Rattle.definitions.specs.World.{World, Limits, with_setting, with_hosts, with_due, with_all_due, without_host_of, restarted, restart_letter, opening, slots_free}
-use Rattle.definitions.specs.Rulings.{Told, Ruling, decided, ruled, each}
+use Rattle.definitions.specs.World.{World, Limits, with_setting, with_hosts, with_due, with_all_due, without_host_of, restarted, restart_letter, opening, slots_free, closed_by}
+use Rattle.definitions.specs.Rulings.{Told, Ruling, decided, ruled, stays}
 use Rattle.definitions.specs.LockRules.{NewHost}
 use Rattle.definitions.specs.Grants.{Change, TableStays, TableChanges, ended, became, grant_answered, granted_res_rules, granted_res_at, granted_res_of, notice_answered, succeeded, answered_success, answered_otherwise, answer_rules}
-use Rattle.definitions.specs.Answer.{Answered, res, gives, lock_ask, caller_row, lock_unless, lock_verdict, lock_msg_answer, cancel_unless, cancel_answer, unlock_unless, unlock_answer, if_slots, by_message, sent_back, share_unless, share_of, unshare_unless, nlm_answer, stored, notified, notify_rules, status_letter, nsm_answer, ruling}
-use Rattle.definitions.specs.Lines.{line_refusal, line_answer, set_unless, line_sets, line_ask}
+use Rattle.definitions.specs.Answer.{Answered, gives, lock_ask, caller_row, lock_unless, lock_verdict, lock_msg_answer, cancel_unless, cancel_answer, unlock_unless, unlock_answer, if_slots, by_call, by_message, lock_letter, cancel_letter, unlock_letter, share_unless, share_of, unshare_unless, nlm_answer, stored, notified, notify_rules, status_letter, nsm_answer, ruling}
+use Rattle.definitions.specs.Lines.{line_refusal, line_answer, set_unless, line_sets, line_ask, quota_stored}
 use Rattle.definitions.specs.Moves.{TableMove, Stays, DropsHost, DropsOwner, Unlocks, Empties, AreRanges, Moves, ReclaimedBy, IsReclaimOf}
-use Rattle.definitions.proofs.MoveLaws.{by_cond, unmoved, BothMove, stays_both, lock_moves, unlock_moves, cancel_moves, ranges_without}
+use Rattle.definitions.proofs.QuotaLaws.{AreKept, all_kept, store_keeps}
+use Rattle.definitions.proofs.MoveLaws.{by_cond, by_store, unmoved, BothMove, stays_both, lock_moves, unlock_moves, cancel_moves, ranges_without}
 use Rattle.definitions.proofs.WorldLaws.{due_keeps}
 
 -- ---- what is known where a call with a range isn't refused
@@ -119,9 +120,9 @@ module _ (Reclaimed : Request → Type 0) where
   if_slots_moves : (n : ℕ) (limits : Limits) (w : World) (r : Ruling Answered) → AnswerMoves w r → AnswerMoves w (if_slots n limits w r)
   if_slots_moves n limits w r m = by_cond (AnswerMoves w) (leb n (slots_free limits w)) r (decided (gives w SystemErr)) (λ _. m) (λ _. (unmoved Reclaimed w, unmoved Reclaimed w))
 
-  message_moves : (limits : Limits) (w : World) (message : Stat → Message) (alock : Lock) (r : Ruling (Told Stat)) → BothMove Reclaimed w r → AnswerMoves w (by_message limits w message alock r)
-  message_moves limits w message alock r m =
-      if_slots_moves 1 limits w (each (λ (t : Told Stat). sent_back (message t.says) alock.caller_name t.world) r)
+  message_moves : (limits : Limits) (w : World) (letter : Stat → Letter) (r : Ruling (Told Stat)) → BothMove Reclaimed w r → AnswerMoves w (by_message limits w letter r)
+  message_moves limits w letter r m =
+      if_slots_moves 1 limits w (by_call letter r)
       (with_due_moves w r.agreed.world _ m.0, with_due_moves w r.refused.world _ m.1)
 
   -- ---- shares
@@ -139,58 +140,61 @@ module _ (Reclaimed : Request → Type 0) where
   -- ---- answers to the server's own calls
 
   abbrev pub ToldMoves : Change → World → World → Type 0
-  ToldMoves TableStays w v = (v.settings ≡ w.settings) × (v.waiters ≡ w.waiters)
+  ToldMoves TableStays w v = (v.settings ≡ w.settings) × (v.waiters ≡ w.waiters) × AreKept (quotas_of w.hosts) (quotas_of v.hosts)
   ToldMoves TableChanges w v = Moves Reclaimed w v
 
   pub told_moves : (change : Change) (w v : World) → ToldMoves change w v → Moves Reclaimed w v
   told_moves TableStays w v m = same_moves w v m.0 m.1
   told_moves TableChanges w v m = m
 
+  put : (w : World) → (w.settings ≡ w.settings) × (w.waiters ≡ w.waiters) × AreKept (quotas_of w.hosts) (quotas_of w.hosts)
+  put w = (refl, refl, all_kept (quotas_of w.hosts))
+
   abbrev pub ChangeMoves : World → Told Change → Type 0
   ChangeMoves w t = ToldMoves t.says w t.world
 
   grant_moves : (limits : Limits) (w : World) (c : Outgoing) (alock : Lock) (stat : Option Stat) → ChangeMoves w (grant_answered limits w c alock stat)
   grant_moves limits w c alock (Some DENIED) =
-      by_cond (ChangeMoves w) (refuses limits.runs w.settings (unlock_of alock)) (became TableStays (ended w c)) (became TableChanges (with_setting (ended w c) (unlock_of alock))) (λ _. (refl, refl)) (λ _. record { table = Unlocks (unlock_of alock) refl; ranges = λ h. h; nobody = λ g h. h })
-  grant_moves limits w c alock (Some DENIED_GRACE_PERIOD) = (refl, refl)
-  grant_moves limits w c alock _ = (refl, refl)
+      by_cond (ChangeMoves w) (is_refused limits.runs (quotas_of w.hosts) w.settings (unlock_of alock)) (became TableStays (ended w c)) (became TableChanges (with_setting (ended w c) (unlock_of alock))) (λ _. put w) (λ _. record { table = Unlocks (unlock_of alock) refl; ranges = λ h. h; nobody = λ g h. h })
+  grant_moves limits w c alock (Some DENIED_GRACE_PERIOD) = put w
+  grant_moves limits w c alock _ = put w
 
   granted_res_moves : (limits : Limits) (w : World) (cookie : Bytes) (stat : Stat) → ChangeMoves w (granted_res_rules limits w cookie stat)
   granted_res_moves limits w cookie stat = go (call_of_cookie cookie w.calls)
     where
       by_message_of : (c : Outgoing) (m : Message) → ChangeMoves w (granted_res_of limits w stat c m)
       by_message_of c (GrantedMsg version exclusive alock) = grant_moves limits w c alock (Some stat)
-      by_message_of c _ = (refl, refl)
+      by_message_of c _ = put w
 
       go : (o : Option Outgoing) → ChangeMoves w (granted_res_at limits w stat o)
-      go None = (refl, refl)
+      go None = put w
       go (Some c) = by_message_of c c.letter.message
 
   abbrev pub BothChange : World → Ruling (Told Change) → Type 0
   BothChange w r = ChangeMoves w r.agreed × ChangeMoves w r.refused
 
   notice_moves : (w : World) (c : Outgoing) (to : Destination) → BothChange w (notice_answered w c to)
-  notice_moves w c (ToHost name) = ((refl, refl), (refl, refl))
-  notice_moves w c (ToConnection l) = ((refl, refl), (refl, refl))
+  notice_moves w c (ToHost name) = ((refl, refl, store_keeps w.hosts (Acked name w.hosts.own) refl), put w)
+  notice_moves w c (ToConnection l) = (put w, put w)
 
   succeeded_moves : (limits : Limits) (w : World) (c : Outgoing) (stat : Option Stat) (m : Message) → BothChange w (succeeded limits w c stat m)
   succeeded_moves limits w c stat (Granted version exclusive alock) = (grant_moves limits w c alock stat, grant_moves limits w c alock stat)
-  succeeded_moves limits w c stat (GrantedMsg version exclusive alock) = ((refl, refl), (refl, refl))
+  succeeded_moves limits w c stat (GrantedMsg version exclusive alock) = (put w, put w)
   succeeded_moves limits w c stat (Notify name state) = notice_moves w c c.letter.to
-  succeeded_moves limits w c stat _ = ((refl, refl), (refl, refl))
+  succeeded_moves limits w c stat _ = (put w, put w)
 
   pub answer_moves : (limits : Limits) (w : World) (reading : AnswerReading) → BothChange w (answer_rules limits w reading)
-  answer_moves limits w Unreadable = ((refl, refl), (refl, refl))
+  answer_moves limits w Unreadable = (put w, put w)
   answer_moves limits w (AcceptedSuccess xid stat) = go (call_of_xid xid w.calls)
     where
       go : (o : Option Outgoing) → BothChange w (answered_success limits w stat o)
-      go None = ((refl, refl), (refl, refl))
+      go None = (put w, put w)
       go (Some c) = succeeded_moves limits w c stat c.letter.message
   answer_moves limits w (OtherAnswer xid) = go (call_of_xid xid w.calls)
     where
       go : (o : Option Outgoing) → BothChange w (answered_otherwise w o)
-      go None = ((refl, refl), (refl, refl))
-      go (Some c) = ((refl, refl), (refl, refl))
+      go None = (put w, put w)
+      go (Some c) = (put w, put w)
 
   -- ---- every call
 
@@ -203,9 +207,9 @@ module _ (Reclaimed : Request → Type 0) where
   nlm_moves limits w version (Unlock a) mine = unlock_answer_moves limits w a
   nlm_moves limits w version (TestMsg a) mine = if_slots_moves 1 limits w _ (with_due_moves w w _ (unmoved Reclaimed w), with_due_moves w w _ (unmoved Reclaimed w))
   nlm_moves limits w version (LockMsg a) mine =
-      message_moves limits w (λ stat. LockResult version (res a.cookie stat)) a.alock (lock_msg_answer limits w version a) (verdict_moves limits w a (caller_row a) (GrantedMsg version a.exclusive a.alock) (slots_free limits w - 1) mine)
-  nlm_moves limits w version (CancelMsg a) mine = message_moves limits w (λ stat. CancelResult version (res a.cookie stat)) a.alock (cancel_answer w a) (cancel_answer_moves w a)
-  nlm_moves limits w version (UnlockMsg a) mine = message_moves limits w (λ stat. UnlockResult version (res a.cookie stat)) a.alock (unlock_answer limits w a) (unlock_answer_moves limits w a)
+      message_moves limits w (lock_letter version a) (lock_msg_answer limits w version a) (verdict_moves limits w a (caller_row a) (GrantedMsg version a.exclusive a.alock) (slots_free limits w - 1) mine)
+  nlm_moves limits w version (CancelMsg a) mine = message_moves limits w (cancel_letter version a) (cancel_answer w a) (cancel_answer_moves w a)
+  nlm_moves limits w version (UnlockMsg a) mine = message_moves limits w (unlock_letter version a) (unlock_answer limits w a) (unlock_answer_moves limits w a)
   nlm_moves limits w version (GrantedRes a) mine =
       let t = granted_res_rules limits w a.cookie a.stat in
       let m = told_moves t.says w t.world (granted_res_moves limits w a.cookie a.stat) in
@@ -281,16 +285,31 @@ module _ (Reclaimed : Request → Type 0) where
       go (Some refusal) e = unmoved Reclaimed w
       go None e = sets mode (line_admitted w lock e)
 
-  pub line_moves : (limits : Limits) (w : World) (l : ℕ) (line : Line) → Moves Reclaimed w (line_answer limits w l line).world
-  line_moves limits w l (GetLock mode lock) = unmoved Reclaimed w
-  line_moves limits w l (SetLock mode lock) = set_line_moves limits w l false mode lock
-  line_moves limits w l (SetLockWait mode lock) = set_line_moves limits w l true mode lock
-  line_moves limits w l (Close owner file) = record {
-    table = DropsOwner file owner;
-    ranges = ranges_without (λ (x : Waiter). same_bytes x.request.file file && same_owner x.request.owner owner) w.waiters;
-    nobody = λ g h. ap (without (λ (x : Waiter). same_bytes x.request.file file && same_owner x.request.owner owner)) h;
-  }
-  line_moves limits w l Table = unmoved Reclaimed w
-  line_moves limits w l HostList = unmoved Reclaimed w
-  line_moves limits w l Stop = unmoved Reclaimed w
-  line_moves limits w l BadLine = unmoved Reclaimed w
+  abbrev BothLines : World → Ruling (Told LineReply) → Type 0
+  BothLines w r = Moves Reclaimed w r.agreed.world × Moves Reclaimed w r.refused.world
+
+  unmoved_line : (w : World) → Moves Reclaimed w w × Moves Reclaimed w w
+  unmoved_line w = (unmoved Reclaimed w, unmoved Reclaimed w)
+
+  both_lines : (limits : Limits) (w : World) (l : ℕ) (line : Line) → BothLines w (line_answer limits w l line)
+  both_lines limits w l (GetLock mode lock) = unmoved_line w
+  both_lines limits w l (SetLock mode lock) = let m = set_line_moves limits w l false mode lock in (m, m)
+  both_lines limits w l (SetLockWait mode lock) = let m = set_line_moves limits w l true mode lock in (m, m)
+  both_lines limits w l (Close owner file) =
+      let m : Moves Reclaimed w (closed_by w file owner) = record {
+        table = DropsOwner file owner;
+        ranges = ranges_without (λ (x : Waiter). same_bytes x.request.file file && same_owner x.request.owner owner) w.waiters;
+        nobody = λ g h. ap (without (λ (x : Waiter). same_bytes x.request.file file && same_owner x.request.owner owner)) h;
+      } in
+      (m, m)
+  both_lines limits w l Table = unmoved_line w
+  both_lines limits w l HostList = unmoved_line w
+  both_lines limits w l (SetQuota name runs) =
+      by_cond (BothLines w) (has_row w.hosts name) (quota_stored w (Quota name runs)) (stays w LineAbsent)
+      (λ _. (hosts_moves w (after_store w.hosts (Quota name runs)), unmoved Reclaimed w))
+      (λ _. unmoved_line w)
+  both_lines limits w l Stop = unmoved_line w
+  both_lines limits w l BadLine = unmoved_line w
+
+  pub line_moves : (limits : Limits) (w : World) (l : ℕ) (line : Line) (store : StoreAnswer) → Moves Reclaimed w (ruled store (line_answer limits w l line)).world
+  line_moves limits w l line store = by_store (λ (t : Told LineReply). Moves Reclaimed w t.world) store (line_answer limits w l line) (both_lines limits w l line)

@@ -4,12 +4,12 @@ use Rattle.std.specs.Ordering.{int_eq}
 use Rattle.definitions.specs.Bytes.{Bytes}
 use Rattle.definitions.specs.Settings.{Setting, Request, setting_of}
 use Rattle.definitions.specs.Conflict.{conflicts}
-use Rattle.definitions.specs.Starts.{is_short, refuses}
+use Rattle.definitions.specs.Quotas.{quotas_of, lacks_room, is_refused}
 use Rattle.definitions.specs.Phases.{Locking, Cancelling, Unlocking}
-use Rattle.definitions.specs.Nlm.{Version, Stat, GRANTED, DENIED, DENIED_NOLOCKS, BLOCKED, DEADLCK, Lock, LockArgs, CancelArgs, UnlockArgs, NlmCall, Null, Test, Locks, Cancel, Unlock, TestMsg, LockMsg, CancelMsg, UnlockMsg, GrantedRes, ShareCall, Unshare, NmLock, FreeAll}
+use Rattle.definitions.specs.Nlm.{Version, Stat, GRANTED, DENIED, DENIED_NOLOCKS, BLOCKED, DEADLCK, LockArgs, CancelArgs, UnlockArgs, NlmCall, Null, Test, Locks, Cancel, Unlock, TestMsg, LockMsg, CancelMsg, UnlockMsg, GrantedRes, ShareCall, Unshare, NmLock, FreeAll}
 use Rattle.definitions.specs.Nsm.{NsmCall, SmNull, SmStat, SmMon, SmUnmon, SmUnmonAll, SmSimuCrash, SmNotify}
 use Rattle.definitions.specs.Hosts.{HostRow, StoreCall, Begin, Seen, Watched, Unwatched, StoreAnswer, Yes, row_of, watches_of}
-use Rattle.definitions.specs.Outgoing.{Outgoing, Message, Granted, GrantedMsg, TestResult, LockResult, CancelResult, UnlockResult, Notify, Destination, ToHost, ToConnection, call_of_xid}
+use Rattle.definitions.specs.Outgoing.{Outgoing, Letter, Message, Granted, GrantedMsg, Notify, Destination, ToHost, ToConnection, call_of_xid}
 use Rattle.definitions.specs.Ranges.{range_refusal, request_of, unlock_of}
 use Rattle.definitions.specs.Replies.{Call, Nlm, Nsm, SystemErr, Ignored, Turned, Asks, AnswerReading, Unreadable, AcceptedSuccess, OtherAnswer}
 use Rattle.definitions.specs.Waits.{is_waiting, closes_cycle}
@@ -17,7 +17,7 @@ use Rattle.definitions.specs.World.{World, Limits, with_setting, with_waiter, wi
 use Rattle.definitions.specs.Rulings.{Told, Ruling, decided, stays, each}
 use Rattle.definitions.specs.LockRules.{LockAsk, row_asked, after_row, free_lock, blocked_lock, lock_rules, unlock_rules, cancel_rules}
 use Rattle.definitions.specs.Grants.{Change, notice_answered, succeeded, answered_success, answered_otherwise, answer_rules}
-use Rattle.definitions.specs.Answer.{Answered, res, gives, lock_ask, caller_row, lock_unless, lock_verdict, cancel_unless, cancel_answer, unlock_unless, unlock_answer, if_slots, by_reply, replied, by_message, sent_back, test_answer, stored, notified, notify_rules, nlm_answer, nsm_answer, ruling}
+use Rattle.definitions.specs.Answer.{Answered, gives, lock_ask, caller_row, lock_unless, lock_verdict, cancel_unless, cancel_answer, unlock_unless, unlock_answer, if_slots, by_reply, replied, by_call, by_message, sent_back, test_letter, lock_letter, cancel_letter, unlock_letter, stored, notified, notify_rules, nlm_answer, nsm_answer, ruling}
 use Rattle.definitions.specs.Step.{State, Event, Take, Local, Starved, step, with_world, with_row_stored, store_call}
 use Rattle.definitions.specs.Asking.{IsUnasked, UnaskedLaw, StarvedLaw}
 use Rattle.definitions.proofs.MoveLaws.{by_cond}
@@ -36,7 +36,7 @@ lock_unasked : (limits : Limits) (w : World) (a : LockAsk) → Told_unasked (loc
 lock_unasked limits w a =
     by_cond Told_unasked (conflicts w.settings a.request) (cond (a.block && not a.reclaim) (blocked_lock w a) (stays w DENIED)) (free_lock limits w a)
     (λ _. by_cond Told_unasked (a.block && not a.reclaim) (blocked_lock w a) (stays w DENIED) (λ _. blocked) (λ _ e. refl))
-    (λ _. by_cond Told_unasked (is_short limits.runs w.settings) (stays w DENIED_NOLOCKS) (after_row w (row_asked w a.row) GRANTED (λ v. with_setting v (setting_of a.request))) (λ _ e. refl) (λ _. row_unasked w (row_asked w a.row) GRANTED (λ v. with_setting v (setting_of a.request))))
+    (λ _. by_cond Told_unasked (lacks_room limits.runs (quotas_of w.hosts) w.settings a.request) (stays w DENIED_NOLOCKS) (after_row w (row_asked w a.row) GRANTED (λ v. with_setting v (setting_of a.request))) (λ _ e. refl) (λ _. row_unasked w (row_asked w a.row) GRANTED (λ v. with_setting v (setting_of a.request))))
   where
     blocked : Told_unasked (blocked_lock w a)
     blocked =
@@ -46,7 +46,7 @@ lock_unasked limits w a =
         (λ _. row_unasked w (row_asked w a.row) BLOCKED (λ v. with_waiter v (record { request = a.request; letter = a.letter })))))
 
 unlock_unasked : (limits : Limits) (w : World) (s : Setting) → Told_unasked (unlock_rules limits w s)
-unlock_unasked limits w s = by_cond Told_unasked (refuses limits.runs w.settings s) (stays w DENIED_NOLOCKS) (decided (record { says = GRANTED; world = with_setting w s })) (λ _ e. refl) (λ _ e. refl)
+unlock_unasked limits w s = by_cond Told_unasked (is_refused limits.runs (quotas_of w.hosts) w.settings s) (stays w DENIED_NOLOCKS) (decided (record { says = GRANTED; world = with_setting w s })) (λ _ e. refl) (λ _ e. refl)
 
 cancel_unasked : (w : World) (r : Request) → Told_unasked (cancel_rules w r)
 cancel_unasked w r = by_cond Told_unasked (is_waiting r w.waiters) _ (stays w DENIED) (λ _ e. refl) (λ _ e. refl)
@@ -81,25 +81,23 @@ told_unasked f r h = λ e. ap f (h e)
 slots_unasked : (n : ℕ) (limits : Limits) (w : World) (r : Ruling Answered) → Answer_unasked r → Answer_unasked (if_slots n limits w r)
 slots_unasked n limits w r h = by_cond Answer_unasked (leb n (slots_free limits w)) r (decided (gives w SystemErr)) (λ _. h) (λ _ e. refl)
 
-reply_unasked : (cookie : Bytes) (r : Ruling (Told Stat)) → Told_unasked r → Answer_unasked (by_reply cookie r)
-reply_unasked cookie r h = told_unasked (replied cookie) r h
+reply_unasked : (version : Version) (cookie : Bytes) (r : Ruling (Told Stat)) → Told_unasked r → Answer_unasked (by_reply version cookie r)
+reply_unasked version cookie r h = told_unasked (replied version cookie) r h
 
-message_unasked : (limits : Limits) (w : World) (message : Stat → Message) (alock : Lock) (r : Ruling (Told Stat)) → Told_unasked r → Answer_unasked (by_message limits w message alock r)
-message_unasked limits w message alock r h =
-    let f : Told Stat → Answered = λ t. sent_back (message t.says) alock.caller_name t.world in
-    slots_unasked 1 limits w (each f r) (told_unasked f r h)
+message_unasked : (limits : Limits) (w : World) (letter : Stat → Letter) (r : Ruling (Told Stat)) → Told_unasked r → Answer_unasked (by_message limits w letter r)
+message_unasked limits w letter r h = slots_unasked 1 limits w (by_call letter r) (told_unasked (λ t. sent_back (letter t.says) t.world) r h)
 
 nlm_unasked : (limits : Limits) (w : World) (version : Version) (call : NlmCall) → Answer_unasked (nlm_answer limits w version call)
 nlm_unasked limits w version Null = λ e. refl
 nlm_unasked limits w version (Test a) = λ e. refl
-nlm_unasked limits w version (Locks a) = reply_unasked a.cookie _ (verdict_unasked limits w a (lock_ask a (caller_row a) (Granted version a.exclusive a.alock) (slots_free limits w)))
-nlm_unasked limits w version (NmLock a) = reply_unasked a.cookie _ (verdict_unasked limits w a (lock_ask a None (Granted version a.exclusive a.alock) (slots_free limits w)))
-nlm_unasked limits w version (Cancel a) = reply_unasked a.cookie _ (cancel_answer_unasked w a)
-nlm_unasked limits w version (Unlock a) = reply_unasked a.cookie _ (unlock_answer_unasked limits w a)
-nlm_unasked limits w version (TestMsg a) = slots_unasked 1 limits w (decided (sent_back (TestResult version (test_answer w a)) a.alock.caller_name w)) (λ e. refl)
-nlm_unasked limits w version (LockMsg a) = message_unasked limits w (λ stat. LockResult version (res a.cookie stat)) a.alock _ (verdict_unasked limits w a (lock_ask a (caller_row a) (GrantedMsg version a.exclusive a.alock) (slots_free limits w - 1)))
-nlm_unasked limits w version (CancelMsg a) = message_unasked limits w (λ stat. CancelResult version (res a.cookie stat)) a.alock _ (cancel_answer_unasked w a)
-nlm_unasked limits w version (UnlockMsg a) = message_unasked limits w (λ stat. UnlockResult version (res a.cookie stat)) a.alock _ (unlock_answer_unasked limits w a)
+nlm_unasked limits w version (Locks a) = reply_unasked version a.cookie _ (verdict_unasked limits w a (lock_ask a (caller_row a) (Granted version a.exclusive a.alock) (slots_free limits w)))
+nlm_unasked limits w version (NmLock a) = reply_unasked version a.cookie _ (verdict_unasked limits w a (lock_ask a None (Granted version a.exclusive a.alock) (slots_free limits w)))
+nlm_unasked limits w version (Cancel a) = reply_unasked version a.cookie _ (cancel_answer_unasked w a)
+nlm_unasked limits w version (Unlock a) = reply_unasked version a.cookie _ (unlock_answer_unasked limits w a)
+nlm_unasked limits w version (TestMsg a) = slots_unasked 1 limits w (decided (sent_back (test_letter w version a) w)) (λ e. refl)
+nlm_unasked limits w version (LockMsg a) = message_unasked limits w (lock_letter version a) _ (verdict_unasked limits w a (lock_ask a (caller_row a) (GrantedMsg version a.exclusive a.alock) (slots_free limits w - 1)))
+nlm_unasked limits w version (CancelMsg a) = message_unasked limits w (cancel_letter version a) _ (cancel_answer_unasked w a)
+nlm_unasked limits w version (UnlockMsg a) = message_unasked limits w (unlock_letter version a) _ (unlock_answer_unasked limits w a)
 nlm_unasked limits w version (GrantedRes a) = λ e. refl
 nlm_unasked limits w version (ShareCall a) = λ e. refl
 nlm_unasked limits w version (Unshare a) = λ e. refl

@@ -72,9 +72,9 @@ module _ (limits : Limits) (s : State) (g : s.world.phase ≡ Grace) (none : s.w
   applied_moved (Answer reading) store = answer_moved (IsReclaim (Answer reading)) reading store
   applied_moved (Silent number) store = same (IsReclaim (Silent number)) s.world refl refl
   applied_moved (Local l line) store =
-      let v = (line_answer limits s.world l line).world in
+      let v = (ruled store (line_answer limits s.world l line)).world in
       let R = IsReclaim (Local l line) in
-      at_rest R v (moved R v (line_moves R limits s.world l line))
+      at_rest R v (moved R v (line_moves R limits s.world l line store))
   applied_moved GraceOver store = same (IsReclaim GraceOver) s.world refl refl
   applied_moved Restart store = restart_moved (IsReclaim Restart) store
 

@@ -206,8 +206,8 @@ module _ (limits : Limits) (s : State) (quiet : IsQuiet s) where
   applied_quiet (Answer reading) store = answer_quiet reading store
   applied_quiet (Silent number) store = record { world = silent_quiet number; kept = quiet.kept }
   applied_quiet (Local l line) store =
-      let v = (line_answer limits s.world l line).world in
-      record { world = settled_quiet limits v (rules_quiet NoShare false s.world v (line_sides NoShare limits s.world l line) (line_moves Anything limits s.world l line) quiet.world); kept = quiet.kept }
+      let v = (ruled store (line_answer limits s.world l line)).world in
+      record { world = settled_quiet limits v (rules_quiet NoShare false s.world v (line_sides NoShare limits s.world l line store) (line_moves Anything limits s.world l line store) quiet.world); kept = quiet.kept }
   applied_quiet GraceOver store = record { world = λ g. absurd (true≢false (ap (λ p. admits p Testing) g)); kept = quiet.kept }
   applied_quiet Restart store = begun_quiet store
 

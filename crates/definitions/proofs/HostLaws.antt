@@ -6,7 +6,7 @@ use Rattle.std.proofs.lemmas.Slice.Eq.{bytes_eq-Decides}
 use Rattle.std.specs.Cmp.{IsTotalOrder, both_ways}
 use Rattle.std.specs.declared.cmp.Ordering.{Ordering}
 use Rattle.definitions.specs.Bytes.{Bytes, same_bytes, is_any, without, IsBelowAll, IsAscending}
-use Rattle.definitions.specs.Hosts.{HostRow, Hosts, row_cmp, my_id_cmp, watch_cmp, has_row, full_quota, with_row, with_new_row, with_seen, with_epoch, is_watch, Begin, Monitor, Seen, Acked, Watched, Unwatched, AreInOrder, HostsLaw}
+use Rattle.definitions.specs.Hosts.{HostRow, Hosts, row_cmp, my_id_cmp, watch_cmp, has_row, full_quota, with_row, with_new_row, with_seen, with_epoch, with_quota, is_watch, Begin, Monitor, Seen, Acked, Quota, Watched, Unwatched, AreInOrder, HostsLaw}
 use Rattle.definitions.specs.Shares.{Share, is_same_place, AreSingle, SharesLaw}
 use Rattle.definitions.proofs.Orders.{put_ascends}
 
@@ -74,6 +74,22 @@ epoch_ascends name epoch (r ∷ rows) h = go (same_bytes r.name name) (epoch_asc
     go true k = (below_same r (record r { epoch = epoch }) rows refl h.0, h.1)
     go false k = (epoch_below r name epoch rows h.0, k)
 
+quota_below : (x : HostRow) (name : Bytes) (runs : ℕ) (rows : List HostRow) → IsBelowAll row_cmp x rows → IsBelowAll row_cmp x (with_quota name runs rows)
+quota_below x name runs [] h = tt
+quota_below x name runs (r ∷ rows) h = go (same_bytes r.name name) (quota_below x name runs rows h.1)
+  where
+    go : (b : Bool) → IsBelowAll row_cmp x (with_quota name runs rows) → IsBelowAll row_cmp x (cond b (record r { quota = runs } ∷ rows) (r ∷ with_quota name runs rows))
+    go true k = h
+    go false k = (h.0, k)
+
+quota_ascends : (name : Bytes) (runs : ℕ) (rows : List HostRow) → IsAscending row_cmp rows → IsAscending row_cmp (with_quota name runs rows)
+quota_ascends name runs [] h = tt
+quota_ascends name runs (r ∷ rows) h = go (same_bytes r.name name) (quota_ascends name runs rows h.1)
+  where
+    go : (b : Bool) → IsAscending row_cmp (with_quota name runs rows) → IsAscending row_cmp (cond b (record r { quota = runs } ∷ rows) (r ∷ with_quota name runs rows))
+    go true k = (below_same r (record r { quota = runs }) rows refl h.0, h.1)
+    go false k = (quota_below r name runs rows h.0, k)
+
 new_ascends : (hosts : Hosts) (name : Bytes) (state : ℤ) → AreInOrder hosts → IsAscending row_cmp (with_new_row name state hosts)
 new_ascends hosts name state h = go (has_row hosts name)
   where
@@ -86,6 +102,7 @@ hosts_law hosts Begin h = record { rows = h.rows; watches = h.watches }
 hosts_law hosts (Monitor name state) h = record { rows = new_ascends hosts name state h; watches = h.watches }
 hosts_law hosts (Seen name state) h = record { rows = seen_ascends name state hosts.rows h.rows; watches = h.watches }
 hosts_law hosts (Acked name epoch) h = record { rows = epoch_ascends name epoch hosts.rows h.rows; watches = h.watches }
+hosts_law hosts (Quota name runs) h = record { rows = quota_ascends name runs hosts.rows h.rows; watches = h.watches }
 hosts_law hosts (Watched name my bytes) h = record {
   rows = new_ascends hosts name (pos 0) h;
   watches = put_ascends watch_cmp watch_total (record { mon_name = name; my_id = my; private_bytes = bytes }) hosts.watches h.watches;

@@ -6,8 +6,11 @@ pub mod WorldLaws
 pub mod ReclaimLaws
 pub mod Orders
 pub mod StartLaws
+pub mod RunCounts
+pub mod QuotaLaws
 pub mod WaitLaws
 pub mod MoveLaws
+pub mod RowAsks
 pub mod AnswerMoves
 pub mod StepLaws
 pub mod RunLaws

@@ -7,7 +7,7 @@ use Rattle.std.specs.declared.cmp.Ordering.TheVariants.{Less, Equal, Greater}
 use Rattle.definitions.specs.Bytes.{Bytes, same_bytes, is_any, put, placed}
 use Rattle.definitions.specs.Settings.{setting_of}
 use Rattle.definitions.specs.Conflict.{conflicts}
-use Rattle.definitions.specs.Starts.{is_short}
+use Rattle.definitions.specs.Quotas.{quotas_of, lacks_room}
 use Rattle.definitions.specs.Phases.{Locking, admits}
 use Rattle.definitions.specs.Nlm.{Stat, GRANTED, DENIED, DENIED_NOLOCKS, BLOCKED, DEADLCK, STALE_FH, FBIG, DENIED_GRACE_PERIOD, LockArgs}
 use Rattle.definitions.specs.Hosts.{Hosts, HostRow, StoreCall, StoreAnswer, NotAsked, Yes, Refused, Monitor, has_row, full_quota, row_cmp, with_row, after_store}
@@ -59,7 +59,7 @@ module _ (limits : Limits) (w : World) (a : LockArgs) where
 
     free_has : BothHave (free_lock limits w ask)
     free_has =
-        by_cond BothHave (is_short limits.runs w.settings) (stays w DENIED_NOLOCKS) (after_row w (row_asked w (caller_row a)) GRANTED (λ v. with_setting v (setting_of ask.request))) (λ _. refused_has DENIED_NOLOCKS refl)
+        by_cond BothHave (lacks_room limits.runs (quotas_of w.hosts) w.settings ask.request) (stays w DENIED_NOLOCKS) (after_row w (row_asked w (caller_row a)) GRANTED (λ v. with_setting v (setting_of ask.request))) (λ _. refused_has DENIED_NOLOCKS refl)
         (λ _. row_has GRANTED (λ v. with_setting v (setting_of ask.request)) (λ v. refl))
 
     blocked_has : BothHave (blocked_lock w ask)
@@ -125,7 +125,7 @@ lock_given_up limits w a ask = go (range_refusal w (Locking a.reclaim) a.alock)
     go None =
         by_cond (IsGivenUp w) (conflicts w.settings ask.request) (cond (ask.block && not ask.reclaim) (blocked_lock w ask) (stays w DENIED)) (free_lock limits w ask)
         (λ _. by_cond (IsGivenUp w) (ask.block && not ask.reclaim) (blocked_lock w ask) (stays w DENIED) (λ _. blocked) (λ _. given_up w DENIED))
-        (λ _. by_cond (IsGivenUp w) (is_short limits.runs w.settings) (stays w DENIED_NOLOCKS) (after_row w (row_asked w ask.row) GRANTED (λ v. with_setting v (setting_of ask.request))) (λ _. given_up w DENIED_NOLOCKS) (λ _. row_given_up w (row_asked w ask.row) GRANTED (λ v. with_setting v (setting_of ask.request))))
+        (λ _. by_cond (IsGivenUp w) (lacks_room limits.runs (quotas_of w.hosts) w.settings ask.request) (stays w DENIED_NOLOCKS) (after_row w (row_asked w ask.row) GRANTED (λ v. with_setting v (setting_of ask.request))) (λ _. given_up w DENIED_NOLOCKS) (λ _. row_given_up w (row_asked w ask.row) GRANTED (λ v. with_setting v (setting_of ask.request))))
 
 pub refused_row_law : RefusedRowLaw
 refused_row_law limits w version a = (

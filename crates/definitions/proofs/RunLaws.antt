@@ -1,8 +1,9 @@
 -- Over whole lists of events, and honest reclaims that are granted.
-use Rattle.std.proofs.Common.{◌≡◌, ℕ, ◌-◌, false, cond, not, ◌&&◌, List, [], ◌∷◌, refl, ap, ◌∙◌, Option, Some, None}
+use Rattle.std.proofs.Common.{◌≡◌, ℕ, ◌-◌, Bool, false, cond, not, ◌&&◌, ◌||◌, List, [], ◌∷◌, refl, ap, ◌∙◌, Option, Some, None}
 use Rattle.definitions.specs.Settings.{Setting, setting_of}
 use Rattle.definitions.specs.Conflict.{conflicts}
 use Rattle.definitions.specs.Starts.{is_short}
+use Rattle.definitions.specs.Quotas.{quotas_of, exceeds, lacks_room}
 use Rattle.definitions.specs.Phases.{Locking}
 use Rattle.definitions.specs.Hosts.{StoreCall}
 use Rattle.definitions.specs.Nlm.{Stat, GRANTED, DENIED, DENIED_NOLOCKS, LockArgs}
@@ -35,19 +36,23 @@ row_says : (w : World) (call : Option StoreCall) (stat : Stat) (change : World �
 row_says w None stat change = refl
 row_says w (Some call) stat change = refl
 
-granted : (limits : Limits) (w : World) (a : LockAsk) → conflicts w.settings a.request ≡ false → is_short limits.runs w.settings ≡ false → (lock_rules limits w a).agreed.says ≡ GRANTED
+granted : (limits : Limits) (w : World) (a : LockAsk) → conflicts w.settings a.request ≡ false → lacks_room limits.runs (quotas_of w.hosts) w.settings a.request ≡ false → (lock_rules limits w a).agreed.says ≡ GRANTED
 granted limits w a free room =
     ap (λ b. (cond b (cond (a.block && not a.reclaim) (blocked_lock w a) (stays w DENIED)) (free_lock limits w a)).agreed.says) free
     ∙ ap (λ b. (cond b (stays w DENIED_NOLOCKS) (after_row w (row_asked w a.row) GRANTED (λ v. with_setting v (setting_of a.request)))).agreed.says) room
     ∙ row_says w (row_asked w a.row) GRANTED (λ v. with_setting v (setting_of a.request))
 
-module _ (limits : Limits) (old : List Setting) (w : World) (a : LockArgs) (compatible : AreCompatible old) (under : IsUnder old w) (ok : range_refusal w (Locking a.reclaim) a.alock ≡ None) (honest : IsHonest old (request_of a.exclusive a.alock)) (room : is_short limits.runs w.settings ≡ false) where
+module _ (limits : Limits) (old : List Setting) (w : World) (a : LockArgs) (compatible : AreCompatible old) (under : IsUnder old w) (ok : range_refusal w (Locking a.reclaim) a.alock ≡ None) (honest : IsHonest old (request_of a.exclusive a.alock)) (room : lacks_room limits.runs (quotas_of w.hosts) w.settings (request_of a.exclusive a.alock) ≡ false) where
   ask_granted : (row : Option NewHost) (message : Message) (slots : ℕ) → (lock_verdict limits w a (lock_ask a row message slots)).agreed.says ≡ GRANTED
   ask_granted row message slots =
       ap (λ o. (lock_unless limits w (lock_ask a row message slots) o).agreed.says) ok
       ∙ granted limits w (lock_ask a row message slots) (honest_meets_no_conflict old w.settings (request_of a.exclusive a.alock) (admitted w (Locking a.reclaim) a.alock ok).0 compatible under.settings honest) room
 
+neither : (a b : Bool) → a ≡ false → b ≡ false → (a || b) ≡ false
+neither a b e f = ap (λ c. c || b) e ∙ f
+
 pub honest_is_granted : HonestIsGranted
-honest_is_granted limits old w version a g compatible under reclaim ok honest room =
+honest_is_granted limits old w version a g compatible under reclaim ok honest free quota =
+    let room = neither (is_short limits.runs w.settings) (exceeds (quotas_of w.hosts) w.settings (setting_of (request_of a.exclusive a.alock))) free quota in
     let ask = ask_granted limits old w a compatible under ok honest room in
     (ask (caller_row a) (Granted version a.exclusive a.alock) (slots_free limits w), ask None (Granted version a.exclusive a.alock) (slots_free limits w), ask (caller_row a) (GrantedMsg version a.exclusive a.alock) (slots_free limits w - 1))

@@ -6,19 +6,19 @@ use Rattle.definitions.specs.Bytes.{Bytes}
 use Rattle.definitions.specs.Settings.{Mode}
 use Rattle.definitions.specs.Shares.{Share, is_denied, has_no_room, with_share, without_share}
 use Rattle.definitions.specs.Phases.{Phase, Grace, Normal, Testing, Sharing, Unsharing, admits}
-use Rattle.definitions.specs.Nlm.{Version, Stat, STALE_FH, DENIED_GRACE_PERIOD, Lock, ShareArgs, NlmCall, Null, Test, Locks, Cancel, Unlock, TestMsg, LockMsg, CancelMsg, UnlockMsg, GrantedRes, ShareCall, Unshare, NmLock, FreeAll}
+use Rattle.definitions.specs.Nlm.{Version, Stat, STALE_FH, DENIED_GRACE_PERIOD, ShareArgs, NlmCall, Null, Test, Locks, Cancel, Unlock, TestMsg, LockMsg, CancelMsg, UnlockMsg, GrantedRes, ShareCall, Unshare, NmLock, FreeAll}
 use Rattle.definitions.specs.Nsm.{MyId, SmNull, SmStat, SmMon, SmUnmon, SmUnmonAll, SmSimuCrash, SmNotify}
-use Rattle.definitions.specs.Hosts.{Hosts, HostRow, Watch, Begin, Seen, StoreAnswer, NotAsked, Yes, Refused, after_store, row_of, watches_of}
-use Rattle.definitions.specs.Outgoing.{Letter, Message, Granted, GrantedMsg, LockResult, CancelResult, UnlockResult, ToHost, LocalLock, is_grant, is_grant_to}
+use Rattle.definitions.specs.Hosts.{Hosts, HostRow, Watch, Begin, Seen, StoreAnswer, NotAsked, Yes, Refused, after_store, row_of, watches_of, Quota, has_row}
+use Rattle.definitions.specs.Outgoing.{Letter, Granted, GrantedMsg, LocalLock, is_grant, is_grant_to}
 use Rattle.definitions.specs.Ranges.{is_stale, file_refusal, line_unlock}
-use Rattle.definitions.specs.Replies.{Call, Nlm, Nsm, SystemErr, Line, GetLock, SetLock, SetLockWait, Close, Table, HostList, Stop, BadLine, LineReply}
-use Rattle.definitions.specs.World.{World, Limits, with_hosts, with_due, with_all_due, without_host_of, restarted, restart_letter, opening, first_number, slots_free}
-use Rattle.definitions.specs.Rulings.{Told, Ruling, decided, ruled, each}
-use Rattle.definitions.specs.Answer.{Answered, res, gives, lock_ask, caller_row, lock_msg_answer, cancel_answer, unlock_answer, if_slots, by_reply, by_message, sent_back, share_unless, share_of, unshare_unless, nlm_answer, stored, notified, notify_rules, status_letter, nsm_answer, ruling}
-use Rattle.definitions.specs.Lines.{line_refusal, line_answer, set_unless, line_sets, line_ask}
+use Rattle.definitions.specs.Replies.{Call, Nlm, Nsm, SystemErr, Line, GetLock, SetLock, SetLockWait, Close, Table, HostList, Stop, BadLine, LineReply, SetQuota, LineAbsent}
+use Rattle.definitions.specs.World.{World, Limits, with_hosts, with_due, with_all_due, without_host_of, restarted, restart_letter, opening, first_number, slots_free, closed_by}
+use Rattle.definitions.specs.Rulings.{Told, Ruling, decided, ruled, stays}
+use Rattle.definitions.specs.Answer.{Answered, gives, lock_ask, caller_row, lock_msg_answer, cancel_answer, unlock_answer, if_slots, by_reply, by_call, by_message, sent_back, lock_letter, cancel_letter, unlock_letter, share_unless, share_of, unshare_unless, nlm_answer, stored, notified, notify_rules, status_letter, nsm_answer, ruling}
+use Rattle.definitions.specs.Lines.{line_refusal, line_answer, set_unless, line_sets, line_ask, quota_stored}
 use Rattle.definitions.specs.Step.{Peer, is_restart}
 use Rattle.definitions.specs.Standing.{IsShareReclaimOf}
-use Rattle.definitions.proofs.MoveLaws.{by_cond}
+use Rattle.definitions.proofs.MoveLaws.{by_cond, by_store}
 use Rattle.definitions.proofs.CallLaws.{left_same, left_without, AllOf, ContinuesBy, begins, all_due}
 use Rattle.definitions.proofs.SideMoves.{ShareMove, HostGoes, ShareGoes, ShareComes, AllGo, IsPlain, SideMoves, IsSame, same, same_sides, unmoved_sides, going, BothSame, verdict_same, cancel_answer_same, unlock_answer_same, unlock_same, lock_same, goes_left, goes_due}
 use Rattle.definitions.proofs.SideGrants.{granted_res_sides}
@@ -39,8 +39,8 @@ module _ (R : Share → Type 0) where
   said_sides : (begin : Bool) (w : World) (a : Answered) → IsSame w a.world → AllOf IsPlain a.due → AnswerSides begin w (decided a)
   said_sides begin w a m h = record { agreed = same_sides R begin w a.world m; refused = same_sides R false w a.world m; agreed_due = h; refused_due = h }
 
-  reply_sides : (w : World) (cookie : Bytes) (r : Ruling (Told Stat)) → BothSame w r → AnswerSides false w (by_reply cookie r)
-  reply_sides w cookie r m = record { agreed = same_sides R false w r.agreed.world m.0; refused = same_sides R false w r.refused.world m.1; agreed_due = tt; refused_due = tt }
+  reply_sides : (w : World) (version : Version) (cookie : Bytes) (r : Ruling (Told Stat)) → BothSame w r → AnswerSides false w (by_reply version cookie r)
+  reply_sides w version cookie r m = record { agreed = same_sides R false w r.agreed.world m.0; refused = same_sides R false w r.refused.world m.1; agreed_due = tt; refused_due = tt }
 
   slots_sides : (n : ℕ) (limits : Limits) (w : World) (r : Ruling Answered) → AnswerSides false w r → AnswerSides false w (if_slots n limits w r)
   slots_sides n limits w r m = by_cond (AnswerSides false w) (leb n (slots_free limits w)) r (decided (gives w SystemErr)) (λ _. m) (λ _. said_sides false w (gives w SystemErr) (same w) tt)
@@ -60,15 +60,15 @@ module _ (R : Share → Type 0) where
       due_shares v [] = refl
       due_shares v (l ∷ letters) = due_shares (with_due v l) letters
 
-  sent_sides : (w v : World) (message : Message) (host : Bytes) → is_grant message ≡ false → IsSame w v → SideMoves R false w (sent_back message host v).world
-  sent_sides w v message host h m = due_sides w v (record { to = ToHost host; message = message } ∷ []) (h, tt) (same_sides R false w v m)
+  sent_sides : (w v : World) (letter : Letter) → is_grant letter.message ≡ false → IsSame w v → SideMoves R false w (sent_back letter v).world
+  sent_sides w v letter h m = due_sides w v (letter ∷ []) (h, tt) (same_sides R false w v m)
 
-  message_sides : (limits : Limits) (w : World) (message : Stat → Message) (alock : Lock) (r : Ruling (Told Stat)) → ((stat : Stat) → is_grant (message stat) ≡ false) → BothSame w r → AnswerSides false w (by_message limits w message alock r)
-  message_sides limits w message alock r h m =
-      slots_sides 1 limits w (each (λ (t : Told Stat). sent_back (message t.says) alock.caller_name t.world) r)
+  message_sides : (limits : Limits) (w : World) (letter : Stat → Letter) (r : Ruling (Told Stat)) → ((stat : Stat) → is_grant (letter stat).message ≡ false) → BothSame w r → AnswerSides false w (by_message limits w letter r)
+  message_sides limits w letter r h m =
+      slots_sides 1 limits w (by_call letter r)
       (record {
-        agreed = sent_sides w r.agreed.world (message r.agreed.says) alock.caller_name (h r.agreed.says) m.0;
-        refused = sent_sides w r.refused.world (message r.refused.says) alock.caller_name (h r.refused.says) m.1;
+        agreed = sent_sides w r.agreed.world (letter r.agreed.says) (h r.agreed.says) m.0;
+        refused = sent_sides w r.refused.world (letter r.refused.says) (h r.refused.says) m.1;
         agreed_due = (h r.agreed.says, tt);
         refused_due = (h r.refused.says, tt);
       })
@@ -119,15 +119,15 @@ module _ (R : Share → Type 0) where
   pub nlm_sides : (limits : Limits) (w : World) (version : Version) (call : NlmCall) → ((new : Share) → IsShareReclaimOf (Nlm version call) new → R new) → AnswerSides false w (nlm_answer limits w version call)
   nlm_sides limits w version Null mine = said_sides false w _ (same w) tt
   nlm_sides limits w version (Test a) mine = said_sides false w _ (same w) tt
-  nlm_sides limits w version (Locks a) mine = reply_sides w a.cookie _ (verdict_same limits w a (lock_ask a (caller_row a) (Granted version a.exclusive a.alock) (slots_free limits w)))
-  nlm_sides limits w version (NmLock a) mine = reply_sides w a.cookie _ (verdict_same limits w a (lock_ask a None (Granted version a.exclusive a.alock) (slots_free limits w)))
-  nlm_sides limits w version (Cancel a) mine = reply_sides w a.cookie _ (cancel_answer_same w a)
-  nlm_sides limits w version (Unlock a) mine = reply_sides w a.cookie _ (unlock_answer_same limits w a)
-  nlm_sides limits w version (TestMsg a) mine = slots_sides 1 limits w _ (decided_sides w _ (sent_sides w w _ a.alock.caller_name refl (same w)) (refl, tt))
+  nlm_sides limits w version (Locks a) mine = reply_sides w version a.cookie _ (verdict_same limits w a (lock_ask a (caller_row a) (Granted version a.exclusive a.alock) (slots_free limits w)))
+  nlm_sides limits w version (NmLock a) mine = reply_sides w version a.cookie _ (verdict_same limits w a (lock_ask a None (Granted version a.exclusive a.alock) (slots_free limits w)))
+  nlm_sides limits w version (Cancel a) mine = reply_sides w version a.cookie _ (cancel_answer_same w a)
+  nlm_sides limits w version (Unlock a) mine = reply_sides w version a.cookie _ (unlock_answer_same limits w a)
+  nlm_sides limits w version (TestMsg a) mine = slots_sides 1 limits w _ (decided_sides w _ (sent_sides w w _ refl (same w)) (refl, tt))
   nlm_sides limits w version (LockMsg a) mine =
-      message_sides limits w (λ stat. LockResult version (res a.cookie stat)) a.alock (lock_msg_answer limits w version a) (λ stat. refl) (verdict_same limits w a (lock_ask a (caller_row a) (GrantedMsg version a.exclusive a.alock) (slots_free limits w - 1)))
-  nlm_sides limits w version (CancelMsg a) mine = message_sides limits w (λ stat. CancelResult version (res a.cookie stat)) a.alock (cancel_answer w a) (λ stat. refl) (cancel_answer_same w a)
-  nlm_sides limits w version (UnlockMsg a) mine = message_sides limits w (λ stat. UnlockResult version (res a.cookie stat)) a.alock (unlock_answer limits w a) (λ stat. refl) (unlock_answer_same limits w a)
+      message_sides limits w (lock_letter version a) (lock_msg_answer limits w version a) (λ stat. refl) (verdict_same limits w a (lock_ask a (caller_row a) (GrantedMsg version a.exclusive a.alock) (slots_free limits w - 1)))
+  nlm_sides limits w version (CancelMsg a) mine = message_sides limits w (cancel_letter version a) (cancel_answer w a) (λ stat. refl) (cancel_answer_same w a)
+  nlm_sides limits w version (UnlockMsg a) mine = message_sides limits w (unlock_letter version a) (unlock_answer limits w a) (λ stat. refl) (unlock_answer_same limits w a)
   nlm_sides limits w version (GrantedRes a) mine = decided_sides w _ (granted_res_sides R limits w a.cookie a.stat) tt
   nlm_sides limits w version (ShareCall a) mine = decided_sides w _ (share_sides limits w a mine (file_refusal w (Sharing a.reclaim) a.fh) refl) tt
   nlm_sides limits w version (Unshare a) mine = decided_sides w _ (unshare_sides w a (file_refusal w Unsharing a.fh)) tt
@@ -231,12 +231,25 @@ module _ (R : Share → Type 0) where
       go (Some refusal) = unmoved_sides R false w
       go None = sets mode
 
-  pub line_sides : (limits : Limits) (w : World) (l : ℕ) (line : Line) → SideMoves R false w (line_answer limits w l line).world
-  line_sides limits w l (GetLock mode lock) = unmoved_sides R false w
-  line_sides limits w l (SetLock mode lock) = set_line_sides limits w l false mode lock
-  line_sides limits w l (SetLockWait mode lock) = set_line_sides limits w l true mode lock
-  line_sides limits w l (Close owner file) = same_sides R false w _ (record { name = refl; phase = refl; shares = refl; calls = refl; next = refl })
-  line_sides limits w l Table = unmoved_sides R false w
-  line_sides limits w l HostList = unmoved_sides R false w
-  line_sides limits w l Stop = unmoved_sides R false w
-  line_sides limits w l BadLine = unmoved_sides R false w
+  abbrev BothLines : World → Ruling (Told LineReply) → Type 0
+  BothLines w r = SideMoves R false w r.agreed.world × SideMoves R false w r.refused.world
+
+  unmoved_line : (w : World) → SideMoves R false w w × SideMoves R false w w
+  unmoved_line w = (unmoved_sides R false w, unmoved_sides R false w)
+
+  both_lines : (limits : Limits) (w : World) (l : ℕ) (line : Line) → BothLines w (line_answer limits w l line)
+  both_lines limits w l (GetLock mode lock) = unmoved_line w
+  both_lines limits w l (SetLock mode lock) = let m = set_line_sides limits w l false mode lock in (m, m)
+  both_lines limits w l (SetLockWait mode lock) = let m = set_line_sides limits w l true mode lock in (m, m)
+  both_lines limits w l (Close owner file) = let m = same_sides R false w (closed_by w file owner) (record { name = refl; phase = refl; shares = refl; calls = refl; next = refl }) in (m, m)
+  both_lines limits w l Table = unmoved_line w
+  both_lines limits w l HostList = unmoved_line w
+  both_lines limits w l (SetQuota name runs) =
+      by_cond (BothLines w) (has_row w.hosts name) (quota_stored w (Quota name runs)) (stays w LineAbsent)
+      (λ _. (same_sides R false w _ (record { name = refl; phase = refl; shares = refl; calls = refl; next = refl }), unmoved_sides R false w))
+      (λ _. unmoved_line w)
+  both_lines limits w l Stop = unmoved_line w
+  both_lines limits w l BadLine = unmoved_line w
+
+  pub line_sides : (limits : Limits) (w : World) (l : ℕ) (line : Line) (store : StoreAnswer) → SideMoves R false w (ruled store (line_answer limits w l line)).world
+  line_sides limits w l line store = by_store (λ (t : Told LineReply). SideMoves R false w t.world) store (line_answer limits w l line) (both_lines limits w l line)

@@ -1,7 +1,7 @@
 -- Each answer to a call of the server's own, by what it changes beside the table.
 use Rattle.std.proofs.Common.{◌≡◌, ℕ, false, refl, Option, Some, None, inl}
 use Rattle.definitions.specs.Bytes.{Bytes, first_that}
-use Rattle.definitions.specs.Starts.{refuses}
+use Rattle.definitions.specs.Quotas.{quotas_of, is_refused}
 use Rattle.definitions.specs.Shares.{Share}
 use Rattle.definitions.specs.Nlm.{Stat, DENIED, DENIED_GRACE_PERIOD, Lock}
 use Rattle.definitions.specs.Outgoing.{Outgoing, Message, Granted, GrantedMsg, Notify, Destination, ToHost, ToConnection, is_numbered, call_of_xid, call_of_cookie, after_silence, after_silence_at, without_call}
@@ -36,7 +36,7 @@ module _ (R : Share → Type 0) where
   grant_sides : (limits : Limits) (w : World) (c : Outgoing) (alock : Lock) (stat : Option Stat) → SideMoves R false w (grant_answered limits w c alock stat).world
   grant_sides limits w c alock (Some DENIED) =
       let e = ended_sides w c in
-      by_cond (λ (t : Told Change). SideMoves R false w t.world) (refuses limits.runs w.settings (unlock_of alock)) (became TableStays (ended w c)) (became TableChanges (with_setting (ended w c) (unlock_of alock)))
+      by_cond (λ (t : Told Change). SideMoves R false w t.world) (is_refused limits.runs (quotas_of w.hosts) w.settings (unlock_of alock)) (became TableStays (ended w c)) (became TableChanges (with_setting (ended w c) (unlock_of alock)))
       (λ _. e)
       (λ _. record {
         name = refl;

@@ -5,7 +5,7 @@ use Rattle.std.proofs.lemmas.List.{append-nil}
 use Rattle.definitions.specs.Bytes.{Bytes, Holds}
 use Rattle.definitions.specs.Settings.{Setting, Request, setting_of}
 use Rattle.definitions.specs.Conflict.{conflicts}
-use Rattle.definitions.specs.Starts.{is_short, refuses}
+use Rattle.definitions.specs.Quotas.{quotas_of, lacks_room, is_refused}
 use Rattle.definitions.specs.Shares.{Share, is_denied, with_share, without_share, without_host_shares}
 use Rattle.definitions.specs.Phases.{Phase, Grace, Locking, Cancelling, Unlocking}
 use Rattle.definitions.specs.Nlm.{Stat, GRANTED, DENIED, DENIED_NOLOCKS, BLOCKED, DEADLCK, LockArgs, CancelArgs, UnlockArgs}
@@ -86,7 +86,7 @@ module _ (limits : Limits) (w : World) (a : LockAsk) where
   lock_same =
       by_cond (BothSame w) (conflicts w.settings a.request) (cond (a.block && not a.reclaim) (blocked_lock w a) (stays w DENIED)) (free_lock limits w a)
       (λ _. by_cond (BothSame w) (a.block && not a.reclaim) (blocked_lock w a) (stays w DENIED) (λ _. blocked) (λ _. stays_same w DENIED))
-      (λ _. by_cond (BothSame w) (is_short limits.runs w.settings) (stays w DENIED_NOLOCKS) (after_row w (row_asked w a.row) GRANTED (λ v. with_setting v (setting_of a.request))) (λ _. stays_same w DENIED_NOLOCKS) (λ _. row_same w (row_asked w a.row) GRANTED (λ v. with_setting v (setting_of a.request)) set_same))
+      (λ _. by_cond (BothSame w) (lacks_room limits.runs (quotas_of w.hosts) w.settings a.request) (stays w DENIED_NOLOCKS) (after_row w (row_asked w a.row) GRANTED (λ v. with_setting v (setting_of a.request))) (λ _. stays_same w DENIED_NOLOCKS) (λ _. row_same w (row_asked w a.row) GRANTED (λ v. with_setting v (setting_of a.request)) set_same))
     where
       blocked : BothSame w (blocked_lock w a)
       blocked =
@@ -98,7 +98,7 @@ module _ (limits : Limits) (w : World) (a : LockAsk) where
 pub unlock_same : (limits : Limits) (w : World) (s : Setting) → BothSame w (unlock_rules limits w s)
 unlock_same limits w s =
     let set : IsSame w (with_setting w s) = record { name = refl; phase = refl; shares = refl; calls = refl; next = refl } in
-    by_cond (BothSame w) (refuses limits.runs w.settings s) (stays w DENIED_NOLOCKS) (decided (record { says = GRANTED; world = with_setting w s })) (λ _. stays_same w DENIED_NOLOCKS) (λ _. (set, set))
+    by_cond (BothSame w) (is_refused limits.runs (quotas_of w.hosts) w.settings s) (stays w DENIED_NOLOCKS) (decided (record { says = GRANTED; world = with_setting w s })) (λ _. stays_same w DENIED_NOLOCKS) (λ _. (set, set))
 
 cancel_same : (w : World) (r : Request) → BothSame w (cancel_rules w r)
 cancel_same w r = by_cond (BothSame w) (is_waiting r w.waiters) _ (stays w DENIED) (λ _. (record { name = refl; phase = refl; shares = refl; calls = refl; next = refl }, record { name = refl; phase = refl; shares = refl; calls = refl; next = refl })) (λ _. stays_same w DENIED)

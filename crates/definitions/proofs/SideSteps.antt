@@ -188,8 +188,8 @@ module _ (limits : Limits) (s : State) where
   applied_sides (Silent number) store = silent_step _ _ s.world number
   applied_sides (Local l line) store =
       let R = IsShareReclaim (Local l line) in
-      let v = (line_answer limits s.world l line).world in
-      settled_step R limits _ s.world v (by_rules R _ s.world v (line_sides R limits s.world l line))
+      let v = (ruled store (line_answer limits s.world l line)).world in
+      settled_step R limits _ s.world v (by_rules R _ s.world v (line_sides R limits s.world l line store))
   applied_sides GraceOver store = going_step _ _ s.world _ refl refl (goes_still s.world (record s.world { phase = Normal }) refl refl)
   applied_sides Restart store = begun_sides _ store
 

@@ -102,7 +102,7 @@ zero_end before (s ∷ settings) file owner h = go (covers s file owner 0) refl 
         inl (ap (λ f. end_at f s.owner s.first) p.0 ∙ ap (λ o. end_at file o s.first) p.1 ∙ ap (end_at file owner) at)
     go false e k more = inr (inr (more k))
 
-cover_kept : (s : Setting) (file : Bytes) (owner : Owner) (n : ℕ) → (end_at s.file s.owner s.first ≡ end_at file owner (suc n) → ⊥) → (end_at s.file s.owner (s.last + 1) ≡ end_at file owner (suc n) → ⊥) → covers s file owner (suc n) ≡ covers s file owner n
+pub cover_kept : (s : Setting) (file : Bytes) (owner : Owner) (n : ℕ) → (end_at s.file s.owner s.first ≡ end_at file owner (suc n) → ⊥) → (end_at s.file s.owner (s.last + 1) ≡ end_at file owner (suc n) → ⊥) → covers s file owner (suc n) ≡ covers s file owner n
 cover_kept s file owner n f l = go (is_of file owner s) refl
   where
     go : (b : Bool) → is_of file owner s ≡ b → (b && within s.first s.last (suc n)) ≡ (b && within s.first s.last n)

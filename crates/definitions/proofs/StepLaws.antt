@@ -6,7 +6,7 @@ use Rattle.definitions.specs.Owners.{is_of_host, same_owner}
 use Rattle.definitions.specs.Bytes.{same_bytes}
 use Rattle.definitions.specs.Settings.{Mode, Setting, Request, mode_at, covers}
 use Rattle.definitions.specs.Conflict.{conflicts}
-use Rattle.definitions.specs.Starts.{is_short}
+use Rattle.definitions.specs.Quotas.{quotas_of, lacks_room}
 use Rattle.definitions.specs.Phases.{Phase, Grace}
 use Rattle.definitions.specs.Hosts.{Hosts, StoreCall, Begin, StoreAnswer, NotAsked, Yes, Refused, after_store}
 use Rattle.definitions.specs.Nlm.{Locks, LockMsg}
@@ -23,6 +23,9 @@ use Rattle.definitions.specs.Reclaims.{AreCompatible, AreWithin, IsHonest, IsUnd
 use Rattle.definitions.specs.Moves.{TableMove, Stays, DropsHost, DropsOwner, Unlocks, Sets, Empties, AreRanges, Moves, IsReclaim, IsReclaimOf, IsSound, ExclusionLaw, GraceLaw}
 use Rattle.definitions.proofs.SettingLaws.{newest_wins, drop_host, drop_owner}
 use Rattle.definitions.proofs.WorldLaws.{due_keeps, settle_law}
+use Rattle.definitions.proofs.QuotaLaws.{AreKept, all_kept, none_readied, store_keeps}
+use Rattle.definitions.proofs.RowAsks.{IsOfRow, asks_row}
+use Rattle.definitions.proofs.StoreRules.{due_hosts}
 use Rattle.definitions.proofs.ReclaimLaws.{exclusion_kept, exclusion_kept_by_unlock, exclusion_kept_by_drops, honest_stays_within, none_is_least}
 use Rattle.definitions.proofs.MoveLaws.{by_cond, ranges_behind}
 use Rattle.definitions.proofs.AnswerMoves.{restart_moves, call_moves, ruled_moves, answer_moves, told_moves, ToldMoves, line_moves}
@@ -50,18 +53,24 @@ settles_sound : (limits : Limits) {w v : World} → Settles limits w v → AreCo
 settles_sound limits (AtRest e) old ranges = record { compatible = old; ranges = ranges; at_rest = e }
 settles_sound limits (Grants {w = w} {x = x} f more) old ranges =
     let parts = ranges_left f.before (x ∷ f.behind) (subst AreRanges f.there ranges) in
-    let free = not-true (conflicts w.settings x.request) (and_parts (not (conflicts w.settings x.request)) (not (is_short limits.runs w.settings)) f.ready).0 in
+    let free = not-true (conflicts w.settings x.request) (and_parts (not (conflicts w.settings x.request)) (not (lacks_room limits.runs (quotas_of w.hosts) w.settings x.request)) f.ready).0 in
     settles_sound limits more (exclusion_kept w.settings x.request parts.1.0 old free) (ranges_behind f.before f.behind parts.0 parts.1.1)
 
 pub settled_sound : (limits : Limits) (R : Request → Type 0) (w v : World) → Moves R w v → IsSound limits w → IsSound limits (settled limits v)
 settled_sound limits R w v m s = settles_sound limits (settle_law limits v) (move_compatible R w.phase w.settings v.settings m.table s.compatible) (m.ranges s.ranges)
 
-sound_same : (limits : Limits) (w v : World) → v.settings ≡ w.settings → v.waiters ≡ w.waiters → IsSound limits w → IsSound limits v
-sound_same limits w v e k s = record {
+sound_same : (limits : Limits) (w v : World) → v.settings ≡ w.settings → v.waiters ≡ w.waiters → AreKept (quotas_of w.hosts) (quotas_of v.hosts) → IsSound limits w → IsSound limits v
+sound_same limits w v e k q s = record {
   compatible = subst AreCompatible (sym e) s.compatible;
   ranges = subst AreRanges (sym k) s.ranges;
-  at_rest = ap (λ (settings : List Setting). is_any (is_ready limits settings) v.waiters) e ∙ ap (is_any (is_ready limits w.settings)) k ∙ s.at_rest;
+  at_rest =
+      ap (λ (settings : List Setting). is_any (is_ready limits (quotas_of v.hosts) settings) v.waiters) e
+      ∙ ap (is_any (is_ready limits (quotas_of v.hosts) w.settings)) k
+      ∙ none_readied limits (quotas_of w.hosts) (quotas_of v.hosts) q w.settings w.waiters s.at_rest;
 }
+
+hosts_stay : (w v : World) → v.hosts ≡ w.hosts → AreKept (quotas_of w.hosts) (quotas_of v.hosts)
+hosts_stay w v e = subst (λ (hosts : Hosts). AreKept (quotas_of w.hosts) (quotas_of hosts)) (sym e) (all_kept (quotas_of w.hosts))
 
 abbrev Anything : Request → Type 0
 Anything r = Unit {0}
@@ -71,7 +80,7 @@ module _ (limits : Limits) (s : State) (sound : IsSound limits s.world) where
   taken_sound peer asked xid call store (Some k) =
       let kept = due_keeps s.world k.letters in
       by_cond (λ (t : Stepped). IsSound limits t.state.world) (leb (length k.letters) (slots_free limits s.world)) _ _
-      (λ _. sound_same limits s.world (with_all_due s.world k.letters) kept.0 kept.1 sound)
+      (λ _. sound_same limits s.world (with_all_due s.world k.letters) kept.0 kept.1 (hosts_stay s.world (with_all_due s.world k.letters) (due_hosts s.world k.letters)) sound)
       (λ _. sound)
   taken_sound peer asked xid call store None =
       settled_sound limits Anything s.world (ruled store (ruling limits s.world peer.local call)).world
@@ -80,13 +89,13 @@ module _ (limits : Limits) (s : State) (sound : IsSound limits s.world) where
 
   sent_sound : (o : Option Outgoing) → IsSound limits (sent s o).state.world
   sent_sound None = sound
-  sent_sound (Some c) = sound_same limits s.world _ refl refl sound
+  sent_sound (Some c) = sound_same limits s.world _ refl refl (all_kept (quotas_of s.world.hosts)) sound
 
   changed_sound : (t : Told Change) → ToldMoves Anything t.says s.world t.world → IsSound limits (settled_after limits t)
   changed_sound t m = go t.says m
     where
       go : (c : Change) → ToldMoves Anything c s.world t.world → IsSound limits (elim c [ TableStays ↦ t.world | TableChanges ↦ settled limits t.world ])
-      go TableStays k = sound_same limits s.world t.world k.0 k.1 sound
+      go TableStays k = sound_same limits s.world t.world k.0 k.1 k.2 sound
       go TableChanges k = settled_sound limits Anything s.world t.world k sound
 
   answer_sound : (reading : AnswerReading) (store : StoreAnswer) → IsSound limits (settled_after limits (ruled store (answer_rules limits s.world reading)))
@@ -97,7 +106,7 @@ module _ (limits : Limits) (s : State) (sound : IsSound limits s.world) where
   restarted_sound : (w : World) (hosts : Hosts) → IsSound limits (restarted w hosts)
   restarted_sound w hosts =
       let kept = due_keeps (opening w.own_name hosts) (map (restart_letter w.own_name hosts.own) hosts.rows) in
-      sound_same limits (opening w.own_name hosts) (restarted w hosts) kept.0 kept.1 (record { compatible = nothing_set; ranges = tt; at_rest = refl })
+      sound_same limits (opening w.own_name hosts) (restarted w hosts) kept.0 kept.1 (hosts_stay (opening w.own_name hosts) (restarted w hosts) (due_hosts (opening w.own_name hosts) (map (restart_letter w.own_name hosts.own) hosts.rows))) (record { compatible = nothing_set; ranges = tt; at_rest = refl })
 
   restart_sound : (store : StoreAnswer) → IsSound limits (restart s store).state.world
   restart_sound Yes = restarted_sound s.world (after_store s.world.hosts Begin)
@@ -110,20 +119,20 @@ module _ (limits : Limits) (s : State) (sound : IsSound limits s.world) where
   applied_sound (Take peer asked (Asks xid call)) store = taken_sound peer asked xid call store (look s peer asked)
   applied_sound Send store = sent_sound (next_due s.world.calls)
   applied_sound (Answer reading) store = answer_sound reading store
-  applied_sound (Silent number) store = sound_same limits s.world _ refl refl sound
-  applied_sound (Local l line) store = settled_sound limits Anything s.world (line_answer limits s.world l line).world (line_moves Anything limits s.world l line) sound
-  applied_sound GraceOver store = sound_same limits s.world _ refl refl sound
+  applied_sound (Silent number) store = sound_same limits s.world _ refl refl (all_kept (quotas_of s.world.hosts)) sound
+  applied_sound (Local l line) store = settled_sound limits Anything s.world (ruled store (line_answer limits s.world l line)).world (line_moves Anything limits s.world l line store) sound
+  applied_sound GraceOver store = sound_same limits s.world _ refl refl (all_kept (quotas_of s.world.hosts)) sound
   applied_sound Restart store = restart_sound store
 
-  row_sound : (call : Call) (o : Option StoreCall) (store : StoreAnswer) → IsSound limits (with_row_stored s call o store).world
-  row_sound (Nlm version (Locks a)) (Some call) Yes = sound_same limits s.world _ refl refl sound
-  row_sound (Nlm version (LockMsg a)) (Some call) Yes = sound_same limits s.world _ refl refl sound
-  row_sound _ _ _ = sound
+  row_sound : (call : Call) (o : Option StoreCall) (store : StoreAnswer) → IsOfRow call o → IsSound limits (with_row_stored s call o store).world
+  row_sound (Nlm version (Locks a)) (Some call) Yes h = sound_same limits s.world _ refl refl (store_keeps s.world.hosts call h) sound
+  row_sound (Nlm version (LockMsg a)) (Some call) Yes h = sound_same limits s.world _ refl refl (store_keeps s.world.hosts call h) sound
+  row_sound _ _ _ h = sound
 
   starved_sound : (event : Event) (store : StoreAnswer) → IsSound limits (starved limits s event store).state.world
   starved_sound (Take peer asked Ignored) store = sound
   starved_sound (Take peer asked (Turned xid refusal)) store = sound
-  starved_sound (Take peer asked (Asks xid call)) store = row_sound call (store_call limits s (Take peer asked (Asks xid call))) store
+  starved_sound (Take peer asked (Asks xid call)) store = row_sound call (store_call limits s (Take peer asked (Asks xid call))) store (asks_row limits s peer call (look s peer asked))
   starved_sound (Local l line) store = sound
   starved_sound _ store = sound
 
@@ -214,7 +223,7 @@ module _ (limits : Limits) (old : List Setting) (s : State) (g : s.world.phase �
   applied_under (Answer reading) store honest = answer_under reading store
   applied_under (Silent number) store honest = under_same old s.world _ refl refl under
   applied_under (Local l line) store honest =
-      settled_under limits old (line_answer limits s.world l line).world (moved (line_answer limits s.world l line).world (line_moves Nothing_reclaimed limits s.world l line))
+      settled_under limits old (ruled store (line_answer limits s.world l line)).world (moved (ruled store (line_answer limits s.world l line)).world (line_moves Nothing_reclaimed limits s.world l line store))
   applied_under GraceOver store honest = under_same old s.world _ refl refl under
   applied_under Restart store honest = restart_under store
 

@@ -5,7 +5,7 @@ use Rattle.definitions.specs.Bytes.{Bytes}
 use Rattle.definitions.specs.Nlm.{Locks, LockMsg}
 use Rattle.definitions.specs.Hosts.{Hosts, StoreCall, Begin, StoreAnswer, NotAsked, Yes, Refused, AreInOrder, after_store}
 use Rattle.definitions.specs.Outgoing.{Outgoing, next_due}
-use Rattle.definitions.specs.Replies.{Call, Nlm, Ignored, Turned, Asks, AnswerReading}
+use Rattle.definitions.specs.Replies.{Call, Nlm, Ignored, Turned, Asks, AnswerReading, LineReply}
 use Rattle.definitions.specs.World.{Limits, slots_free, restart_letter, opening}
 use Rattle.definitions.specs.Rulings.{Told, Ruling, ruled}
 use Rattle.definitions.specs.Lines.{line_answer}
@@ -16,7 +16,7 @@ use Rattle.definitions.specs.Replay.{Done, after, state_after, may_leave_row, fi
 use Rattle.definitions.specs.Asking.{hosts_after, StoreLaw, HostRunLaw}
 use Rattle.definitions.proofs.MoveLaws.{by_cond}
 use Rattle.definitions.proofs.AskingLaws.{starved_law}
-use Rattle.definitions.proofs.StoreRules.{Answer_follows, due_hosts, answer_follows, call_follows, line_follows}
+use Rattle.definitions.proofs.StoreRules.{Answer_follows, due_hosts, answer_follows, call_follows, line_follows, Line_follows}
 use Rattle.definitions.proofs.HostLaws.{hosts_law}
 use Rattle.definitions.proofs.SideSteps.{settle_keeps}
 
@@ -50,6 +50,11 @@ module _ (limits : Limits) (s : State) where
   ruled_follows NotAsked r h = h.1 ∙ sym (unless_yes s.world.hosts r.asks NotAsked not_asked)
   ruled_follows Yes r h = h.0
   ruled_follows Refused r h = h.1 ∙ sym (unless_yes s.world.hosts r.asks Refused refused_is_no_yes)
+
+  ruled_line : (store : StoreAnswer) (r : Ruling (Told LineReply)) → Line_follows s.world r → (ruled store r).world.hosts ≡ hosts_after s.world.hosts r.asks store
+  ruled_line NotAsked r h = h.1 ∙ sym (unless_yes s.world.hosts r.asks NotAsked not_asked)
+  ruled_line Yes r h = h.0
+  ruled_line Refused r h = h.1 ∙ sym (unless_yes s.world.hosts r.asks Refused refused_is_no_yes)
 
   taken_follows : (peer : Peer) (asked : Bytes) (xid : ℕ) (call : Call) (store : StoreAnswer) (o : Option KeptPair) → (taken limits s peer asked xid call store o).state.world.hosts ≡ hosts_after s.world.hosts (asked_unless_kept limits s peer call o) store
   taken_follows peer asked xid call store (Some k) =
@@ -87,7 +92,9 @@ module _ (limits : Limits) (s : State) where
   applied_follows Send store = sent_follows (next_due s.world.calls) ∙ sym (unasked s.world.hosts store)
   applied_follows (Answer reading) store = answered_follows reading store
   applied_follows (Silent number) store = sym (unasked s.world.hosts store)
-  applied_follows (Local l line) store = (settle_keeps limits (line_answer limits s.world l line).world).hosts ∙ line_follows limits s.world l line ∙ sym (unasked s.world.hosts store)
+  applied_follows (Local l line) store =
+      let r = line_answer limits s.world l line in
+      (settle_keeps limits (ruled store r).world).hosts ∙ ruled_line store r (line_follows limits s.world l line)
   applied_follows GraceOver store = sym (unasked s.world.hosts store)
   applied_follows Restart store = restart_follows store
 

@@ -4,22 +4,22 @@ use Rattle.std.specs.Ordering.{int_eq}
 use Rattle.definitions.specs.Bytes.{Bytes}
 use Rattle.definitions.specs.Settings.{Mode, Setting, Request, setting_of}
 use Rattle.definitions.specs.Conflict.{conflicts}
-use Rattle.definitions.specs.Starts.{is_short, refuses}
+use Rattle.definitions.specs.Quotas.{quotas_of, lacks_room, is_refused}
 use Rattle.definitions.specs.Shares.{is_denied, has_no_room}
 use Rattle.definitions.specs.Phases.{Locking, Cancelling, Unlocking, Sharing, Unsharing}
 use Rattle.definitions.specs.Nlm.{Version, Stat, GRANTED, DENIED, DENIED_NOLOCKS, BLOCKED, DEADLCK, DENIED_GRACE_PERIOD, Lock, LockArgs, CancelArgs, UnlockArgs, ShareArgs, NlmCall, Null, Test, Locks, Cancel, Unlock, TestMsg, LockMsg, CancelMsg, UnlockMsg, GrantedRes, ShareCall, Unshare, NmLock, FreeAll}
 use Rattle.definitions.specs.Nsm.{NsmCall, SmNull, SmStat, SmMon, SmUnmon, SmUnmonAll, SmSimuCrash, SmNotify}
-use Rattle.definitions.specs.Hosts.{HostRow, StoreCall, Begin, Seen, Yes, row_of, watches_of, after_store}
-use Rattle.definitions.specs.Outgoing.{Outgoing, Letter, LocalLock, Message, Granted, GrantedMsg, TestResult, LockResult, CancelResult, UnlockResult, Notify, Destination, ToHost, ToConnection, call_of_xid, call_of_cookie}
+use Rattle.definitions.specs.Hosts.{HostRow, StoreCall, Begin, Seen, Yes, row_of, watches_of, after_store, Quota, has_row}
+use Rattle.definitions.specs.Outgoing.{Outgoing, Letter, LocalLock, Message, Granted, GrantedMsg, Notify, Destination, ToHost, ToConnection, call_of_xid, call_of_cookie}
 use Rattle.definitions.specs.Ranges.{range_refusal, file_refusal, request_of, unlock_of, line_unlock}
-use Rattle.definitions.specs.Replies.{Call, Nlm, Nsm, SystemErr, AnswerReading, Unreadable, AcceptedSuccess, OtherAnswer, Line, GetLock, SetLock, SetLockWait, Close, Table, HostList, Stop, BadLine, LineReply}
+use Rattle.definitions.specs.Replies.{Call, Nlm, Nsm, SystemErr, AnswerReading, Unreadable, AcceptedSuccess, OtherAnswer, Line, GetLock, SetLock, SetLockWait, Close, Table, HostList, SetQuota, Stop, BadLine, LineReply, LineAbsent}
 use Rattle.definitions.specs.Waits.{is_waiting, closes_cycle}
 use Rattle.definitions.specs.World.{World, Limits, with_setting, with_waiter, with_hosts, with_due, with_all_due, slots_free, restart_letter, opening}
-use Rattle.definitions.specs.Rulings.{Told, Ruling, decided, stays, each}
+use Rattle.definitions.specs.Rulings.{Told, Ruling, decided, stays}
 use Rattle.definitions.specs.LockRules.{LockAsk, row_asked, after_row, free_lock, blocked_lock, lock_rules, unlock_rules, cancel_rules}
-use Rattle.definitions.specs.Lines.{line_refusal, line_answer, set_unless, line_sets, line_ask}
+use Rattle.definitions.specs.Lines.{line_refusal, line_answer, quota_stored, set_unless, line_sets, line_ask}
 use Rattle.definitions.specs.Grants.{Change, TableStays, TableChanges, ended, became, grant_answered, granted_res_rules, granted_res_at, granted_res_of, notice_answered, succeeded, answered_success, answered_otherwise, answer_rules}
-use Rattle.definitions.specs.Answer.{Answered, res, gives, lock_ask, caller_row, lock_unless, lock_verdict, lock_msg_answer, cancel_unless, cancel_answer, unlock_unless, unlock_answer, if_slots, by_message, sent_back, test_answer, share_unless, share_of, unshare_unless, stored, notified, notify_rules, status_letter, nlm_answer, nsm_answer, ruling}
+use Rattle.definitions.specs.Answer.{Answered, gives, lock_ask, caller_row, lock_unless, lock_verdict, lock_msg_answer, cancel_unless, cancel_answer, unlock_unless, unlock_answer, if_slots, by_call, by_message, sent_back, test_letter, lock_letter, cancel_letter, unlock_letter, share_unless, share_of, unshare_unless, stored, notified, notify_rules, status_letter, nlm_answer, nsm_answer, ruling}
 use Rattle.definitions.specs.Asking.{hosts_after}
 use Rattle.definitions.proofs.MoveLaws.{by_cond}
 
@@ -50,7 +50,7 @@ lock_follows : (limits : Limits) (w : World) (a : LockAsk) → Told_follows w (l
 lock_follows limits w a =
     by_cond (Told_follows w) (conflicts w.settings a.request) (cond (a.block && not a.reclaim) (blocked_lock w a) (stays w DENIED)) (free_lock limits w a)
     (λ _. by_cond (Told_follows w) (a.block && not a.reclaim) (blocked_lock w a) (stays w DENIED) (λ _. blocked) (λ _. (refl, refl)))
-    (λ _. by_cond (Told_follows w) (is_short limits.runs w.settings) (stays w DENIED_NOLOCKS) (after_row w (row_asked w a.row) GRANTED (λ v. with_setting v (setting_of a.request))) (λ _. (refl, refl)) (λ _. row_follows w (row_asked w a.row) GRANTED (λ v. with_setting v (setting_of a.request)) (λ v. refl)))
+    (λ _. by_cond (Told_follows w) (lacks_room limits.runs (quotas_of w.hosts) w.settings a.request) (stays w DENIED_NOLOCKS) (after_row w (row_asked w a.row) GRANTED (λ v. with_setting v (setting_of a.request))) (λ _. (refl, refl)) (λ _. row_follows w (row_asked w a.row) GRANTED (λ v. with_setting v (setting_of a.request)) (λ v. refl)))
   where
     blocked : Told_follows w (blocked_lock w a)
     blocked =
@@ -60,7 +60,7 @@ lock_follows limits w a =
         (λ _. row_follows w (row_asked w a.row) BLOCKED (λ v. with_waiter v (record { request = a.request; letter = a.letter })) (λ v. refl))))
 
 unlock_follows : (limits : Limits) (w : World) (s : Setting) → Told_follows w (unlock_rules limits w s)
-unlock_follows limits w s = by_cond (Told_follows w) (refuses limits.runs w.settings s) (stays w DENIED_NOLOCKS) (decided (record { says = GRANTED; world = with_setting w s })) (λ _. (refl, refl)) (λ _. (refl, refl))
+unlock_follows limits w s = by_cond (Told_follows w) (is_refused limits.runs (quotas_of w.hosts) w.settings s) (stays w DENIED_NOLOCKS) (decided (record { says = GRANTED; world = with_setting w s })) (λ _. (refl, refl)) (λ _. (refl, refl))
 
 cancel_follows : (w : World) (r : Request) → Told_follows w (cancel_rules w r)
 cancel_follows w r = by_cond (Told_follows w) (is_waiting r w.waiters) _ (stays w DENIED) (λ _. (refl, refl)) (λ _. (refl, refl))
@@ -90,7 +90,7 @@ unlock_answer_follows limits w a = go (range_refusal w Unlocking a.alock)
 
 grant_follows : (limits : Limits) (w : World) (c : Outgoing) (alock : Lock) (stat : Option Stat) → (grant_answered limits w c alock stat).world.hosts ≡ w.hosts
 grant_follows limits w c alock (Some DENIED) =
-    by_cond (λ (t : Told Change). t.world.hosts ≡ w.hosts) (refuses limits.runs w.settings (unlock_of alock)) (became TableStays (ended w c)) (became TableChanges (with_setting (ended w c) (unlock_of alock))) (λ _. refl) (λ _. refl)
+    by_cond (λ (t : Told Change). t.world.hosts ≡ w.hosts) (is_refused limits.runs (quotas_of w.hosts) w.settings (unlock_of alock)) (became TableStays (ended w c)) (became TableChanges (with_setting (ended w c) (unlock_of alock))) (λ _. refl) (λ _. refl)
 grant_follows limits w c alock (Some DENIED_GRACE_PERIOD) = refl
 grant_follows limits w c alock _ = refl
 
@@ -133,8 +133,8 @@ answer_follows limits w (OtherAnswer xid) = go (call_of_xid xid w.calls)
 slots_follow : (n : ℕ) (limits : Limits) (w : World) (r : Ruling Answered) → Answer_follows w r → Answer_follows w (if_slots n limits w r)
 slots_follow n limits w r h = by_cond (Answer_follows w) (leb n (slots_free limits w)) r (decided (gives w SystemErr)) (λ _. h) (λ _. (refl, refl))
 
-message_follows : (limits : Limits) (w : World) (message : Stat → Message) (alock : Lock) (r : Ruling (Told Stat)) → Told_follows w r → Answer_follows w (by_message limits w message alock r)
-message_follows limits w message alock r h = slots_follow 1 limits w (each (λ (t : Told Stat). sent_back (message t.says) alock.caller_name t.world) r) h
+message_follows : (limits : Limits) (w : World) (letter : Stat → Letter) (r : Ruling (Told Stat)) → Told_follows w r → Answer_follows w (by_message limits w letter r)
+message_follows limits w letter r h = slots_follow 1 limits w (by_call letter r) h
 
 share_follows : (limits : Limits) (w : World) (a : ShareArgs) (o : Option Stat) → (share_unless limits w a o).world.hosts ≡ w.hosts
 share_follows limits w a (Some stat) = refl
@@ -153,10 +153,10 @@ nlm_follows limits w version (Locks a) = verdict_follows limits w a (lock_ask a 
 nlm_follows limits w version (NmLock a) = verdict_follows limits w a (lock_ask a None (Granted version a.exclusive a.alock) (slots_free limits w))
 nlm_follows limits w version (Cancel a) = cancel_answer_follows w a
 nlm_follows limits w version (Unlock a) = unlock_answer_follows limits w a
-nlm_follows limits w version (TestMsg a) = slots_follow 1 limits w (decided (sent_back (TestResult version (test_answer w a)) a.alock.caller_name w)) (refl, refl)
-nlm_follows limits w version (LockMsg a) = message_follows limits w (λ stat. LockResult version (res a.cookie stat)) a.alock (lock_msg_answer limits w version a) (verdict_follows limits w a (lock_ask a (caller_row a) (GrantedMsg version a.exclusive a.alock) (slots_free limits w - 1)))
-nlm_follows limits w version (CancelMsg a) = message_follows limits w (λ stat. CancelResult version (res a.cookie stat)) a.alock (cancel_answer w a) (cancel_answer_follows w a)
-nlm_follows limits w version (UnlockMsg a) = message_follows limits w (λ stat. UnlockResult version (res a.cookie stat)) a.alock (unlock_answer limits w a) (unlock_answer_follows limits w a)
+nlm_follows limits w version (TestMsg a) = slots_follow 1 limits w (decided (sent_back (test_letter w version a) w)) (refl, refl)
+nlm_follows limits w version (LockMsg a) = message_follows limits w (lock_letter version a) (lock_msg_answer limits w version a) (verdict_follows limits w a (lock_ask a (caller_row a) (GrantedMsg version a.exclusive a.alock) (slots_free limits w - 1)))
+nlm_follows limits w version (CancelMsg a) = message_follows limits w (cancel_letter version a) (cancel_answer w a) (cancel_answer_follows w a)
+nlm_follows limits w version (UnlockMsg a) = message_follows limits w (unlock_letter version a) (unlock_answer limits w a) (unlock_answer_follows limits w a)
 nlm_follows limits w version (GrantedRes a) = (granted_res_follows limits w a.cookie a.stat, granted_res_follows limits w a.cookie a.stat)
 nlm_follows limits w version (ShareCall a) = let h = share_follows limits w a (file_refusal w (Sharing a.reclaim) a.fh) in (h, h)
 nlm_follows limits w version (Unshare a) = let h = unshare_follows w a (file_refusal w Unsharing a.fh) in (h, h)
@@ -197,12 +197,16 @@ set_follows limits w l block mode lock None = sets mode
     sets None = (unlock_follows limits w (line_unlock lock)).1
     sets (Some m) = (lock_follows limits w (line_ask l (slots_free limits w) block m lock)).1
 
-pub line_follows : (limits : Limits) (w : World) (l : ℕ) (line : Line) → (line_answer limits w l line).world.hosts ≡ w.hosts
-line_follows limits w l (GetLock mode lock) = refl
-line_follows limits w l (SetLock mode lock) = set_follows limits w l false mode lock (line_refusal w lock)
-line_follows limits w l (SetLockWait mode lock) = set_follows limits w l true mode lock (line_refusal w lock)
-line_follows limits w l (Close owner file) = refl
-line_follows limits w l Table = refl
-line_follows limits w l HostList = refl
-line_follows limits w l Stop = refl
-line_follows limits w l BadLine = refl
+abbrev pub Line_follows : World → Ruling (Told LineReply) → Type 0
+Line_follows w r = Follows w r.asks r.agreed.world r.refused.world
+
+pub line_follows : (limits : Limits) (w : World) (l : ℕ) (line : Line) → Line_follows w (line_answer limits w l line)
+line_follows limits w l (GetLock mode lock) = (refl, refl)
+line_follows limits w l (SetLock mode lock) = let h = set_follows limits w l false mode lock (line_refusal w lock) in (h, h)
+line_follows limits w l (SetLockWait mode lock) = let h = set_follows limits w l true mode lock (line_refusal w lock) in (h, h)
+line_follows limits w l (Close owner file) = (refl, refl)
+line_follows limits w l Table = (refl, refl)
+line_follows limits w l HostList = (refl, refl)
+line_follows limits w l (SetQuota name runs) = by_cond (Line_follows w) (has_row w.hosts name) (quota_stored w (Quota name runs)) (stays w LineAbsent) (λ _. (refl, refl)) (λ _. (refl, refl))
+line_follows limits w l Stop = (refl, refl)
+line_follows limits w l BadLine = (refl, refl)

@@ -6,13 +6,14 @@ use Rattle.definitions.specs.Settings.{Request}
 use Rattle.definitions.specs.Starts.{Run, first_conflict}
 use Rattle.definitions.specs.Shares.{Share, is_denied, has_no_room, with_share, without_share}
 use Rattle.definitions.specs.Phases.{Testing, Locking, Sharing, Cancelling, Unlocking, Unsharing}
-use Rattle.definitions.specs.Nlm.{Version, Stat, GRANTED, DENIED, DENIED_NOLOCKS, NlmCall, Null, Test, Locks, Cancel, Unlock, TestMsg, LockMsg, CancelMsg, UnlockMsg, GrantedRes, ShareCall, Unshare, NmLock, FreeAll, Lock, LockArgs, CancelArgs, TestArgs, UnlockArgs, ShareArgs, Res, TestRes, Holder}
+use Rattle.definitions.specs.Nlm.{Version, Stat, GRANTED, DENIED, DENIED_NOLOCKS, NlmCall, Null, Test, Locks, Cancel, Unlock, TestMsg, LockMsg, CancelMsg, UnlockMsg, GrantedRes, ShareCall, Unshare, NmLock, FreeAll, Lock, LockArgs, CancelArgs, TestArgs, UnlockArgs, ShareArgs, TestRes}
 use Rattle.definitions.specs.Nsm.{NsmCall, SmNull, SmStat, SmMon, SmUnmon, SmUnmonAll, SmSimuCrash, SmNotify, STAT_SUCC, STAT_FAIL}
 use Rattle.definitions.specs.Hosts.{HostRow, Watch, StoreCall, Begin, Seen, Watched, Unwatched, StoreAnswer, row_of, watches_of, after_store}
 use Rattle.definitions.specs.Outgoing.{Letter, ToHost, Message, Granted, GrantedMsg, TestResult, LockResult, CancelResult, UnlockResult, Status}
-use Rattle.definitions.specs.Ranges.{range_refusal, file_refusal, request_of, unlock_of, holder_of}
+use Rattle.definitions.specs.Ranges.{range_refusal, file_refusal, request_of, unlock_of}
 use Rattle.definitions.specs.Replies.{Call, Nlm, Nsm, Result, NoResult, ResResult, TestResResult, ShareResult, MonitorResult, StateResult, Outcome, Success, SystemErr}
 use Rattle.definitions.specs.World.{World, Limits, slots_free, with_hosts, with_due, with_all_due, without_host_of, restarted}
+use Rattle.definitions.specs.Shown.{res, share_res, free_test, held_test}
 use Rattle.definitions.specs.Rulings.{Told, Ruling, decided, stays, each, ruled}
 use Rattle.definitions.specs.LockRules.{LockAsk, NewHost, lock_rules, unlock_rules, cancel_rules}
 use Rattle.definitions.specs.Grants.{granted_res_rules}
@@ -31,20 +32,17 @@ says w result = decided (gives w (Success result))
 
 -- ---- TEST, LOCK, CANCEL, UNLOCK, NM_LOCK: what each comes to, before it is known how it is told
 
-abbrev pub test_res : Bytes → Stat → Option Holder → TestRes
-test_res cookie stat holder = record { cookie = cookie; stat = stat; holder = holder }
+abbrev pub test_shows : Version → Bytes → Option Run → TestRes
+test_shows version cookie None = free_test version cookie GRANTED
+test_shows version cookie (Some run) = held_test version cookie run
 
-abbrev pub test_shows : Bytes → Option Run → TestRes
-test_shows cookie None = test_res cookie GRANTED None
-test_shows cookie (Some run) = test_res cookie DENIED (Some (holder_of run))
-
-abbrev pub test_unless : World → TestArgs → Option Stat → TestRes
-test_unless w a (Some stat) = test_res a.cookie stat None
-test_unless w a None = test_shows a.cookie (first_conflict w.settings (request_of a.exclusive a.alock))
+abbrev pub test_unless : World → Version → TestArgs → Option Stat → TestRes
+test_unless w version a (Some stat) = free_test version a.cookie stat
+test_unless w version a None = test_shows version a.cookie (first_conflict w.settings (request_of a.exclusive a.alock))
 
 -- TEST: DENIED with the first conflict, or GRANTED
-abbrev pub test_answer : World → TestArgs → TestRes
-test_answer w a = test_unless w a (range_refusal w Testing a.alock)
+abbrev pub test_answer : World → Version → TestArgs → TestRes
+test_answer w version a = test_unless w version a (range_refusal w Testing a.alock)
 
 -- how a lock call is told of a grant, and which row it stores
 abbrev pub lock_ask : LockArgs → Option NewHost → Message → ℕ → LockAsk
@@ -95,37 +93,52 @@ unlock_unless limits w alock None = unlock_rules limits w (unlock_of alock)
 abbrev pub unlock_answer : Limits → World → UnlockArgs → Ruling (Told Stat)
 unlock_answer limits w a = unlock_unless limits w a.alock (range_refusal w Unlocking a.alock)
 
--- ---- how it is told: as the reply's result, or by an empty reply and a call to the caller's host
+-- ---- how it is told, as the call's version shows it: as the reply's result, or by an empty reply and a call to the caller's host
 
-abbrev pub res : Bytes → Stat → Res
-res cookie stat = record { cookie = cookie; stat = stat }
+abbrev pub replied : Version → Bytes → Told Stat → Answered
+replied version cookie t = gives t.world (Success (ResResult (res version cookie t.says)))
 
-abbrev pub replied : Bytes → Told Stat → Answered
-replied cookie t = gives t.world (Success (ResResult (res cookie t.says)))
+abbrev pub to_caller : Lock → Message → Letter
+to_caller alock message = record { to = ToHost alock.caller_name; message = message }
 
-abbrev pub sent_back : Message → Bytes → World → Answered
-sent_back message host w =
-    let letter : Letter = record { to = ToHost host; message = message } in
-    record { outcome = Success NoResult; due = letter ∷ []; world = with_due w letter }
+-- an empty reply, behind which this call is due
+abbrev pub sent_back : Letter → World → Answered
+sent_back letter w = record { outcome = Success NoResult; due = letter ∷ []; world = with_due w letter }
 
 -- a call that needs more slots than are free changes nothing
 abbrev pub if_slots : ℕ → Limits → World → Ruling Answered → Ruling Answered
 if_slots needed limits w r = cond (leb needed (slots_free limits w)) r (decided (gives w SystemErr))
 
-abbrev pub by_reply : Bytes → Ruling (Told Stat) → Ruling Answered
-by_reply cookie r = each (replied cookie) r
+abbrev pub by_reply : Version → Bytes → Ruling (Told Stat) → Ruling Answered
+by_reply version cookie r = each (replied version cookie) r
+
+abbrev pub by_call : (Stat → Letter) → Ruling (Told Stat) → Ruling Answered
+by_call letter r = each (λ (t : Told Stat). sent_back (letter t.says) t.world) r
 
 -- a message form needs the slot of its _RES whatever that says, so this is tested first
-abbrev pub by_message : Limits → World → (Stat → Message) → Lock → Ruling (Told Stat) → Ruling Answered
-by_message limits w message alock r = if_slots 1 limits w (each (λ (t : Told Stat). sent_back (message t.says) alock.caller_name t.world) r)
+abbrev pub by_message : Limits → World → (Stat → Letter) → Ruling (Told Stat) → Ruling Answered
+by_message limits w letter r = if_slots 1 limits w (by_call letter r)
+
+-- the calls that tell what a message form came to
+abbrev pub test_letter : World → Version → TestArgs → Letter
+test_letter w version a = to_caller a.alock (TestResult version (test_answer w version a))
+
+abbrev pub lock_letter : Version → LockArgs → Stat → Letter
+lock_letter version a stat = to_caller a.alock (LockResult version (res version a.cookie stat))
+
+abbrev pub cancel_letter : Version → CancelArgs → Stat → Letter
+cancel_letter version a stat = to_caller a.alock (CancelResult version (res version a.cookie stat))
+
+abbrev pub unlock_letter : Version → UnlockArgs → Stat → Letter
+unlock_letter version a stat = to_caller a.alock (UnlockResult version (res version a.cookie stat))
 
 -- ---- SHARE, UNSHARE
 
 abbrev pub share_of : ShareArgs → Share
 share_of a = record { file = a.fh; name = a.caller_name; oh = a.oh; deny = a.mode; access = a.access }
 
-abbrev pub share_told : ShareArgs → Told Stat → Answered
-share_told a t = gives t.world (Success (ShareResult (record { cookie = a.cookie; stat = t.says; sequence = pos 0 })))
+abbrev pub share_told : Version → ShareArgs → Told Stat → Answered
+share_told version a t = gives t.world (Success (ShareResult (share_res version a.cookie t.says)))
 
 abbrev pub share_rules : Limits → World → Share → Told Stat
 share_rules limits w new =
@@ -141,33 +154,33 @@ abbrev pub share_verdict : Limits → World → ShareArgs → Told Stat
 share_verdict limits w a = share_unless limits w a (file_refusal w (Sharing a.reclaim) a.fh)
 
 -- SHARE
-abbrev pub share_answer : Limits → World → ShareArgs → Answered
-share_answer limits w a = share_told a (share_verdict limits w a)
+abbrev pub share_answer : Limits → World → Version → ShareArgs → Answered
+share_answer limits w version a = share_told version a (share_verdict limits w a)
 
 abbrev pub unshare_unless : World → ShareArgs → Option Stat → Told Stat
 unshare_unless w a (Some stat) = record { says = stat; world = w }
 unshare_unless w a None = record { says = GRANTED; world = record w { shares = without_share (share_of a) w.shares } }
 
 -- UNSHARE; its `reclaim` is unused
-abbrev pub unshare_answer : World → ShareArgs → Answered
-unshare_answer w a = share_told a (unshare_unless w a (file_refusal w Unsharing a.fh))
+abbrev pub unshare_answer : World → Version → ShareArgs → Answered
+unshare_answer w version a = share_told version a (unshare_unless w a (file_refusal w Unsharing a.fh))
 
 -- ---- every NLM call
 
 abbrev pub nlm_answer : Limits → World → Version → NlmCall → Ruling Answered
 nlm_answer limits w version Null = says w NoResult
-nlm_answer limits w version (Test a) = says w (TestResResult version (test_answer w a))
-nlm_answer limits w version (Locks a) = by_reply a.cookie (lock_answer limits w version a)
-nlm_answer limits w version (NmLock a) = by_reply a.cookie (nm_lock_answer limits w version a)
-nlm_answer limits w version (Cancel a) = by_reply a.cookie (cancel_answer w a)
-nlm_answer limits w version (Unlock a) = by_reply a.cookie (unlock_answer limits w a)
-nlm_answer limits w version (TestMsg a) = if_slots 1 limits w (decided (sent_back (TestResult version (test_answer w a)) a.alock.caller_name w))
-nlm_answer limits w version (LockMsg a) = by_message limits w (λ stat. LockResult version (res a.cookie stat)) a.alock (lock_msg_answer limits w version a)
-nlm_answer limits w version (CancelMsg a) = by_message limits w (λ stat. CancelResult version (res a.cookie stat)) a.alock (cancel_answer w a)
-nlm_answer limits w version (UnlockMsg a) = by_message limits w (λ stat. UnlockResult version (res a.cookie stat)) a.alock (unlock_answer limits w a)
+nlm_answer limits w version (Test a) = says w (TestResResult version (test_answer w version a))
+nlm_answer limits w version (Locks a) = by_reply version a.cookie (lock_answer limits w version a)
+nlm_answer limits w version (NmLock a) = by_reply version a.cookie (nm_lock_answer limits w version a)
+nlm_answer limits w version (Cancel a) = by_reply version a.cookie (cancel_answer w a)
+nlm_answer limits w version (Unlock a) = by_reply version a.cookie (unlock_answer limits w a)
+nlm_answer limits w version (TestMsg a) = if_slots 1 limits w (decided (sent_back (test_letter w version a) w))
+nlm_answer limits w version (LockMsg a) = by_message limits w (lock_letter version a) (lock_msg_answer limits w version a)
+nlm_answer limits w version (CancelMsg a) = by_message limits w (cancel_letter version a) (cancel_answer w a)
+nlm_answer limits w version (UnlockMsg a) = by_message limits w (unlock_letter version a) (unlock_answer limits w a)
 nlm_answer limits w version (GrantedRes a) = says (granted_res_rules limits w a.cookie a.stat).world NoResult
-nlm_answer limits w version (ShareCall a) = decided (share_answer limits w a)
-nlm_answer limits w version (Unshare a) = decided (unshare_answer w a)
+nlm_answer limits w version (ShareCall a) = decided (share_answer limits w version a)
+nlm_answer limits w version (Unshare a) = decided (unshare_answer w version a)
 nlm_answer limits w version (FreeAll name state) = says (without_host_of w name) NoResult
 
 -- ---- NSM

@@ -2,7 +2,7 @@
 use Rattle.std.specs.Prelude.{cond, Option, Some, None}
 use Rattle.definitions.specs.Bytes.{Bytes}
 use Rattle.definitions.specs.Settings.{Setting}
-use Rattle.definitions.specs.Starts.{refuses}
+use Rattle.definitions.specs.Quotas.{quotas_of, is_refused}
 use Rattle.definitions.specs.Nlm.{Stat, DENIED, DENIED_GRACE_PERIOD, Lock}
 use Rattle.definitions.specs.Hosts.{Acked, after_store}
 use Rattle.definitions.specs.Outgoing.{Outgoing, Destination, ToHost, ToConnection, Message, Granted, GrantedMsg, Notify, without_call, after_silence, call_of_xid, call_of_cookie}
@@ -21,9 +21,10 @@ ended w c = with_calls w (without_call c.number w.calls)
 abbrev pub became : Change → World → Told Change
 became change w = record { says = change; world = w }
 
--- the range of a grant that its client refused is unlocked, unless that is refused for want of runs: then the lock stays
+-- the range of a grant that its client refused is unlocked, unless that is refused for want of runs or by its host's quota: then the lock stays
 abbrev pub unlocked : Limits → World → Setting → Told Change
-unlocked limits w s = cond (refuses limits.runs w.settings s) (became TableStays w) (became TableChanges (with_setting w s))
+unlocked limits w s =
+    cond (is_refused limits.runs (quotas_of w.hosts) w.settings s) (became TableStays w) (became TableChanges (with_setting w s))
 
 -- status 0 ends a grant, 1 ends it and unlocks, 4 counts as a silence, and all else ends it
 abbrev pub grant_answered : Limits → World → Outgoing → Lock → Option Stat → Told Change

@@ -52,12 +52,13 @@ watches_of hosts name = filter (λ (w : Watch). same_bytes w.mon_name name) host
 abbrev pub next_own : ℕ → ℕ
 next_own own = cond (leb 0x7fff_ffff own) 1 (own + 1 + own % 2)
 
--- what is asked of the store. A name that is watched gets a row, if it has none
+-- what is asked of the store. A name that is watched gets a row, if it has none; a quota is set of a name that has one
 pub data StoreCall : Type 0 where
   Begin : StoreCall
   Monitor : Bytes → ℤ → StoreCall
   Seen : Bytes → ℤ → StoreCall
   Acked : Bytes → ℕ → StoreCall
+  Quota : Bytes → ℕ → StoreCall
   Watched : Bytes → MyId → Bytes → StoreCall
   Unwatched : Option Bytes → MyId → StoreCall
 
@@ -79,6 +80,10 @@ abbrev pub with_epoch : Bytes → ℕ → List HostRow → List HostRow
 with_epoch name epoch [] = []
 with_epoch name epoch (r ∷ rows) = cond (same_bytes r.name name) (record r { epoch = epoch } ∷ rows) (r ∷ with_epoch name epoch rows)
 
+abbrev pub with_quota : Bytes → ℕ → List HostRow → List HostRow
+with_quota name runs [] = []
+with_quota name runs (r ∷ rows) = cond (same_bytes r.name name) (record r { quota = runs } ∷ rows) (r ∷ with_quota name runs rows)
+
 abbrev pub is_watch : Option Bytes → MyId → Watch → Bool
 is_watch None my w = is_eq (my_id_cmp w.my_id my)
 is_watch (Some name) my w = same_bytes w.mon_name name && is_eq (my_id_cmp w.my_id my)
@@ -89,6 +94,7 @@ after_store hosts Begin = record hosts { own = next_own hosts.own }
 after_store hosts (Monitor name state) = record hosts { rows = with_new_row name state hosts }
 after_store hosts (Seen name state) = record hosts { rows = with_seen name state hosts.rows }
 after_store hosts (Acked name epoch) = record hosts { rows = with_epoch name epoch hosts.rows }
+after_store hosts (Quota name runs) = record hosts { rows = with_quota name runs hosts.rows }
 after_store hosts (Watched name my bytes) = record hosts {
   rows = with_new_row name (pos 0) hosts;
   watches = put watch_cmp (record { mon_name = name; my_id = my; private_bytes = bytes }) hosts.watches;
@@ -101,6 +107,7 @@ is_past_limit most_rows most_watches hosts Begin = false
 is_past_limit most_rows most_watches hosts (Monitor name state) = not (has_row hosts name) && leb most_rows (length hosts.rows)
 is_past_limit most_rows most_watches hosts (Seen name state) = false
 is_past_limit most_rows most_watches hosts (Acked name epoch) = false
+is_past_limit most_rows most_watches hosts (Quota name runs) = false
 is_past_limit most_rows most_watches hosts (Watched name my bytes) =
     (not (has_row hosts name) && leb most_rows (length hosts.rows))
     || (not (is_any (is_watch (Some name) my) hosts.watches) && leb most_watches (length hosts.watches))

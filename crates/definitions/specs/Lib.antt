@@ -9,10 +9,12 @@ pub mod Nlm
 pub mod Nsm
 pub mod Hosts
 pub mod Outgoing
+pub mod Quotas
 pub mod Waits
 pub mod World
 pub mod Replies
 pub mod Ranges
+pub mod Shown
 pub mod Rulings
 pub mod LockRules
 pub mod Grants
@@ -34,6 +36,8 @@ pub mod Numbers
 pub mod Standing
 pub mod Uses
 pub mod RowsOfLines
+pub mod RowsOfQuotas
 pub mod RowsOfGrace
 pub mod RowsOfAnswers
+pub mod RowsOfVersions
 pub mod Asking

@@ -9,10 +9,11 @@ use Rattle.definitions.specs.Nlm.{Version, GRANTED, LockArgs, Locks, LockMsg, Nm
 use Rattle.definitions.specs.Ranges.{range_refusal, request_of}
 use Rattle.definitions.specs.Replies.{Call, Nlm, Nsm, Asks}
 use Rattle.definitions.specs.Waits.{Waiter}
-use Rattle.definitions.specs.World.{World, Limits, is_ready}
+use Rattle.definitions.specs.World.{World, Limits, is_ready_in}
 use Rattle.definitions.specs.Step.{State, Event, Take, Doing, step, opening_state}
 use Rattle.definitions.specs.Replay.{Done, after, state_after}
 use Rattle.definitions.specs.Starts.{is_short}
+use Rattle.definitions.specs.Quotas.{quotas_of, exceeds}
 use Rattle.definitions.specs.Answer.{lock_answer, nm_lock_answer, lock_msg_answer}
 use Rattle.definitions.specs.Hosts.{Hosts, StoreAnswer}
 use Rattle.definitions.specs.Reclaims.{AreCompatible, IsHonest, IsUnder}
@@ -59,7 +60,7 @@ IsReclaim _ r = ⊥
 pub record IsSound (limits : Limits) (w : World) : Type 0 where
   pub compatible : AreCompatible w.settings
   pub ranges : AreRanges w.waiters
-  pub at_rest : is_any (is_ready limits w.settings) w.waiters ≡ false
+  pub at_rest : is_any (is_ready_in limits w) w.waiters ≡ false
 
 -- so whatever the event, its outcome and the store's answer
 abbrev pub ExclusionLaw : Type 0
@@ -83,10 +84,10 @@ AreHonest limits old s (d ∷ done) = (s.world.phase ≡ Grace) × ((r : Request
 abbrev pub GraceRunLaw : Type 0
 GraceRunLaw = (limits : Limits) (old : List Setting) (s : State) (done : List Done) → IsUnder old s.world → AreHonest limits old s done → IsUnder old (state_after limits s done).world
 
--- in grace an honest reclaim from a world under the list is granted, unless fewer than 2 runs are free or the store refuses its row
+-- in grace an honest reclaim from a world under the list is granted, unless fewer than 2 runs are free, its host's quota doesn't admit it, or the store refuses its row
 abbrev pub HonestIsGranted : Type 0
 HonestIsGranted =
-    (limits : Limits) (old : List Setting) (w : World) (version : Version) (a : LockArgs) → w.phase ≡ Grace → AreCompatible old → IsUnder old w → a.reclaim ≡ true → range_refusal w (Locking a.reclaim) a.alock ≡ None → IsHonest old (request_of a.exclusive a.alock) → is_short limits.runs w.settings ≡ false → ((lock_answer limits w version a).agreed.says ≡ GRANTED) × ((nm_lock_answer limits w version a).agreed.says ≡ GRANTED) × ((lock_msg_answer limits w version a).agreed.says ≡ GRANTED)
+    (limits : Limits) (old : List Setting) (w : World) (version : Version) (a : LockArgs) → w.phase ≡ Grace → AreCompatible old → IsUnder old w → a.reclaim ≡ true → range_refusal w (Locking a.reclaim) a.alock ≡ None → IsHonest old (request_of a.exclusive a.alock) → is_short limits.runs w.settings ≡ false → exceeds (quotas_of w.hosts) w.settings (setting_of (request_of a.exclusive a.alock)) ≡ false → ((lock_answer limits w version a).agreed.says ≡ GRANTED) × ((nm_lock_answer limits w version a).agreed.says ≡ GRANTED) × ((lock_msg_answer limits w version a).agreed.says ≡ GRANTED)
 
 -- in grace, where nobody waits, a table gains a mode only by a reclaim
 abbrev pub GraceGrantsLaw : Type 0

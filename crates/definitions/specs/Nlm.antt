@@ -1,5 +1,5 @@
 -- The values of NLM (RFC 1813, appendix II; XNFS): what a call's arguments and a reply's result say, not how they are spelled.
-use Rattle.std.specs.Prelude.{ℕ, Bool, ℤ, Option}
+use Rattle.std.specs.Prelude.{ℕ, Bool, true, false, ℤ, Option}
 use Rattle.definitions.specs.Bytes.{Bytes}
 use Rattle.definitions.specs.Shares.{Access}
 
@@ -51,6 +51,10 @@ pub record Holder : Type 0 where
   pub oh : Bytes
   pub l_offset : ℕ
   pub l_len : ℕ
+
+abbrev pub is_denial : Stat → Bool
+is_denial DENIED = true
+is_denial _ = false
 
 -- there is a holder exactly where the status is DENIED
 pub record TestRes : Type 0 where

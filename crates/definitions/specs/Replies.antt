@@ -52,7 +52,7 @@ pub data AnswerReading : Type 0 where
 
 -- ---- local lines
 
--- `getlk`, `setlk` and `setlkw` (no mode is `u`, an unlock), `close`, `table`, `hosts`, `stop`, and a line that is none of them
+-- `getlk`, `setlk` and `setlkw` (no mode is `u`, an unlock), `close`, `table`, `hosts`, `quota`, `stop`, and a line that is none of them
 pub data Line : Type 0 where
   GetLock : Mode → LocalLock → Line
   SetLock : Option Mode → LocalLock → Line
@@ -60,12 +60,13 @@ pub data Line : Type 0 where
   Close : Owner → Bytes → Line
   Table : Line
   HostList : Line
+  SetQuota : Bytes → ℕ → Line
   Stop : Line
   BadLine : Line
 
 -- `LineHeld` shows a run's mode, first byte, length (0 to the end) and owner
 pub data LineReply : Type 0 where
-  LineOk LineAgain LineWait LineDeadlk LineNolck LineFbig LineGrace LineFree LineBad LineStarved : LineReply
+  LineOk LineAgain LineWait LineDeadlk LineNolck LineFbig LineGrace LineFree LineAbsent LineRefused LineBad LineStarved : LineReply
   LineHeld : Mode → ℕ → ℕ → Owner → LineReply
   LineTable : List Run → LineReply
   LineHosts : List HostRow → LineReply

@@ -22,13 +22,13 @@ refused_headers =
     ∷ Take the_peer [] (Turned 1 RpcMismatch)
     ∷ Take the_peer [] (Turned 1 BadCredential)
     ∷ Take the_peer [] (Turned 1 ProgUnavail)
-    ∷ Take the_peer [] (Turned 1 (ProgMismatch 4 4))
+    ∷ Take the_peer [] (Turned 1 (ProgMismatch 1 4))
     ∷ Take the_peer [] (Turned 1 ProcUnavail)
     ∷ Take the_peer [] (Turned 2 GarbageArgs)
     ∷ []
 
 abbrev pub refused_headers_gives : List Given
-refused_headers_gives = Nothing ∷ Replies 1 (Refuses RpcMismatch) ∷ Replies 1 (Refuses BadCredential) ∷ Replies 1 (Refuses ProgUnavail) ∷ Replies 1 (Refuses (ProgMismatch 4 4)) ∷ Replies 1 (Refuses ProcUnavail) ∷ Replies 2 (Refuses GarbageArgs) ∷ []
+refused_headers_gives = Nothing ∷ Replies 1 (Refuses RpcMismatch) ∷ Replies 1 (Refuses BadCredential) ∷ Replies 1 (Refuses ProgUnavail) ∷ Replies 1 (Refuses (ProgMismatch 1 4)) ∷ Replies 1 (Refuses ProcUnavail) ∷ Replies 2 (Refuses GarbageArgs) ∷ []
 
 abbrev pub RefusedChangeNothing : Type 0
 RefusedChangeNothing = left (LOCK 2 A w 0 10 ∷ refused_headers) ≡ left (LOCK 2 A w 0 10 ∷ [])

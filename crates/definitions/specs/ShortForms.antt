@@ -4,7 +4,7 @@ use Rattle.definitions.specs.Bytes.{Bytes, big_endian}
 use Rattle.definitions.specs.Owners.{Owner, Caller, Process, Description}
 use Rattle.definitions.specs.Settings.{Mode, Shared, Exclusive}
 use Rattle.definitions.specs.Shares.{Access}
-use Rattle.definitions.specs.Nlm.{V4, Stat, DENIED, NlmCall, Test, Locks, Cancel, Unlock, TestMsg, LockMsg, ShareCall, Unshare, NmLock, FreeAll, Lock, LockArgs, TestArgs, ShareArgs}
+use Rattle.definitions.specs.Nlm.{Version, V4, Stat, DENIED, NlmCall, Test, Locks, Cancel, Unlock, TestMsg, LockMsg, ShareCall, Unshare, NmLock, FreeAll, Lock, LockArgs, TestArgs, ShareArgs}
 use Rattle.definitions.specs.Nsm.{SmNotify}
 use Rattle.definitions.specs.Hosts.{Hosts, NotAsked, Yes, Refused}
 use Rattle.definitions.specs.Outgoing.{ToHost, Granted, LocalLock}
@@ -72,8 +72,11 @@ cookie_of xid = big_endian 4 xid
 abbrev pub call_from : Peer → ℕ → ℕ → Call → Event
 call_from peer xid tag call = Take peer (xid ∷ tag ∷ []) (Asks xid call)
 
+abbrev pub nlm_in : Version → ℕ → NlmCall → Event
+nlm_in version xid call = call_from the_peer xid 0 (Nlm version call)
+
 abbrev pub nlm : ℕ → NlmCall → Event
-nlm xid call = call_from the_peer xid 0 (Nlm V4 call)
+nlm xid call = nlm_in V4 xid call
 
 abbrev pub lock_at : Bytes → Caller → ℕ → ℕ → Lock
 lock_at fh o offset len = record {
@@ -190,9 +193,12 @@ share_stat xid s = told xid (ShareResult (record { cookie = cookie_of xid; stat 
 abbrev pub test_stat : ℕ → Stat → Given
 test_stat xid s = told xid (TestResResult V4 (record { cookie = cookie_of xid; stat = s; holder = None }))
 
+abbrev pub held_in : Version → ℕ → Bool → ℤ → Bytes → ℕ → ℕ → Given
+held_in version xid exclusive svid oh offset len =
+    told xid (TestResResult version (record { cookie = cookie_of xid; stat = DENIED; holder = Some (record { exclusive = exclusive; svid = svid; oh = oh; l_offset = offset; l_len = len }) }))
+
 abbrev pub held : ℕ → Bool → ℤ → Bytes → ℕ → ℕ → Given
-held xid exclusive svid oh offset len =
-    told xid (TestResResult V4 (record { cookie = cookie_of xid; stat = DENIED; holder = Some (record { exclusive = exclusive; svid = svid; oh = oh; l_offset = offset; l_len = len }) }))
+held xid exclusive svid oh offset len = held_in V4 xid exclusive svid oh offset len
 
 abbrev pub held_by : ℕ → Caller → Mode → ℕ → ℕ → Given
 held_by xid o mode offset len = held xid (is_exclusive mode) o.svid o.oh offset len
@@ -202,8 +208,11 @@ abbrev pub number : ℕ → ℕ → ℕ
 number own n = own * 0x1_0000_0000 + n
 
 -- GRANTED under own state 1, to the host of the owner
+abbrev pub grants_in : Version → ℕ → Caller → Mode → ℕ → ℕ → Given
+grants_in version n o mode offset len = Sends (number 1 n) (record { to = ToHost o.name; message = Granted version (is_exclusive mode) (lock_at the_file o offset len) })
+
 abbrev pub grants : ℕ → Caller → Mode → ℕ → ℕ → Given
-grants n o mode offset len = Sends (number 1 n) (record { to = ToHost o.name; message = Granted V4 (is_exclusive mode) (lock_at the_file o offset len) })
+grants n o mode offset len = grants_in V4 n o mode offset len
 
 -- ---- rows
 

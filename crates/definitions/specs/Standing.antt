@@ -1,13 +1,14 @@
--- What stands over every step and every list of events, besides the table: the own name, shares that coexist, and in grace no share but a reclaim and no grant.
+-- What stands over every step and every list of events, besides the table: the own name, shares that coexist, and in grace no share but a reclaim and no grant; and what is shown of it.
 use Rattle.std.specs.Prelude.{◌≡◌, ◌⊎◌, Bool, true, false, List, [], is_some}
 use Rattle.definitions.specs.Bytes.{Bytes, Holds, is_any}
 use Rattle.definitions.specs.Hosts.{Hosts, StoreAnswer}
-use Rattle.definitions.specs.Nlm.{Version, LockArgs, ShareArgs, ShareCall}
+use Rattle.definitions.specs.Nlm.{Version, Stat, LockArgs, ShareArgs, ShareCall}
 use Rattle.definitions.specs.Outgoing.{Outgoing, LocalLock, is_grant}
 use Rattle.definitions.specs.Phases.{Grace}
 use Rattle.definitions.specs.Shares.{Share, SharesStand}
 use Rattle.definitions.specs.Replies.{Call, Nlm, Nsm, Asks}
 use Rattle.definitions.specs.Rulings.{ruled}
+use Rattle.definitions.specs.Shown.{shown_stat}
 use Rattle.definitions.specs.Answer.{share_of, share_verdict, lock_answer, nm_lock_answer, lock_msg_answer}
 use Rattle.definitions.specs.Lines.{line_refusal}
 use Rattle.definitions.specs.Monitored.{stands}
@@ -59,3 +60,7 @@ pub record GraceAnswersLaw : Type 0 where
   pub message_locks : (limits : Limits) (w : World) (version : Version) (a : LockArgs) (store : StoreAnswer) → w.phase ≡ Grace → stands (ruled store (lock_msg_answer limits w version a)).says ≡ true → a.reclaim ≡ true
   pub shares : (limits : Limits) (w : World) (a : ShareArgs) → w.phase ≡ Grace → stands (share_verdict limits w a).says ≡ true → a.reclaim ≡ true
   pub lines : (w : World) (lock : LocalLock) → w.phase ≡ Grace → is_some (line_refusal w lock) ≡ true
+
+-- what a version shows as granted or waiting is so, and what it shows otherwise is not
+abbrev pub ShownLaw : Type 0
+ShownLaw = (version : Version) (stat : Stat) → stands (shown_stat version stat) ≡ stands stat

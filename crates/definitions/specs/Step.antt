@@ -162,7 +162,7 @@ applied limits s (Take peer asked (Asks xid call)) store = taken limits s peer a
 applied limits s Send store = sent s (next_due s.world.calls)
 applied limits s (Answer reading) store = nothing (with_world s (settled_after limits (ruled store (answer_rules limits s.world reading))))
 applied limits s (Silent number) store = nothing (with_world s (with_calls s.world (after_silence number s.world.calls)))
-applied limits s (Local l line) store = told_line limits s (line_answer limits s.world l line)
+applied limits s (Local l line) store = told_line limits s (ruled store (line_answer limits s.world l line))
 applied limits s GraceOver store = nothing (with_world s (record s.world { phase = Normal }))
 applied limits s Restart store = restart s store
 
@@ -179,7 +179,7 @@ store_call limits s (Take peer asked (Asks xid call)) = asked_unless_kept limits
 store_call limits s Send = None
 store_call limits s (Answer reading) = (answer_rules limits s.world reading).asks
 store_call limits s (Silent number) = None
-store_call limits s (Local l line) = None
+store_call limits s (Local l line) = (line_answer limits s.world l line).asks
 store_call limits s GraceOver = None
 store_call limits s Restart = Some Begin
 

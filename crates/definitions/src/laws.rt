@@ -6,11 +6,12 @@ ghost use Rattle.definitions.specs.Monitored.{MonitoredLaw, RefusedRowLaw};
 ghost use Rattle.definitions.specs.Moves.{ExclusionLaw, GraceGrantsLaw, GraceLaw, GraceRunLaw, HonestIsGranted, RunIsSound};
 ghost use Rattle.definitions.specs.Numbers.{NumbersLaw};
 ghost use Rattle.definitions.specs.Owners.{OwnersLaw};
+ghost use Rattle.definitions.specs.Quotas.{FullQuotaLaw};
 ghost use Rattle.definitions.specs.Replay.{HistoryGrows, HistoryLaw};
 ghost use Rattle.definitions.specs.Reclaims.{ExclusionKept, ExclusionKeptByDrops, ExclusionKeptByUnlock, HonestMeetsNoConflict, HonestStaysWithin, RestartIsUnder};
 ghost use Rattle.definitions.specs.Settings.{DropHostLaw, DropOwnerLaw, NewestLaw};
 ghost use Rattle.definitions.specs.Shares.{ClashLaw, SharesLaw};
-ghost use Rattle.definitions.specs.Standing.{GraceAnswersLaw, GraceCallsLaw, GraceSharesLaw, OwnNameLaw, ShareRunLaw};
+ghost use Rattle.definitions.specs.Standing.{GraceAnswersLaw, GraceCallsLaw, GraceSharesLaw, OwnNameLaw, ShareRunLaw, ShownLaw};
 ghost use Rattle.definitions.specs.Starts.{FirstConflictLaw, RunsLaw, StartsLaw};
 ghost use Rattle.definitions.specs.Step.{RepeatLaw};
 ghost use Rattle.definitions.specs.Uses.{KeptIsFound, KeptLaw};
@@ -51,6 +52,12 @@ pub fn conflict_with_owner_is_found()
 #[tactic(auto, using(crate::proofs::StartLaws::starts_law))]
 pub fn starts_are_exact()
     ensures { StartsLaw }
+{}
+
+/// A quota of as many runs as the whole table may have refuses nothing that finds free runs.
+#[tactic(auto, using(crate::proofs::QuotaLaws::full_quota_law))]
+pub fn full_quota_refuses_nothing()
+    ensures { FullQuotaLaw }
 {}
 
 /// `closes_cycle` is true exactly where a chain of waits leads back to the asker.
@@ -146,7 +153,7 @@ pub fn honest_histories_stay_under()
     ensures { GraceRunLaw }
 {}
 
-/// An honest reclaim is granted, unless runs or the row are wanting.
+/// An honest reclaim is granted, unless runs, its host's quota or the row are wanting.
 pub fn honest_reclaim_is_granted()
     ensures { HonestIsGranted }
 {}
@@ -254,4 +261,10 @@ pub fn hosts_stay_in_order_over_runs()
 /// Where the store refuses the row, the lock is refused and nothing has changed.
 pub fn refused_row_changes_nothing()
     ensures { RefusedRowLaw }
+{}
+
+/// What a version shows as granted or waiting is so, and what it shows otherwise is not.
+#[tactic(auto, using(crate::proofs::StandingLaws::shown_law))]
+pub fn shown_statuses_keep_their_sense()
+    ensures { ShownLaw }
 {}

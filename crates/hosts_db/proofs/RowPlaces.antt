@@ -5,9 +5,8 @@ use Rattle.std.proofs.lemmas.Bool.Decides.{nat_tests}
 use Rattle.std.specs.List.{filter, insert}
 use Rattle.definitions.specs.Bytes.{Bytes, same_bytes, is_any, first_that, put, without, IsAscending}
 use Rattle.definitions.specs.Nsm.{MyId}
-use Rattle.definitions.specs.Hosts.{HostRow, Watch, row_cmp, watch_cmp, is_watch, with_seen, with_epoch}
+use Rattle.definitions.specs.Hosts.{HostRow, Watch, row_cmp, watch_cmp, is_watch, with_seen, with_epoch, with_quota}
 use Rattle.hosts_db.specs.Places.{IsAt, IsGap, IsPlace, IsInside, put_at_place, len_after, row_named, watch_keyed}
-use Rattle.hosts_db.specs.Quotas.{with_quota}
 use Rattle.hosts_db.proofs.Orders.{row_total, watch_total, row_agrees, watch_agrees}
 use Rattle.hosts_db.proofs.Places.{change, any_at, first_at, change_at, put_at, none_gap, first_none, change_none, put_gap, change_ascends}
 

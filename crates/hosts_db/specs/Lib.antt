@@ -1,4 +1,3 @@
 pub mod Places
-pub mod Quotas
 pub mod Kept
 pub mod Calls

@@ -2,8 +2,7 @@
 ghost use Rattle.std.specs.Prelude.{◌≡◌, ◌<◌, ◌≤◌, ◌⊎◌, [], true, false, length, pos, IfOk};
 ghost use Rattle.std.specs.Option.{is_some, option_copied};
 ghost use Rattle.definitions.specs.Bytes.{is_any, put};
-ghost use Rattle.definitions.specs.Hosts.{row_cmp, watch_cmp, row_of, has_row, next_own, after_store, is_past_limit, is_watch, Begin, Monitor, Seen, Acked, Watched, Unwatched, AreInOrder};
-ghost use Rattle.hosts_db.specs.Quotas.{after_quota};
+ghost use Rattle.definitions.specs.Hosts.{row_cmp, watch_cmp, row_of, has_row, next_own, after_store, is_past_limit, is_watch, Begin, Monitor, Seen, Acked, Watched, Unwatched, AreInOrder, Quota};
 
 use crate::rows::{FULL_QUOTA, HostRow, MOST_NAME_BYTES, MyId, Watch};
 use crate::search::{MOST_HOSTS, MOST_WATCHES, place_of_host, place_of_watch, put_in};
@@ -177,7 +176,7 @@ impl HostRows {
 
     /// Sets how many runs a host's owners may have.
     pub fn quota(&mut self, name: &[u8], runs: u32)
-        ensures { self.new ≡ after_quota self.old name.now runs }
+        ensures { self.new ≡ after_store self.old (Quota name.now runs) }
     {
         if let Ok(at) = place_of_host(&self.hosts, name) {
             let row = &mut self.hosts[at];

@@ -1,8 +1,7 @@
 //! What each store of hosts promises.
 ghost use Rattle.std.specs.Prelude.{◌≡◌, ◌<◌, ◌≤◌, ℕ, Bool, true, false, length, IfOk};
 ghost use Rattle.std.specs.Option.{is_some, option_copied};
-ghost use Rattle.definitions.specs.Hosts.{Hosts, row_of, has_row, next_own, after_store, is_past_limit, Begin, Monitor, Seen, Acked, Watched, Unwatched, AreInOrder};
-ghost use Rattle.hosts_db.specs.Quotas.{after_quota};
+ghost use Rattle.definitions.specs.Hosts.{Hosts, row_of, has_row, next_own, after_store, is_past_limit, Begin, Monitor, Seen, Acked, Watched, Unwatched, AreInOrder, Quota};
 ghost use Rattle.hosts_db.specs.Calls.{Counts, Leaves, Makes, IsNotStarved, IsPastLimit, OnRefused};
 
 use crate::error::StoreError;
@@ -63,11 +62,11 @@ pub trait HostStore {
     /// Sets how many runs, at most 65,536, a host's owners may have. Without a row of that name nothing changes.
     fn quota(&mut self, name: &[u8], runs: u32) -> Result<(), StoreError>
         requires { runs ≤ 65536 }
-        ensures makes { Makes result (rows self.old) (rows self.new) (after_quota (rows self.old) name.now runs) }
+        ensures makes { Makes result (rows self.old) (rows self.new) (after_store (rows self.old) (Quota name.now runs)) }
         ensures counts { Counts result (refusals self.old) (refusals self.new) }
         ensures refused { OnRefused result (may_refuse self.old false) }
         ensures not_starved { IsNotStarved result }
-        ensures crash { Leaves result (may_leave self.old) (may_leave self.new) (after_quota (rows self.old) name.now runs) };
+        ensures crash { Leaves result (may_leave self.old) (may_leave self.new) (after_store (rows self.old) (Quota name.now runs)) };
 
     /// Adds a watch, or gives a watch of this host and watcher these bytes. A host without a row gets one, as
     /// `monitor` gives it, in which no state was seen. A name has at most 1,024 bytes.

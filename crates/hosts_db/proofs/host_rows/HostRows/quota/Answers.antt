@@ -1,7 +1,6 @@
 use Rattle.std.proofs.Common.{◌≡◌, set, get_or, sym, ap, subst, ◌∙◌, refl}
 use Rattle.definitions.specs.Bytes.{IsAscending}
-use Rattle.definitions.specs.Hosts.{Hosts, HostRow, row_cmp}
-use Rattle.hosts_db.specs.Quotas.{with_quota}
+use Rattle.definitions.specs.Hosts.{Hosts, HostRow, row_cmp, with_quota}
 use Rattle.hosts_db.proofs.RowPlaces.{changed_at, unchanged, quota_is_change, keeps_order}
 use Rattle.hosts_db.proofs.host_rows.HostRows.quota.Goals as goal
 
