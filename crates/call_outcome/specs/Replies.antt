@@ -11,7 +11,7 @@ use Rattle.rpc_msg.specs.declared.reply.Reply.{Reply}
 use Rattle.rpc_msg.specs.declared.reply.Reply.TheVariants as reply
 use Rattle.rpc_msg.specs.Reply.{written_reply}
 
--- a result as its grammar spells it. A status is a word of the call's version already; only a holder is spelled by version
+-- a result as its grammar spells it. A status is a word of the call's version already, and only a holder is spelled by version
 abbrev pub result_bytes : Result → List ℕ
 result_bytes NoResult = []
 result_bytes (ResResult r) = res.written r

@@ -45,9 +45,9 @@ impl CallResult {
     {
         match self {
             CallResult::Nothing => f.append(&[]),
-            CallResult::Res(res) => res.lent().put_in(Version::V4, f),
+            CallResult::Res(res) => res.lent().put_result(f),
             CallResult::TestRes(version, res) => res.lent().put_in(*version, f),
-            CallResult::ShareRes(res) => lent_share_res(res).put_in(Version::V4, f),
+            CallResult::ShareRes(res) => lent_share_res(res).put_result(f),
             CallResult::Monitor(res) => NsmResult::StatRes(*res).put(f),
             CallResult::State(res) => NsmResult::Stat(*res).put(f),
         }

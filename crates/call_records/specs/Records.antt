@@ -2,23 +2,20 @@
 use Rattle.std.specs.Prelude.{ℕ, ◌%◌, ◌^◌, ◌++◌}
 use Rattle.std.specs.Int.{w32, cast_unsigned}
 use Rattle.definitions.specs.Bytes.{Bytes}
-use Rattle.definitions.specs.Nlm.{Version, V1, V3, V4}
+use Rattle.definitions.specs.Nlm.{Version}
 use Rattle.definitions.specs.Nsm.{MyId}
 use Rattle.definitions.specs.Outgoing.{Message, Granted, GrantedMsg, GrantedLine, TestResult, LockResult, CancelResult, UnlockResult, Status, Notify}
 use Rattle.rpc_msg.specs.Grammar.{written_call}
 use Rattle.local_ops.specs.Texts.{granted_line}
-use Rattle.nlm4_types.specs.Messages.{grant_bytes, res_bytes, testres_bytes}
+use Rattle.nlm4_types.specs.Version.{version_number}
+use Rattle.nlm4_types.specs.Messages.{grant_bytes, testres_bytes}
+use Rattle.nlm4_types.specs.Results.{res}
 use Rattle.nsm_types.specs.Arguments.{stat_chge, status}
 use Rattle.call_records.specs.declared.callee.Callee.{Callee}
 
 -- the xid is the low 32 bits of the call's number
 abbrev pub record_to : ℕ → Callee → Bytes → Bytes
 record_to number to arguments = written_call (number % 2 ^ 32) to.program to.version to.procedure ++ arguments
-
-abbrev pub version_number : Version → ℕ
-version_number V1 = 1
-version_number V3 = 3
-version_number V4 = 4
 
 -- a procedure of a client's lock manager, in the version of the call that it belongs to
 abbrev pub lock_manager : Version → ℕ → Callee
@@ -37,8 +34,8 @@ call_record number (Granted version exclusive lock) = record_to number (lock_man
 call_record number (GrantedMsg version exclusive lock) = record_to number (lock_manager version 10) (grant_bytes version number exclusive lock)
 call_record number (GrantedLine mode lock) = granted_line mode lock
 call_record number (TestResult version r) = record_to number (lock_manager version 11) (testres_bytes version r)
-call_record number (LockResult version r) = record_to number (lock_manager version 12) (res_bytes version r)
-call_record number (CancelResult version r) = record_to number (lock_manager version 13) (res_bytes version r)
-call_record number (UnlockResult version r) = record_to number (lock_manager version 14) (res_bytes version r)
+call_record number (LockResult version r) = record_to number (lock_manager version 12) (res.written r)
+call_record number (CancelResult version r) = record_to number (lock_manager version 13) (res.written r)
+call_record number (UnlockResult version r) = record_to number (lock_manager version 14) (res.written r)
 call_record number (Status m mon_name state bytes) = record_to number (watcher m) (status.written (record { mon_name = mon_name; state = state; private_bytes = bytes }))
 call_record number (Notify name state) = record_to number status_monitor (stat_chge.written (record { mon_name = name; state = state }))

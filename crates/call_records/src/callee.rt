@@ -2,7 +2,7 @@
 ghost use Rattle.std.specs.Prelude.{◌≡◌, ◌+◌, ◌≤◌, ◌++◌, ◌↔◌, length, IsOk, OnOk, OnErr};
 ghost use Rattle.nlm4_types.specs.Version.{view_of_version};
 ghost use Rattle.letters.specs.Meanings.{my_id_of};
-ghost use Rattle.call_records.specs.Records.{lock_manager, record_to, status_monitor, version_number, watcher};
+ghost use Rattle.call_records.specs.Records.{lock_manager, record_to, status_monitor, watcher};
 ghost use Rattle.call_records.specs.Parts.{arguments_bytes};
 
 use letters::MyId;
@@ -36,7 +36,7 @@ impl Callee {
     {
         Callee {
             program: NLM_PROGRAM,
-            version: number_of(version),
+            version: version.number(),
             procedure,
         }
     }
@@ -61,16 +61,6 @@ impl Callee {
             version: named.vers.cast_unsigned(),
             procedure: named.proc.cast_unsigned(),
         }
-    }
-}
-
-fn number_of(version: Version) -> u32
-    ensures { result ≡ version_number (view_of_version version) }
-{
-    match version {
-        Version::V1 => 1,
-        Version::V3 => 3,
-        Version::V4 => 4,
     }
 }
 

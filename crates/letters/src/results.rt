@@ -1,6 +1,7 @@
 //! Results of calls about a lock.
 ghost use Rattle.std.specs.Prelude.{◌≡◌, is_some};
-ghost use Rattle.nlm4_types.specs.Stat.{view_of_stat, is_denied};
+ghost use Rattle.definitions.specs.Nlm.{is_denial};
+ghost use Rattle.nlm4_types.specs.Stat.{view_of_stat};
 
 use crate::short::ShortBytes;
 use nlm4_types::Stat;
@@ -28,5 +29,5 @@ pub struct TestRes {
     pub cookie: ShortBytes,
     pub stat: Stat,
     pub holder: Option<Holder>,
-    pub ghost held: { is_some holder ≡ is_denied (view_of_stat stat) },
+    pub ghost held: { is_some holder ≡ is_denial (view_of_stat stat) },
 }

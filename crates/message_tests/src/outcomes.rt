@@ -66,10 +66,10 @@ fn results_of_tests(rt: HostRuntime) -> Result<(), Fail> {
     let test = denied(alloc, Version::V4, 0, 10)?;
     let text = "3 1 0 0 0 0 4 3 1 1 7 1 41000000 0 0 0 a";
     assert!(rt; tells(&rt, &test, 3, text));
-    // A holder that begins behind 2^32-1 is shown there, to the end, in version 3.
-    let clamped = denied(alloc, Version::V3, 1 << 32, 1)?;
+    // In version 3 offsets and lengths have 4 bytes.
+    let narrow = denied(alloc, Version::V3, 0xffff_ffff, 0)?;
     let text = "3 1 0 0 0 0 4 3 1 1 7 1 41000000 ffffffff 0";
-    assert!(rt; tells(&rt, &clamped, 3, text));
+    assert!(rt; tells(&rt, &narrow, 3, text));
     assert!(rt; tells(&rt, &free(alloc)?, 3, "3 1 0 0 0 0 4 3 0"));
     Ok(())
 }
@@ -99,12 +99,12 @@ fn results_of_shares_and_hosts(rt: HostRuntime) -> Result<(), Fail> {
 #[test]
 fn refusals(rt: HostRuntime) -> Result<(), Fail> {
     let alloc = rt.alloc();
-    let mismatch = Refusal::ProgMismatch { low: 4, high: 4 };
+    let mismatch = Refusal::ProgMismatch { low: 1, high: 4 };
     for (refusal, text) in [
         (Refusal::RpcMismatch, "1 1 1 0 2 2"),
         (Refusal::BadCredential, "1 1 1 1 1"),
         (Refusal::ProgUnavail, "1 1 0 0 0 1"),
-        (mismatch, "1 1 0 0 0 2 4 4"),
+        (mismatch, "1 1 0 0 0 2 1 4"),
         (Refusal::ProcUnavail, "1 1 0 0 0 3"),
         (Refusal::GarbageArgs, "1 1 0 0 0 4"),
     ] {

@@ -14,15 +14,19 @@ fn refusal(reading: &Reading<'_>) -> Option<(u32, Refusal)> {
 
 #[test]
 fn refusals_in_their_order(rt: HostRuntime) {
-    let mismatch = Refusal::ProgMismatch { low: 4, high: 4 };
+    let mismatch = Refusal::ProgMismatch { low: 1, high: 4 };
     let monitor_mismatch = Refusal::ProgMismatch { low: 1, high: 1 };
     let records = [
         ("7 0 3 1 1 1 9 9 9 9", Refusal::RpcMismatch),
         ("7 0 2 1 1 1 6 0 0 0", Refusal::BadCredential),
         ("7 0 2 186a3 4 0 0 0 0 0", Refusal::ProgUnavail),
-        ("7 0 2 186b5 3 0 0 0 0 0", mismatch),
+        ("7 0 2 186b5 0 0 0 0 0 0", mismatch),
+        ("7 0 2 186b5 2 0 0 0 0 0", mismatch),
+        ("7 0 2 186b5 5 0 0 0 0 0", mismatch),
         ("7 0 2 186b8 2 0 0 0 0 0", monitor_mismatch),
         ("7 0 2 186b5 4 5 0 0 0 0", Refusal::ProcUnavail),
+        ("7 0 2 186b5 1 14 0 0 0 0", Refusal::ProcUnavail),
+        ("7 0 2 186b5 3 14 0 0 0 0", Refusal::GarbageArgs),
         ("7 0 2 186b8 1 7 0 0 0 0", Refusal::ProcUnavail),
         ("7 0 2 186b5 4 2 0 0 0 0", Refusal::GarbageArgs),
         ("7 0 2 186b8 1 1 0 0 0 0", Refusal::GarbageArgs),

@@ -1,18 +1,14 @@
--- The bytes of what is sent: the arguments of the server's own calls and the results of those that it answers.
-use Rattle.std.specs.Prelude.{◌≡◌, ℕ, Bool, List, []}
-use Rattle.definitions.specs.Nlm.{Version, Lock, TestArgs, Res, TestRes, ShareRes}
+-- The bytes of what is sent by version: the arguments of the server's own calls, and the result of TEST. A status is a word of its version already.
+use Rattle.std.specs.Prelude.{ℕ, Bool, List}
+use Rattle.definitions.specs.Nlm.{Version, Lock, TestArgs, TestRes}
 use Rattle.definitions.specs.Outgoing.{granted_args}
 use Rattle.nlm4_types.specs.declared.messages.Grant as grant_declared
 use Rattle.nlm4_types.specs.declared.messages.NlmMessage.{NlmMessage}
 use Rattle.nlm4_types.specs.declared.messages.NlmMessage.TheVariants as message
-use Rattle.nlm4_types.specs.declared.messages.NlmResult.{NlmResult}
-use Rattle.nlm4_types.specs.declared.messages.NlmResult.TheVariants as result_case
 use Rattle.nlm4_types.specs.Version.{is_wide}
 use Rattle.nlm4_types.specs.Lock.{view_of_lock, clamped_lock}
 use Rattle.nlm4_types.specs.Arguments.{testargs}
-use Rattle.nlm4_types.specs.Share.{view_of_shareres, shareres}
-use Rattle.nlm4_types.specs.Results.{view_of_res, view_of_testres, res, testres}
-use Rattle.nlm4_types.specs.Shown.{shown_res, shown_testres, shown_shareres}
+use Rattle.nlm4_types.specs.Results.{view_of_res, view_of_testres, res, testres, clamped_testres}
 
 -- the arguments with an offset and a length that have a spelling
 abbrev pub clamped_testargs : Bool → TestArgs → TestArgs
@@ -29,14 +25,9 @@ shown_grant version number exclusive alock = clamped_testargs (is_wide version) 
 abbrev pub grant_bytes : Version → ℕ → Bool → Lock → List ℕ
 grant_bytes version number exclusive alock = (testargs (is_wide version)).written (shown_grant version number exclusive alock)
 
-abbrev pub res_bytes : Version → Res → List ℕ
-res_bytes version r = res.written (shown_res version r)
-
+-- a holder that a version shows has an offset and a length that have a spelling in it
 abbrev pub testres_bytes : Version → TestRes → List ℕ
-testres_bytes version r = (testres (is_wide version)).written (shown_testres version r)
-
-abbrev pub shareres_bytes : Version → ShareRes → List ℕ
-shareres_bytes version r = shareres.written (shown_shareres version r)
+testres_bytes version r = (testres (is_wide version)).written (clamped_testres (is_wide version) r)
 
 -- ---- the calls that the server makes
 
@@ -55,41 +46,21 @@ abbrev pub message_bytes : Version → NlmMessage → List ℕ
 message_bytes version (message.Granted g) = bytes_of_grant version g
 message_bytes version (message.GrantedMsg g) = bytes_of_grant version g
 message_bytes version (message.TestRes r) = testres_bytes version (view_of_testres r)
-message_bytes version (message.LockRes r) = res_bytes version (view_of_res r)
-message_bytes version (message.CancelRes r) = res_bytes version (view_of_res r)
-message_bytes version (message.UnlockRes r) = res_bytes version (view_of_res r)
+message_bytes version (message.LockRes r) = res.written (view_of_res r)
+message_bytes version (message.CancelRes r) = res.written (view_of_res r)
+message_bytes version (message.UnlockRes r) = res.written (view_of_res r)
 
 -- what the bytes of a message are a spelling of
 abbrev pub SpellsGrant : Version → List ℕ → grant_declared.Grant → Type 0
 SpellsGrant version text g = (testargs (is_wide version)).Spells text (shown_grant version g.number g.exclusive (view_of_lock g.alock))
 
-abbrev pub SpellsRes : Version → List ℕ → Res → Type 0
-SpellsRes version text r = res.Spells text (shown_res version r)
-
 abbrev pub SpellsTestRes : Version → List ℕ → TestRes → Type 0
-SpellsTestRes version text r = (testres (is_wide version)).Spells text (shown_testres version r)
-
-abbrev pub SpellsShareRes : Version → List ℕ → ShareRes → Type 0
-SpellsShareRes version text r = shareres.Spells text (shown_shareres version r)
+SpellsTestRes version text r = (testres (is_wide version)).Spells text (clamped_testres (is_wide version) r)
 
 abbrev pub SpellsMessage : Version → List ℕ → NlmMessage → Type 0
 SpellsMessage version text (message.Granted g) = SpellsGrant version text g
 SpellsMessage version text (message.GrantedMsg g) = SpellsGrant version text g
 SpellsMessage version text (message.TestRes r) = SpellsTestRes version text (view_of_testres r)
-SpellsMessage version text (message.LockRes r) = SpellsRes version text (view_of_res r)
-SpellsMessage version text (message.CancelRes r) = SpellsRes version text (view_of_res r)
-SpellsMessage version text (message.UnlockRes r) = SpellsRes version text (view_of_res r)
-
--- ---- the results of the calls that it answers
-
-abbrev pub result_bytes : Version → NlmResult → List ℕ
-result_bytes version result_case.Nothing = []
-result_bytes version (result_case.Res r) = res_bytes version (view_of_res r)
-result_bytes version (result_case.TestRes r) = testres_bytes version (view_of_testres r)
-result_bytes version (result_case.ShareRes r) = shareres_bytes version (view_of_shareres r)
-
-abbrev pub SpellsResult : Version → List ℕ → NlmResult → Type 0
-SpellsResult version text result_case.Nothing = text ≡ []
-SpellsResult version text (result_case.Res r) = SpellsRes version text (view_of_res r)
-SpellsResult version text (result_case.TestRes r) = SpellsTestRes version text (view_of_testres r)
-SpellsResult version text (result_case.ShareRes r) = SpellsShareRes version text (view_of_shareres r)
+SpellsMessage version text (message.LockRes r) = res.Spells text (view_of_res r)
+SpellsMessage version text (message.CancelRes r) = res.Spells text (view_of_res r)
+SpellsMessage version text (message.UnlockRes r) = res.Spells text (view_of_res r)

@@ -2,14 +2,11 @@
 use Rattle.std.specs.Prelude.{ℕ, Bool, true, false, min}
 use Rattle.xdr_core.specs.Codec.{Codec}
 use Rattle.xdr_core.specs.Formats.{word, hyper}
+use Rattle.definitions.specs.Shown.{narrow_top}
 
 unfoldable pub offset : Bool → Codec ℕ
 offset true = hyper
 offset false = word
-
--- the greatest offset of versions 1 and 3
-abbrev pub narrow_top : ℕ
-narrow_top = 0xffff_ffff
 
 -- the number, or the greatest one of 4 bytes where it passes them
 abbrev pub clamped : Bool → ℕ → ℕ

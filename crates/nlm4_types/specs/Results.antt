@@ -3,12 +3,12 @@ use Rattle.std.specs.Prelude.{ℕ, Bool, List, refl}
 use Rattle.std.specs.Option.{option_map}
 use Rattle.xdr_core.specs.Codec.{Codec}
 use Rattle.xdr_core.specs.Formats.{◌&◌, fields, tagged, signed, flag}
-use Rattle.definitions.specs.Nlm.{Stat, Res, Holder, TestRes}
+use Rattle.definitions.specs.Nlm.{Stat, Res, Holder, TestRes, is_denial}
 use Rattle.nlm4_types.specs.declared.results.Res as res_declared
 use Rattle.nlm4_types.specs.declared.results.Holder as holder_declared
 use Rattle.nlm4_types.specs.declared.results.TestRes as testres_declared
-use Rattle.nlm4_types.specs.Offset.{offset}
-use Rattle.nlm4_types.specs.Stat.{view_of_stat, stat, is_denied}
+use Rattle.nlm4_types.specs.Offset.{offset, clamped}
+use Rattle.nlm4_types.specs.Stat.{view_of_stat, stat}
 use Rattle.nlm4_types.specs.Lock.{netobj}
 
 abbrev pub view_of_res : res_declared.Res → Res
@@ -25,6 +25,10 @@ res =
 abbrev pub view_of_holder : {n : ℕ} → holder_declared.Holder n → Holder
 view_of_holder v = record { exclusive = v.exclusive; svid = v.svid; oh = v.oh.bytes.now; l_offset = v.l_offset; l_len = v.l_len }
 
+-- the holder with an offset and a length that have a spelling
+abbrev pub clamped_holder : Bool → Holder → Holder
+clamped_holder wide v = record v { l_offset = clamped wide v.l_offset; l_len = clamped wide v.l_len }
+
 unfoldable pub holder : Bool → Codec Holder
 holder wide =
     fields
@@ -36,9 +40,12 @@ holder wide =
 abbrev pub view_of_testres : {n : ℕ} → testres_declared.TestRes n → TestRes
 view_of_testres v = record { cookie = v.cookie.bytes.now; stat = view_of_stat v.stat; holder = option_map view_of_holder v.holder }
 
+abbrev pub clamped_testres : Bool → TestRes → TestRes
+clamped_testres wide v = record v { holder = option_map (clamped_holder wide) v.holder }
+
 -- whether a holder follows a cookie and a status
 abbrev pub has_holder : List ℕ × Stat → Bool
-has_holder p = is_denied p.1
+has_holder p = is_denial p.1
 
 unfoldable pub testres : Bool → Codec TestRes
 testres wide =

@@ -1,5 +1,5 @@
 -- The statuses and their words (RFC 1813, appendix II, nlm4_stats).
-use Rattle.std.specs.Prelude.{ℕ, Bool, true, false, List, [], ◌∷◌, refl}
+use Rattle.std.specs.Prelude.{ℕ, List, [], ◌∷◌, refl}
 use Rattle.xdr_core.specs.Codec.{Codec}
 use Rattle.xdr_core.specs.Formats.{enumeration}
 use Rattle.definitions.specs.Nlm.{Stat, GRANTED, DENIED, DENIED_NOLOCKS, BLOCKED, DENIED_GRACE_PERIOD, DEADLCK, ROFS, STALE_FH, FBIG, FAILED}
@@ -35,7 +35,3 @@ stats = GRANTED ∷ DENIED ∷ DENIED_NOLOCKS ∷ BLOCKED ∷ DENIED_GRACE_PERIO
 
 unfoldable pub stat : Codec Stat
 stat = enumeration stats FAILED number_of_stat refl
-
-abbrev pub is_denied : Stat → Bool
-is_denied DENIED = true
-is_denied _ = false

@@ -4,9 +4,9 @@ ghost use Rattle.std.specs.Prelude.{◌≡◌, ◌+◌, ◌≤◌, ◌++◌, ◌
 ghost use Rattle.nlm4_types.specs.Version.{view_of_version};
 ghost use Rattle.nlm4_types.specs.Lock.{view_of_lock};
 ghost use Rattle.nlm4_types.specs.Arguments.{testargs};
-ghost use Rattle.nlm4_types.specs.Share.{view_of_shareres};
-ghost use Rattle.nlm4_types.specs.Results.{view_of_res, view_of_testres};
-ghost use Rattle.nlm4_types.specs.Messages.{args_bytes, bytes_of_grant, res_bytes, testres_bytes, shareres_bytes, procedure_of, message_bytes, result_bytes, SpellsGrant, SpellsRes, SpellsTestRes, SpellsShareRes, SpellsMessage, SpellsResult};
+ghost use Rattle.nlm4_types.specs.Share.{view_of_shareres, shareres};
+ghost use Rattle.nlm4_types.specs.Results.{view_of_res, view_of_testres, res};
+ghost use Rattle.nlm4_types.specs.Messages.{args_bytes, bytes_of_grant, testres_bytes, procedure_of, message_bytes, SpellsGrant, SpellsTestRes, SpellsMessage};
 
 use crate::arguments::TestArgs;
 use crate::lock::{Lock, Netobj};
@@ -17,45 +17,36 @@ use crate::version::Version;
 use xdr_core::{Frame, FrameFull, Opaque, Wire};
 
 impl<'r> Res<'r> {
-    /// Writes the result as the version shows it. It fits behind a header of 64 bytes.
+    /// Writes the result. It fits behind a header of 64 bytes.
     #[tactic(auto, using(crate::proofs::Fits::res_fits))]
-    pub fn put_in(&self, version: Version, f: &mut Frame) -> Result<(), FrameFull>
+    pub fn put_result(&self, f: &mut Frame) -> Result<(), FrameFull>
         ensures fits { length f.old ≤ 64 → IsOk result }
-        ensures room { IsOk result ↔ (length f.old + length (res_bytes (view_of_version version) (view_of_res self.now)) ≤ 4096) }
-        ensures ok { OnOk result (f.new ≡ f.old ++ res_bytes (view_of_version version) (view_of_res self.now)) }
+        ensures room { IsOk result ↔ (length f.old + length (res.written (view_of_res self.now)) ≤ 4096) }
+        ensures ok { OnOk result (f.new ≡ f.old ++ res.written (view_of_res self.now)) }
         ensures err { OnErr result (f.new ≡ f.old) }
-        ensures spelled { OnOk result (SpellsRes (view_of_version version) (res_bytes (view_of_version version) (view_of_res self.now)) (view_of_res self.now)) }
+        ensures spelled { OnOk result (res.Spells (res.written (view_of_res self.now)) (view_of_res self.now)) }
     {
-        Res {
-            cookie: self.cookie,
-            stat: self.stat.shown_in(version),
-        }
-        .put(f)
+        self.put(f)
     }
 }
 
 impl<'r> ShareRes<'r> {
-    /// Writes the result as the version shows it. It fits behind a header of 64 bytes.
+    /// Writes the result. It fits behind a header of 64 bytes.
     #[tactic(auto, using(crate::proofs::Fits::shareres_fits))]
-    pub fn put_in(&self, version: Version, f: &mut Frame) -> Result<(), FrameFull>
+    pub fn put_result(&self, f: &mut Frame) -> Result<(), FrameFull>
         ensures fits { length f.old ≤ 64 → IsOk result }
-        ensures room { IsOk result ↔ (length f.old + length (shareres_bytes (view_of_version version) (view_of_shareres self.now)) ≤ 4096) }
-        ensures ok { OnOk result (f.new ≡ f.old ++ shareres_bytes (view_of_version version) (view_of_shareres self.now)) }
+        ensures room { IsOk result ↔ (length f.old + length (shareres.written (view_of_shareres self.now)) ≤ 4096) }
+        ensures ok { OnOk result (f.new ≡ f.old ++ shareres.written (view_of_shareres self.now)) }
         ensures err { OnErr result (f.new ≡ f.old) }
-        ensures spelled { OnOk result (SpellsShareRes (view_of_version version) (shareres_bytes (view_of_version version) (view_of_shareres self.now)) (view_of_shareres self.now)) }
+        ensures spelled { OnOk result (shareres.Spells (shareres.written (view_of_shareres self.now)) (view_of_shareres self.now)) }
     {
-        let stat = self.stat.shown_in(version);
-        ShareRes {
-            cookie: self.cookie,
-            stat,
-            sequence: self.sequence,
-        }
-        .put(f)
+        self.put(f)
     }
 }
 
 impl<'r> TestRes<'r, WIDE> {
-    /// Writes the result as the version shows it. It fits behind a header of 64 bytes.
+    /// Writes the result in the version. An offset or a length of versions 1 and 3 that passes 4 bytes, which no holder
+    /// that they show has, is written as the greatest of 4 bytes. It fits behind a header of 64 bytes.
     #[tactic(auto, using(crate::proofs::Fits::testres_fits))]
     pub fn put_in(&self, version: Version, f: &mut Frame) -> Result<(), FrameFull>
         ensures fits { length f.old ≤ 64 → IsOk result }
@@ -65,8 +56,8 @@ impl<'r> TestRes<'r, WIDE> {
         ensures spelled { OnOk result (SpellsTestRes (view_of_version version) (testres_bytes (view_of_version version) (view_of_testres self.now)) (view_of_testres self.now)) }
     {
         match version {
-            Version::V4 => self.put(f),
-            Version::V1 | Version::V3 => self.narrowed().put(f),
+            Version::V4 => self.with_offsets::<WIDE>().put(f),
+            Version::V1 | Version::V3 => self.with_offsets::<NARROW>().put(f),
         }
     }
 }
@@ -142,34 +133,7 @@ impl<'r> NlmMessage<'r> {
             NlmMessage::TestRes(answer) => answer.put_in(version, f),
             NlmMessage::LockRes(answer)
             | NlmMessage::CancelRes(answer)
-            | NlmMessage::UnlockRes(answer) => answer.put_in(version, f),
-        }
-    }
-}
-
-/// What follows the header of a reply: nothing for NULL, the message forms, GRANTED_RES and FREE_ALL.
-#[derive(Clone, Copy)]
-pub enum NlmResult<'r> {
-    Nothing,
-    Res(Res<'r>),
-    TestRes(TestRes<'r, WIDE>),
-    ShareRes(ShareRes<'r>),
-}
-
-impl<'r> NlmResult<'r> {
-    /// Writes the result as the version shows it. It fits behind a header of 64 bytes.
-    pub fn put_in(&self, version: Version, f: &mut Frame) -> Result<(), FrameFull>
-        ensures fits { length f.old ≤ 64 → IsOk result }
-        ensures room { IsOk result ↔ (length f.old + length (result_bytes (view_of_version version) self.now) ≤ 4096) }
-        ensures ok { OnOk result (f.new ≡ f.old ++ result_bytes (view_of_version version) self.now) }
-        ensures err { OnErr result (f.new ≡ f.old) }
-        ensures spelled { OnOk result (SpellsResult (view_of_version version) (result_bytes (view_of_version version) self.now) self.now) }
-    {
-        match self {
-            NlmResult::Nothing => f.append(&[]),
-            NlmResult::Res(answer) => answer.put_in(version, f),
-            NlmResult::TestRes(answer) => answer.put_in(version, f),
-            NlmResult::ShareRes(answer) => answer.put_in(version, f),
+            | NlmMessage::UnlockRes(answer) => answer.put_result(f),
         }
     }
 }

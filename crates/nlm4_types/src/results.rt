@@ -1,6 +1,7 @@
 ghost use Rattle.std.specs.Prelude.{◌≡◌, ◌==◌, is_some};
+ghost use Rattle.definitions.specs.Nlm.{is_denial};
 ghost use Rattle.nlm4_types.specs.Offset.{clamped};
-ghost use Rattle.nlm4_types.specs.Stat.{view_of_stat, is_denied};
+ghost use Rattle.nlm4_types.specs.Stat.{view_of_stat};
 
 use crate::lock::Netobj;
 use crate::offset::Offset;
@@ -91,7 +92,7 @@ pub struct TestRes<'r, const BYTES: u32> {
     pub cookie: Netobj<'r>,
     pub stat: Stat,
     pub holder: Option<Holder<'r, BYTES>>,
-    pub ghost held: { is_some holder ≡ is_denied (view_of_stat stat) },
+    pub ghost held: { is_some holder ≡ is_denial (view_of_stat stat) },
 }
 
 #[tactic(auto, unfolding(crate::specs::Results::testres, xdr_core::specs::Formats::tagged, xdr_core::specs::Formats::both))]
@@ -125,6 +126,43 @@ impl<'r, const BYTES: u32> Wire<'r> for TestRes<'r, BYTES> {
         match self.holder {
             Some(holder) => ((self.cookie, self.stat), holder).put(f),
             None => (self.cookie, self.stat).put(f),
+        }
+    }
+}
+
+impl<'r, const BYTES: u32> Holder<'r, BYTES> {
+    ghost use Rattle.nlm4_types.specs.Results.{view_of_holder, clamped_holder};
+
+    /// The holder with offsets of so many bytes. With 8 it is the same holder; with 4 an offset or a length past 4 bytes
+    /// is the greatest number of 4 bytes.
+    pub(crate) fn with_offsets<const TO: u32>(self) -> Holder<'r, TO>
+        ensures { view_of_holder result ≡ clamped_holder (TO == 8) (view_of_holder self.entry) }
+    {
+        Holder {
+            exclusive: self.exclusive,
+            svid: self.svid,
+            oh: self.oh,
+            l_offset: Offset::<TO>::new(self.l_offset).number,
+            l_len: Offset::<TO>::new(self.l_len).number,
+        }
+    }
+}
+
+impl<'r, const BYTES: u32> TestRes<'r, BYTES> {
+    ghost use Rattle.nlm4_types.specs.Results.{view_of_testres, clamped_testres};
+
+    /// The result with such a holder.
+    pub(crate) fn with_offsets<const TO: u32>(self) -> TestRes<'r, TO>
+        ensures { view_of_testres result ≡ clamped_testres (TO == 8) (view_of_testres self.entry) }
+    {
+        let holder = match self.holder {
+            Some(holder) => Some(holder.with_offsets()),
+            None => None,
+        };
+        TestRes {
+            cookie: self.cookie,
+            stat: self.stat,
+            holder,
         }
     }
 }

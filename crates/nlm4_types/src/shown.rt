@@ -1,19 +1,14 @@
-//! What a version shows of an answer.
+//! What a version shows of an answer (XNFS, nlm_stats and nlm_holder).
 
-ghost use Rattle.std.specs.Prelude.{◌≡◌, ◌≤◌, false};
-ghost use Rattle.definitions.specs.Ranges.{top, last_of, shown_len};
+ghost use Rattle.std.specs.Prelude.{◌≡◌, ◌≤◌, ◌<◌, ◌^◌};
+ghost use Rattle.definitions.specs.Ranges.{shown_len as len_said};
+ghost use Rattle.definitions.specs.Shown.{narrow_stat, shown_stat, narrow_len as narrow_len_said, offset_in, len_in};
+ghost use Rattle.nlm4_types.specs.Shown.{ShownIsSpelled};
 ghost use Rattle.nlm4_types.specs.Version.{view_of_version};
 ghost use Rattle.nlm4_types.specs.Stat.{view_of_stat, number_of_stat};
-ghost use Rattle.nlm4_types.specs.Results.{view_of_holder, view_of_testres};
-ghost use Rattle.nlm4_types.specs.Offset.{clamped};
-ghost use Rattle.nlm4_types.specs.Shown.{narrow_stat, shown_stat, narrow_len as narrow_len_of, nobody as nobody_shown, narrow_holder, narrow_testres};
 
-use crate::lock::Netobj;
-use crate::offset::{NARROW, Offset, WIDE};
-use crate::results::{Holder, TestRes};
 use crate::stat::Stat;
 use crate::version::Version;
-use xdr_core::Opaque;
 
 /// A file's last byte, 2^63-1.
 const TOP: u64 = i64::MAX as u64;
@@ -48,72 +43,54 @@ impl Stat {
     }
 }
 
-impl<'r> Holder<'r, WIDE> {
-    /// The holder of a run of bytes, `first` to `last`, of which the length is 0 where it goes to a file's last byte.
-    pub fn of_run(exclusive: bool, svid: i32, oh: Netobj<'r>, first: u64, last: u64) -> Self
-        requires ordered { first ≤ last }
-        requires in_file { last ≤ top }
-        ensures { view_of_holder result ≡ record { exclusive = exclusive; svid = svid; oh = oh.entry.bytes.now; l_offset = first; l_len = shown_len first last } }
+impl Version {
+    /// The offset that a holder of a run shows: its first byte, but in versions 1 and 3 2^32-1 at most.
+    pub fn offset_shown(self, first: u64) -> u64
+        ensures { result ≡ offset_in (view_of_version self) first }
     {
-        let l_len = if last == TOP { 0 } else { last + 1 - first };
-        Holder {
-            exclusive,
-            svid,
-            oh,
-            l_offset: first,
-            l_len,
+        match self {
+            Version::V4 => first,
+            Version::V1 | Version::V3 => first.min(NARROW_TOP),
         }
     }
 
-    /// The holder as versions 1 and 3 show it.
-    pub fn narrowed(self) -> Holder<'r, NARROW>
-        ensures { view_of_holder result ≡ narrow_holder (view_of_holder self.entry) }
+    /// The length that a holder of a run shows: 0 where its last byte is the greatest offset of the version, or lies
+    /// behind it.
+    pub fn len_shown(self, first: u64, last: u64) -> u64
+        requires { last < 2 ^ 63 }
+        ensures { result ≡ len_in (view_of_version self) first last }
     {
-        Holder {
-            exclusive: self.exclusive,
-            svid: self.svid,
-            oh: self.oh,
-            l_offset: Offset::<NARROW>::new(self.l_offset).number,
-            l_len: narrow_len(self.l_offset, self.l_len),
+        match self {
+            Version::V4 => shown_len(first, last),
+            Version::V1 | Version::V3 => narrow_len(first, last),
         }
     }
 }
 
-impl<'r> TestRes<'r, WIDE> {
-    /// The result as versions 1 and 3 show it. A denial that has no holder shows one of nobody.
-    pub fn narrowed(self) -> TestRes<'r, NARROW>
-        ensures { view_of_testres result ≡ narrow_testres (view_of_testres self.entry) }
-    {
-        let stat = self.stat.narrowed();
-        let holder = match (stat, self.holder) {
-            (Stat::Denied, Some(holder)) => Some(holder.narrowed()),
-            (Stat::Denied, None) => Some(nobody()),
-            _ => None,
-        };
-        TestRes {
-            cookie: self.cookie,
-            stat,
-            holder,
-        }
-    }
-}
-
-fn narrow_len(offset: u64, len: u64) -> u64
-    ensures value { result ≡ narrow_len_of offset (last_of offset len) }
-    ensures within { clamped false result ≡ result }
+/// The length of a run as version 4 and local lines show it: 0 where it goes to a file's last byte.
+pub fn shown_len(first: u64, last: u64) -> u64
+    requires { last < 2 ^ 63 }
+    ensures { result ≡ len_said first last }
 {
-    let ends_before_top = len != 0 && offset < NARROW_TOP && len <= NARROW_TOP - offset;
-    if ends_before_top { len } else { 0 }
-}
-
-fn nobody<'r>() -> Holder<'r, NARROW>
-    ensures { view_of_holder result ≡ nobody_shown }
-{
-    Holder {
-        exclusive: false,
-        svid: 0,
-        oh: Opaque { bytes: &[] },
-        l_offset: 0,
-        l_len: 0,
+    if last == TOP {
+        0
+    } else {
+        (last + 1).saturating_sub(first)
     }
 }
+
+fn narrow_len(first: u64, last: u64) -> u64
+    ensures { result ≡ narrow_len_said first last }
+{
+    if last >= NARROW_TOP {
+        0
+    } else {
+        (last + 1).saturating_sub(first)
+    }
+}
+
+/// What a version shows of a holder has a spelling in it, so it is written as it is.
+#[tactic(auto, using(crate::proofs::Spelled::shown_is_spelled))]
+pub fn shown_holder_is_spelled()
+    ensures { ShownIsSpelled }
+{}

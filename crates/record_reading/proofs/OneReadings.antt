@@ -1,5 +1,5 @@
 -- A record has one reading.
-use Rattle.std.proofs.Common.{◌≡◌, ℕ, ◌==◌, Bool, true, false, inl, inr, sym, ap, ◌∙◌, subst, List}
+use Rattle.std.proofs.Common.{◌≡◌, ℕ, ◌==◌, Bool, true, false, inl, inr, sym, ap, ◌∙◌, subst, List, Option, Some, None}
 use Rattle.xdr_core.specs.Codec.{Codec}
 use Rattle.xdr_core.proofs.Meaning.{front_one}
 use Rattle.definitions.specs.Nlm as nlm
@@ -7,8 +7,9 @@ use Rattle.definitions.specs.Replies.{Call, Nlm, Nsm, Reading, Asks}
 use Rattle.rpc_msg.specs.declared.header.Header.{Header}
 use Rattle.rpc_msg.proofs.OneVerdict.{has_one_verdict}
 use Rattle.nlm4_types.specs.Call as nlm_call
+use Rattle.nlm4_types.specs.Version.{numbered_version}
 use Rattle.nsm_types.specs.Call as nsm_call
-use Rattle.record_reading.specs.Readings.{reading_of_refused, IsArguments, IsAsked, in_version, OneReading}
+use Rattle.record_reading.specs.Readings.{reading_of_refused, IsArguments, IsNlmAsked, IsAsked, in_version, OneReading}
 
 both : {X : Type 0} (x y z : X) → x ≡ z → y ≡ z → x ≡ y
 both x y z p q = p ∙ sym q
@@ -25,10 +26,14 @@ one_in_version : (t : Bool) (P Q R S : Type 0) {C : Type 0} → (P → Q → C) 
 one_in_version true P Q R S f g p q = f p q
 one_in_version false P Q R S f g p q = g p q
 
+one_of_nlm : (version : Option nlm.Version) (xid procedure : ℕ) (x : List ℕ) (a b : Reading) → IsNlmAsked version xid procedure x a → IsNlmAsked version xid procedure x b → a ≡ b
+one_of_nlm (Some version) xid procedure x a b p q = one_of_arguments (nlm_call.is_known_in version procedure) (nlm_call.call version procedure) (Nlm version) xid x a b p q
+one_of_nlm None xid procedure x a b p q = p ∙ sym q
+
 one_asked : (h : Header) (x : List ℕ) (a b : Reading) → IsAsked h x a → IsAsked h x b → a ≡ b
 one_asked h x a b =
     one_in_version (h.prog == 100021) _ _ _ _
-    (one_in_version (h.vers == 4) _ _ _ _ (one_of_arguments (nlm_call.is_known_in nlm.V4 h.proc) (nlm_call.call nlm.V4 h.proc) (Nlm nlm.V4) h.xid x a b) (λ p q. p ∙ sym q))
+    (one_of_nlm (numbered_version h.vers) h.xid h.proc x a b)
     (one_in_version (h.prog == 100024) _ _ _ _
     (one_in_version (h.vers == 1) _ _ _ _ (one_of_arguments (nsm_call.is_known_number h.proc) (nsm_call.call h.proc) Nsm h.xid x a b) (λ p q. p ∙ sym q))
     (λ p q. p ∙ sym q))

@@ -1,5 +1,5 @@
 -- What a record says, by what a front of it spells: header, program, version, procedure, arguments, in this order (RFC 5531, section 9).
-use Rattle.std.specs.Prelude.{ℕ, ◌≡◌, ◌⊎◌, Bool, true, false, ◌==◌, List}
+use Rattle.std.specs.Prelude.{ℕ, ◌≡◌, ◌⊎◌, Bool, true, false, ◌==◌, List, Option, Some, None}
 use Rattle.xdr_core.specs.Codec.{Codec, Front}
 use Rattle.definitions.specs.Nlm as nlm
 use Rattle.definitions.specs.Replies.{Call, Nlm, Nsm, RpcMismatch, BadCredential, ProgUnavail, ProgMismatch, ProcUnavail, GarbageArgs, Reading, Ignored, Turned, Asks}
@@ -8,6 +8,7 @@ use Rattle.rpc_msg.specs.declared.header.HeaderError.{HeaderError}
 use Rattle.rpc_msg.specs.declared.header.HeaderError.TheVariants.{NotACall, BadHeader, RpcVersion, BadCred}
 use Rattle.rpc_msg.specs.Verdict.{Asks as HeaderAsks, IsRefusal, NoFront}
 use Rattle.nlm4_types.specs.Call as nlm_call
+use Rattle.nlm4_types.specs.Version.{numbered_version}
 use Rattle.nsm_types.specs.Call as nsm_call
 
 -- what is no call, or has no header, is ignored
@@ -17,9 +18,9 @@ reading_of_refused BadHeader = Ignored
 reading_of_refused (RpcVersion xid) = Turned xid RpcMismatch
 reading_of_refused (BadCred xid) = Turned xid BadCredential
 
--- a version that is not served, of a program that is served in one
-abbrev pub mismatch : ℕ → ℕ → Reading
-mismatch xid version = Turned xid (ProgMismatch version version)
+-- a version that is not served, of a program that is served between these
+abbrev pub mismatch : ℕ → ℕ → ℕ → Reading
+mismatch xid low high = Turned xid (ProgMismatch low high)
 
 -- a front of the bytes spells the arguments, which make the call
 pub record IsCallOf {V : Type 0} (c : Codec V) (named : V → Call) (xid : ℕ) (arguments : List ℕ) (said : Reading) : Type 0 where
@@ -38,9 +39,10 @@ abbrev pub IsArguments : {V : Type 0} → Bool → Codec V → (V → Call) → 
 IsArguments false c named xid arguments said = said ≡ Turned xid ProcUnavail
 IsArguments true c named xid arguments said = IsCallOf c named xid arguments said ⊎ IsGarbage c xid arguments said
 
--- the lock manager, version 4
-abbrev pub IsNlmAsked : ℕ → ℕ → List ℕ → Reading → Type 0
-IsNlmAsked xid procedure arguments said = IsArguments (nlm_call.is_known_in nlm.V4 procedure) (nlm_call.call nlm.V4 procedure) (Nlm nlm.V4) xid arguments said
+-- the lock manager, versions 1, 3 and 4, or another
+abbrev pub IsNlmAsked : Option nlm.Version → ℕ → ℕ → List ℕ → Reading → Type 0
+IsNlmAsked (Some version) xid procedure arguments said = IsArguments (nlm_call.is_known_in version procedure) (nlm_call.call version procedure) (Nlm version) xid arguments said
+IsNlmAsked None xid procedure arguments said = said ≡ mismatch xid 1 4
 
 -- the status monitor, version 1
 abbrev pub IsNsmAsked : ℕ → ℕ → List ℕ → Reading → Type 0
@@ -54,9 +56,9 @@ in_version false served other = other
 abbrev pub IsAsked : Header → List ℕ → Reading → Type 0
 IsAsked h arguments said =
     in_version (h.prog == 100021)
-    (in_version (h.vers == 4) (IsNlmAsked h.xid h.proc arguments said) (said ≡ mismatch h.xid 4))
+    (IsNlmAsked (numbered_version h.vers) h.xid h.proc arguments said)
     (in_version (h.prog == 100024)
-    (in_version (h.vers == 1) (IsNsmAsked h.xid h.proc arguments said) (said ≡ mismatch h.xid 1))
+    (in_version (h.vers == 1) (IsNsmAsked h.xid h.proc arguments said) (said ≡ mismatch h.xid 1 1))
     (said ≡ Turned h.xid ProgUnavail))
 
 pub record IsCalled (record' : List ℕ) (said : Reading) : Type 0 where

@@ -1,6 +1,7 @@
 //! The reading of a record.
 ghost use Rattle.record_reading.specs.Values.{view_of_reading};
-ghost use Rattle.std.specs.Prelude.{◌≡◌};
+ghost use Rattle.std.specs.Prelude.{◌≡◌, Some};
+ghost use Rattle.nlm4_types.specs.Version.{view_of_version};
 ghost use Rattle.record_reading.specs.Readings.{IsReading, IsAsked, IsNlmAsked, IsNsmAsked, mismatch, reading_of_refused};
 
 use crate::call::{Call, Refusal};
@@ -12,8 +13,10 @@ use xdr_core::Cursor;
 /// The lock manager's program (XNFS; RFC 1813, appendix II).
 const NLM_PROGRAM: u32 = 100_021;
 
-/// The version of it that is served.
-const NLM_VERSION: u32 = 4;
+/// The lowest and the highest of its versions that are served; 2 is not.
+const LOWEST_NLM_VERSION: u32 = 1;
+
+const HIGHEST_NLM_VERSION: u32 = 4;
 
 /// The status monitor's program (XNFS).
 const NSM_PROGRAM: u32 = 100_024;
@@ -65,10 +68,12 @@ fn asked<'r>(header: &Header, arguments: &mut Cursor<'r>) -> Reading<'r>
 {
     let xid = header.xid;
     match header.prog {
-        NLM_PROGRAM if header.vers == NLM_VERSION => nlm(xid, header.proc, arguments),
-        NLM_PROGRAM => mismatch(xid, NLM_VERSION),
+        NLM_PROGRAM => match Version::from_number(header.vers) {
+            Some(version) => nlm(xid, version, header.proc, arguments),
+            None => mismatch(xid, LOWEST_NLM_VERSION, HIGHEST_NLM_VERSION),
+        },
         NSM_PROGRAM if header.vers == NSM_VERSION => nsm(xid, header.proc, arguments),
-        NSM_PROGRAM => mismatch(xid, NSM_VERSION),
+        NSM_PROGRAM => mismatch(xid, NSM_VERSION, NSM_VERSION),
         _ => Reading::Turned {
             xid,
             refusal: Refusal::ProgUnavail,
@@ -76,25 +81,22 @@ fn asked<'r>(header: &Header, arguments: &mut Cursor<'r>) -> Reading<'r>
     }
 }
 
-fn mismatch<'r>(xid: u32, version: u32) -> Reading<'r>
-    ensures { view_of_reading result ≡ mismatch xid version }
+fn mismatch<'r>(xid: u32, low: u32, high: u32) -> Reading<'r>
+    ensures { view_of_reading result ≡ mismatch xid low high }
 {
     Reading::Turned {
         xid,
-        refusal: Refusal::ProgMismatch {
-            low: version,
-            high: version,
-        },
+        refusal: Refusal::ProgMismatch { low, high },
     }
 }
 
-fn nlm<'r>(xid: u32, procedure: u32, arguments: &mut Cursor<'r>) -> Reading<'r>
-    ensures { IsNlmAsked xid procedure arguments.old (view_of_reading result) }
+fn nlm<'r>(xid: u32, version: Version, procedure: u32, arguments: &mut Cursor<'r>) -> Reading<'r>
+    ensures { IsNlmAsked (Some (view_of_version version)) xid procedure arguments.old (view_of_reading result) }
 {
-    match NlmCall::read(Version::V4, procedure, arguments) {
+    match NlmCall::read(version, procedure, arguments) {
         Ok(call) => Reading::Asks {
             xid,
-            call: Call::Nlm(Version::V4, call),
+            call: Call::Nlm(version, call),
         },
         Err(NlmError::NoSuchProc) => Reading::Turned {
             xid,

