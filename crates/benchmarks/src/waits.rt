@@ -1,15 +1,26 @@
 //! Waiters: `change` or `come`, with `-none`, `-each` or `-one`. The answer is how many waiters there are and how many
 //! were found.
-ghost use Rattle.std.specs.Prelude.{◌≤◌, ◌<◌, ◌^◌};
+ghost use Rattle.std.specs.Prelude.{◌≤◌, ◌<◌, ◌^◌, None};
 
 use crate::ranges::file_of;
 use anyhow::Result;
-use blocked_list::{Slots, Waiter};
+use blocked_list::{Quotas, Slots, Waiter};
 use letters::{Destination, Letter, Message, ShortBytes};
 use owner_ids::{Owner, OwnerId, Owners};
 use range_arena::ArenaTable;
 use range_table::{FileId, Mode, RangeTable, Run};
 use std::alloc::{AllocError, Global};
+
+/// No host has a quota.
+struct Unlimited;
+
+impl Quotas for Unlimited {
+    ghost by_host = { λ unlimited host. None };
+
+    fn quota(&self, _host: &[u8]) -> Option<u32> {
+        None
+    }
+}
 
 // The file that changes stands in the middle of the others.
 const MIDDLE: u32 = 0x7000_0000;
@@ -78,7 +89,10 @@ fn change<T: RangeTable>(
     for _ in 0..rounds {
         for mode in [Some(Mode::Exclusive), None] {
             let _ = table.set(&file, owner, 100, 109, mode);
-            if slots.next_grantable_on(table, owners, &file).is_some() {
+            if slots
+                .next_grantable_on(table, owners, &Unlimited, &file)
+                .is_some()
+            {
                 found = found.saturating_add(1);
             }
         }

@@ -2,6 +2,7 @@ pub mod Firsts
 pub mod Waits
 pub mod Ready
 pub mod Following
+pub mod Limits
 pub mod Freed
 pub mod Places
 pub mod Indexed

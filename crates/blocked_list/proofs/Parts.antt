@@ -6,8 +6,8 @@ use Rattle.std.proofs.lemmas.List.{take_all, map-append, get_or_append_left, len
 use Rattle.std.proofs.lemmas.List.Edits.{length-remove, get_or-remove_below, get_or-remove_above}
 use Rattle.std.proofs.lemmas.List.Filters.{length-filter_both}
 use Rattle.std.specs.Prelude.{IsSome}
-use Rattle.definitions.specs.Conflict.{conflicts}
-use Rattle.definitions.specs.Starts.{is_short}
+use Rattle.definitions.specs.Quotas.{Quotas}
+use Rattle.definitions.specs.World.{is_ready, the_limits}
 use Rattle.std.specs.List.{slice_get, filter, remove}
 use Rattle.definitions.specs.Bytes.{Bytes, same_bytes, is_any}
 use Rattle.definitions.specs.Settings.{Setting}
@@ -107,11 +107,11 @@ and_off : (a b : Bool) → a ≡ false → (a && b) ≡ false
 and_off true b e = absurd (false≢true (sym e))
 and_off false b e = refl
 
-pub ready_off : (names : Names) (settings : List Setting) (f : Bytes) (ws : List Waiting) (p : ℕ) → same_bytes (file_at ws p) f ≡ false → passes_at (is_ready_on f settings) (waiters_by names ws) p ≡ false
-ready_off names settings f [] zero e = refl
-ready_off names settings f [] (suc p) e = refl
-ready_off names settings f (w ∷ ws) zero e = rw e refl
-ready_off names settings f (w ∷ ws) (suc p) e = ready_off names settings f ws p e
+pub ready_off : (names : Names) (quotas : Quotas) (settings : List Setting) (f : Bytes) (ws : List Waiting) (p : ℕ) → same_bytes (file_at ws p) f ≡ false → passes_at (is_ready_on f quotas settings) (waiters_by names ws) p ≡ false
+ready_off names quotas settings f [] zero e = refl
+ready_off names quotas settings f [] (suc p) e = refl
+ready_off names quotas settings f (w ∷ ws) zero e = rw e refl
+ready_off names quotas settings f (w ∷ ws) (suc p) e = ready_off names quotas settings f ws p e
 
 pub wanted_off : (r : Run) (ws : List Waiting) (p : ℕ) → same_bytes (file_at ws p) r.file ≡ false → passes_at (λ (w : Waiting). same_wanted w.wanted r) ws p ≡ false
 wanted_off r [] zero e = refl
@@ -124,14 +124,14 @@ file_there [] p w l e = absurd (omega (arith, l))
 file_there (v ∷ ws) zero w l e = ap (λ (u : Waiting). u.wanted.file) (sym e)
 file_there (v ∷ ws) (suc p) w l e = file_there ws p w (omega (arith, l)) e
 
-module _ (names : Names) (settings : List Setting) (f : Bytes) (ws : List Waiting) (ps : List ℕ) (is : ps ≡ places_of (file_at ws) f (below (length ws))) where
+module _ (names : Names) (quotas : Quotas) (settings : List Setting) (f : Bytes) (ws : List Waiting) (ps : List ℕ) (is : ps ≡ places_of (file_at ws) f (below (length ws))) where
   by_owner : ps ≡ places_of (file_at ws) f (below (length (waiters_by names ws)))
   by_owner = is ∙ ap (λ n. places_of (file_at ws) f (below n)) (sym (length-map ws (waiter_by names)))
 
-  pub none_on_file : (i : ℕ) → length ps ≤ i → is_any (passes_at (is_ready_on f settings) (waiters_by names ws)) (take i ps) ≡ false → is_any (is_ready_on f settings) (waiters_by names ws) ≡ false
-  none_on_file = part_none (is_ready_on f settings) (file_at ws) f (waiters_by names ws) (ready_off names settings f ws) ps by_owner
+  pub none_on_file : (i : ℕ) → length ps ≤ i → is_any (passes_at (is_ready_on f quotas settings) (waiters_by names ws)) (take i ps) ≡ false → is_any (is_ready_on f quotas settings) (waiters_by names ws) ≡ false
+  none_on_file = part_none (is_ready_on f quotas settings) (file_at ws) f (waiters_by names ws) (ready_off names quotas settings f ws) ps by_owner
 
-  module _ (i k : ℕ) (w : Waiting) (l : i < length ps) (e : k ≡ get_or ps i 0) (at : w ≡ get_or ws k w) (enough : is_short 65536 settings ≡ false) where
+  module _ (i k : ℕ) (w : Waiting) (l : i < length ps) (e : k ≡ get_or ps i 0) (at : w ≡ get_or ws k w) where
     inside : k < length ws
     inside = (part_inside (file_at ws) f (length ws) ps is i k l e).0
 
@@ -143,15 +143,15 @@ module _ (names : Names) (settings : List Setting) (f : Bytes) (ws : List Waitin
     on = ap (λ g. same_bytes g f) (sym (file_there ws k w inside at)) ∙ (part_inside (file_at ws) f (length ws) ps is i k l e).1
 
     pub uses_on : AreNamed names ws → IsSome (names w.wanted.owner)
-    uses_on = uses names settings ws k w inside at enough
+    uses_on = uses names quotas settings ws k w inside at
 
-    pub first_on_file : is_any (passes_at (is_ready_on f settings) (waiters_by names ws)) (take i ps) ≡ false → true ≡ not (conflicts settings (request_by names w.wanted)) → IsFirstAt (is_ready_on f settings) (waiters_by names ws) k
+    pub first_on_file : is_any (passes_at (is_ready_on f quotas settings) (waiters_by names ws)) (take i ps) ≡ false → true ≡ is_ready the_limits quotas settings (waiter_by names w) → IsFirstAt (is_ready_on f quotas settings) (waiters_by names ws) k
     first_on_file none free =
-        part_found (is_ready_on f settings) (file_at ws) f (waiters_by names ws) (ready_off names settings f ws) ps by_owner i k (waiter_by names w) l e (sym (here names settings ws k w inside at enough)) none (free_on names settings ws k w inside at enough f on free)
+        part_found (is_ready_on f quotas settings) (file_at ws) f (waiters_by names ws) (ready_off names quotas settings f ws) ps by_owner i k (waiter_by names w) l e (sym (here names quotas settings ws k w inside at)) none (free_on names quotas settings ws k w inside at f on free)
 
-    pub next_on_file : is_any (passes_at (is_ready_on f settings) (waiters_by names ws)) (take i ps) ≡ false → false ≡ not (conflicts settings (request_by names w.wanted)) → is_any (passes_at (is_ready_on f settings) (waiters_by names ws)) (take (i + 1) ps) ≡ false
+    pub next_on_file : is_any (passes_at (is_ready_on f quotas settings) (waiters_by names ws)) (take i ps) ≡ false → false ≡ is_ready the_limits quotas settings (waiter_by names w) → is_any (passes_at (is_ready_on f quotas settings) (waiters_by names ws)) (take (i + 1) ps) ≡ false
     next_on_file none out =
-        part_next (is_ready_on f settings) (file_at ws) f (waiters_by names ws) (ready_off names settings f ws) ps i k (waiter_by names w) l e within (sym (here names settings ws k w inside at enough)) none (out_on names settings ws k w inside at enough f out)
+        part_next (is_ready_on f quotas settings) (file_at ws) f (waiters_by names ws) (ready_off names quotas settings f ws) ps i k (waiter_by names w) l e within (sym (here names quotas settings ws k w inside at)) none (out_on names quotas settings ws k w inside at f out)
 
 -- ---- one more, and one less
 

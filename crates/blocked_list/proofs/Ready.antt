@@ -5,6 +5,7 @@ use Rattle.std.proofs.lemmas.List.Folds.{list_any_more}
 use Rattle.definitions.specs.Bytes.{Bytes, same_bytes, is_any}
 use Rattle.definitions.specs.Conflict.{conflicts}
 use Rattle.definitions.specs.Settings.{Setting}
+use Rattle.definitions.specs.Quotas.{Quotas}
 use Rattle.definitions.specs.Starts.{is_short}
 use Rattle.definitions.specs.Waits.{Waiter}
 use Rattle.definitions.specs.World.{is_ready, the_limits}
@@ -25,16 +26,16 @@ on_file : (a b : Bool) → b ≡ false → (a && b) ≡ false
 on_file true b e = e
 on_file false b e = refl
 
-short_off : (settings : List Setting) → is_short 65536 settings ≡ true → (x : Waiter) → is_ready the_limits settings x ≡ false
-short_off settings e x = rw e (none_ready (not (conflicts settings x.request)))
+short_off : (quotas : Quotas) (settings : List Setting) → is_short 65536 settings ≡ true → (x : Waiter) → is_ready the_limits quotas settings x ≡ false
+short_off quotas settings e x = rw e (none_ready (not (conflicts settings x.request)))
 
-pub short_none : (settings : List Setting) → is_short 65536 settings ≡ true → (xs : List Waiter) → is_any (is_ready the_limits settings) xs ≡ false
-short_none settings e [] = refl
-short_none settings e (x ∷ xs) = rw (short_off settings e x) (short_none settings e xs)
+pub short_none : (quotas : Quotas) (settings : List Setting) → is_short 65536 settings ≡ true → (xs : List Waiter) → is_any (is_ready the_limits quotas settings) xs ≡ false
+short_none quotas settings e [] = refl
+short_none quotas settings e (x ∷ xs) = rw (short_off quotas settings e x) (short_none quotas settings e xs)
 
-pub short_none_on : (file : Bytes) (settings : List Setting) → is_short 65536 settings ≡ true → (xs : List Waiter) → is_any (is_ready_on file settings) xs ≡ false
-short_none_on file settings e [] = refl
-short_none_on file settings e (x ∷ xs) = rw (on_file (same_bytes x.request.file file) (is_ready the_limits settings x) (short_off settings e x)) (short_none_on file settings e xs)
+pub short_none_on : (file : Bytes) (quotas : Quotas) (settings : List Setting) → is_short 65536 settings ≡ true → (xs : List Waiter) → is_any (is_ready_on file quotas settings) xs ≡ false
+short_none_on file quotas settings e [] = refl
+short_none_on file quotas settings e (x ∷ xs) = rw (on_file (same_bytes x.request.file file) (is_ready the_limits quotas settings x) (short_off quotas settings e x)) (short_none_on file quotas settings e xs)
 
 module _ {X : Type 0} (test : X → Bool) where
   -- one more that doesn't pass
@@ -70,36 +71,36 @@ or_false : (a b : Bool) → (a || b) ≡ false → (a ≡ false) × (b ≡ false
 or_false true b e = absurd (false≢true (sym e))
 or_false false b e = (refl, e)
 
-module _ (file : Bytes) (settings : List Setting) where
+module _ (file : Bytes) (quotas : Quotas) (settings : List Setting) where
   abbrev on : Waiter → Bool
-  on = is_ready_on file settings
+  on = is_ready_on file quotas settings
 
   -- who isn't ready on another file is ready where it is ready on this one
-  ready_on : (x : Waiter) → is_ready_off file settings x ≡ false → is_ready the_limits settings x ≡ on x
+  ready_on : (x : Waiter) → is_ready_off file quotas settings x ≡ false → is_ready the_limits quotas settings x ≡ on x
   ready_on x e = go (same_bytes x.request.file file) e
     where
-      go : (b : Bool) → (not b && is_ready the_limits settings x) ≡ false → is_ready the_limits settings x ≡ (b && is_ready the_limits settings x)
+      go : (b : Bool) → (not b && is_ready the_limits quotas settings x) ≡ false → is_ready the_limits quotas settings x ≡ (b && is_ready the_limits quotas settings x)
       go true h = refl
       go false h = h
 
-  none_on : (xs : List Waiter) → is_any (is_ready_off file settings) xs ≡ false → is_any on xs ≡ false → is_any (is_ready the_limits settings) xs ≡ false
+  none_on : (xs : List Waiter) → is_any (is_ready_off file quotas settings) xs ≡ false → is_any on xs ≡ false → is_any (is_ready the_limits quotas settings) xs ≡ false
   none_on [] e f = refl
   none_on (x ∷ xs) e f =
-      let a = or_false (is_ready_off file settings x) (is_any (is_ready_off file settings) xs) e in
+      let a = or_false (is_ready_off file quotas settings x) (is_any (is_ready_off file quotas settings) xs) e in
       let b = or_false (on x) (is_any on xs) f in
       rw (ready_on x a.0, b.0) (none_on xs a.1 b.1)
 
-  none_front : (before : List Waiter) (x : Waiter) (behind : List Waiter) → is_any (is_ready_off file settings) (before ++ x ∷ behind) ≡ false → is_any (is_ready_off file settings) before ≡ false
+  none_front : (before : List Waiter) (x : Waiter) (behind : List Waiter) → is_any (is_ready_off file quotas settings) (before ++ x ∷ behind) ≡ false → is_any (is_ready_off file quotas settings) before ≡ false
   none_front [] x behind e = refl
   none_front (y ∷ ys) x behind e =
-      let a = or_false (is_ready_off file settings y) (is_any (is_ready_off file settings) (ys ++ x ∷ behind)) e in
+      let a = or_false (is_ready_off file quotas settings y) (is_any (is_ready_off file quotas settings) (ys ++ x ∷ behind)) e in
       rw a.0 (none_front ys x behind a.1)
 
   and_right : (a b : Bool) → (a && b) ≡ true → b ≡ true
   and_right true b e = e
   and_right false b e = absurd (false≢true e)
 
-  pub first_on : (xs : List Waiter) (place : Option ℕ) → is_any (is_ready_off file settings) xs ≡ false → IsFirstPlace on xs place → IsFirstPlace (is_ready the_limits settings) xs place
+  pub first_on : (xs : List Waiter) (place : Option ℕ) → is_any (is_ready_off file quotas settings) xs ≡ false → IsFirstPlace on xs place → IsFirstPlace (is_ready the_limits quotas settings) xs place
   first_on xs None e f = none_on xs e f
   first_on xs (Some i) e f = record {
     before = f.before;
@@ -107,25 +108,18 @@ module _ (file : Bytes) (settings : List Setting) where
     behind = f.behind;
     there = f.there;
     place = f.place;
-    none_before = none_on f.before (none_front f.before f.x f.behind (ap (is_any (is_ready_off file settings)) (sym f.there) ∙ e)) f.none_before;
-    passes = and_right (same_bytes f.x.request.file file) (is_ready the_limits settings f.x) f.passes;
+    none_before = none_on f.before (none_front f.before f.x f.behind (ap (is_any (is_ready_off file quotas settings)) (sym f.there) ∙ e)) f.none_before;
+    passes = and_right (same_bytes f.x.request.file file) (is_ready the_limits quotas settings f.x) f.passes;
   }
 
 -- ---- the waiter at a place
 
-not_short : (b s : Bool) → s ≡ false → (b && not s) ≡ b
-not_short true s e = rw e refl
-not_short false s e = refl
-
-module _ (names : Names) (settings : List Setting) (ws : List Waiting) (i : ℕ) (w : Waiting) (l : i < length ws) (at : w ≡ get_or ws i w) (enough : is_short 65536 settings ≡ false) where
+module _ (names : Names) (quotas : Quotas) (settings : List Setting) (ws : List Waiting) (i : ℕ) (w : Waiting) (l : i < length ws) (at : w ≡ get_or ws i w) where
   pub here : get_or (waiters_by names ws) i (waiter_by names w) ≡ waiter_by names w
   here = map_at (waiter_by names) ws i w (waiter_by names w) l ∙ ap (waiter_by names) (sym at)
 
-  pub ready_is : is_ready the_limits settings (waiter_by names w) ≡ not (conflicts settings (request_by names w.wanted))
-  ready_is = not_short (not (conflicts settings (request_by names w.wanted))) (is_short 65536 settings) enough
-
-  ready_here : is_ready the_limits settings (get_or (waiters_by names ws) i (waiter_by names w)) ≡ not (conflicts settings (request_by names w.wanted))
-  ready_here = ap (is_ready the_limits settings) here ∙ ready_is
+  ready_here : is_ready the_limits quotas settings (get_or (waiters_by names ws) i (waiter_by names w)) ≡ is_ready the_limits quotas settings (waiter_by names w)
+  ready_here = ap (is_ready the_limits quotas settings) here
 
   within : i < length (waiters_by names ws)
   within = rw (length-map ws (waiter_by names)) l
@@ -133,15 +127,15 @@ module _ (names : Names) (settings : List Setting) (ws : List Waiting) (i : ℕ)
   pub uses : AreNamed names ws → IsSome (names w.wanted.owner)
   uses h = subst (λ (v : Waiting). IsSome (names v.wanted.owner)) (sym at) (named_at names ws i w h l)
 
-  pub kept_out_next : is_any (is_ready the_limits settings) (take i (waiters_by names ws)) ≡ false → false ≡ not (conflicts settings (request_by names w.wanted)) → is_any (is_ready the_limits settings) (take (i + 1) (waiters_by names ws)) ≡ false
-  kept_out_next none out = any_more (is_ready the_limits settings) (waiters_by names ws) i (waiter_by names w) within none (ready_here ∙ sym out)
+  pub kept_out_next : is_any (is_ready the_limits quotas settings) (take i (waiters_by names ws)) ≡ false → false ≡ is_ready the_limits quotas settings (waiter_by names w) → is_any (is_ready the_limits quotas settings) (take (i + 1) (waiters_by names ws)) ≡ false
+  kept_out_next none out = any_more (is_ready the_limits quotas settings) (waiters_by names ws) i (waiter_by names w) within none (ready_here ∙ sym out)
 
-  pub ready_first : is_any (is_ready the_limits settings) (take i (waiters_by names ws)) ≡ false → true ≡ not (conflicts settings (request_by names w.wanted)) → IsFirstAt (is_ready the_limits settings) (waiters_by names ws) i
-  ready_first none free = first_from (is_ready the_limits settings) (waiters_by names ws) i (waiter_by names w) within none (ready_here ∙ sym free)
+  pub ready_first : is_any (is_ready the_limits quotas settings) (take i (waiters_by names ws)) ≡ false → true ≡ is_ready the_limits quotas settings (waiter_by names w) → IsFirstAt (is_ready the_limits quotas settings) (waiters_by names ws) i
+  ready_first none free = first_from (is_ready the_limits quotas settings) (waiters_by names ws) i (waiter_by names w) within none (ready_here ∙ sym free)
 
   -- of those on a file
-  pub out_on : (file : Bytes) → false ≡ not (conflicts settings (request_by names w.wanted)) → is_ready_on file settings (waiter_by names w) ≡ false
-  out_on file out = on_file (same_bytes w.wanted.file file) (is_ready the_limits settings (waiter_by names w)) (ready_is ∙ sym out)
+  pub out_on : (file : Bytes) → false ≡ is_ready the_limits quotas settings (waiter_by names w) → is_ready_on file quotas settings (waiter_by names w) ≡ false
+  out_on file out = on_file (same_bytes w.wanted.file file) (is_ready the_limits quotas settings (waiter_by names w)) (sym out)
 
-  pub free_on : (file : Bytes) → same_bytes w.wanted.file file ≡ true → true ≡ not (conflicts settings (request_by names w.wanted)) → is_ready_on file settings (waiter_by names w) ≡ true
-  free_on file on free = rw (on) (ready_is ∙ sym free)
+  pub free_on : (file : Bytes) → same_bytes w.wanted.file file ≡ true → true ≡ is_ready the_limits quotas settings (waiter_by names w) → is_ready_on file quotas settings (waiter_by names w) ≡ true
+  free_on file on free = rw (on) (sym free)

@@ -4,24 +4,26 @@ use Rattle.definitions.specs.Bytes.{Bytes, same_bytes, is_any}
 use Rattle.definitions.specs.Owners.{Owner}
 use Rattle.definitions.specs.Settings.{Setting, without_owner_on}
 use Rattle.definitions.specs.Starts.{is_short}
+use Rattle.definitions.specs.Quotas.{Quotas}
 use Rattle.definitions.specs.Moves.{AreRanges}
+use Rattle.blocked_list.specs.Quotas.{is_limited}
 use Rattle.definitions.specs.Waits.{Waiter}
 use Rattle.definitions.specs.World.{is_ready, the_limits}
 
 -- can be granted, and waits for this file
-abbrev pub is_ready_on : Bytes → List Setting → Waiter → Bool
-is_ready_on file settings x = same_bytes x.request.file file && is_ready the_limits settings x
+abbrev pub is_ready_on : Bytes → Quotas → List Setting → Waiter → Bool
+is_ready_on file quotas settings x = same_bytes x.request.file file && is_ready the_limits quotas settings x
 
 -- can be granted, but waits for another file
-abbrev pub is_ready_off : Bytes → List Setting → Waiter → Bool
-is_ready_off file settings x = not (same_bytes x.request.file file) && is_ready the_limits settings x
+abbrev pub is_ready_off : Bytes → Quotas → List Setting → Waiter → Bool
+is_ready_off file quotas settings x = not (same_bytes x.request.file file) && is_ready the_limits quotas settings x
 
--- where nobody who waits for another file is ready and 2 runs are free, a setting lets nobody of those wait no longer
+-- where nobody who waits for another file is ready, 2 runs are free, and its owner's quota holds nobody back, a setting lets nobody of those wait no longer
 abbrev pub SettingFreesLaw : Type 0
 SettingFreesLaw =
-    (settings : List Setting) (s : Setting) (waiters : List Waiter) → AreRanges waiters → is_short 65536 settings ≡ false → is_any (is_ready_off s.file settings) waiters ≡ false → is_any (is_ready_off s.file (settings ++ s ∷ [])) waiters ≡ false
+    (quotas : Quotas) (settings : List Setting) (s : Setting) (waiters : List Waiter) → AreRanges waiters → is_short 65536 settings ≡ false → is_limited quotas s.owner ≡ false → is_any (is_ready_off s.file quotas settings) waiters ≡ false → is_any (is_ready_off s.file quotas (settings ++ s ∷ [])) waiters ≡ false
 
 -- nor does a drop of an owner on a file
 abbrev pub CloseFreesLaw : Type 0
 CloseFreesLaw =
-    (settings : List Setting) (file : Bytes) (owner : Owner) (waiters : List Waiter) → AreRanges waiters → is_short 65536 settings ≡ false → is_any (is_ready_off file settings) waiters ≡ false → is_any (is_ready_off file (without_owner_on file owner settings)) waiters ≡ false
+    (quotas : Quotas) (settings : List Setting) (file : Bytes) (owner : Owner) (waiters : List Waiter) → AreRanges waiters → is_short 65536 settings ≡ false → is_limited quotas owner ≡ false → is_any (is_ready_off file quotas settings) waiters ≡ false → is_any (is_ready_off file quotas (without_owner_on file owner settings)) waiters ≡ false

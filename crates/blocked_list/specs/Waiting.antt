@@ -1,5 +1,5 @@
 -- Waiters by number, and who they are.
-use Rattle.std.specs.Prelude.{ℕ, Bool, ◌==◌, ◌&&◌, List, [], ◌∷◌, map, unwrap_or, IsSome}
+use Rattle.std.specs.Prelude.{ℕ, Bool, ◌==◌, ◌&&◌, List, [], ◌∷◌, map, unwrap_or, Some, IsSome}
 use Rattle.definitions.specs.Bytes.{same_bytes}
 use Rattle.definitions.specs.Owners.{Owner, Process}
 use Rattle.definitions.specs.Settings.{Request}
@@ -8,6 +8,7 @@ use Rattle.definitions.specs.Waits.{Waiter, modes_are_same}
 use Rattle.owner_ids.specs.Names.{Names, AreDistinct}
 use Rattle.owner_ranges.specs.Same.{mode_of}
 use Rattle.range_table.specs.declared.run.Run.{Run}
+use Rattle.range_table.specs.declared.run.Setting.{Setting as NumberSetting}
 
 -- what is wanted, by its owner's number, and what is sent when it is granted
 pub record Waiting : Type 0 where
@@ -28,6 +29,10 @@ request_by names r = record { file = r.file; owner = owner_at names r.owner; fir
 
 abbrev pub waiter_by : Names → Waiting → Waiter
 waiter_by names w = record { request = request_by names w.wanted; letter = w.letter }
+
+-- what a lock that is wanted sets, by its owner's number
+abbrev pub setting_wanted : Run → NumberSetting
+setting_wanted r = record { file = r.file; owner = r.owner; first = r.first; last = r.last; mode = Some r.mode }
 
 abbrev pub waiters_by : Names → List Waiting → List Waiter
 waiters_by names ws = map (waiter_by names) ws

@@ -7,10 +7,12 @@ mod by_owner;
 mod cycles;
 mod grants;
 pub mod laws;
+mod quotas;
 mod slots;
 mod waiter;
 
 pub use cycles::BlockError;
 pub use owner_ids::Starved;
+pub use quotas::{FULL_QUOTA, Limit, Quotas, limit_of};
 pub use slots::{MOST_SLOTS, NoSlots, NotWaiting, Slots};
 pub use waiter::Waiter;

@@ -1,16 +1,19 @@
 //! One who waits.
-ghost use Rattle.std.specs.Prelude.{◌≡◌, ◌<◌, ◌≤◌, ◌^◌, ◌==◌, ◌&&◌, not, List, IsSome};
+ghost use Rattle.std.specs.Prelude.{◌≡◌, ◌<◌, ◌≤◌, ◌^◌, ◌==◌, ◌&&◌, false, List, IsSome};
 ghost use Rattle.definitions.specs.Bytes.{same_bytes};
-ghost use Rattle.definitions.specs.Settings.{Setting as OwnerSetting};
-ghost use Rattle.definitions.specs.Conflict.{conflicts};
+ghost use Rattle.definitions.specs.Settings.{Setting as OwnerSetting, setting_of};
+ghost use Rattle.definitions.specs.Quotas.{exceeds};
+ghost use Rattle.definitions.specs.Starts.{is_short};
+ghost use Rattle.definitions.specs.World.{is_ready, the_limits};
 ghost use Rattle.owner_ids.specs.Names.{named};
 ghost use Rattle.owner_ranges.specs.Stands.{Stands};
 ghost use Rattle.range_table.specs.Settings.{mode_at};
-ghost use Rattle.blocked_list.specs.Waiting.{request_by, same_wanted};
+ghost use Rattle.blocked_list.specs.Waiting.{request_by, same_wanted, setting_wanted, waiter_by};
 
+use crate::quotas::{Quotas, limit_of};
 use letters::Letter;
 use owner_ids::Owners;
-use range_table::{FileId, RangeTable, Run};
+use range_table::{FileId, RangeTable, Run, Setting};
 use std::marker::Model;
 
 /// The lock that somebody waits for, whom the tables know by number, and the call that tells of it once it is granted.
@@ -83,10 +86,42 @@ impl Waiter {
         self.wanted.file.is_same(file)
     }
 
-    // Whether nobody is in the way.
-    pub(crate) fn is_free<T: RangeTable>(&self, table: &T, owners: &Owners) -> bool
-        ensures { (settings : List OwnerSetting) → Stands (named owners.now) (mode_at (T.settings table.now)) settings → IsSome (named owners.now self.now.wanted.owner) → result ≡ not (conflicts settings (request_by (named owners.now) self.now.wanted)) }
+    // Whether nobody is in the way, and its host's quota isn't, where 2 runs are free.
+    pub(crate) fn is_free<T: RangeTable, Q: Quotas>(
+        &self,
+        table: &T,
+        owners: &Owners,
+        quotas: &Q,
+    ) -> bool
+        ensures { (settings : List OwnerSetting) → Stands (named owners.now) (mode_at (T.settings table.now)) settings → IsSome (named owners.now self.now.wanted.owner) → is_short 65536 settings ≡ false → result ≡ is_ready the_limits (Q.by_host quotas.now) settings (waiter_by (named owners.now) self.now) }
     {
         !owner_ranges::conflicts(table, owners, &self.wanted)
+            && !self.is_held_back(table, owners, quotas)
+    }
+
+    // Whether its host's quota holds it back, where 2 runs are free.
+    fn is_held_back<T: RangeTable, Q: Quotas>(&self, table: &T, owners: &Owners, quotas: &Q) -> bool
+        ensures { (settings : List OwnerSetting) → Stands (named owners.now) (mode_at (T.settings table.now)) settings → IsSome (named owners.now self.now.wanted.owner) → is_short 65536 settings ≡ false → result ≡ exceeds (Q.by_host quotas.now) settings (setting_of (request_by (named owners.now) self.now.wanted)) }
+    {
+        let Some(owner) = owners.find(self.wanted.owner) else {
+            return false;
+        };
+        let Some(limit) = limit_of(quotas, owner) else {
+            return false;
+        };
+        owner_ranges::is_past(table, owners, limit.host, &self.setting(), limit.quota)
+    }
+
+    // What it sets once it is granted.
+    fn setting(&self) -> Setting
+        ensures { result ≡ setting_wanted self.now.wanted }
+    {
+        Setting {
+            file: self.wanted.file,
+            owner: self.wanted.owner,
+            first: self.wanted.first,
+            last: self.wanted.last,
+            mode: Some(self.wanted.mode),
+        }
     }
 }

@@ -2,3 +2,4 @@ pub mod Strangers
 pub mod Counting
 pub mod Ties
 pub mod Sweeps
+pub mod Guests

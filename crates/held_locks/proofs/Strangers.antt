@@ -20,16 +20,16 @@ use Rattle.held_locks.specs.Asked.{asked, run_by_number}
 use Rattle.held_locks.specs.Stranger.{IsAsker}
 
 -- the names with one more
-abbrev named_too : Names → ℕ → Owner → Names
+abbrev pub named_too : Names → ℕ → Owner → Names
 named_too names n x k = cond (k == n) (Some x) (names k)
 
-same_beside : (names : Names) (n : ℕ) (x : Owner) (k : ℕ) → k ≢ n → named_too names n x k ≡ names k
+pub same_beside : (names : Names) (n : ℕ) (x : Owner) (k : ℕ) → k ≢ n → named_too names n x k ≡ names k
 same_beside names n x k o = go (k == n) refl where
   go : (b : Bool) → (k == n) ≡ b → cond b (Some x) (names k) ≡ names k
   go true t = absurd (o (eqb-true k n t))
   go false t = refl
 
-renames_too : (names : Names) (n : ℕ) (x : Owner) → Renames names (named_too names n x) n (Some x)
+pub renames_too : (names : Names) (n : ℕ) (x : Owner) → Renames names (named_too names n x) n (Some x)
 renames_too names n x = record { there = ap (λ b. cond b (Some x) (names n)) (number_same n n refl); others = λ k o. same_beside names n x k o }
 
 third : (a b c d e : Bool) → (a && b && c && d && e) ≡ true → b ≡ true

@@ -33,7 +33,25 @@ pub struct Holder<'a> {
 }
 
 ghost use Rattle.std.specs.Prelude.{◌≡◌};
-ghost use Rattle.held_locks.specs.Asked.{run_by_number};
+ghost use Rattle.definitions.specs.Settings.{setting_of};
+ghost use Rattle.held_locks.specs.Asked.{asked, changed, run_by_number};
+
+impl<'a> Request<'a> {
+    /// What its owner is to hold once it has the lock.
+    pub fn change(&self) -> Change<'a>
+        ensures is { changed result ≡ setting_of (asked self.now) }
+        ensures ordered { result.first ≡ self.now.first }
+        ensures inside { result.last ≡ self.now.last }
+    {
+        Change {
+            file: self.file,
+            owner: self.owner,
+            first: self.first,
+            last: self.last,
+            mode: Some(self.mode),
+        }
+    }
+}
 
 impl Request<'_> {
     // The same, of a number.

@@ -5,6 +5,7 @@
 mod asked;
 mod counts;
 mod locks;
+mod quotas;
 
 pub use asked::{Change, Holder, Request};
 pub use locks::Locks;

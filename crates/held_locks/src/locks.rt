@@ -92,7 +92,7 @@ impl<R: RangeTable> Locks<R> {
     }
 
     // The asker's number, or nobody's.
-    fn asker(&self, owner: &Owner) -> OwnerId
+    pub(crate) fn asker(&self, owner: &Owner) -> OwnerId
         ensures { IsAsker (named self.now.names) result (said owner.now) }
     {
         match self.owners.number(owner) {
@@ -288,6 +288,14 @@ impl<R: RangeTable> Locks<R> {
             last: run.last,
             mode: run.mode,
         }
+    }
+
+    /// The owner of a number in use.
+    pub fn owner(&self, number: OwnerId) -> &Owner
+        requires { IsSome (named self.now.names number) }
+        ensures { named self.now.names number ≡ Some (said result.now) }
+    {
+        self.owners.get(number)
     }
 
     /// The table and the owners' numbers, for the tables beside it that know owners by number.

@@ -6,8 +6,7 @@ use Rattle.sqlite.specs.State.{State, HasCleanDisk, Survives}
 use Rattle.sqlite.proofs.StateLemmas.{survives_weaker}
 use Rattle.definitions.specs.Bytes.{Bytes, IsAscending, bytes_cmp, same_bytes, first_that, put, without}
 use Rattle.definitions.specs.Nsm.{MyId}
-use Rattle.definitions.specs.Hosts.{HostRow, Hosts, row_cmp, watch_cmp, row_of, has_row, after_store, Seen, Acked, Watched}
-use Rattle.hosts_db.specs.Quotas.{after_quota}
+use Rattle.definitions.specs.Hosts.{HostRow, Hosts, row_cmp, watch_cmp, row_of, has_row, after_store, Seen, Acked, Watched, Quota}
 use Rattle.hosts_statements.specs.Wrote.{WroteHosts, MayWriteHosts, hosts_in}
 use Rattle.hosts_statements.proofs.Listed.{bytes_exact}
 use Rattle.hosts_statements.proofs.OwnIds.{eq_equal}
@@ -62,7 +61,7 @@ module _ (h : Hosts) (name : Bytes) where
   pub unacked : (epoch : ℕ) → has_row h name ≡ false → ◌≡◌ {A = Hosts} (record h { rows = without (λ (r : HostRow). same_bytes r.name name) h.rows }) (after_store h (Acked name epoch))
   unacked epoch none = let both = none_changes name (λ r. record r { epoch = epoch }) h.rows none in ap (λ rows. record h { rows = rows }) (both.0 ∙ sym both.1 ∙ epoch_is name epoch h.rows)
 
-  pub unset : (runs : ℕ) → has_row h name ≡ false → ◌≡◌ {A = Hosts} (record h { rows = without (λ (r : HostRow). same_bytes r.name name) h.rows }) (after_quota h name runs)
+  pub unset : (runs : ℕ) → has_row h name ≡ false → ◌≡◌ {A = Hosts} (record h { rows = without (λ (r : HostRow). same_bytes r.name name) h.rows }) (after_store h (Quota name runs))
   unset runs none = let both = none_changes name (λ r. record r { quota = runs }) h.rows none in ap (λ rows. record h { rows = rows }) (both.0 ∙ sym both.1 ∙ quota_is name runs h.rows)
 
   module _ (rise : IsAscending row_cmp h.rows) (row : HostRow) (is : row_of h name ≡ Some row) where
@@ -75,5 +74,5 @@ module _ (h : Hosts) (name : Bytes) where
     pub acked_at : (epoch : ℕ) → ◌≡◌ {A = Hosts} (record h { rows = put row_cmp (record { name = name; epoch = epoch; seen = row.seen; quota = row.quota }) h.rows }) (after_store h (Acked name epoch))
     acked_at epoch = ap (λ n. record h { rows = put row_cmp (record { name = n; epoch = epoch; seen = row.seen; quota = row.quota }) h.rows }) (sym named) ∙ ap (λ rows. record h { rows = rows }) (put_changes name (λ r. record r { epoch = epoch }) (λ r. refl) row h.rows rise is ∙ epoch_is name epoch h.rows)
 
-    pub set_at : (runs : ℕ) → ◌≡◌ {A = Hosts} (record h { rows = put row_cmp (record { name = name; epoch = row.epoch; seen = row.seen; quota = runs }) h.rows }) (after_quota h name runs)
+    pub set_at : (runs : ℕ) → ◌≡◌ {A = Hosts} (record h { rows = put row_cmp (record { name = name; epoch = row.epoch; seen = row.seen; quota = runs }) h.rows }) (after_store h (Quota name runs))
     set_at runs = ap (λ n. record h { rows = put row_cmp (record { name = n; epoch = row.epoch; seen = row.seen; quota = runs }) h.rows }) (sym named) ∙ ap (λ rows. record h { rows = rows }) (put_changes name (λ r. record r { quota = runs }) (λ r. refl) row h.rows rise is ∙ quota_is name runs h.rows)

@@ -3,8 +3,7 @@ ghost use Rattle.std.specs.Prelude.{◌≡◌, OnOk, OnErr, Some, None};
 ghost use Rattle.std.specs.Option.{option_copied};
 ghost use Rattle.sqlite.specs.State.{HasCleanDisk, KeepsCommit, Survives};
 ghost use Rattle.sqlite.specs.Held.{state};
-ghost use Rattle.definitions.specs.Hosts.{after_store, Acked, Seen, Unwatched, Watched};
-ghost use Rattle.hosts_db.specs.Quotas.{after_quota};
+ghost use Rattle.definitions.specs.Hosts.{after_store, Acked, Seen, Unwatched, Watched, Quota};
 ghost use Rattle.hosts_statements.specs.Wrote.{HasTables, IsAsKept, IsFresh, MayWriteHosts, WroteHosts};
 ghost use Rattle.hosts_statements.specs.declared.tables.Version.TheVariants.{First, Second};
 
@@ -124,9 +123,9 @@ pub(crate) fn write_quota<S: Alter>(
 ) -> Result<(), Error>
     requires tables { HasTables Second (state S.Store conn.old) }
     requires kept { IsAsKept (state S.Store conn.old) rows.now }
-    ensures ok { HasCleanDisk (state S.Store conn.new) → OnOk result (WroteHosts (λ h. after_quota h name.now runs) (state S.Store conn.old) (state S.Store conn.new)) }
+    ensures ok { HasCleanDisk (state S.Store conn.new) → OnOk result (WroteHosts (λ h. after_store h (Quota name.now runs)) (state S.Store conn.old) (state S.Store conn.new)) }
     ensures err { HasCleanDisk (state S.Store conn.new) → OnErr result (KeepsCommit (state S.Store conn.old) (state S.Store conn.new)) }
-    ensures crash { Survives (state S.Store conn.old) (state S.Store conn.new) (MayWriteHosts (λ h. after_quota h name.now runs) (state S.Store conn.old)) }
+    ensures crash { Survives (state S.Store conn.old) (state S.Store conn.new) (MayWriteHosts (λ h. after_store h (Quota name.now runs)) (state S.Store conn.old)) }
 {
     let _in_order = rows.hosts();
     let Some(row) = rows.host(name) else {

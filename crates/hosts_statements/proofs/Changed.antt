@@ -11,8 +11,7 @@ use Rattle.std.proofs.lemmas.Map.Text.{is_eq-slice_cmp}
 use Rattle.std.specs.FinMap.{FinMap, IsAntisymmetric, get, insert, entries, retain_keys, get-insert, get-retain_keys, same_map}
 use Rattle.definitions.specs.Bytes.{Bytes, IsAscending, IsBelowAll, bytes_cmp, same_bytes, is_any, first_that, put, placed, without}
 use Rattle.definitions.specs.Nsm.{MyId}
-use Rattle.definitions.specs.Hosts.{HostRow, Hosts, row_cmp, watch_cmp, has_row, is_watch, with_seen, with_epoch, after_store, Watched, Unwatched}
-use Rattle.hosts_db.specs.Quotas.{with_quota}
+use Rattle.definitions.specs.Hosts.{HostRow, Hosts, row_cmp, watch_cmp, has_row, is_watch, with_seen, with_epoch, after_store, Watched, Unwatched, with_quota}
 use Rattle.hosts_db.proofs.Orders.{row_total}
 use Rattle.sqlite.specs.Effect.{Database}
 use Rattle.hosts_statements.specs.Maps.{Host, WatchKey, Rows, key_cmp, host_row, watch_row, listed, made_now, is_key_of, with_host, with_watch, without_host, without_watches}

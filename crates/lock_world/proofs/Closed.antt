@@ -1,11 +1,12 @@
 -- What stays of waiters where an owner closes a file.
 use Rattle.std.proofs.Common.{◌≡◌, ℕ, subst, Bool, true, false, List, [], ◌∷◌, refl, sym, ap, ◌∙◌, Option, Some, unwrap_or}
-use Rattle.std.specs.Prelude.{◌&&◌, cond}
+use Rattle.std.specs.Prelude.{◌&&◌, ◌||◌, cond}
 use Rattle.definitions.specs.Bytes.{Bytes, same_bytes}
 use Rattle.definitions.specs.Owners.{Owner, Process, same_owner}
 use Rattle.definitions.proofs.OwnerLaws.{same_owner-Decides}
 use Rattle.definitions.specs.Outgoing.{Outgoing}
 use Rattle.definitions.specs.Settings.{Setting, is_of, without_owner_on}
+use Rattle.definitions.specs.Quotas.{Quotas}
 use Rattle.definitions.specs.Waits.{Waiter, without_waiters_on}
 use Rattle.owner_ids.specs.Names.{named}
 use Rattle.blocked_list.specs.Waiting.{Waiting, Taken, AreNamed, owner_at, waiter_by, waiters_by}
@@ -14,9 +15,10 @@ use Rattle.definitions.specs.Starts.{is_short}
 use Rattle.definitions.proofs.MoveLaws.{ranges_without}
 use Rattle.blocked_list.specs.Ready.{CloseFreesLaw}
 use Rattle.lock_world.specs.declared.unsettled.Unsettled.{Unsettled}
+use Rattle.blocked_list.specs.Quotas.{is_limited}
 use Rattle.lock_world.specs.ReadyAt.{IsReadyAt, after_change}
 use Rattle.lock_world.specs.Whole.{IsWhole, AreWaitersShown}
-use Rattle.lock_world.proofs.ReadyAt.{ready_changed, ready_without}
+use Rattle.lock_world.proofs.ReadyAt.{ready_closed, ready_without}
 use Rattle.lock_world.proofs.Kept.{some_of}
 use Rattle.lock_world.proofs.Shown.{shown_without, waiters_without}
 
@@ -44,10 +46,10 @@ stranger_waits_not names file x nobody (w ∷ ws) a =
     ap (λ b. cond b (without_waiters_on file x (waiters_by (named names) ws)) (waiter_by (named names) w ∷ without_waiters_on file x (waiters_by (named names) ws))) kept
     ∙ ap (λ (v : List Waiter). waiter_by (named names) w ∷ v) (stranger_waits_not names file x nobody ws a.1)
 
-pub whole_closed : (names : List (Option Owner)) (file : Bytes) (x : Owner) (settings : List Setting) (slots left : Taken) (calls : List Outgoing) (unsettled : Unsettled) (short : Bool) → IsWhole settings names slots calls unsettled → CloseFreesLaw → short ≡ is_short 65536 settings
+pub whole_closed : (names : List (Option Owner)) (file : Bytes) (x : Owner) (settings : List Setting) (slots left : Taken) (calls : List Outgoing) (quotas : Quotas) (unsettled : Unsettled) (held : Bool) → IsWhole settings names slots calls quotas unsettled → CloseFreesLaw → held ≡ (is_short 65536 settings || is_limited quotas x)
     → waiters_by (named names) left.waiters ≡ without_waiters_on file x (waiters_by (named names) slots.waiters) → AreNamed (named names) left.waiters → left.calls ≡ slots.calls
-    → IsWhole (without_owner_on file x settings) names left calls (after_change unsettled file short)
-whole_closed names file x settings slots left calls unsettled short h law is by in_use count = record {
+    → IsWhole (without_owner_on file x settings) names left calls quotas (after_change unsettled file held)
+whole_closed names file x settings slots left calls quotas unsettled held h law is by in_use count = record {
   in_use = in_use;
   counted = count ∙ h.counted;
   shown = shown_without (is_of file x) settings h.shown;
@@ -55,9 +57,9 @@ whole_closed names file x settings slots left calls unsettled short h law is by 
   ranges = subst AreRanges (sym by) (ranges_without closed (waiters_by (named names) slots.waiters) h.ranges);
   ready =
       let ws = waiters_by (named names) slots.waiters in
-      let changed = ready_changed unsettled short settings (without_owner_on file x settings) file ws (λ enough off. law settings file x ws h.ranges enough off) is h.ready in
-      subst (IsReadyAt (after_change unsettled file short) (without_owner_on file x settings)) (sym by)
-      (ready_without (after_change unsettled file short) (without_owner_on file x settings) closed ws changed);
+      let changed = ready_closed law unsettled held quotas settings file x ws h.ranges is h.ready in
+      subst (IsReadyAt (after_change unsettled file held) quotas (without_owner_on file x settings)) (sym by)
+      (ready_without (after_change unsettled file held) quotas (without_owner_on file x settings) closed ws changed);
 }
   where
     closed : Waiter → Bool

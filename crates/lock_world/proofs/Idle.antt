@@ -6,7 +6,7 @@ use Rattle.definitions.specs.Bytes.{Bytes, same_bytes, is_any, first_that, witho
 use Rattle.definitions.specs.Owners.{Owner, same_owner}
 use Rattle.definitions.specs.Settings.{Mode, Setting, setting_of, covers, within, mode_at}
 use Rattle.definitions.specs.Waits.{Waiter}
-use Rattle.definitions.specs.World.{World, the_limits, is_ready, first_ready, granted, with_setting, with_waiter}
+use Rattle.definitions.specs.World.{World, the_limits, is_ready_in, first_ready, granted, with_setting, with_waiter}
 use Rattle.definitions.proofs.OwnerLaws.{same_owner-Decides}
 use Rattle.definitions.proofs.SettingLaws.{newest_wins}
 use Rattle.lock_world.specs.Seen.{IsIdle}
@@ -92,7 +92,7 @@ module _ (w : World) (x : Waiter) (there : first_ready the_limits w ≡ Some x) 
   idle_granted idle = record {
     holds_nothing = held_nothing idle;
     waits_not =
-        none_there (is_ready the_limits w.settings) (λ (z : Waiter). same_owner z.request.owner y) w.waiters
+        none_there (is_ready_in the_limits w) (λ (z : Waiter). same_owner z.request.owner y) w.waiters
         (λ z e. ap (λ (v : Waiter). same_owner v.request.owner y) (one z x (sym e ∙ there)) ∙ another idle) idle.waits_not;
   }
     where

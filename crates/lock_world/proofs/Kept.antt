@@ -9,6 +9,7 @@ use Rattle.definitions.proofs.OwnerLaws.{same_owner-Decides}
 use Rattle.owner_ranges.proofs.Words.{number_is}
 use Rattle.definitions.specs.Outgoing.{Outgoing}
 use Rattle.definitions.specs.Settings.{Setting, without_host}
+use Rattle.definitions.specs.Quotas.{Quotas}
 use Rattle.definitions.specs.Waits.{Waiter, without_host_waiters}
 use Rattle.owner_ids.specs.Names.{named, AreDistinct}
 use Rattle.owner_ranges.specs.Same.{mode_of}
@@ -81,18 +82,18 @@ module _ (names after : List (Option Owner)) where
   named_kept [] k a = tt
   named_kept (w ∷ ws) k a = (subst (λ o. IsSome o) (sym k.0) a.0, named_kept ws k.1 a.1)
 
-  pub whole_kept : (settings : List Setting) (slots : Taken) (calls : List Outgoing) (unsettled : Unsettled) → KeepsWaiters names after slots.waiters → IsWhole settings names slots calls unsettled → IsWhole settings after slots calls unsettled
-  whole_kept settings slots calls unsettled k h = record {
+  pub whole_kept : (settings : List Setting) (slots : Taken) (calls : List Outgoing) (quotas : Quotas) (unsettled : Unsettled) → KeepsWaiters names after slots.waiters → IsWhole settings names slots calls quotas unsettled → IsWhole settings after slots calls quotas unsettled
+  whole_kept settings slots calls quotas unsettled k h = record {
     in_use = named_kept slots.waiters k h.in_use;
     counted = h.counted;
     shown = h.shown;
     waiters_shown = subst AreWaitersShown (sym (waiters_kept slots.waiters k)) h.waiters_shown;
     ranges = subst AreRanges (sym (waiters_kept slots.waiters k)) h.ranges;
-    ready = subst (IsReadyAt unsettled settings) (sym (waiters_kept slots.waiters k)) h.ready;
+    ready = subst (IsReadyAt unsettled quotas settings) (sym (waiters_kept slots.waiters k)) h.ready;
   }
 
 -- a host's waiters are gone, and other owners keep their numbers
-module _ (names after : List (Option Owner)) (name : Bytes) (settings : List Setting) (slots left : Taken) (calls others : List Outgoing) (unsettled : Unsettled) (h : IsWhole settings names slots calls unsettled) (by : waiters_by (named names) left.waiters ≡ without_host_waiters name (waiters_by (named names) slots.waiters)) (in_use : AreNamed (named names) left.waiters) (keep : (n : ℕ) (x : Owner) → is_of_host name x ≡ false → named names n ≡ Some x → named after n ≡ Some x) where
+module _ (names after : List (Option Owner)) (name : Bytes) (settings : List Setting) (slots left : Taken) (calls others : List Outgoing) (quotas : Quotas) (unsettled : Unsettled) (h : IsWhole settings names slots calls quotas unsettled) (by : waiters_by (named names) left.waiters ≡ without_host_waiters name (waiters_by (named names) slots.waiters)) (in_use : AreNamed (named names) left.waiters) (keep : (n : ℕ) (x : Owner) → is_of_host name x ≡ false → named names n ≡ Some x → named after n ≡ Some x) where
   abbrev of_host : Waiter → Bool
   of_host = λ (w : Waiter). is_of_host name w.request.owner
 
@@ -102,7 +103,7 @@ module _ (names after : List (Option Owner)) (name : Bytes) (settings : List Set
   pub waiters_left : waiters_by (named after) left.waiters ≡ without_host_waiters name (waiters_by (named names) slots.waiters)
   waiters_left = waiters_kept names after left.waiters kept_left ∙ by
 
-  pub whole_dropped : left.calls ≡ length others → IsWhole (without_host name settings) after left others Anywhere
+  pub whole_dropped : left.calls ≡ length others → IsWhole (without_host name settings) after left others quotas Anywhere
   whole_dropped counted = record {
     in_use = named_kept names after left.waiters kept_left in_use;
     counted = counted;

@@ -10,3 +10,4 @@ pub mod Notices
 pub mod Closed
 pub mod Strangers
 pub mod Waiting
+pub mod Stored

@@ -5,15 +5,19 @@ use Rattle.std.proofs.lemmas.Option.{none-some}
 use Rattle.std.proofs.lemmas.Slice.Eq.{bytes_eq-Decides}
 use Rattle.definitions.specs.Bytes.{Bytes, same_bytes, is_any, first_that, without, without_first}
 use Rattle.definitions.specs.Moves.{AreRanges}
-use Rattle.definitions.specs.Settings.{Setting}
+use Rattle.definitions.specs.Owners.{Owner}
+use Rattle.definitions.specs.Quotas.{Quotas}
+use Rattle.definitions.specs.Settings.{Setting, without_owner_on}
 use Rattle.definitions.specs.Starts.{is_short}
 use Rattle.definitions.specs.Waits.{Waiter}
 use Rattle.definitions.specs.World.{is_ready, the_limits}
 use Rattle.definitions.proofs.Lists.{first_found}
-use Rattle.blocked_list.specs.Ready.{is_ready_off, SettingFreesLaw}
+use Rattle.definitions.proofs.QuotaLaws.{AreKept, not_readied, none_readied}
+use Rattle.blocked_list.specs.Quotas.{is_limited}
+use Rattle.blocked_list.specs.Ready.{is_ready_off, SettingFreesLaw, CloseFreesLaw}
 use Rattle.lock_world.specs.declared.unsettled.Unsettled.{Unsettled}
 use Rattle.lock_world.specs.declared.unsettled.Unsettled.TheVariants.{Nowhere, On, Anywhere}
-use Rattle.lock_world.specs.ReadyAt.{IsReadyAt, with_file, after_change}
+use Rattle.lock_world.specs.ReadyAt.{IsReadyAt, with_file, after_change, after_grant}
 
 -- ---- where none passes a test
 
@@ -77,80 +81,106 @@ is_same : (a b : Bytes) → a ≡ b → same_bytes a b ≡ true
 is_same a b e = (bytes_eq-Decides a b).1 e
 
 -- whoever waits for the file is none of those who wait for another
-own_file : (file : Bytes) (settings : List Setting) (x : Waiter) → x.request.file ≡ file → is_ready_off file settings x ≡ false
-own_file file settings x e = ap (λ b. not b && is_ready the_limits settings x) (is_same x.request.file file e)
+own_file : (file : Bytes) (quotas : Quotas) (settings : List Setting) (x : Waiter) → x.request.file ≡ file → is_ready_off file quotas settings x ≡ false
+own_file file quotas settings x e = ap (λ b. not b && is_ready the_limits quotas settings x) (is_same x.request.file file e)
 
 not_off : (b r : Bool) → r ≡ true → (not b && r) ≡ false → b ≡ true
 not_off true r h e = refl
 not_off false r h e = absurd (false≢true (sym e ∙ h))
 
-pub no_off : (file : Bytes) (settings : List Setting) (ws : List Waiter) → is_any (is_ready the_limits settings) ws ≡ false → is_any (is_ready_off file settings) ws ≡ false
-no_off file settings ws e =
-    none_by (is_ready the_limits settings) (is_ready_off file settings) ws
-    (λ x h. both (not (same_bytes x.request.file file)) (is_ready the_limits settings x) h) e
-  where
-    both : (a b : Bool) → b ≡ false → (a && b) ≡ false
-    both true b e = e
-    both false b e = refl
+and_false : (a b : Bool) → b ≡ false → (a && b) ≡ false
+and_false true b e = e
+and_false false b e = refl
+
+pub no_off : (file : Bytes) (quotas : Quotas) (settings : List Setting) (ws : List Waiter) → is_any (is_ready the_limits quotas settings) ws ≡ false → is_any (is_ready_off file quotas settings) ws ≡ false
+no_off file quotas settings ws e =
+    none_by (is_ready the_limits quotas settings) (is_ready_off file quotas settings) ws
+    (λ x h. and_false (not (same_bytes x.request.file file)) (is_ready the_limits quotas settings x) h) e
 
 -- ---- changes
 
 -- fewer wait
-pub ready_without : (u : Unsettled) (settings : List Setting) (test : Waiter → Bool) (ws : List Waiter) → IsReadyAt u settings ws → IsReadyAt u settings (without test ws)
-ready_without Nowhere settings test ws e = none_without (is_ready the_limits settings) test ws e
-ready_without (On file) settings test ws e = none_without (is_ready_off file settings) test ws e
-ready_without Anywhere settings test ws e = tt
+pub ready_without : (u : Unsettled) (quotas : Quotas) (settings : List Setting) (test : Waiter → Bool) (ws : List Waiter) → IsReadyAt u quotas settings ws → IsReadyAt u quotas settings (without test ws)
+ready_without Nowhere quotas settings test ws e = none_without (is_ready the_limits quotas settings) test ws e
+ready_without (On file) quotas settings test ws e = none_without (is_ready_off file quotas settings) test ws e
+ready_without Anywhere quotas settings test ws e = tt
 
-pub ready_without_first : (u : Unsettled) (settings : List Setting) (test : Waiter → Bool) (ws : List Waiter) → IsReadyAt u settings ws → IsReadyAt u settings (without_first test ws)
-ready_without_first Nowhere settings test ws e = none_without_first (is_ready the_limits settings) test ws e
-ready_without_first (On file) settings test ws e = none_without_first (is_ready_off file settings) test ws e
-ready_without_first Anywhere settings test ws e = tt
+pub ready_without_first : (u : Unsettled) (quotas : Quotas) (settings : List Setting) (test : Waiter → Bool) (ws : List Waiter) → IsReadyAt u quotas settings ws → IsReadyAt u quotas settings (without_first test ws)
+ready_without_first Nowhere quotas settings test ws e = none_without_first (is_ready the_limits quotas settings) test ws e
+ready_without_first (On file) quotas settings test ws e = none_without_first (is_ready_off file quotas settings) test ws e
+ready_without_first Anywhere quotas settings test ws e = tt
 
 -- one more waits
-pub ready_waiting : (u : Unsettled) (settings : List Setting) (ws : List Waiter) (x : Waiter) → IsReadyAt u settings ws → IsReadyAt (with_file u x.request.file) settings (ws ++ x ∷ [])
-ready_waiting Nowhere settings ws x e =
-    none_more (is_ready_off x.request.file settings) ws x (no_off x.request.file settings ws e) (own_file x.request.file settings x refl)
-ready_waiting (On file) settings ws x e = go (same_bytes file x.request.file) refl
+pub ready_waiting : (u : Unsettled) (quotas : Quotas) (settings : List Setting) (ws : List Waiter) (x : Waiter) → IsReadyAt u quotas settings ws → IsReadyAt (with_file u x.request.file) quotas settings (ws ++ x ∷ [])
+ready_waiting Nowhere quotas settings ws x e =
+    none_more (is_ready_off x.request.file quotas settings) ws x (no_off x.request.file quotas settings ws e) (own_file x.request.file quotas settings x refl)
+ready_waiting (On file) quotas settings ws x e = go (same_bytes file x.request.file) refl
   where
-    go : (b : Bool) → same_bytes file x.request.file ≡ b → IsReadyAt (cond b (On file) Anywhere) settings (ws ++ x ∷ [])
-    go true t = none_more (is_ready_off file settings) ws x e (own_file file settings x (sym (same_is file x.request.file t)))
+    go : (b : Bool) → same_bytes file x.request.file ≡ b → IsReadyAt (cond b (On file) Anywhere) quotas settings (ws ++ x ∷ [])
+    go true t = none_more (is_ready_off file quotas settings) ws x e (own_file file quotas settings x (sym (same_is file x.request.file t)))
     go false t = tt
-ready_waiting Anywhere settings ws x e = tt
+ready_waiting Anywhere quotas settings ws x e = tt
+
+-- the store was asked for what sets no quota
+pub ready_stored : (u : Unsettled) (before after : Quotas) (settings : List Setting) (ws : List Waiter) → AreKept before after → IsReadyAt u before settings ws → IsReadyAt u after settings ws
+ready_stored Nowhere before after settings ws kept e = none_readied the_limits before after kept settings ws e
+ready_stored (On file) before after settings ws kept e = none_by (is_ready_off file before settings) (is_ready_off file after settings) ws off e
+  where
+    still : (a b c : Bool) → (b ≡ false → c ≡ false) → (a && b) ≡ false → (a && c) ≡ false
+    still true b c f h = f h
+    still false b c f h = refl
+
+    off : (x : Waiter) → is_ready_off file before settings x ≡ false → is_ready_off file after settings x ≡ false
+    off x h = still (not (same_bytes x.request.file file)) (is_ready the_limits before settings x) (is_ready the_limits after settings x) (not_readied the_limits before after kept settings x) h
+ready_stored Anywhere before after settings ws kept e = tt
+
+-- neither runs nor a quota held anybody back
+neither_held : (short limited : Bool) → (short || limited) ≡ false → (short ≡ false) × (limited ≡ false)
+neither_held true limited e = absurd (false≢true (sym e))
+neither_held false limited e = (refl, e)
 
 -- the settings of a file change
-pub ready_changed : (u : Unsettled) (short : Bool) (before after : List Setting) (file : Bytes) (ws : List Waiter)
-    → (is_short 65536 before ≡ false → is_any (is_ready_off file before) ws ≡ false → is_any (is_ready_off file after) ws ≡ false)
-    → short ≡ is_short 65536 before → IsReadyAt u before ws → IsReadyAt (after_change u file short) after ws
-ready_changed u true before after file ws law s e = tt
-ready_changed Nowhere false before after file ws law s e = law (sym s) (no_off file before ws e)
-ready_changed (On other) false before after file ws law s e = go (same_bytes other file) refl
+pub ready_changed : (u : Unsettled) (held : Bool) (quotas : Quotas) (before after : List Setting) (file : Bytes) (ws : List Waiter)
+    → (held ≡ false → is_any (is_ready_off file quotas before) ws ≡ false → is_any (is_ready_off file quotas after) ws ≡ false)
+    → IsReadyAt u quotas before ws → IsReadyAt (after_change u file held) quotas after ws
+ready_changed u true quotas before after file ws law e = tt
+ready_changed Nowhere false quotas before after file ws law e = law refl (no_off file quotas before ws e)
+ready_changed (On other) false quotas before after file ws law e = go (same_bytes other file) refl
   where
-    go : (b : Bool) → same_bytes other file ≡ b → IsReadyAt (cond b (On other) Anywhere) after ws
+    go : (b : Bool) → same_bytes other file ≡ b → IsReadyAt (cond b (On other) Anywhere) quotas after ws
     go true t =
         let is = same_is other file t in
-        subst (λ f. is_any (is_ready_off f after) ws ≡ false) (sym is) (law (sym s) (subst (λ f. is_any (is_ready_off f before) ws ≡ false) is e))
+        subst (λ f. is_any (is_ready_off f quotas after) ws ≡ false) (sym is) (law refl (subst (λ f. is_any (is_ready_off f quotas before) ws ≡ false) is e))
     go false t = tt
-ready_changed Anywhere false before after file ws law s e = tt
+ready_changed Anywhere false quotas before after file ws law e = tt
 
-pub ready_set : {A E : Type 0} (r : Result A E) (law : SettingFreesLaw) (u : Unsettled) (short : Bool) (settings left : List Setting) (s : Setting) (ws : List Waiter)
-    → AreRanges ws → short ≡ is_short 65536 settings → OnOk r (left ≡ settings ++ s ∷ []) → OnErr r (left ≡ settings) → IsReadyAt u settings ws → IsReadyAt (after_change u s.file short) left ws
-ready_set (Ok x) law u short settings left s ws ranges is ok err e =
-    rw ok (ready_changed u short settings (settings ++ s ∷ []) s.file ws (λ enough off. law settings s ws ranges enough off) is e)
-ready_set (Err x) law u short settings left s ws ranges is ok err e =
-    rw err (ready_changed u short settings settings s.file ws (λ enough off. off) is e)
+pub ready_set : {A E : Type 0} (r : Result A E) (law : SettingFreesLaw) (u : Unsettled) (held : Bool) (quotas : Quotas) (settings left : List Setting) (s : Setting) (ws : List Waiter)
+    → AreRanges ws → held ≡ (is_short 65536 settings || is_limited quotas s.owner) → OnOk r (left ≡ settings ++ s ∷ []) → OnErr r (left ≡ settings) → IsReadyAt u quotas settings ws → IsReadyAt (after_change u s.file held) quotas left ws
+ready_set (Ok x) law u held quotas settings left s ws ranges is ok err e =
+    rw ok (ready_changed u held quotas settings (settings ++ s ∷ []) s.file ws
+    (λ h off. let n = neither_held (is_short 65536 settings) (is_limited quotas s.owner) (sym is ∙ h) in law quotas settings s ws ranges n.0 n.1 off) e)
+ready_set (Err x) law u held quotas settings left s ws ranges is ok err e =
+    rw err (ready_changed u held quotas settings settings s.file ws (λ h off. off) e)
+
+pub ready_closed : (law : CloseFreesLaw) (u : Unsettled) (held : Bool) (quotas : Quotas) (settings : List Setting) (file : Bytes) (owner : Owner) (ws : List Waiter)
+    → AreRanges ws → held ≡ (is_short 65536 settings || is_limited quotas owner) → IsReadyAt u quotas settings ws → IsReadyAt (after_change u file held) quotas (without_owner_on file owner settings) ws
+ready_closed law u held quotas settings file owner ws ranges is e =
+    ready_changed u held quotas settings (without_owner_on file owner settings) file ws
+    (λ h off. let n = neither_held (is_short 65536 settings) (is_limited quotas owner) (sym is ∙ h) in law quotas settings file owner ws ranges n.0 n.1 off) e
 
 -- the first that is ready is granted
-pub ready_granted : (law : SettingFreesLaw) (u : Unsettled) (settings : List Setting) (s : Setting) (ws : List Waiter) (x : Waiter)
-    → AreRanges ws → is_short 65536 settings ≡ false → first_that (is_ready the_limits settings) ws ≡ Some x → x.request.file ≡ s.file → IsReadyAt u settings ws
-    → IsReadyAt u (settings ++ s ∷ []) (without_first (is_ready the_limits settings) ws)
-ready_granted law Nowhere settings s ws x ranges enough f same e =
-    absurd (none-some x (sym (none_first (is_ready the_limits settings) ws e) ∙ f))
-ready_granted law (On file) settings s ws x ranges enough f same e =
-    let ready = (first_found (is_ready the_limits settings) ws x f).passes in
-    let off = not_first (is_ready_off file settings) (is_ready the_limits settings) ws x e f in
-    let on = same_is x.request.file file (not_off (same_bytes x.request.file file) (is_ready the_limits settings x) ready off) in
+pub ready_granted : (law : SettingFreesLaw) (u : Unsettled) (held : Bool) (quotas : Quotas) (settings : List Setting) (s : Setting) (ws : List Waiter) (x : Waiter)
+    → AreRanges ws → is_short 65536 settings ≡ false → held ≡ is_limited quotas s.owner → first_that (is_ready the_limits quotas settings) ws ≡ Some x → x.request.file ≡ s.file → IsReadyAt u quotas settings ws
+    → IsReadyAt (after_grant u held) quotas (settings ++ s ∷ []) (without_first (is_ready the_limits quotas settings) ws)
+ready_granted law u true quotas settings s ws x ranges enough is f same e = tt
+ready_granted law Nowhere false quotas settings s ws x ranges enough is f same e =
+    absurd (none-some x (sym (none_first (is_ready the_limits quotas settings) ws e) ∙ f))
+ready_granted law (On file) false quotas settings s ws x ranges enough free f same e =
+    let ready = (first_found (is_ready the_limits quotas settings) ws x f).passes in
+    let off = not_first (is_ready_off file quotas settings) (is_ready the_limits quotas settings) ws x e f in
+    let on = same_is x.request.file file (not_off (same_bytes x.request.file file) (is_ready the_limits quotas settings x) ready off) in
     let is : s.file ≡ file = sym same ∙ on in
-    let still = law settings s ws ranges enough (subst (λ g. is_any (is_ready_off g settings) ws ≡ false) (sym is) e) in
-    none_without_first (is_ready_off file (settings ++ s ∷ [])) (is_ready the_limits settings) ws
-    (subst (λ g. is_any (is_ready_off g (settings ++ s ∷ [])) ws ≡ false) is still)
-ready_granted law Anywhere settings s ws x ranges enough f same e = tt
+    let still = law quotas settings s ws ranges enough (sym free) (subst (λ g. is_any (is_ready_off g quotas settings) ws ≡ false) (sym is) e) in
+    none_without_first (is_ready_off file quotas (settings ++ s ∷ [])) (is_ready the_limits quotas settings) ws
+    (subst (λ g. is_any (is_ready_off g quotas (settings ++ s ∷ [])) ws ≡ false) is still)
+ready_granted law Anywhere false quotas settings s ws x ranges enough is f same e = tt

@@ -2,7 +2,7 @@
 use Rattle.std.specs.Prelude.{◌≡◌, Bool, true, false, List, [], ◌∷◌, ◌++◌, Option, Some, None, Result}
 use Rattle.definitions.specs.Bytes.{Bytes}
 use Rattle.definitions.specs.Settings.{Setting}
-use Rattle.definitions.specs.Starts.{refuses}
+use Rattle.definitions.specs.Quotas.{Quotas, is_refused}
 use Rattle.definitions.specs.Nlm.{Lock}
 use Rattle.definitions.specs.Hosts.{Acked, after_store}
 use Rattle.definitions.specs.Outgoing.{Outgoing, call_of_xid, call_of_cookie}
@@ -29,11 +29,11 @@ abbrev pub host_at : Option Outgoing → Option Bytes
 host_at None = None
 host_at (Some c) = host_of c.letter.to
 
--- the range is unlocked, unless that is refused for want of runs
-abbrev pub IsUnlocked : Option Lock → Bool → List Setting → List Setting → Type 0
-IsUnlocked None done old new = (done ≡ false) × (new ≡ old)
-IsUnlocked (Some alock) true old new = (refuses 65536 old (unlock_of alock) ≡ false) × (new ≡ old ++ unlock_of alock ∷ [])
-IsUnlocked (Some alock) false old new = (refuses 65536 old (unlock_of alock) ≡ true) × (new ≡ old)
+-- the range is unlocked, unless that is refused for want of runs, or by its host's quota
+abbrev pub IsUnlocked : Quotas → Option Lock → Bool → List Setting → List Setting → Type 0
+IsUnlocked quotas None done old new = (done ≡ false) × (new ≡ old)
+IsUnlocked quotas (Some alock) true old new = (is_refused 65536 quotas old (unlock_of alock) ≡ false) × (new ≡ old ++ unlock_of alock ∷ [])
+IsUnlocked quotas (Some alock) false old new = (is_refused 65536 quotas old (unlock_of alock) ≡ true) × (new ≡ old)
 
 -- the store was asked to keep the own state as the host's epoch
 pub record Acks {X : Type 0} (name : Bytes) (r : Result X StoreError) (old new : Seen) : Type 0 where

@@ -3,6 +3,7 @@ use Rattle.std.specs.Prelude.{◌≡◌, ◌≤◌, ◌<◌, ◌^◌, List, [], 
 use Rattle.definitions.specs.Owners.{Owner, Remote, Process, Description}
 use Rattle.definitions.specs.Settings.{Setting}
 use Rattle.definitions.specs.Outgoing.{Outgoing}
+use Rattle.definitions.specs.Quotas.{Quotas}
 use Rattle.definitions.specs.Waits.{Waiter}
 use Rattle.owner_ids.specs.Names.{named}
 use Rattle.definitions.specs.Moves.{AreRanges}
@@ -30,10 +31,10 @@ AreWaitersShown (x ∷ waiters) = IsShown x.request.owner × AreWaitersShown wai
 
 -- each waiter's number is in use, each call has its place, every owner can be shown, whoever waits, waits for a range, and is
 -- ready nowhere but where it is said
-pub record IsWhole (settings : List Setting) (names : List (Option Owner)) (slots : Taken) (calls : List Outgoing) (unsettled : Unsettled) : Type 0 where
+pub record IsWhole (settings : List Setting) (names : List (Option Owner)) (slots : Taken) (calls : List Outgoing) (quotas : Quotas) (unsettled : Unsettled) : Type 0 where
   pub in_use : AreNamed (named names) slots.waiters
   pub counted : slots.calls ≡ length calls
   pub shown : AreShown settings
   pub waiters_shown : AreWaitersShown (waiters_by (named names) slots.waiters)
   pub ranges : AreRanges (waiters_by (named names) slots.waiters)
-  pub ready : IsReadyAt unsettled settings (waiters_by (named names) slots.waiters)
+  pub ready : IsReadyAt unsettled quotas settings (waiters_by (named names) slots.waiters)

@@ -4,6 +4,7 @@ ghost use Rattle.std.specs.Option.{option_copied};
 ghost use Rattle.definitions.specs.Bytes.{first_that};
 ghost use Rattle.definitions.specs.Outgoing.{call_of_xid, is_numbered, without_call};
 ghost use Rattle.definitions.specs.Moves.{AreRanges};
+ghost use Rattle.definitions.specs.Quotas.{quotas_of};
 ghost use Rattle.definitions.specs.Waits.{Waiter as SaidWaiter};
 ghost use Rattle.definitions.specs.World.{with_calls};
 ghost use Rattle.letters.specs.Grants.{granted_lock};
@@ -13,8 +14,10 @@ ghost use Rattle.lock_world.specs.ReadyAt.{IsReadyAt};
 ghost use Rattle.lock_world.specs.Whole.{AreShown};
 ghost use Rattle.lock_world.specs.Answered.{call_at, lock_at, host_at, IsUnlocked, IsAcked};
 
+use crate::quotas::{Stored, is_refused};
 use crate::unsettled::{Unsettled, set_on};
 use crate::world::World;
+use blocked_list::Quotas;
 use held_locks::{Change, Locks};
 use hosts_db::{HostStore, StoreError};
 use letters::{Lock, Message};
@@ -50,16 +53,19 @@ impl<R: RangeTable, S: HostStore> World<R, S> {
     }
 
     /// Unlocks the range of the grant that an answer belongs to. Whether the locks changed: they stay where that would
-    /// take a run and fewer than 2 are free, and where the answer belongs to no grant. The call stays.
+    /// take a run and fewer than 2 are free or the host's quota is full, and where the answer belongs to no grant. The call
+    /// stays.
     pub fn unlock_grant(&mut self, key: AnswerKey<'_>) -> bool
-        ensures unlocked { IsUnlocked (lock_at (call_at key.entry self.old.world.calls)) result self.old.world.settings self.new.world.settings }
+        ensures unlocked { IsUnlocked (quotas_of self.old.world.hosts) (lock_at (call_at key.entry self.old.world.calls)) result self.old.world.settings self.new.world.settings }
         ensures stays { self.new ≡ record self.old { world = record self.old.world { settings = self.new.world.settings } } }
     {
+        let quotas = Stored { store: &self.store };
         match find(&self.calls, key) {
             Some(call) => {
                 unlock(
                     &mut self.locks,
                     &mut self.unsettled,
+                    &quotas,
                     call.letter().message(),
                 )
             }
@@ -100,24 +106,34 @@ fn host_of(calls: &OutCalls, xid: u32) -> Option<&[u8]>
 }
 
 // Unlocks the range that the message grants.
-fn unlock<R: RangeTable>(locks: &mut Locks<R>, unsettled: &mut Unsettled, message: &Message) -> bool
-    ensures unlocked { IsUnlocked (granted_lock (message_of message.now)) result locks.old.settings locks.new.settings }
+fn unlock<R: RangeTable, Q: Quotas>(
+    locks: &mut Locks<R>,
+    unsettled: &mut Unsettled,
+    quotas: &Q,
+    message: &Message,
+) -> bool
+    ensures unlocked { IsUnlocked (Q.by_host quotas.now) (granted_lock (message_of message.now)) result locks.old.settings locks.new.settings }
     ensures names { locks.new.names ≡ locks.old.names }
     ensures shown { AreShown locks.old.settings → AreShown locks.new.settings }
-    ensures ready { (waiters : List SaidWaiter) → AreRanges waiters → IsReadyAt unsettled.old locks.old.settings waiters → IsReadyAt unsettled.new locks.new.settings waiters }
+    ensures ready { (waiters : List SaidWaiter) → AreRanges waiters → IsReadyAt unsettled.old (Q.by_host quotas.now) locks.old.settings waiters → IsReadyAt unsettled.new (Q.by_host quotas.now) locks.new.settings waiters }
 {
     match message.granted_lock() {
-        Some(lock) => give_up(locks, unsettled, lock),
+        Some(lock) => give_up(locks, unsettled, quotas, lock),
         None => false,
     }
 }
 
 // Its owner holds nothing of the lock's range any more.
-fn give_up<R: RangeTable>(locks: &mut Locks<R>, unsettled: &mut Unsettled, lock: &Lock) -> bool
-    ensures unlocked { IsUnlocked (Some (lock_of lock.now)) result locks.old.settings locks.new.settings }
+fn give_up<R: RangeTable, Q: Quotas>(
+    locks: &mut Locks<R>,
+    unsettled: &mut Unsettled,
+    quotas: &Q,
+    lock: &Lock,
+) -> bool
+    ensures unlocked { IsUnlocked (Q.by_host quotas.now) (Some (lock_of lock.now)) result locks.old.settings locks.new.settings }
     ensures names { locks.new.names ≡ locks.old.names }
     ensures shown { AreShown locks.old.settings → AreShown locks.new.settings }
-    ensures ready { (waiters : List SaidWaiter) → AreRanges waiters → IsReadyAt unsettled.old locks.old.settings waiters → IsReadyAt unsettled.new locks.new.settings waiters }
+    ensures ready { (waiters : List SaidWaiter) → AreRanges waiters → IsReadyAt unsettled.old (Q.by_host quotas.now) locks.old.settings waiters → IsReadyAt unsettled.new (Q.by_host quotas.now) locks.new.settings waiters }
 {
     let change = Change {
         file: lock.file(),
@@ -126,5 +142,8 @@ fn give_up<R: RangeTable>(locks: &mut Locks<R>, unsettled: &mut Unsettled, lock:
         last: lock.last(),
         mode: None,
     };
-    set_on(locks, unsettled, &change).is_ok()
+    if is_refused(locks, quotas, &change) {
+        return false;
+    }
+    set_on(locks, unsettled, quotas, &change).is_ok()
 }

@@ -10,6 +10,7 @@ ghost use Rattle.held_locks.specs.Asked.{changed};
 ghost use Rattle.lock_world.specs.Seen.{IsIdle, Knows, KeepsKnown};
 ghost use Rattle.lock_world.specs.Whole.{IsShown};
 
+use crate::quotas::Stored;
 use crate::unsettled::{Unsettled, set_on};
 use crate::world::World;
 use dos_shares::{Share, ShareError};
@@ -56,7 +57,8 @@ impl<R: RangeTable, S: HostStore> World<R, S> {
         ensures ok { OnOk result (self.new ≡ record self.old { world = with_setting self.old.world (changed change.now) }) }
         ensures err { OnErr result (self.new ≡ self.old) }
     {
-        set_on(&mut self.locks, &mut self.unsettled, change)
+        let quotas = Stored { store: &self.store };
+        set_on(&mut self.locks, &mut self.unsettled, &quotas, change)
     }
 
     /// Takes a share (XNFS, NLM_SHARE). The owner's earlier share of the file goes. Refused, nothing has changed.

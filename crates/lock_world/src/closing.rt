@@ -7,6 +7,7 @@ ghost use Rattle.owner_ids.specs.Names.{named};
 ghost use Rattle.blocked_list.specs.Waiting.{AreKnown, AreNamed, waiters_by};
 ghost use Rattle.lock_world.specs.Seen.{KeepsKnown};
 
+use crate::quotas::{Stored, may_free};
 use crate::world::World;
 use blocked_list::Slots;
 use blocked_list::laws::close_frees_own_file;
@@ -25,7 +26,9 @@ impl<R: RangeTable, S: HostStore> World<R, S> {
         let (_, owners) = self.locks.parts();
         drop_waiters(&mut self.slots, owners, file, owner);
         close_frees_own_file();
-        self.unsettled = self.unsettled.after_change(file, self.locks.is_short());
+        let quotas = Stored { store: &self.store };
+        let was_held = may_free(&self.locks, &quotas, owner);
+        self.unsettled = self.unsettled.after_change(file, was_held);
         self.locks.drop_owner_on_file(file, owner);
     }
 }

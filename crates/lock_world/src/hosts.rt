@@ -2,10 +2,11 @@
 ghost use Rattle.std.specs.Prelude.{◌≡◌, ◌≤◌, ◌<◌, false, length, map, IfOk};
 ghost use Rattle.std.specs.Option.{option_copied};
 ghost use Rattle.definitions.specs.Answer.{status_letter};
-ghost use Rattle.definitions.specs.Hosts.{row_of, has_row, watches_of, after_store, is_past_limit, Monitor, Seen, Watched, Unwatched};
+ghost use Rattle.definitions.specs.Hosts.{row_of, has_row, watches_of, after_store, is_past_limit, Monitor, Seen, Quota, Watched, Unwatched};
 ghost use Rattle.definitions.specs.World.{with_hosts};
 ghost use Rattle.hosts_db.specs.Calls.{Counts, Makes, IsPastLimit, IsNotStarved};
 
+use crate::unsettled::Unsettled;
 use crate::world::World;
 use hosts_db::{HostRow, HostStore, MyId, StoreError, Watch};
 use letters::{Destination, Letter, Message, ShortBytes};
@@ -73,6 +74,20 @@ impl<R: RangeTable, S: HostStore> World<R, S> {
         ensures names { self.new.names ≡ self.old.names }
     {
         self.store.monitor(name, state)
+    }
+
+    /// Sets how many runs, at most 65,536, the owners of a host may have. Who waits may be ready then. Without a row of that
+    /// name no row changes. Where the store answers an error, which is never want of memory, the world stays.
+    pub fn quota(&mut self, name: &[u8], runs: u32) -> Result<(), StoreError>
+        requires { runs ≤ 65536 }
+        ensures world { self.new.world ≡ with_hosts self.old.world self.new.world.hosts }
+        ensures makes { Makes result self.old.world.hosts self.new.world.hosts (after_store self.old.world.hosts (Quota name.now runs)) }
+        ensures counts { Counts result self.old.refusals self.new.refusals }
+        ensures not_starved { IsNotStarved result }
+        ensures names { self.new.names ≡ self.old.names }
+    {
+        self.unsettled = Unsettled::Anywhere;
+        self.store.quota(name, runs)
     }
 
     /// Stores the state that a host has told (XNFS, SM_NOTIFY). Without a row of that name no row changes. Where the store

@@ -7,6 +7,7 @@ mod answers;
 mod changes;
 mod closing;
 mod hosts;
+mod quotas;
 mod readings;
 mod sends;
 mod settle;

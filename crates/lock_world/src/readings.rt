@@ -1,11 +1,13 @@
 //! What the locks show.
 ghost use Rattle.std.specs.Prelude.{◌≡◌, ◌≤◌, ◌<◌, ◌^◌, IfSome};
-ghost use Rattle.definitions.specs.Starts.{first_conflict, is_short, refuses};
+ghost use Rattle.definitions.specs.Quotas.{quotas_of, lacks_room, is_refused};
+ghost use Rattle.definitions.specs.Starts.{first_conflict};
 ghost use Rattle.definitions.specs.Conflict.{conflicts};
 ghost use Rattle.owner_ids.specs.Said.{said};
 ghost use Rattle.held_locks.specs.Asked.{asked, changed, shown_found};
 ghost use Rattle.lock_world.specs.Whole.{IsShown};
 
+use crate::quotas::{Stored, is_refused, lacks_room};
 use crate::world::World;
 use held_locks::{Change, Holder, Request};
 use hosts_db::HostStore;
@@ -31,19 +33,23 @@ impl<R: RangeTable, S: HostStore> World<R, S> {
         self.locks.conflicts(wanted)
     }
 
-    /// Whether fewer than 2 of 65,536 runs are free, so that no lock can be set.
-    pub fn is_short(&self) -> bool
-        ensures { result ≡ is_short 65536 self.now.world.settings }
+    /// Whether there is no room for the lock: fewer than 2 of 65,536 runs are free, or after it the owner's host would have
+    /// more runs than its quota, and more than before.
+    pub fn lacks_room(&self, wanted: &Request<'_>) -> bool
+        requires ordered { wanted.now.first ≤ wanted.now.last }
+        requires inside { wanted.now.last < 2 ^ 63 }
+        ensures { result ≡ lacks_room 65536 (quotas_of self.now.world.hosts) self.now.world.settings (asked wanted.now) }
     {
-        self.locks.is_short()
+        lacks_room(&self.locks, &Stored { store: &self.store }, wanted)
     }
 
-    /// Whether `set` would refuse the change, also of an owner who isn't known. Changes nothing.
-    pub fn refuses(&self, change: &Change<'_>) -> bool
+    /// Whether the change is refused: where `set` would refuse it, or it goes past its owner's host's quota. Also of an
+    /// owner who isn't known. Changes nothing.
+    pub fn is_refused(&self, change: &Change<'_>) -> bool
         requires ordered { change.now.first ≤ change.now.last }
         requires inside { change.now.last < 2 ^ 63 }
-        ensures { result ≡ refuses 65536 self.now.world.settings (changed change.now) }
+        ensures { result ≡ is_refused 65536 (quotas_of self.now.world.hosts) self.now.world.settings (changed change.now) }
     {
-        self.locks.refuses(change)
+        is_refused(&self.locks, &Stored { store: &self.store }, change)
     }
 }

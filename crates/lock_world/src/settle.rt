@@ -1,10 +1,11 @@
 //! Who waits is granted once nothing is in the way.
 ghost use Rattle.std.specs.Prelude.{◌≡◌, ◌<◌, true, false, length, IfSome};
-ghost use Rattle.definitions.specs.World.{settled, the_limits, is_ready};
+ghost use Rattle.definitions.specs.World.{settled, the_limits, is_ready_in};
 ghost use Rattle.blocked_list.specs.First.{IsFirstPlace};
 ghost use Rattle.definitions.specs.Owners.{Owner as SaidOwner};
 ghost use Rattle.lock_world.specs.Seen.{IsIdle};
 
+use crate::quotas::{Stored, is_limited};
 use crate::unsettled::Unsettled;
 use crate::world::World;
 use blocked_list::laws::setting_frees_own_file;
@@ -39,7 +40,11 @@ impl<R: RangeTable, S: HostStore> World<R, S> {
         setting_frees_own_file();
         let _free = self.slots.free();
         let waiter = self.slots.grant(place);
-        let _ = self.locks.set_run(waiter.wanted());
+        let wanted = waiter.wanted();
+        let quotas = Stored { store: &self.store };
+        let was_held = is_limited(&quotas, self.locks.owner(wanted.owner));
+        self.unsettled = self.unsettled.after_grant(was_held);
+        let _ = self.locks.set_run(wanted);
         self.calls.make_due(self.next, waiter.into_letter());
         self.next = self.next.wrapping_add(1);
         true
@@ -48,13 +53,14 @@ impl<R: RangeTable, S: HostStore> World<R, S> {
     // Where the first waiter stands that can be granted. Nobody is looked at who can't be.
     fn next_place(&self) -> Option<usize>
         ensures bound { IfSome result (λ place. place < length self.now.world.waiters) }
-        ensures first { IsFirstPlace (is_ready the_limits self.now.world.settings) self.now.world.waiters result }
+        ensures first { IsFirstPlace (is_ready_in the_limits self.now.world) self.now.world.waiters result }
     {
         let (table, owners) = self.locks.parts();
+        let quotas = Stored { store: &self.store };
         match &self.unsettled {
             Unsettled::Nowhere => None,
-            Unsettled::On(file) => self.slots.next_grantable_on(table, owners, file),
-            Unsettled::Anywhere => self.slots.next_grantable(table, owners),
+            Unsettled::On(file) => self.slots.next_grantable_on(table, owners, &quotas, file),
+            Unsettled::Anywhere => self.slots.next_grantable(table, owners, &quotas),
         }
     }
 }

@@ -6,8 +6,10 @@ ghost use Rattle.definitions.specs.Waits.{Waiter as SaidWaiter};
 ghost use Rattle.owner_ids.specs.Said.{said};
 ghost use Rattle.held_locks.specs.Asked.{changed};
 ghost use Rattle.held_locks.specs.Held.{IsKnown};
-ghost use Rattle.lock_world.specs.ReadyAt.{IsReadyAt, with_file, after_change};
+ghost use Rattle.lock_world.specs.ReadyAt.{IsReadyAt, with_file, after_change, after_grant};
 
+use crate::quotas::may_free;
+use blocked_list::Quotas;
 use blocked_list::laws::setting_frees_own_file;
 use held_locks::{Change, Locks};
 use range_table::{FileId, NoRuns, RangeTable};
@@ -34,23 +36,32 @@ impl Unsettled {
         }
     }
 
-    /// After a change of this file alone. Where too few runs were free for a grant, that may have been what kept the
-    /// others waiting.
-    pub(crate) fn after_change(&self, file: &FileId, was_short: bool) -> Unsettled
-        ensures { result ≡ after_change self.now file.now was_short }
+    /// After a change of this file alone. Where too few runs were free for a grant, or a quota held the changed owner's
+    /// host back, that may have been what kept the others waiting.
+    pub(crate) fn after_change(&self, file: &FileId, was_held: bool) -> Unsettled
+        ensures { result ≡ after_change self.now file.now was_held }
     {
-        if was_short {
+        if was_held {
             Unsettled::Anywhere
         } else {
             self.with_file(file)
         }
     }
+
+    /// After a grant to the first who was ready. Where a quota held its host back, its lock may have joined others, so that
+    /// the host has fewer runs.
+    pub(crate) fn after_grant(&self, was_held: bool) -> Unsettled
+        ensures { result ≡ after_grant self.now was_held }
+    {
+        if was_held { Unsettled::Anywhere } else { *self }
+    }
 }
 
 /// Sets what an owner holds of a file. Refused, nothing has changed but where somebody may be ready.
-pub(crate) fn set_on<R: RangeTable>(
+pub(crate) fn set_on<R: RangeTable, Q: Quotas>(
     locks: &mut Locks<R>,
     unsettled: &mut Unsettled,
+    quotas: &Q,
     change: &Change<'_>,
 ) -> Result<(), NoRuns>
     requires ordered { change.now.first ≤ change.now.last }
@@ -60,9 +71,9 @@ pub(crate) fn set_on<R: RangeTable>(
     ensures ok { OnOk result (locks.new.settings ≡ locks.old.settings ++ changed change.now ∷ []) }
     ensures err { OnErr result (locks.new.settings ≡ locks.old.settings) }
     ensures names { locks.new.names ≡ locks.old.names }
-    ensures ready { (waiters : List SaidWaiter) → AreRanges waiters → IsReadyAt unsettled.old locks.old.settings waiters → IsReadyAt unsettled.new locks.new.settings waiters }
+    ensures ready { (waiters : List SaidWaiter) → AreRanges waiters → IsReadyAt unsettled.old (Q.by_host quotas.now) locks.old.settings waiters → IsReadyAt unsettled.new (Q.by_host quotas.now) locks.new.settings waiters }
 {
     setting_frees_own_file();
-    *unsettled = unsettled.after_change(&change.file, locks.is_short());
+    *unsettled = unsettled.after_change(&change.file, may_free(locks, quotas, change.owner));
     locks.set(change)
 }

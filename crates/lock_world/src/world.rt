@@ -34,6 +34,7 @@ pub struct World<R: RangeTable, S: HostStore> {
 
 impl<R: RangeTable, S: HostStore> Model for World<R, S> {
     ghost use Rattle.owner_ids.specs.Names.{named};
+    ghost use Rattle.definitions.specs.Quotas.{quotas_of};
     ghost use Rattle.blocked_list.specs.Waiting.{waiters_by};
     ghost use Rattle.grace.specs.Meanings.{phase_of};
     ghost use Rattle.lock_world.specs.Seen.{Seen};
@@ -56,7 +57,7 @@ impl<R: RangeTable, S: HostStore> Model for World<R, S> {
       refusals = S.refusals w.store;
     } };
 
-    ghost invariant = { λ w. IsWhole w.locks.settings w.locks.names w.slots w.calls w.unsettled };
+    ghost invariant = { λ w. IsWhole w.locks.settings w.locks.names w.slots w.calls (quotas_of (S.rows w.store)) w.unsettled };
 }
 
 impl<R: RangeTable + Drop, S: HostStore + Drop> World<R, S> {

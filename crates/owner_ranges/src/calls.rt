@@ -2,6 +2,7 @@
 ghost use Rattle.std.specs.Prelude.{◌≡◌, ◌≤◌, ◌<◌, ◌^◌, ◌++◌, ◌∷◌, ℕ, [], List, IsErr, OnOk, OnErr, ◌↔◌, true, Some, slice_get};
 ghost use Rattle.definitions.specs.Settings.{Setting as OwnerSetting, Request, without_host, without_owner_on};
 ghost use Rattle.definitions.specs.Conflict.{conflicts, conflicts_with};
+ghost use Rattle.definitions.specs.Quotas.{is_past};
 ghost use Rattle.definitions.specs.Starts.{is_short, first_conflict, used, used_of, refuses, runs, Run as OwnerRun};
 ghost use Rattle.definitions.specs.Owners.{Owner};
 ghost use Rattle.owner_ids.specs.Names.{named, is_owned_by};
@@ -43,6 +44,23 @@ pub fn used_after<T: RangeTable>(table: &T, owners: &Owners, host: &[u8], settin
         setting.last,
         setting.mode,
     )
+}
+
+/// Whether after a setting of one of them they would have more runs than so many, and more than before it.
+pub fn is_past<T: RangeTable>(
+    table: &T,
+    owners: &Owners,
+    host: &[u8],
+    setting: &Setting,
+    quota: u32,
+) -> bool
+    requires ordered { setting.now.first ≤ setting.now.last }
+    requires inside { setting.now.last < 2 ^ 63 }
+    requires own { is_owned_by (named owners.now) host.now setting.now.owner ≡ true }
+    ensures { (settings : List OwnerSetting) (t : OwnerSetting) → Stands (named owners.now) (mode_at (T.settings table.now)) settings → IsSameSetting (named owners.now) setting.now t → result ≡ is_past settings t host.now quota }
+{
+    let after = used_after(table, owners, host, setting);
+    quota < after && used_of(table, owners, host) < after
 }
 
 /// The i-th of all runs, by file, first byte and owner.

@@ -6,7 +6,7 @@ mod laws;
 mod numbers;
 
 pub use calls::{
-    clear, conflicts, conflicts_with, drop_host, drop_owner_on_file, first_conflict, is_short,
-    refuses, runs, set, used, used_after, used_of,
+    clear, conflicts, conflicts_with, drop_host, drop_owner_on_file, first_conflict, is_past,
+    is_short, refuses, runs, set, used, used_after, used_of,
 };
 pub use numbers::{holds_nothing, intern, release};

@@ -1,8 +1,8 @@
 //! The waiters beside the owners and the locks that they wait for.
-ghost use Rattle.std.specs.Prelude.{◌≤◌, ◌<◌, ◌^◌};
+ghost use Rattle.std.specs.Prelude.{◌≤◌, ◌<◌, ◌^◌, None};
 
 use crate::owner::remote;
-use blocked_list::{BlockError, Slots, Waiter};
+use blocked_list::{BlockError, Quotas, Slots, Waiter};
 use letters::{Destination, Letter, Message, ShortBytes};
 use owner_ids::{Owner, OwnerId, Owners};
 use range_table::{FileId, FlatTable, Mode, RangeTable, Run};
@@ -32,6 +32,17 @@ impl Ask {
             last: first + u64::from(self.more),
             mode: self.mode,
         }
+    }
+}
+
+/// No host has a quota.
+struct Unlimited;
+
+impl Quotas for Unlimited {
+    ghost by_host = { λ unlimited host. None };
+
+    fn quota(&self, _host: &[u8]) -> Option<u32> {
+        None
     }
 }
 
@@ -136,7 +147,9 @@ impl Tables {
 
     /// The number of the waiter that is granted next, or 0.
     pub(super) fn grants(&mut self) -> i32 {
-        let place = self.slots.next_grantable(&self.table, &self.owners);
+        let place = self
+            .slots
+            .next_grantable(&self.table, &self.owners, &Unlimited);
         grant(&mut self.slots, place)
     }
 
@@ -145,7 +158,7 @@ impl Tables {
         let file = FileId::new(&[file]);
         let place = self
             .slots
-            .next_grantable_on(&self.table, &self.owners, &file);
+            .next_grantable_on(&self.table, &self.owners, &Unlimited, &file);
         grant(&mut self.slots, place)
     }
 }

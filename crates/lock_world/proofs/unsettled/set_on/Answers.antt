@@ -6,5 +6,5 @@ use Rattle.lock_world.proofs.unsettled.set_on.Goals as goal
 
 pub returns-clause-ready : goal.returns-clause-ready
 returns-clause-ready g c = λ ws ranges e.
-    subst (λ u. IsReadyAt u c.set.new.self.settings ws) (sym c.after_change.ensures)
-    (ready_set c.set.result c.setting_frees_own_file.ensures c.args.unsettled.now c.is_short.result c.args.locks.now.settings c.set.new.self.settings (changed c.args.change.now) ws ranges c.is_short.ensures c.set.ensures.ok c.set.ensures.err e)
+    subst (λ u. IsReadyAt u (g.Q.Quotas.by_host c.args.quotas.now) c.set.new.self.settings ws) (sym c.after_change.ensures)
+    (ready_set c.set.result c.setting_frees_own_file.ensures c.args.unsettled.now c.may_free.result (g.Q.Quotas.by_host c.args.quotas.now) c.args.locks.now.settings c.set.new.self.settings (changed c.args.change.now) ws ranges c.may_free.ensures c.set.ensures.ok c.set.ensures.err e)

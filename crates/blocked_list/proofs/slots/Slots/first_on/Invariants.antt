@@ -10,4 +10,4 @@ use Rattle.blocked_list.proofs.Parts.{passes_at}
 use Rattle.blocked_list.proofs.slots.Slots.first_on.Given as goal
 
 abbrev pub invariant-loop-place : goal.invariant-loop-place
-invariant-loop-place g l = (settings : List Setting) → Stands (named l.owners) (mode_at (g.T.RangeTable.settings l.table)) settings → AreKnown (named l.owners) l.self.waiters → is_any (passes_at (is_ready_on l.file settings) (waiters_by (named l.owners) l.self.waiters)) (take l.place-index l.place-items) ≡ false
+invariant-loop-place g l = (settings : List Setting) → Stands (named l.owners) (mode_at (g.T.RangeTable.settings l.table)) settings → AreKnown (named l.owners) l.self.waiters → is_any (passes_at (is_ready_on l.file (g.Q.Quotas.by_host l.quotas) settings) (waiters_by (named l.owners) l.self.waiters)) (take l.place-index l.place-items) ≡ false

@@ -9,4 +9,4 @@ use Rattle.blocked_list.specs.Waiting.{AreKnown, waiters_by}
 use Rattle.blocked_list.proofs.slots.Slots.next_grantable.Given as goal
 
 abbrev pub invariant-loop-place : goal.invariant-loop-place
-invariant-loop-place g l = (settings : List Setting) → Stands (named l.owners) (mode_at (g.T.RangeTable.settings l.table)) settings → AreKnown (named l.owners) l.self.waiters → is_any (is_ready the_limits settings) (take l.place (waiters_by (named l.owners) l.self.waiters)) ≡ false
+invariant-loop-place g l = (settings : List Setting) → Stands (named l.owners) (mode_at (g.T.RangeTable.settings l.table)) settings → AreKnown (named l.owners) l.self.waiters → is_any (is_ready the_limits (g.Q.Quotas.by_host l.quotas) settings) (take l.place (waiters_by (named l.owners) l.self.waiters)) ≡ false

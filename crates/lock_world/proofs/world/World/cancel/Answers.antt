@@ -1,4 +1,5 @@
 use Rattle.std.proofs.Common.{◌≡◌, ◌≢◌, ℕ, Some, refl, sym, subst}
+use Rattle.definitions.specs.Quotas.{quotas_of}
 use Rattle.std.proofs.lemmas.Option.{none-some}
 use Rattle.owner_ids.specs.Names.{named, AreDistinct}
 use Rattle.owner_ids.specs.Said.{said}
@@ -17,7 +18,7 @@ invariant_of-self g c =
     let known : AreKnown (named names) c.self.inside.slots.waiters = record { distinct = distinct; named = c.self.invariant.in_use } in
     let found = subst (λ ns. named ns n ≡ Some (said r.owner.now)) c.parts.ensures.names c.in-Some.ensures.found in
     let one = is_known (named names) n r c.by_number.result c.by_number.ensures found in
-    whole_cancelled c.cancel.result names c.self.inside.locks.settings c.self.inside.slots c.cancel.new.self c.self.inside.calls c.self.inside.unsettled c.self.invariant c.by_number.result known one c.cancel.ensures.ok c.cancel.ensures.err
+    whole_cancelled c.cancel.result names c.self.inside.locks.settings c.self.inside.slots c.cancel.new.self c.self.inside.calls (quotas_of (g.S.HostStore.rows c.self.inside.store)) c.self.inside.unsettled c.self.invariant c.by_number.result known one c.cancel.ensures.ok c.cancel.ensures.err
     (c.cancel.ensures.named (named names) c.self.invariant.in_use) c.cancel.ensures.calls
 
 pub returns-in-None-clause-refused : goal.returns-in-None-clause-refused

@@ -1,4 +1,5 @@
 use Rattle.std.proofs.Common.{◌≡◌, refl, sym, subst}
+use Rattle.definitions.specs.Quotas.{quotas_of}
 use Rattle.definitions.specs.Waits.{without_waiters_on}
 use Rattle.owner_ids.specs.Said.{said}
 use Rattle.owner_ids.specs.Names.{named}
@@ -21,7 +22,7 @@ invariant_of-self g c =
     let by = subst (λ ns. waiters_by (named ns) left.waiters ≡ without_waiters_on file x (waiters_by (named ns) slots.waiters)) c.parts.ensures.names c.drop_waiters.ensures.by in
     let in_use = subst (λ ns. AreNamed (named ns) left.waiters) c.parts.ensures.names c.drop_waiters.ensures.named in
     rw (c.drop_owner_on_file.ensures.settings, c.drop_owner_on_file.ensures.names, c.after_change-self-inside.ensures)
-    (whole_closed c.self.inside.locks.names file x c.self.inside.locks.settings slots left c.self.inside.calls c.self.inside.unsettled c.is_short.result c.self.invariant c.close_frees_own_file.ensures c.is_short.ensures by in_use c.drop_waiters.ensures.calls)
+    (whole_closed c.self.inside.locks.names file x c.self.inside.locks.settings slots left c.self.inside.calls (quotas_of (g.S.HostStore.rows c.self.inside.store)) c.self.inside.unsettled c.may_free-was_held.result c.self.invariant c.close_frees_own_file.ensures c.may_free-was_held.ensures by in_use c.drop_waiters.ensures.calls)
 
 pub returns-clause-world : goal.returns-clause-world
 returns-clause-world g c =

@@ -5,6 +5,7 @@ use Rattle.definitions.specs.Bytes.{is_any}
 use Rattle.definitions.specs.Owners.{same_owner}
 use Rattle.definitions.specs.Waits.{Waiter}
 use Rattle.blocked_list.specs.Waiting.{waiters_by}
+use Rattle.definitions.specs.Quotas.{quotas_of}
 use Rattle.lock_world.specs.Seen.{IsIdle}
 use Rattle.lock_world.proofs.Kept.{KeepsWaiters, kept_others, waiters_kept, whole_kept, waits_by}
 use Rattle.lock_world.proofs.world.World.forget_idle.Given.{Over}
@@ -22,7 +23,7 @@ kept g c =
 pub invariant_of-self : goal.invariant_of-self
 invariant_of-self g c =
     rw c.forget_idle.ensures.settings
-    (whole_kept c.self.inside.locks.names c.forget_idle.new.self.names c.self.inside.locks.settings c.self.inside.slots c.self.inside.calls c.self.inside.unsettled (kept g c) c.self.invariant)
+    (whole_kept c.self.inside.locks.names c.forget_idle.new.self.names c.self.inside.locks.settings c.self.inside.slots c.self.inside.calls (quotas_of (g.S.HostStore.rows c.self.inside.store)) c.self.inside.unsettled (kept g c) c.self.invariant)
 
 pub returns-in-Some-clause-world : goal.returns-in-Some-clause-world
 returns-in-Some-clause-world g c =

@@ -1,4 +1,5 @@
 use Rattle.std.proofs.Common.{◌≡◌, ◌<◌, ◌++◌, ◌∷◌, [], Some, IsErr, refl, ap, sym, ◌∙◌, subst}
+use Rattle.definitions.specs.Quotas.{quotas_of}
 use Rattle.definitions.specs.Settings.{Request}
 use Rattle.definitions.specs.World.{the_limits, slots_free}
 use Rattle.owner_ids.specs.Names.{named}
@@ -13,7 +14,7 @@ use Rattle.lock_world.proofs.world.World.wait.Goals as goal
 -- a place was free
 free : (g : Over) (c : goal.After-block g) → IsErr c.block.result → ⊥
 free g c =
-    has_room c.block.result c.self.inside.locks.names c.self.inside.locks.settings c.self.inside.slots c.block.new.self c.self.inside.calls c.self.inside.unsettled c.self.invariant
+    has_room c.block.result c.self.inside.locks.names c.self.inside.locks.settings c.self.inside.slots c.block.new.self c.self.inside.calls (quotas_of (g.S.HostStore.rows c.self.inside.store)) c.self.inside.unsettled c.self.invariant
     (subst (λ (s : Seen). 0 < slots_free the_limits s.world) (sym c.self.view_is) c.requires.room) c.block.ensures.full.0
 
 found : (g : Over) (c : goal.After-block g) → named c.self.inside.locks.names c.in-Some.number ≡ Some (said c.args.wanted.now.owner.now)
@@ -35,7 +36,7 @@ invariant_of-self g c =
     let there = on_ok c.block.result (free g c) c.block.ensures.named names c.self.invariant.in_use (rw c.new-waiter.ensures one) in
     let calls = ap (λ (t : Taken). t.calls) (on_ok c.block.result (free g c) c.block.ensures.ok) in
     rw c.with_file-self-inside.ensures
-    (whole_waiting c.block.result c.self.inside.locks.names c.self.inside.locks.settings c.self.inside.slots c.block.new.self c.self.inside.calls c.self.inside.unsettled c.self.invariant
+    (whole_waiting c.block.result c.self.inside.locks.names c.self.inside.locks.settings c.self.inside.slots c.block.new.self c.self.inside.calls (quotas_of (g.S.HostStore.rows c.self.inside.store)) c.self.inside.unsettled c.self.invariant
     (record { request = asked c.args.wanted.now; letter = c.args.letter }) (by g c) there calls c.requires.shown c.requires.ordered)
 
 pub returns : goal.returns
