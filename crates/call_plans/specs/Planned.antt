@@ -10,8 +10,8 @@ use Rattle.definitions.specs.Outgoing.{Letter}
 use Rattle.definitions.specs.Waits.{is_waiting, without_waiter}
 use Rattle.definitions.specs.World.{World, the_limits, slots_free, with_setting, with_waiter, with_hosts, with_due, with_all_due, without_host_of, opening}
 use Rattle.definitions.specs.Grants.{granted_res_rules}
-use Rattle.definitions.specs.Replies.{Success, NoResult}
-use Rattle.definitions.specs.Rulings.{Ruling, decided}
+use Rattle.definitions.specs.Replies.{Outcome}
+use Rattle.definitions.specs.Rulings.{Ruling, decided, ruled}
 use Rattle.definitions.specs.Answer.{Answered}
 use Rattle.letters.specs.Meanings.{my_id_of}
 use Rattle.nlm4_types.specs.Stat.{view_of_stat}
@@ -52,10 +52,6 @@ changed (change.Restart notices) w = with_all_due (opening w.own_name w.hosts) n
 -- what is told in a world: its calls are due in it
 abbrev pub told_in : told.Told → World → Answered
 told_in t w = record { outcome = outcome_of t.outcome.told.value; due = t.due.items; world = with_all_due w t.due.items }
-
--- an empty reply, behind which this call is due
-abbrev pub sent_back : Letter → World → Answered
-sent_back letter w = record { outcome = Success NoResult; due = letter ∷ []; world = with_due w letter }
 
 abbrev pub answered : answer.Answer → World → Answered
 answered a w = told_in a.told (changed a.change w)
@@ -108,6 +104,11 @@ IsAnswerTo (plan.AfterStore call agreed refused) store = store ≢ NotAsked
 abbrev pub IsWithin : Plan → StoreAnswer → World → Type 0
 IsWithin (plan.Decided a) store w = Unit {0}
 IsWithin (plan.AfterStore call agreed refused) store w = store ≡ Yes → is_past_limit 4096 1024 w.hosts (asked_of call) ≡ false
+
+-- a plan that was done under this answer gave, with this outcome, what it comes to in each world that the answer leads from
+abbrev pub IsCommitted : StoreAnswer → Plan → Outcome → World → World → Type 0
+IsCommitted store p outcome old new =
+    (w : World) → old ≡ stored p store w → ◌≡◌ {A = Answered} (record { outcome = outcome; due = due_under store p; world = new }) (ruled store (planned p w))
 
 -- the store is asked only where that is allowed
 abbrev pub AsksOnlyIf : Bool → Plan → Type 0

@@ -1,16 +1,15 @@
 //! The steps in which a plan is done.
 ghost use Rattle.std.specs.Prelude.{◌≡◌, ◌↔◌, IfOk, OnOk, OnErr, IsErr, IsTrue};
 ghost use Rattle.definitions.specs.Hosts.{after_store, is_past_limit};
-ghost use Rattle.definitions.specs.World.{World as SaidWorld, with_hosts, with_setting};
+ghost use Rattle.definitions.specs.World.{with_hosts, with_setting};
 ghost use Rattle.hosts_db.specs.Calls.{Counts, Makes, IsPastLimit};
 ghost use Rattle.definitions.specs.Starts.{refuses};
-ghost use Rattle.definitions.specs.Rulings.{ruled};
 ghost use Rattle.call_outcome.specs.Values.{outcome_of};
 ghost use Rattle.letters.specs.Meanings.{my_id_of};
 ghost use Rattle.std.specs.Option.{option_copied};
 ghost use Rattle.lock_world.specs.Seen.{KeepsKnown};
-ghost use Rattle.call_plans.specs.Planned.{answer_of, answered, asked_of, told_in, stored, counted, planned, due_under};
-ghost use Rattle.call_plans.specs.Planned.{IsAnswerTo, IsWithin, Fits, FitsChange, FitsAnswer, FitsDue, FitsUnder, CanAsk, CanAskFor, IsReady, IsReadyFor, MayHold};
+ghost use Rattle.call_plans.specs.Planned.{answer_of, answered, asked_of, told_in, stored, counted};
+ghost use Rattle.call_plans.specs.Planned.{IsAnswerTo, IsCommitted, IsWithin, Fits, FitsChange, FitsAnswer, FitsDue, FitsUnder, CanAsk, CanAskFor, IsReady, IsReadyFor, MayHold};
 ghost use Rattle.call_plans.specs.Planned.{IsForgotten, IsForgottenFor, IsForgottenBy, IsForgottenUnder, KeepsOthers, KeepsOthersFor, changed, setting_of};
 
 use crate::answers::granted_res;
@@ -178,7 +177,7 @@ pub fn commit<R: RangeTable, S: HostStore>(
 ) -> Shared
     requires fits { FitsUnder (answer_of store) plan world.old.world }
     requires ready { IsReady plan world.old }
-    ensures answer { (w : SaidWorld) → world.old.world ≡ stored plan (answer_of store) w → record { outcome = outcome_of result.told.value; due = due_under (answer_of store) plan; world = world.new.world } ≡ ruled (answer_of store) (planned plan w) }
+    ensures answer { IsCommitted (answer_of store) plan (outcome_of result.told.value) world.old.world world.new.world }
     ensures refusals { world.new.refusals ≡ world.old.refusals }
     ensures forgotten { IsForgottenUnder (answer_of store) plan world.new }
 {

@@ -1,9 +1,9 @@
 //! What is told, made of its parts.
 ghost use Rattle.std.specs.Prelude.{◌≡◌, ◌≤◌, IfOk};
 ghost use Rattle.call_outcome.specs.Values.{outcome_of};
-ghost use Rattle.definitions.specs.Answer.{gives};
+ghost use Rattle.definitions.specs.Answer.{gives, sent_back};
 ghost use Rattle.definitions.specs.World.{World as SaidWorld, slots_free, the_limits};
-ghost use Rattle.call_plans.specs.Planned.{told_in, sent_back, FitsDue};
+ghost use Rattle.call_plans.specs.Planned.{told_in, FitsDue};
 
 use crate::plans::{Shared, Told};
 use call_outcome::{CallResult, Outcome};

@@ -1,5 +1,5 @@
 -- What each field reads, and that it is its one reading.
-use Rattle.std.proofs.Common.{◌≡◌, ℕ, ◌^◌, List, [], ◌∷◌, Bool, true, false, ◌⊎◌, inl, inr, Option, Some, None, length, refl, ap, subst, ◌∙◌, arith}
+use Rattle.std.proofs.Common.{◌≡◌, ℕ, ◌^◌, ◌≤◌, List, [], ◌∷◌, Bool, true, false, ◌⊎◌, inl, inr, Option, Some, None, length, refl, ap, subst, ◌∙◌, arith}
 use Rattle.std.specs.Prelude.{cond, eqb, leb, ltb, ◌&&◌, codes, bytes_eq, Result, Ok, Err}
 use Rattle.std.specs.Fmt.{decimal}
 use Rattle.std.specs.Option.{option_map, option_and_then}
@@ -13,11 +13,11 @@ use Rattle.definitions.specs.Settings.{Mode, Shared, Exclusive}
 use Rattle.hex.specs.Hex.{decode_of}
 use Rattle.hex.specs.declared.error.FromHexError.{FromHexError}
 use Rattle.local_ops.specs.Texts.{owner_text}
-use Rattle.local_ops.specs.Grammar.{IsLocalOwner, SpellsFile, change_text}
-use Rattle.local_ops.specs.Reading.{number_in, process_of, owner_in, file_in, change_in, and_rest, first_field, ◌>>=◌}
+use Rattle.local_ops.specs.Grammar.{IsLocalOwner, SpellsHex, change_text}
+use Rattle.local_ops.specs.Reading.{number_in, process_of, owner_in, hex_in, runs_of, runs_in, change_in, and_rest, first_field, ◌>>=◌}
 use Rattle.local_ops.specs.Words.{word_in}
 use Rattle.local_ops.specs.declared.fields.Word.{Word}
-use Rattle.local_ops.specs.declared.fields.Word.TheVariants.{GetLock, SetLock, SetLockWait, Close, Table, Hosts, Stop}
+use Rattle.local_ops.specs.declared.fields.Word.TheVariants.{GetLock, SetLock, SetLockWait, Close, Table, Hosts, Quota, Stop}
 use Rattle.local_ops.proofs.Numbers.{number_parts, number_read}
 
 -- ---- steps
@@ -93,25 +93,38 @@ owner_read (Process pid) h =
     ap (option_and_then process_of) (number_read (decimal pid) pid (omega arith) refl) ∙ cond-true (ltb pid (2 ^ 31)) (Some (Process pid)) None (lt-ltb pid (2 ^ 31) h)
 owner_read (Description number) h = ap (option_map Description) (number_read (decimal number) number h refl)
 
--- ---- files
+-- ---- hexadecimal digits
 
 ok_some : (r : Result Bytes FromHexError) (file : Bytes) → result_ok r ≡ Some file → r ≡ Ok file
 ok_some (Ok x) file e = let s : x ≡ file = cc in ap Ok s
 ok_some (Err x) file e = absurd cc
 
-pub file_parts : (text file : Bytes) → file_in text ≡ Some file → SpellsFile text file
-unfolding file_in
-file_parts text file e =
-    let p = when_true (leb 2 (length text) && leb (length text) 128) (result_ok (decode_of text)) file e in
-    let q = and_parts (leb 2 (length text)) (leb (length text) 128) p.0 in
-    record { digits = ok_some (decode_of text) file p.1; some = leb-true 2 (length text) q.0; few = leb-true (length text) 128 q.1 }
+pub hex_parts : (most : ℕ) (text bytes : Bytes) → hex_in most text ≡ Some bytes → SpellsHex most text bytes
+unfolding hex_in
+hex_parts most text bytes e =
+    let p = when_true (leb 2 (length text) && leb (length text) most) (result_ok (decode_of text)) bytes e in
+    let q = and_parts (leb 2 (length text)) (leb (length text) most) p.0 in
+    record { digits = ok_some (decode_of text) bytes p.1; some = leb-true 2 (length text) q.0; few = leb-true (length text) most q.1 }
 
-pub file_read : (text file : Bytes) → SpellsFile text file → file_in text ≡ Some file
-unfolding file_in
-file_read text file h =
-    cond-true (leb 2 (length text) && leb (length text) 128) (result_ok (decode_of text)) None
-    (and_from (leb 2 (length text)) (leb (length text) 128) (le-leb 2 (length text) h.some) (le-leb (length text) 128 h.few))
+pub hex_read : (most : ℕ) (text bytes : Bytes) → SpellsHex most text bytes → hex_in most text ≡ Some bytes
+unfolding hex_in
+hex_read most text bytes h =
+    cond-true (leb 2 (length text) && leb (length text) most) (result_ok (decode_of text)) None
+    (and_from (leb 2 (length text)) (leb (length text) most) (le-leb 2 (length text) h.some) (le-leb (length text) most h.few))
     ∙ ap result_ok h.digits
+
+-- ---- runs
+
+pub runs_parts : (text : Bytes) (runs : ℕ) → runs_in text ≡ Some runs → (runs ≤ 65536) × (text ≡ decimal runs)
+runs_parts text runs e =
+    let p = then_some runs_of (number_in text) runs e in
+    let q = cond_some (leb p.0 65536) p.0 runs p.2 in
+    let P : ℕ → Type 0 = λ n. (n ≤ 65536) × (text ≡ decimal n) in
+    subst P q.1 (leb-true p.0 65536 q.0, (number_parts text p.0 p.1).1)
+
+pub runs_read : (runs : ℕ) → runs ≤ 65536 → runs_in (decimal runs) ≡ Some runs
+runs_read runs h =
+    ap (option_and_then runs_of) (number_read (decimal runs) runs (omega arith) refl) ∙ cond-true (leb runs 65536) (Some runs) None (le-leb runs 65536 h)
 
 -- ---- modes and words
 
@@ -140,6 +153,7 @@ word_text SetLockWait = codes "setlkw"
 word_text Close = codes "close"
 word_text Table = codes "table"
 word_text Hosts = codes "hosts"
+word_text Quota = codes "quota"
 word_text Stop = codes "stop"
 
 choice : (text : Bytes) (x word : Word) (o : Option Word) → (o ≡ Some word → text ≡ word_text word) → cond (bytes_eq text (word_text x)) (Some x) o ≡ Some word → text ≡ word_text word
@@ -150,7 +164,7 @@ pub word_parts : (text : Bytes) (word : Word) → word_in text ≡ Some word →
 unfolding word_in
 word_parts text word e =
     choice text GetLock word _ (choice text SetLock word _ (choice text SetLockWait word _ (choice text Close word _ (choice text Table word _
-    (choice text Hosts word _ (choice text Stop word None (λ f. absurd cc))))))) e
+    (choice text Hosts word _ (choice text Quota word _ (choice text Stop word None (λ f. absurd cc)))))))) e
 
 pub word_read : (word : Word) → word_in (word_text word) ≡ Some word
 unfolding word_in
@@ -160,4 +174,5 @@ word_read SetLockWait = refl
 word_read Close = refl
 word_read Table = refl
 word_read Hosts = refl
+word_read Quota = refl
 word_read Stop = refl

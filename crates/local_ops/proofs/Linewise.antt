@@ -1,5 +1,5 @@
 -- A line is read as what it spells, and as nothing else.
-use Rattle.std.proofs.Common.{◌≡◌, arith, List, [], ◌∷◌, true, Option, Some, None, length, refl, sym, ap, subst, ◌∙◌}
+use Rattle.std.proofs.Common.{◌≡◌, ℕ, ◌<◌, ◌^◌, arith, List, [], ◌∷◌, true, Option, Some, None, length, refl, sym, ap, subst, ◌∙◌}
 use Rattle.std.specs.Prelude.{leb, codes, Result, Ok, Err}
 use Rattle.std.specs.Fmt.{decimal}
 use Rattle.std.proofs.lemmas.Bool.{and_from, leb-true, le-leb, cond-true}
@@ -11,17 +11,17 @@ use Rattle.definitions.specs.Settings.{Mode, Shared, Exclusive}
 use Rattle.definitions.specs.Outgoing.{LocalLock}
 use Rattle.definitions.specs.Replies as def
 use Rattle.local_ops.specs.Texts.{spaced, owner_text, mode_text}
-use Rattle.local_ops.specs.Grammar.{IsLocalOwner, SpellsLock, SpellsClose, Spells, IsLine, Reads, change_text}
-use Rattle.local_ops.specs.Reading.{Gives, first_field, owned_in, lock_in, fields_of, ◌>>=◌}
+use Rattle.local_ops.specs.Grammar.{IsLocalOwner, SpellsLock, SpellsClose, SpellsQuota, Spells, IsLine, Reads, change_text}
+use Rattle.local_ops.specs.Reading.{Gives, first_field, owned_in, quota_in, lock_in, fields_of, ◌>>=◌}
 use Rattle.local_ops.specs.Words.{word_in, asked, get_lock_of, line_by, whole_line, line_in, read_line}
 use Rattle.local_ops.specs.Calls.{line_of, line_read}
 use Rattle.local_ops.specs.declared.call.LocalCall.{LocalCall}
 use Rattle.local_ops.specs.declared.fields.BadLine.{BadLine}
 use Rattle.local_ops.specs.declared.fields.Word.{Word}
-use Rattle.local_ops.specs.declared.fields.Word.TheVariants.{GetLock, SetLock, SetLockWait, Close, Table, Hosts, Stop}
+use Rattle.local_ops.specs.declared.fields.Word.TheVariants.{GetLock, SetLock, SetLockWait, Close, Table, Hosts, Quota, Stop}
 use Rattle.local_ops.proofs.Fieldwise.{bind_some, map_some, when_true, first_some, first_read, word_parts, word_read, word_text}
 use Rattle.local_ops.proofs.Spaces.{spaceless, fields_of-spaced, spaceless-decimal, spaceless-hex}
-use Rattle.local_ops.proofs.Wholes.{LockRead, OwnedRead, Locked, Owned, lock_parts, lock_read, owned_parts, owned_read}
+use Rattle.local_ops.proofs.Wholes.{LockRead, OwnedRead, QuotaRead, Locked, Owned, Rationed, lock_parts, lock_read, owned_parts, owned_read, quota_parts, quota_read}
 
 -- ---- what is read is spelled
 
@@ -54,6 +54,17 @@ spells_close bytes fields read h ends whole = record {
   whole =
       whole ∙ ap (λ (fs : List Bytes). spaced (codes "close" ∷ fs)) (h.whole
       ∙ ap (λ (fs : List Bytes). owner_text read.0.0 ∷ h.text ∷ fs) ends);
+}
+
+spells_quota : (bytes : Bytes) (fields : List Bytes) (read : QuotaRead) → Rationed fields read → read.1 ≡ [] → bytes ≡ spaced (codes "quota" ∷ fields)
+    → SpellsQuota read.0.0 read.0.1 bytes
+spells_quota bytes fields read h ends whole = record {
+  name = h.text;
+  name_is = h.name_is;
+  most = h.most;
+  whole =
+      whole ∙ ap (λ (fs : List Bytes). spaced (codes "quota" ∷ fs)) (h.whole
+      ∙ ap (λ (fs : List Bytes). h.text ∷ decimal read.0.1 ∷ fs) ends);
 }
 
 get_spelled : (bytes : Bytes) (fields : List Bytes) (line : def.Line) → (lock_in fields >>= get_lock_of) ≡ Some (line, []) → bytes ≡ spaced (codes "getlk" ∷ fields) → Spells bytes line
@@ -90,6 +101,10 @@ by_word Table bytes fields line e whole =
 by_word Hosts bytes fields line e whole =
     let b = ends_so (λ (l : def.Line). l) def.HostList fields line e in
     subst (Spells bytes) b.0 (whole ∙ ap (λ (fs : List Bytes). spaced (codes "hosts" ∷ fs)) b.1)
+by_word Quota bytes fields line e whole =
+    let a = bind_some (quota_in fields) _ (line, []) e in
+    let b = ends_so (λ (read : Bytes × ℕ). def.SetQuota read.0 read.1) a.0.0 a.0.1 line a.2 in
+    subst (Spells bytes) b.0 (spells_quota bytes fields a.0 (quota_parts fields a.0 a.1) b.1 whole)
 by_word Stop bytes fields line e whole =
     let b = ends_so (λ (l : def.Line). l) def.Stop fields line e in
     subst (Spells bytes) b.0 (whole ∙ ap (λ (fs : List Bytes). spaced (codes "stop" ∷ fs)) b.1)
@@ -140,6 +155,13 @@ close_fields bytes owner file s =
     ∙ fields_of-spaced (codes "close") (owner_text owner ∷ s.file ∷ []) refl
     (and_from _ _ (spaceless-owner owner s.owner) (and_from _ _ (spaceless-hex s.file file s.file_is.digits) refl))
 
+quota_fields : (bytes host : Bytes) (runs : ℕ) (s : SpellsQuota host runs bytes) → fields_of bytes ≡ codes "quota" ∷ s.name ∷ decimal runs ∷ []
+quota_fields bytes host runs s =
+    let fits : runs < 2 ^ 64 = (let most = s.most in omega arith) in
+    ap fields_of s.whole
+    ∙ fields_of-spaced (codes "quota") (s.name ∷ decimal runs ∷ []) refl
+    (and_from _ _ (spaceless-hex s.name host s.name_is.digits) (and_from _ _ (spaceless-decimal runs fits) refl))
+
 word_first : (word : Word) (fields : List Bytes) (read : def.Line × List Bytes) (line : def.Line) → line_by word fields ≡ Some read → whole_line read ≡ Some line
     → line_in (word_text word ∷ fields) ≡ Some line
 unfolding line_in
@@ -161,6 +183,9 @@ spelled_line bytes (def.Close owner file) s =
     ∙ word_first Close _ (def.Close owner file, []) (def.Close owner file) (rw (owned_read owner s.file file [] s.owner s.file_is) refl) refl
 spelled_line bytes def.Table s = ap (λ (b : Bytes). line_in (fields_of b)) s ∙ word_first Table [] (def.Table, []) def.Table refl refl
 spelled_line bytes def.HostList s = ap (λ (b : Bytes). line_in (fields_of b)) s ∙ word_first Hosts [] (def.HostList, []) def.HostList refl refl
+spelled_line bytes (def.SetQuota host runs) s =
+    ap line_in (quota_fields bytes host runs s)
+    ∙ word_first Quota _ (def.SetQuota host runs, []) (def.SetQuota host runs) (rw (quota_read host s.name runs s.name_is s.most) refl) refl
 spelled_line bytes def.Stop s = ap (λ (b : Bytes). line_in (fields_of b)) s ∙ word_first Stop [] (def.Stop, []) def.Stop refl refl
 spelled_line bytes def.BadLine s = absurd s
 
@@ -178,6 +203,7 @@ reads_line bytes (def.SetLockWait mode lock) h = h
 reads_line bytes (def.Close owner file) h = h
 reads_line bytes def.Table h = h
 reads_line bytes def.HostList h = h
+reads_line bytes (def.SetQuota host runs) h = h
 reads_line bytes def.Stop h = h
 reads_line bytes def.BadLine h = absurd h.1
 
@@ -202,6 +228,7 @@ reading_is bytes (def.SetLockWait mode lock) h = ap (read_as bytes) (spelled_is_
 reading_is bytes (def.Close owner file) h = ap (read_as bytes) (spelled_is_read bytes (def.Close owner file) h)
 reading_is bytes def.Table h = ap (read_as bytes) (spelled_is_read bytes def.Table h)
 reading_is bytes def.HostList h = ap (read_as bytes) (spelled_is_read bytes def.HostList h)
+reading_is bytes (def.SetQuota host runs) h = ap (read_as bytes) (spelled_is_read bytes (def.SetQuota host runs) h)
 reading_is bytes def.Stop h = ap (read_as bytes) (spelled_is_read bytes def.Stop h)
 
 pub one_line : (bytes : Bytes) (a b : def.Line) → Reads bytes a → Reads bytes b → a ≡ b

@@ -1,5 +1,5 @@
 -- A line is read as what it spells, and as nothing else.
-use Rattle.std.proofs.Common.{◌≡◌, ◌<◌, ◌^◌, List, [], ◌∷◌, Option, Some, refl, ap, subst, ◌∙◌}
+use Rattle.std.proofs.Common.{◌≡◌, ℕ, ◌<◌, ◌≤◌, ◌^◌, List, [], ◌∷◌, Option, Some, refl, ap, subst, ◌∙◌}
 use Rattle.std.specs.Fmt.{decimal}
 use Rattle.std.proofs.lemmas.Option.{same_Some}
 use Rattle.definitions.specs.Bytes.{Bytes}
@@ -7,10 +7,10 @@ use Rattle.definitions.specs.Owners.{Owner}
 use Rattle.definitions.specs.Settings.{Mode}
 use Rattle.definitions.specs.Outgoing.{LocalLock}
 use Rattle.local_ops.specs.Texts.{owner_text}
-use Rattle.local_ops.specs.Grammar.{IsLocalOwner, SpellsFile, change_text}
-use Rattle.local_ops.specs.Reading.{number_in, owner_in, file_in, change_in, first_field, owned_in, lock_in}
+use Rattle.local_ops.specs.Grammar.{IsLocalOwner, SpellsHex, SpellsFile, change_text}
+use Rattle.local_ops.specs.Reading.{number_in, owner_in, hex_in, runs_in, change_in, first_field, owned_in, quota_in, lock_in}
 use Rattle.local_ops.proofs.Numbers.{number_parts, number_read}
-use Rattle.local_ops.proofs.Fieldwise.{bind_some, first_some, first_read, owner_parts, owner_read, file_parts, file_read, change_parts, change_read}
+use Rattle.local_ops.proofs.Fieldwise.{bind_some, first_some, first_read, owner_parts, owner_read, hex_parts, hex_read, runs_parts, runs_read, change_parts, change_read}
 
 -- ---- OWNER FH
 
@@ -27,15 +27,15 @@ pub owned_parts : (fields : List Bytes) (read : OwnedRead) → owned_in fields �
 unfolding owned_in
 owned_parts fields read e =
     let a = bind_some (first_field owner_in fields) _ read e in
-    let b = bind_some (first_field file_in a.0.1) _ read a.2 in
+    let b = bind_some (first_field (hex_in 128) a.0.1) _ read a.2 in
     let first = first_some owner_in fields a.0.0 a.0.1 a.1 in
-    let second = first_some file_in a.0.1 b.0.0 b.0.1 b.1 in
+    let second = first_some (hex_in 128) a.0.1 b.0.0 b.0.1 b.1 in
     let owner = owner_parts first.0 a.0.0 first.2 in
     subst (Owned fields) (same_Some ((a.0.0, b.0.0), b.0.1) read b.2)
     (record {
       local = owner.0;
       text = second.0;
-      file_is = file_parts second.0 b.0.0 second.2;
+      file_is = hex_parts 128 second.0 b.0.0 second.2;
       whole = first.1 ∙ (ap (λ (f : Bytes). f ∷ a.0.1) owner.1 ∙ ap (λ (fs : List Bytes). owner_text a.0.0 ∷ fs) second.1);
     })
 
@@ -44,7 +44,7 @@ pub owned_read : (owner : Owner) (text file : Bytes) (rest : List Bytes) → IsL
 unfolding owned_in
 owned_read owner text file rest local spells =
     rw (first_read owner_in (owner_text owner) (text ∷ rest) owner (owner_read owner local))
-    (rw (first_read file_in text rest file (file_read text file spells)) refl)
+    (rw (first_read (hex_in 128) text rest file (hex_read 128 text file spells)) refl)
 
 -- ---- OWNER FH MODE FIRST LEN
 
@@ -99,3 +99,36 @@ lock_read mode lock text local spells first len =
     (rw (first_read change_in (change_text mode) numbers mode (change_read mode))
     (rw (first_read number_in (decimal lock.offset) (decimal lock.len ∷ []) lock.offset (number_read (decimal lock.offset) lock.offset first refl))
     (rw (first_read number_in (decimal lock.len) [] lock.len (number_read (decimal lock.len) lock.len len refl)) refl)))
+
+-- ---- NAME N
+
+abbrev pub QuotaRead : Type 0
+QuotaRead = (Bytes × ℕ) × List Bytes
+
+pub record Rationed (fields : List Bytes) (read : QuotaRead) : Type 0 where
+  pub text : Bytes
+  pub name_is : SpellsHex 480 text read.0.0
+  pub most : read.0.1 ≤ 65536
+  pub whole : fields ≡ text ∷ decimal read.0.1 ∷ read.1
+
+pub quota_parts : (fields : List Bytes) (read : QuotaRead) → quota_in fields ≡ Some read → Rationed fields read
+unfolding quota_in
+quota_parts fields read e =
+    let a = bind_some (first_field (hex_in 480) fields) _ read e in
+    let b = bind_some (first_field runs_in a.0.1) _ read a.2 in
+    let first = first_some (hex_in 480) fields a.0.0 a.0.1 a.1 in
+    let second = first_some runs_in a.0.1 b.0.0 b.0.1 b.1 in
+    let runs = runs_parts second.0 b.0.0 second.2 in
+    subst (Rationed fields) (same_Some ((a.0.0, b.0.0), b.0.1) read b.2)
+    (record {
+      text = first.0;
+      name_is = hex_parts 480 first.0 a.0.0 first.2;
+      most = runs.0;
+      whole = first.1 ∙ field_is (λ fs. first.0 ∷ fs) a.0.1 b.0.1 second.0 (decimal b.0.0) second.1 runs.1;
+    })
+
+pub quota_read : (host text : Bytes) (runs : ℕ) → SpellsHex 480 text host → runs ≤ 65536 → quota_in (text ∷ decimal runs ∷ []) ≡ Some ((host, runs), [])
+unfolding quota_in
+quota_read host text runs spells most =
+    rw (first_read (hex_in 480) text (decimal runs ∷ []) host (hex_read 480 text host spells))
+    (rw (first_read runs_in (decimal runs) [] runs (runs_read runs most)) refl)

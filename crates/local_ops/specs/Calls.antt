@@ -15,6 +15,7 @@ line_of (call.SetLockWait mode lock) = def.SetLockWait (held_mode mode) (local_l
 line_of (call.Close owner file) = def.Close (said owner) file
 line_of call.Table = def.Table
 line_of call.Hosts = def.HostList
+line_of (call.Quota quota) = def.SetQuota quota.name quota.runs
 line_of call.Stop = def.Stop
 
 -- a line that is refused is a bad one

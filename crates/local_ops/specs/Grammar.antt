@@ -1,11 +1,11 @@
 -- Which bytes are which line of the protocol of local programs. A line stands here without its line feed.
-use Rattle.std.specs.Prelude.{◌≡◌, ◌<◌, ◌≤◌, ◌^◌, [], ◌∷◌, length, codes, Option, Some, None, Ok}
+use Rattle.std.specs.Prelude.{◌≡◌, ℕ, ◌<◌, ◌≤◌, ◌^◌, [], ◌∷◌, length, codes, Option, Some, None, Ok}
 use Rattle.std.specs.Fmt.{decimal}
 use Rattle.definitions.specs.Bytes.{Bytes}
 use Rattle.definitions.specs.Owners.{Owner, Remote, Process, Description}
 use Rattle.definitions.specs.Settings.{Mode}
 use Rattle.definitions.specs.Outgoing.{LocalLock}
-use Rattle.definitions.specs.Replies.{Line, GetLock, SetLock, SetLockWait, Close, Table, HostList, Stop, BadLine}
+use Rattle.definitions.specs.Replies.{Line, GetLock, SetLock, SetLockWait, Close, Table, HostList, SetQuota, Stop, BadLine}
 use Rattle.hex.specs.Hex.{decode_of}
 use Rattle.local_ops.specs.Texts.{spaced, owner_text, mode_text}
 
@@ -15,11 +15,14 @@ IsLocalOwner (Process pid) = pid < 2 ^ 31
 IsLocalOwner (Description number) = number < 2 ^ 64
 IsLocalOwner (Remote caller) = ⊥
 
--- 2 to 128 hexadecimal digits of either case, two for each byte
-pub record SpellsFile (text file : Bytes) : Type 0 where
-  pub digits : decode_of text ≡ Ok file
+-- 2 hexadecimal digits of either case or more, and so many at most, two for each byte
+pub record SpellsHex (most : ℕ) (text bytes : Bytes) : Type 0 where
+  pub digits : decode_of text ≡ Ok bytes
   pub some : 2 ≤ length text
-  pub few : length text ≤ 128
+  pub few : length text ≤ most
+
+abbrev pub SpellsFile : Bytes → Bytes → Type 0
+SpellsFile = SpellsHex 128
 
 -- `u` is an unlock
 abbrev pub change_text : Option Mode → Bytes
@@ -42,6 +45,13 @@ pub record SpellsClose (closing : Owner) (closed bytes : Bytes) : Type 0 where
   pub file_is : SpellsFile file closed
   pub whole : bytes ≡ spaced (codes "close" ∷ owner_text closing ∷ file ∷ [])
 
+-- quota NAME N
+pub record SpellsQuota (host : Bytes) (runs : ℕ) (bytes : Bytes) : Type 0 where
+  pub name : Bytes
+  pub name_is : SpellsHex 480 name host
+  pub most : runs ≤ 65536
+  pub whole : bytes ≡ spaced (codes "quota" ∷ name ∷ decimal runs ∷ [])
+
 abbrev pub Spells : Bytes → Line → Type 0
 Spells bytes (GetLock mode lock) = SpellsLock (codes "getlk") (mode_text mode) lock bytes
 Spells bytes (SetLock mode lock) = SpellsLock (codes "setlk") (change_text mode) lock bytes
@@ -49,6 +59,7 @@ Spells bytes (SetLockWait mode lock) = SpellsLock (codes "setlkw") (change_text 
 Spells bytes (Close owner file) = SpellsClose owner file bytes
 Spells bytes Table = bytes ≡ codes "table"
 Spells bytes HostList = bytes ≡ codes "hosts"
+Spells bytes (SetQuota host runs) = SpellsQuota host runs bytes
 Spells bytes Stop = bytes ≡ codes "stop"
 Spells bytes BadLine = ⊥
 

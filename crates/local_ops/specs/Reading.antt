@@ -52,8 +52,15 @@ unfoldable pub owner_in : Bytes → Option Owner
 owner_in [] = None
 owner_in (kind ∷ digits) = owner_of_kind kind (number_in digits)
 
-unfoldable pub file_in : Bytes → Option Bytes
-file_in text = cond (leb 2 (length text) && leb (length text) 128) (result_ok (decode_of text)) None
+-- 2 hexadecimal digits or more, and so many at most
+unfoldable pub hex_in : ℕ → Bytes → Option Bytes
+hex_in most text = cond (leb 2 (length text) && leb (length text) most) (result_ok (decode_of text)) None
+
+abbrev pub runs_of : ℕ → Option ℕ
+runs_of runs = cond (leb runs 65536) (Some runs) None
+
+abbrev pub runs_in : Bytes → Option ℕ
+runs_in text = option_and_then runs_of (number_in text)
 
 unfoldable pub change_in : Bytes → Option (Option Mode)
 change_in text =
@@ -78,8 +85,15 @@ Some x >>= next = next x
 unfoldable pub owned_in : List Bytes → Option ((Owner × Bytes) × List Bytes)
 owned_in fields = do
   owner ← first_field owner_in fields
-  file ← first_field file_in owner.1
+  file ← first_field (hex_in 128) owner.1
   Some ((owner.0, file.0), file.1)
+
+-- NAME N
+unfoldable pub quota_in : List Bytes → Option ((Bytes × ℕ) × List Bytes)
+quota_in fields = do
+  name ← first_field (hex_in 480) fields
+  runs ← first_field runs_in name.1
+  Some ((name.0, runs.0), runs.1)
 
 -- OWNER FH MODE FIRST LEN
 unfoldable pub lock_in : List Bytes → Option ((Option Mode × LocalLock) × List Bytes)

@@ -8,7 +8,7 @@ use Rattle.definitions.specs.Settings.{Mode, Shared, Exclusive}
 use Rattle.definitions.specs.Starts.{Run}
 use Rattle.definitions.specs.Hosts.{HostRow}
 use Rattle.definitions.specs.Outgoing.{LocalLock}
-use Rattle.definitions.specs.Replies.{LineReply, LineOk, LineAgain, LineWait, LineDeadlk, LineNolck, LineFbig, LineGrace, LineFree, LineBad, LineStarved, LineHeld, LineTable, LineHosts}
+use Rattle.definitions.specs.Replies.{LineReply, LineOk, LineAgain, LineWait, LineDeadlk, LineNolck, LineFbig, LineGrace, LineFree, LineAbsent, LineRefused, LineBad, LineStarved, LineHeld, LineTable, LineHosts}
 use Rattle.hex.specs.Hex.{encode_lower}
 
 -- fields with one space between each two
@@ -51,6 +51,8 @@ reply_text LineNolck = line (codes "nolck" ∷ [])
 reply_text LineFbig = line (codes "fbig" ∷ [])
 reply_text LineGrace = line (codes "grace" ∷ [])
 reply_text LineFree = line (codes "free" ∷ [])
+reply_text LineAbsent = line (codes "absent" ∷ [])
+reply_text LineRefused = line (codes "refused" ∷ [])
 reply_text LineBad = line (codes "bad" ∷ [])
 reply_text LineStarved = line (codes "starved" ∷ [])
 reply_text (LineHeld mode first len owner) = line (codes "held" ∷ mode_text mode ∷ decimal first ∷ decimal len ∷ owner_text owner ∷ [])

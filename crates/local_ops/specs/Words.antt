@@ -5,9 +5,9 @@ use Rattle.definitions.specs.Bytes.{Bytes}
 use Rattle.definitions.specs.Settings.{Mode}
 use Rattle.definitions.specs.Outgoing.{LocalLock}
 use Rattle.definitions.specs.Replies as def
-use Rattle.local_ops.specs.Reading.{first_field, lock_in, owned_in, fields_of, ◌>>=◌}
+use Rattle.local_ops.specs.Reading.{first_field, lock_in, owned_in, quota_in, fields_of, ◌>>=◌}
 use Rattle.local_ops.specs.declared.fields.Word.{Word}
-use Rattle.local_ops.specs.declared.fields.Word.TheVariants.{GetLock, SetLock, SetLockWait, Close, Table, Hosts, Stop}
+use Rattle.local_ops.specs.declared.fields.Word.TheVariants.{GetLock, SetLock, SetLockWait, Close, Table, Hosts, Quota, Stop}
 
 unfoldable pub word_in : Bytes → Option Word
 word_in text =
@@ -17,7 +17,8 @@ word_in text =
     (cond (bytes_eq text (codes "close")) (Some Close)
     (cond (bytes_eq text (codes "table")) (Some Table)
     (cond (bytes_eq text (codes "hosts")) (Some Hosts)
-    (cond (bytes_eq text (codes "stop")) (Some Stop) None))))))
+    (cond (bytes_eq text (codes "quota")) (Some Quota)
+    (cond (bytes_eq text (codes "stop")) (Some Stop) None)))))))
 
 -- no mode is an unlock, which isn't asked about
 abbrev pub asked : Option Mode × LocalLock → Option def.Line
@@ -34,6 +35,7 @@ line_by SetLockWait fields = lock_in fields >>= λ read. Some (def.SetLockWait r
 line_by Close fields = owned_in fields >>= λ read. Some (def.Close read.0.0 read.0.1, read.1)
 line_by Table fields = Some (def.Table, fields)
 line_by Hosts fields = Some (def.HostList, fields)
+line_by Quota fields = quota_in fields >>= λ read. Some (def.SetQuota read.0.0 read.0.1, read.1)
 line_by Stop fields = Some (def.Stop, fields)
 
 -- no field is left

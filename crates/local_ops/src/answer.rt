@@ -10,15 +10,16 @@ ghost use Rattle.local_ops.specs.Texts.{reply_text, owner_text, mode_text, space
 ghost use Rattle.local_ops.specs.Answers.{reply_of};
 ghost use Rattle.written.specs.Written.{Wrote};
 
+use crate::listing::{HostsText, TableText};
 use crate::output::{write_hex, write_parts};
 use crate::text::mode_text_of;
 use itoa::Buffer;
 use owner_ids::Owner;
 use range_table::Mode;
 use std::io::Write;
-use written::WriteFault;
+use written::{WriteFault, write_whole};
 
-/// What a line is answered, but for the table and the hosts.
+/// What a line is answered.
 #[derive(Drop)]
 pub enum LocalAnswer {
     /// `ok`: it was done.
@@ -37,6 +38,10 @@ pub enum LocalAnswer {
     Grace,
     /// `free`: nothing conflicts.
     Free,
+    /// `absent`: the host has no row.
+    Absent,
+    /// `refused`: the store refused.
+    Refused,
     /// `bad`: the line is none of the protocol.
     Bad,
     /// `starved`: there was no memory.
@@ -48,10 +53,14 @@ pub enum LocalAnswer {
         len: u64,
         owner: Owner,
     },
+    /// All locks, a line each, and the line `end`.
+    Table(TableText),
+    /// All hosts, a line each, and the line `end`.
+    Hosts(HostsText),
 }
 
 impl LocalAnswer {
-    /// Writes the answer's line with its line feed. Where a write fails, a front of it was written.
+    /// Writes the answer's line with its line feed, or its lines. Where a write fails, a front of them was written.
     pub fn write<W: Write>(&self, writer: &mut W) -> Result<(), WriteFault>
         ensures { Wrote (W.contents writer.old) (W.contents writer.new) result (reply_text (reply_of self.now)) }
     {
@@ -62,6 +71,8 @@ impl LocalAnswer {
                 len,
                 owner,
             } => write_held(writer, *mode, *first, *len, owner),
+            LocalAnswer::Table(table) => write_whole(writer, table.as_slice()),
+            LocalAnswer::Hosts(hosts) => write_whole(writer, hosts.as_slice()),
             LocalAnswer::Done => write_parts(writer, &[b"ok\n"]),
             LocalAnswer::Again => write_parts(writer, &[b"again\n"]),
             LocalAnswer::Wait => write_parts(writer, &[b"wait\n"]),
@@ -70,6 +81,8 @@ impl LocalAnswer {
             LocalAnswer::TooFar => write_parts(writer, &[b"fbig\n"]),
             LocalAnswer::Grace => write_parts(writer, &[b"grace\n"]),
             LocalAnswer::Free => write_parts(writer, &[b"free\n"]),
+            LocalAnswer::Absent => write_parts(writer, &[b"absent\n"]),
+            LocalAnswer::Refused => write_parts(writer, &[b"refused\n"]),
             LocalAnswer::Bad => write_parts(writer, &[b"bad\n"]),
             LocalAnswer::Starved => write_parts(writer, &[b"starved\n"]),
         }

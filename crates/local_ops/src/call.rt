@@ -6,6 +6,7 @@ ghost use Rattle.local_ops.specs.Calls.{line_of, line_read};
 ghost use Rattle.local_ops.specs.Grammar.{Reads};
 
 use crate::fields::{BadLine, Fields, Word};
+use crate::quota::Quota;
 use letters::LocalLock;
 use owner_ids::Owner;
 use range_table::{FileId, Mode};
@@ -28,6 +29,8 @@ pub enum LocalCall {
     Table,
     /// `hosts`: all hosts with a row.
     Hosts,
+    /// `quota NAME N`: how many runs the owners of a host may have.
+    Quota(Quota),
     /// `stop`: the server ends.
     Stop,
 }
@@ -82,6 +85,10 @@ fn read_call(word: Word, fields: &mut Fields<'_>) -> Result<LocalCall, BadLine>
         }
         Word::Table => Ok(LocalCall::Table),
         Word::Hosts => Ok(LocalCall::Hosts),
+        Word::Quota => {
+            let (name, runs) = fields.quota()?;
+            Ok(LocalCall::Quota(Quota { name, runs }))
+        }
         Word::Stop => Ok(LocalCall::Stop),
     }
 }

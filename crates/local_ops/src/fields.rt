@@ -6,10 +6,11 @@ ghost use Rattle.std.specs.Option.{option_and_then};
 ghost use Rattle.letters.specs.Locals.{is_local};
 ghost use Rattle.owner_ids.specs.Said.{said};
 ghost use Rattle.owner_ranges.specs.Same.{held_mode};
-ghost use Rattle.local_ops.specs.Reading.{Gives, GivesRest, is_space, fields_of, fields_left, first_field, number_in, owner_in, file_in, change_in, process_of, owned_in, lock_in};
+ghost use Rattle.local_ops.specs.Reading.{Gives, GivesRest, is_space, fields_of, fields_left, first_field, number_in, owner_in, hex_in, change_in, process_of, runs_of, runs_in, owned_in, quota_in, lock_in};
 ghost use Rattle.letters.specs.Meanings.{local_lock_of};
 ghost use Rattle.local_ops.specs.Words.{word_in};
 
+use crate::quota::HostName;
 use itoa::Buffer;
 use letters::LocalLock;
 use owner_ids::Owner;
@@ -32,6 +33,7 @@ pub(crate) enum Word {
     Close,
     Table,
     Hosts,
+    Quota,
     Stop,
 }
 
@@ -98,9 +100,9 @@ fn read_process(digits: &[u8]) -> Result<Owner, BadLine>
 }
 
 /// 2 to 128 hexadecimal digits.
-#[tactic(auto, unfolding(crate::specs::Reading::file_in))]
+#[tactic(auto, unfolding(crate::specs::Reading::hex_in))]
 fn read_file(field: &[u8]) -> Result<FileId, BadLine>
-    ensures gives { Gives (λ file. file) result (file_in field.now) }
+    ensures gives { Gives (λ file. file) result (hex_in 128 field.now) }
     ensures short { IfOk result (λ file. length file ≤ 64) }
 {
     let count = field.len() / 2;
@@ -112,6 +114,34 @@ fn read_file(field: &[u8]) -> Result<FileId, BadLine>
     match hex::decode_to_slice(field, file) {
         Ok(()) => Ok(FileId::new(file)),
         Err(_) => Err(BadLine),
+    }
+}
+
+/// 2 to 480 hexadecimal digits.
+#[tactic(auto, unfolding(crate::specs::Reading::hex_in))]
+fn read_name(field: &[u8]) -> Result<HostName, BadLine>
+    ensures { Gives (λ name. name) result (hex_in 480 field.now) }
+{
+    let count = field.len() / 2;
+    if count < 1 || count > 240 {
+        return Err(BadLine);
+    }
+    let mut bytes = [0; 240];
+    let name = &mut bytes[..count];
+    match hex::decode_to_slice(field, name) {
+        Ok(()) => Ok(HostName::new(name)),
+        Err(_) => Err(BadLine),
+    }
+}
+
+/// A number of runs, at most 65,536.
+fn read_runs(field: &[u8]) -> Result<u32, BadLine>
+    ensures gives { Gives (λ runs. runs) result (option_and_then runs_of (number_in field.now)) }
+    ensures most { IfOk result (λ runs. runs ≤ 65536) }
+{
+    match u32::try_from(read_number(field)?) {
+        Ok(runs) if runs <= 65_536 => Ok(runs),
+        _ => Err(BadLine),
     }
 }
 
@@ -145,6 +175,8 @@ fn read_word(field: &[u8]) -> Result<Word, BadLine>
         Ok(Word::Table)
     } else if field == b"hosts".as_slice() {
         Ok(Word::Hosts)
+    } else if field == b"quota".as_slice() {
+        Ok(Word::Quota)
     } else if field == b"stop".as_slice() {
         Ok(Word::Stop)
     } else {
@@ -224,7 +256,7 @@ impl<'a> Fields<'a> {
     }
 
     fn file(&mut self) -> Result<FileId, BadLine>
-        ensures gives { GivesRest (λ file. file) result self.new (first_field file_in self.old) }
+        ensures gives { GivesRest (λ file. file) result self.new (first_field (hex_in 128) self.old) }
         ensures short { IfOk result (λ file. length file ≤ 64) }
     {
         read_file(self.next()?)
@@ -239,6 +271,29 @@ impl<'a> Fields<'a> {
     {
         let owner = self.owner()?;
         Ok((owner, self.file()?))
+    }
+
+    fn name(&mut self) -> Result<HostName, BadLine>
+        ensures { GivesRest (λ name. name) result self.new (first_field (hex_in 480) self.old) }
+    {
+        read_name(self.next()?)
+    }
+
+    fn runs(&mut self) -> Result<u32, BadLine>
+        ensures gives { GivesRest (λ runs. runs) result self.new (first_field runs_in self.old) }
+        ensures most { IfOk result (λ runs. runs ≤ 65536) }
+    {
+        read_runs(self.next()?)
+    }
+
+    /// NAME N.
+    #[tactic(auto, unfolding(crate::specs::Reading::quota_in))]
+    pub(crate) fn quota(&mut self) -> Result<(HostName, u32), BadLine>
+        ensures gives { GivesRest (λ quota. (quota.0, quota.1)) result self.new (quota_in self.old) }
+        ensures most { IfOk result (λ quota. quota.1 ≤ 65536) }
+    {
+        let name = self.name()?;
+        Ok((name, self.runs()?))
     }
 
     /// OWNER FH MODE FIRST LEN.

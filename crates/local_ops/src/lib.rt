@@ -7,7 +7,9 @@ mod call;
 mod fields;
 mod granted;
 mod law;
+mod listing;
 mod output;
+mod quota;
 mod text;
 
 pub use answer::LocalAnswer;
@@ -15,4 +17,6 @@ pub use call::LocalCall;
 pub use fields::BadLine;
 pub use granted::put_granted;
 pub use law::one_line;
+pub use quota::{HostName, Quota};
+pub use listing::{HostsText, ListedHost, ListedRun, TableText};
 pub use written::WriteFault;

@@ -1,7 +1,6 @@
 -- What the lock rules say, by what the world shows.
-use Rattle.std.proofs.Common.{◌≡◌, ◌≤◌, ◌<◌, ℕ, ◌-◌, eqb, Bool, true, false, not, ◌&&◌, cond, List, [], ◌∷◌, length, refl, sym, ap, ◌∙◌, subst, Option, Some, None, Result, Ok, Err, arith}
+use Rattle.std.proofs.Common.{◌≡◌, ◌≤◌, ◌<◌, ℕ, ◌-◌, eqb, Bool, true, false, not, ◌&&◌, cond, List, [], ◌∷◌, length, refl, sym, ap, ◌∙◌, subst, Some, None, Result, Ok, Err, arith}
 use Rattle.std.proofs.lemmas.Bool.{eqb-true, false≢true}
-use Rattle.std.proofs.lemmas.Option.{none-some}
 use Rattle.std.proofs.lemmas.List.{length-append}
 use Rattle.std.specs.Prelude.{IfOk}
 use Rattle.definitions.specs.Bytes.{Bytes, without_first}
@@ -9,13 +8,14 @@ use Rattle.definitions.specs.Owners.{Owner}
 use Rattle.definitions.specs.Settings.{Mode, Request, Setting, setting_of}
 use Rattle.definitions.specs.Conflict.{conflicts}
 use Rattle.definitions.specs.Starts.{is_short}
-use Rattle.definitions.specs.Phases.{CallKind, Cancelling, Locking}
+use Rattle.definitions.specs.Phases.{Cancelling, Locking, CallKind}
+use Rattle.definitions.specs.Quotas.{quotas_of, lacks_room}
 use Rattle.definitions.specs.Hosts.{Hosts, StoreCall, Monitor, has_row, after_store}
 use Rattle.definitions.specs.Nlm as nlm
 use Rattle.definitions.specs.Nlm.{Stat, STALE_FH, FBIG}
 use Rattle.definitions.specs.Waits.{Waiter, is_waiting, without_waiter, same_request as is_same_request, closes_cycle}
 use Rattle.definitions.specs.World.{World, the_limits, slots_free, with_hosts, with_setting, with_waiter}
-use Rattle.definitions.specs.Ranges.{is_stale, is_too_far, range_refusal, grace_refusal, request_of}
+use Rattle.definitions.specs.Ranges.{range_refusal, request_of}
 use Rattle.definitions.specs.Rulings.{Ruling, Told, decided, stays}
 use Rattle.definitions.specs.Outgoing.{Granted, GrantedMsg}
 use Rattle.definitions.specs.LockRules.{LockAsk, NewHost, row_asked, after_row, lock_rules, blocked_lock}
@@ -35,22 +35,6 @@ use Rattle.lock_service.specs.Asks.{kept_out}
 use Rattle.lock_service.specs.Locking.{answer_by}
 use Rattle.lock_service.specs.Verdicts.{IsAfterRow, IsVerdict, LeavesRoomBy, LeavesRoomAfter}
 
--- a range that isn't refused is one of a file that can be, and ends in it
-pub is_handle : (w : World) (kind : CallKind) (alock : nlm.Lock) → range_refusal w kind alock ≡ None → is_stale alock.fh ≡ false
-is_handle w kind alock = go (is_stale alock.fh) (cond (is_too_far alock.l_offset alock.l_len) (Some FBIG) (grace_refusal w kind))
-  where
-    go : (b : Bool) (more : Option Stat) → cond b (Some STALE_FH) more ≡ None → b ≡ false
-    go true more e = absurd (none-some STALE_FH (sym e))
-    go false more e = refl
-
-pub is_inside : (w : World) (kind : CallKind) (alock : nlm.Lock) → range_refusal w kind alock ≡ None → is_too_far alock.l_offset alock.l_len ≡ false
-is_inside w kind alock = go (is_stale alock.fh) (is_too_far alock.l_offset alock.l_len) (grace_refusal w kind)
-  where
-    go : (a b : Bool) (more : Option Stat) → cond a (Some STALE_FH) (cond b (Some FBIG) more) ≡ None → b ≡ false
-    go true b more e = absurd (none-some STALE_FH (sym e))
-    go false true more e = absurd (none-some FBIG (sym e))
-    go false false more e = refl
-
 module _ (w : World) (a : LockAsk) where
   pub in_the_way : conflicts w.settings a.request ≡ true → lock_rules the_limits w a ≡ kept_out w a
   in_the_way taken = rw taken refl
@@ -65,10 +49,10 @@ module _ (w : World) (a : LockAsk) where
   pub waits_for_none : a.block ≡ false → kept_out w a ≡ stays w nlm.DENIED
   waits_for_none block = rw block refl
 
-  pub no_room : conflicts w.settings a.request ≡ false → is_short 65536 w.settings ≡ true → lock_rules the_limits w a ≡ stays w nlm.DENIED_NOLOCKS
-  no_room free short = rw (free, short) refl
+  pub no_room : conflicts w.settings a.request ≡ false → lacks_room 65536 (quotas_of w.hosts) w.settings a.request ≡ true → lock_rules the_limits w a ≡ stays w nlm.DENIED_NOLOCKS
+  no_room free full = rw (free, full) refl
 
-  pub granted : conflicts w.settings a.request ≡ false → is_short 65536 w.settings ≡ false → lock_rules the_limits w a ≡ after_row w (row_asked w a.row) nlm.GRANTED (λ v. with_setting v (setting_of a.request))
+  pub granted : conflicts w.settings a.request ≡ false → lacks_room 65536 (quotas_of w.hosts) w.settings a.request ≡ false → lock_rules the_limits w a ≡ after_row w (row_asked w a.row) nlm.GRANTED (λ v. with_setting v (setting_of a.request))
   granted free room = rw (free, room) refl
 
   pub waits_already : is_waiting a.request w.waiters ≡ true → blocked_lock w a ≡ after_row w (row_asked w a.row) nlm.BLOCKED (λ v. v)
@@ -176,10 +160,6 @@ refused_by call.LockMsg w version a stat e = ap (lock_unless the_limits w (lock_
 
 pub same_request : (file fh : Bytes) (x y : Owner) (first offset last end : ℕ) (mode wanted : Mode) → file ≡ fh → x ≡ y → first ≡ offset → last ≡ end → mode ≡ wanted → ◌≡◌ {A = Request} (record { file = file; owner = x; first = first; last = last; mode = mode }) (record { file = fh; owner = y; first = offset; last = end; mode = wanted })
 same_request file fh x y first offset last end mode wanted a b c d e = rw (a, b, c, d, e) refl
-
-pub in_version : {E : Type 0} (r : Result Plan E) (w : World) (answers : nlm.Version → Ruling Answered) (v : nlm.Version) → IfOk r (λ p. (version : nlm.Version) → IsPlan (answers version) w p) → IfOk r (λ p. IsPlan (answers v) w p)
-in_version (Ok p) w answers v h = h v
-in_version (Err e) w answers v h = tt
 
 pub in_world : {E : Type 0} (r : Result Plan E) (w : World) (answers : World → nlm.Version → Ruling Answered) (v : nlm.Version) → IfOk r (λ p. (u : World) (version : nlm.Version) → IsPlan (answers u version) u p) → IfOk r (λ p. IsPlan (answers w v) w p)
 in_world (Ok p) w answers v h = h w v

@@ -1,4 +1,7 @@
 pub mod Verdicts
+pub mod Tellings
+pub mod Places
+pub mod Procedures
 pub mod Asks
 pub mod Locking
 pub mod Lined

@@ -1,5 +1,5 @@
 -- The three calls that lock.
-use Rattle.std.specs.Prelude.{ℕ, Bool, true, false, Option, None}
+use Rattle.std.specs.Prelude.{Bool, true, false, Option, None}
 use Rattle.definitions.specs.Nlm as nlm
 use Rattle.definitions.specs.World.{World, the_limits}
 use Rattle.definitions.specs.Rulings.{Told, Ruling}
@@ -7,6 +7,8 @@ use Rattle.definitions.specs.LockRules.{NewHost}
 use Rattle.definitions.specs.Answer.{caller_row, lock_answer, nm_lock_answer, lock_msg_answer}
 use Rattle.lock_service.specs.declared.lock.LockCall.{LockCall}
 use Rattle.lock_service.specs.declared.lock.LockCall.TheVariants as call
+use Rattle.lock_service.specs.declared.telling.Form.{Form}
+use Rattle.lock_service.specs.declared.telling.Form.TheVariants as form
 
 abbrev pub answer_by : LockCall → World → nlm.Version → nlm.LockArgs → Ruling (Told nlm.Stat)
 answer_by call.Lock w version a = lock_answer the_limits w version a
@@ -29,8 +31,8 @@ is_message call.Lock = false
 is_message call.NmLock = false
 is_message call.LockMsg = true
 
--- the places that its answer takes
-abbrev pub reserved_by : LockCall → ℕ
-reserved_by call.Lock = 0
-reserved_by call.NmLock = 0
-reserved_by call.LockMsg = 1
+-- how it is told
+abbrev pub form_by : LockCall → Form
+form_by call.Lock = form.Reply
+form_by call.NmLock = form.Reply
+form_by call.LockMsg = form.Message

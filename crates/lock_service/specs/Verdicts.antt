@@ -1,23 +1,15 @@
 -- What a lock call comes to, before it is known how it is told.
 use Rattle.std.specs.Prelude.{◌≡◌, ◌≤◌, ℕ, Bool, true, Some}
-use Rattle.definitions.specs.Bytes.{Bytes}
 use Rattle.definitions.specs.Hosts.{Hosts, StoreCall}
 use Rattle.definitions.specs.Nlm as nlm
-use Rattle.definitions.specs.Outgoing.{Message, LockResult, CancelResult, UnlockResult}
 use Rattle.definitions.specs.World.{World, the_limits, slots_free, with_hosts}
-use Rattle.definitions.specs.Rulings.{Told, Ruling, decided, each}
-use Rattle.definitions.specs.Answer.{by_reply, res, sent_back}
+use Rattle.definitions.specs.Rulings.{Told, Ruling, decided}
 use Rattle.nlm4_types.specs.declared.stat.Stat.{Stat}
 use Rattle.nlm4_types.specs.Stat.{view_of_stat}
-use Rattle.nlm4_types.specs.Version.{view_of_version}
 use Rattle.call_plans.specs.declared.plans.Change.{Change}
-use Rattle.call_plans.specs.declared.plans.Plan.{Plan}
-use Rattle.call_plans.specs.Planned.{changed, asked_of, after_asked, FitsChange, CanAskFor, IsPlan}
+use Rattle.call_plans.specs.Planned.{changed, asked_of, after_asked, FitsChange, CanAskFor}
 use Rattle.lock_service.specs.declared.verdict.Verdict.{Verdict}
 use Rattle.lock_service.specs.declared.verdict.Verdict.TheVariants as verdict
-use Rattle.lock_service.specs.declared.message_call.MessageForm.{MessageForm}
-use Rattle.lock_service.specs.declared.message_call.MessageForm.TheVariants as form
-use Rattle.lock_service.specs.declared.message_call.MessageCall as call
 
 abbrev pub verdict_in : Verdict → World → Ruling (Told nlm.Stat)
 verdict_in (verdict.Decided stat change) w = decided (record { says = view_of_stat stat; world = changed change w })
@@ -62,23 +54,3 @@ IsVerdictWith change ruling w v = (reserved : ℕ) → LeavesRoomBy reserved cha
 abbrev pub OnlyAsksIf : Bool → Verdict → Type 0
 OnlyAsksIf allowed (verdict.Decided stat change) = Unit {0}
 OnlyAsksIf allowed (verdict.AfterStore asked stat change) = allowed ≡ true
-
--- ---- how it is told
-
--- the call that answers a message form
-abbrev pub result_message : MessageForm → nlm.Version → nlm.Res → Message
-result_message form.Lock version r = LockResult version r
-result_message form.Cancel version r = CancelResult version r
-result_message form.Unlock version r = UnlockResult version r
-
-abbrev pub message_said : call.MessageCall → nlm.Stat → Message
-message_said c stat = result_message c.form (view_of_version c.version) (res c.cookie.now stat)
-
--- a plan that tells a verdict by the reply
-abbrev pub IsReplied : Bytes → Verdict → Plan → Type 0
-IsReplied cookie v p = (w : World) (ruling : Ruling (Told nlm.Stat)) → IsVerdict ruling 0 w v → IsPlan (by_reply cookie ruling) w p
-
--- and one that tells it by a call to the caller's host, for which a place is free
-abbrev pub IsCalled : call.MessageCall → Verdict → Plan → Type 0
-IsCalled c v p =
-    (w : World) (ruling : Ruling (Told nlm.Stat)) → 1 ≤ slots_free the_limits w → IsVerdict ruling 1 w v → IsPlan (each (λ (t : Told nlm.Stat). sent_back (message_said c t.says) c.host.now t.world) ruling) w p

@@ -3,7 +3,9 @@ ghost use Rattle.std.specs.Prelude.{◌≡◌, ◌≤◌, ◌<◌, ◌^◌, true
 ghost use Rattle.definitions.specs.Ranges.{is_stale, is_too_far, last_of as last_byte, range_refusal, file_refusal};
 ghost use Rattle.grace.specs.Meanings.{kind_of};
 ghost use Rattle.nlm4_types.specs.Lock.{view_of_lock};
-ghost use Rattle.nlm4_types.specs.Stat.{view_of_stat, is_denied};
+ghost use Rattle.nlm4_types.specs.Stat.{view_of_stat};
+ghost use Rattle.definitions.specs.Nlm.{is_denial};
+ghost use Rattle.lock_service.specs.Places.{IsPlaceOf};
 
 use grace::{CallKind, admits};
 use hosts_db::HostStore;
@@ -30,9 +32,9 @@ pub(crate) fn place_of<R: RangeTable, S: HostStore>(
     kind: CallKind,
     alock: &Lock<'_, WIDE>,
 ) -> Result<Place, Stat>
-    ensures ok { IfOk result (λ p. (range_refusal world.now.world (kind_of kind) (view_of_lock alock.now) ≡ None) × (p.file ≡ alock.now.fh.bytes.now) × (p.first ≡ alock.now.l_offset) × (p.last ≡ last_byte alock.now.l_offset alock.now.l_len)) }
+    ensures ok { IfOk result (λ p. IsPlaceOf world.now.world (kind_of kind) (view_of_lock alock.now) p.file p.first p.last) }
     ensures err { IfErr result (λ stat. range_refusal world.now.world (kind_of kind) (view_of_lock alock.now) ≡ Some (view_of_stat stat)) }
-    ensures other { IfErr result (λ stat. is_denied (view_of_stat stat) ≡ false) }
+    ensures other { IfErr result (λ stat. is_denial (view_of_stat stat) ≡ false) }
 {
     let Some(file) = file_of(alock.fh.bytes) else {
         return Err(Stat::StaleFh);

@@ -21,7 +21,6 @@ ghost use Rattle.lock_service.specs.Verdicts.{verdict_in, FitsIn, IsVerdict, Onl
 use crate::checks::{Place, last_of};
 use crate::lock_ask::{Grant, LockAsk};
 use crate::lock_rules::lock_rules;
-use crate::test::shown_len;
 use crate::unlock::unlock_rules;
 use crate::verdict::Verdict;
 use call_plans::{Change, Range, Wanted, prepare_change};
@@ -30,7 +29,7 @@ use hosts_db::HostStore;
 use letters::LocalLock;
 use local_ops::LocalAnswer;
 use lock_world::World;
-use nlm4_types::Stat;
+use nlm4_types::{Stat, shown_len};
 use owner_ids::{Owner, Starved};
 use range_table::{FileId, Mode, RangeTable};
 
@@ -115,7 +114,7 @@ pub fn plan_set<R: RangeTable, S: HostStore>(
     world: &World<R, S>,
     line: &SetLine<'_>,
 ) -> Result<LinePlan, Starved>
-    ensures plan { IfOk result (λ made. line_planned made world.now.world ≡ line_answer the_limits world.now.world line.now.connection (set_line_of line.now)) }
+    ensures plan { IfOk result (λ made. line_planned made world.now.world ≡ ruled NotAsked (line_answer the_limits world.now.world line.now.connection (set_line_of line.now))) }
     ensures fits { IfOk result (λ made. FitsChange made.change world.now.world) }
 {
     let place = match place_of(world, line.lock) {
@@ -242,8 +241,8 @@ pub fn set_lock<R: RangeTable, S: HostStore>(
     world: &mut World<R, S>,
     line: &SetLine<'_>,
 ) -> Result<LocalAnswer, Starved>
-    ensures reply { IfOk result (λ answer. reply_of answer ≡ (line_answer the_limits world.old.world line.now.connection (set_line_of line.now)).says) }
-    ensures world { IfOk result (λ answer. world.new.world ≡ settled the_limits (line_answer the_limits world.old.world line.now.connection (set_line_of line.now)).world) }
+    ensures reply { IfOk result (λ answer. reply_of answer ≡ (ruled NotAsked (line_answer the_limits world.old.world line.now.connection (set_line_of line.now))).says) }
+    ensures world { IfOk result (λ answer. world.new.world ≡ settled the_limits (ruled NotAsked (line_answer the_limits world.old.world line.now.connection (set_line_of line.now))).world) }
     ensures err { OnErr result (world.new.world ≡ world.old.world) }
     ensures refusals { world.new.refusals ≡ world.old.refusals }
 {
@@ -261,7 +260,7 @@ pub fn close_file<R: RangeTable, S: HostStore>(
     owner: &Owner,
     file: &FileId,
 )
-    ensures world { (l : ℕ) → world.new.world ≡ settled the_limits (line_answer the_limits world.old.world l (Close (said owner.now) file.now)).world }
+    ensures world { (l : ℕ) → world.new.world ≡ settled the_limits (ruled NotAsked (line_answer the_limits world.old.world l (Close (said owner.now) file.now))).world }
     ensures refusals { world.new.refusals ≡ world.old.refusals }
     ensures forgotten { IsForgottenIfIdle (said owner.now) world.new.world world.new }
 {

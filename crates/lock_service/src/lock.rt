@@ -3,7 +3,10 @@ ghost use Rattle.std.specs.Prelude.{◌≡◌, IfOk};
 ghost use Rattle.std.specs.Option.{option_map};
 ghost use Rattle.nlm4_types.specs.Version.{view_of_version};
 ghost use Rattle.nlm4_types.specs.Arguments.{view_of_lockargs};
-ghost use Rattle.lock_service.specs.Locking.{answer_by, is_message, is_monitored, reserved_by, row_by};
+ghost use Rattle.lock_service.specs.Locking.{answer_by, form_by, is_message, is_monitored, row_by};
+ghost use Rattle.lock_service.specs.Procedures.{lock_told};
+ghost use Rattle.lock_service.specs.Tellings.{places};
+ghost use Rattle.call_plans.specs.Planned.{IsPlan, AsksOnlyIf};
 ghost use Rattle.lock_service.specs.Asks.{new_host};
 ghost use Rattle.lock_service.specs.Verdicts.{IsVerdict, OnlyAsksIf};
 
@@ -11,7 +14,9 @@ use crate::checks::place_of;
 use crate::copies::wanted_of;
 use crate::lock_ask::{Grant, GrantCall, LockAsk, NewHost};
 use crate::lock_rules::lock_rules;
+use crate::telling::{Form, ResultCall, Telling};
 use crate::verdict::Verdict;
+use call_plans::Plan;
 use grace::CallKind;
 use hosts_db::HostStore;
 use lock_world::World;
@@ -30,14 +35,33 @@ pub(crate) enum LockCall {
     LockMsg,
 }
 
-/// What one of them comes to.
-pub(crate) fn verdict<R: RangeTable, S: HostStore>(
+pub(crate) fn plan<R: RangeTable, S: HostStore>(
+    world: &World<R, S>,
+    version: Version,
+    args: &LockArgs<'_, WIDE>,
+    call: LockCall,
+) -> Result<Plan, Starved>
+    ensures plan { IfOk result (λ made. IsPlan (lock_told call version args.now world.now.world) world.now.world made) }
+    ensures asks { IfOk result (AsksOnlyIf (is_monitored call)) }
+{
+    let telling = Telling {
+        form: call.form(),
+        result: ResultCall::Lock,
+        version,
+        cookie: args.cookie,
+        host: args.alock.caller_name,
+    };
+    verdict(world, version, args, call)?.told(world.alloc(), world.free_slots(), &telling)
+}
+
+// What one of them comes to.
+fn verdict<R: RangeTable, S: HostStore>(
     world: &World<R, S>,
     version: Version,
     args: &LockArgs<'_, WIDE>,
     call: LockCall,
 ) -> Result<Verdict, Starved>
-    ensures verdict { IfOk result (λ made. IsVerdict (answer_by call world.now.world (view_of_version version) (view_of_lockargs args.now)) (reserved_by call) world.now.world made) }
+    ensures verdict { IfOk result (λ made. IsVerdict (answer_by call world.now.world (view_of_version version) (view_of_lockargs args.now)) (places (form_by call)) world.now.world made) }
     ensures asks { IfOk result (OnlyAsksIf (is_monitored call)) }
 {
     let kind = CallKind::Locking {
@@ -59,12 +83,22 @@ pub(crate) fn verdict<R: RangeTable, S: HostStore>(
             exclusive: args.exclusive,
             lock: args.alock,
         }),
-        reserved: if call.is_message() { 1 } else { 0 },
+        reserved: call.form().places(),
     };
     lock_rules(world, ask)
 }
 
 impl LockCall {
+    // How it is told, and how a grant is, once it has waited.
+    fn form(self) -> Form
+        ensures { result ≡ form_by self }
+    {
+        match self {
+            LockCall::LockMsg => Form::Message,
+            LockCall::Lock | LockCall::NmLock => Form::Reply,
+        }
+    }
+
     fn is_message(self) -> bool
         ensures { result ≡ is_message self }
     {

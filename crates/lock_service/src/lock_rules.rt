@@ -34,7 +34,7 @@ pub(crate) fn lock_rules<R: RangeTable, S: HostStore>(
     if world.conflicts(&ask.wanted.request()) {
         return kept_out(world, ask);
     }
-    if world.is_short() {
+    if world.lacks_room(&ask.wanted.request()) {
         return Ok(Verdict::says(Stat::DeniedNolocks));
     }
     let change = Change::Set(ask.wanted.into_range());

@@ -5,6 +5,7 @@ ghost use Rattle.definitions.specs.World.{World as SaidWorld, the_limits};
 ghost use Rattle.definitions.specs.Answer.{nlm_answer, share_told, share_of as share_said};
 ghost use Rattle.definitions.specs.Rulings.{decided};
 ghost use Rattle.nlm4_types.specs.Stat.{view_of_stat};
+ghost use Rattle.nlm4_types.specs.Version.{view_of_version};
 ghost use Rattle.nlm4_types.specs.Access.{view_of_access};
 ghost use Rattle.nlm4_types.specs.Share.{view_of_shareargs};
 ghost use Rattle.call_plans.specs.Planned.{IsPlan, AsksOnlyIf, FitsChange, changed};
@@ -17,16 +18,17 @@ use dos_shares::{Access, Share, ShareError};
 use grace::CallKind;
 use hosts_db::HostStore;
 use lock_world::World;
-use nlm4_types::{Access as AskedAccess, ShareArgs, Stat};
+use nlm4_types::{Access as AskedAccess, ShareArgs, Stat, Version};
 use owner_ids::Starved;
 use range_table::RangeTable;
 use std::alloc::Global;
 
 pub(crate) fn plan<R: RangeTable, S: HostStore>(
     world: &World<R, S>,
+    version: Version,
     args: &ShareArgs<'_>,
 ) -> Result<Plan, Starved>
-    ensures plan { IfOk result (λ made. (version : nlm.Version) → IsPlan (nlm_answer the_limits world.now.world version (nlm.ShareCall (view_of_shareargs args.now))) world.now.world made) }
+    ensures plan { IfOk result (λ made. IsPlan (nlm_answer the_limits world.now.world (view_of_version version) (nlm.ShareCall (view_of_shareargs args.now))) world.now.world made) }
     ensures asks { IfOk result (AsksOnlyIf false) }
 {
     let alloc = world.alloc();
@@ -34,30 +36,37 @@ pub(crate) fn plan<R: RangeTable, S: HostStore>(
         reclaim: args.reclaim,
     };
     if let Err(stat) = check_file(world, kind, args.fh.bytes) {
-        return told(alloc, args, stat, Change::Nothing);
+        return told(alloc, version, args, stat, Change::Nothing);
     }
     let share = share_of(alloc, args)?;
     match world.shares().check(&share) {
-        Ok(()) => told(alloc, args, Stat::Granted, Change::Share(share)),
-        Err(ShareError::ShareDenied) => told(alloc, args, Stat::Denied, Change::Nothing),
-        Err(ShareError::NoShares) => told(alloc, args, Stat::DeniedNolocks, Change::Nothing),
+        Ok(()) => told(alloc, version, args, Stat::Granted, Change::Share(share)),
+        Err(ShareError::ShareDenied) => told(alloc, version, args, Stat::Denied, Change::Nothing),
+        Err(ShareError::NoShares) => told(
+            alloc,
+            version,
+            args,
+            Stat::DeniedNolocks,
+            Change::Nothing,
+        ),
     }
 }
 
-/// A status is told, with what changes.
+/// A status is told as the version shows it, with what changes.
 pub(crate) fn told(
     alloc: Global,
+    version: Version,
     args: &ShareArgs<'_>,
     stat: Stat,
     change: Change,
 ) -> Result<Plan, Starved>
-    ensures plan { IfOk result (λ made. (w : SaidWorld) → FitsChange change w → IsPlan (decided (share_told (view_of_shareargs args.now) (record { says = view_of_stat stat; world = changed change w }))) w made) }
+    ensures plan { IfOk result (λ made. (w : SaidWorld) → FitsChange change w → IsPlan (decided (share_told (view_of_version version) (view_of_shareargs args.now) (record { says = view_of_stat stat; world = changed change w }))) w made) }
     ensures asks { IfOk result (AsksOnlyIf false) }
 {
     let cookie = cookie_of(alloc, &args.cookie)?;
     let res = ShareRes {
         cookie,
-        stat,
+        stat: stat.shown_in(version),
         sequence: 0,
     };
     Ok(Plan::Decided(Answer {

@@ -13,7 +13,8 @@ ghost use Rattle.call_plans.specs.Planned.{answer_of, AsksOnlyIf, IsPlan};
 ghost use Rattle.lock_service.specs.MayAsk.{may_ask};
 
 use crate::lock::LockCall;
-use crate::{cancel, free_all, granted, lock, messages, null, share, test, unlock, unshare};
+use crate::telling::Form;
+use crate::{cancel, free_all, granted, lock, null, share, test, unlock, unshare};
 use call_outcome::Outcome;
 use call_plans::{Plan, StoreAnswer, agree, commit};
 use hosts_db::HostStore;
@@ -52,21 +53,17 @@ fn plan_nlm<R: RangeTable, S: HostStore>(
     match call {
         NlmCall::Null => null::plan(alloc),
         NlmCall::Test(args) => test::plan(world, version, args),
-        NlmCall::Lock(args) => {
-            lock::verdict(world, version, args, LockCall::Lock)?.by_reply(alloc, &args.cookie)
-        }
-        NlmCall::Cancel(args) => cancel::verdict(world, args)?.by_reply(alloc, &args.cookie),
-        NlmCall::Unlock(args) => unlock::verdict(world, args)?.by_reply(alloc, &args.cookie),
-        NlmCall::TestMsg(args) => messages::test_msg(world, version, args),
-        NlmCall::LockMsg(args) => messages::lock_msg(world, version, args),
-        NlmCall::CancelMsg(args) => messages::cancel_msg(world, version, args),
-        NlmCall::UnlockMsg(args) => messages::unlock_msg(world, version, args),
+        NlmCall::Lock(args) => lock::plan(world, version, args, LockCall::Lock),
+        NlmCall::Cancel(args) => cancel::plan(world, version, args, Form::Reply),
+        NlmCall::Unlock(args) => unlock::plan(world, version, args, Form::Reply),
+        NlmCall::TestMsg(args) => test::plan_message(world, version, args),
+        NlmCall::LockMsg(args) => lock::plan(world, version, args, LockCall::LockMsg),
+        NlmCall::CancelMsg(args) => cancel::plan(world, version, args, Form::Message),
+        NlmCall::UnlockMsg(args) => unlock::plan(world, version, args, Form::Message),
         NlmCall::GrantedRes(args) => granted::plan(alloc, args),
-        NlmCall::NmLock(args) => {
-            lock::verdict(world, version, args, LockCall::NmLock)?.by_reply(alloc, &args.cookie)
-        }
-        NlmCall::Share(args) => share::plan(world, args),
-        NlmCall::Unshare(args) => unshare::plan(world, args),
+        NlmCall::NmLock(args) => lock::plan(world, version, args, LockCall::NmLock),
+        NlmCall::Share(args) => share::plan(world, version, args),
+        NlmCall::Unshare(args) => unshare::plan(world, version, args),
         NlmCall::FreeAll(args) => free_all::plan(alloc, args),
     }
 }

@@ -2,11 +2,12 @@
 ghost use Rattle.std.specs.Prelude.{◌≡◌, ◌<◌, ◌^◌, false, None, IfOk};
 ghost use Rattle.definitions.specs.Nlm as nlm;
 ghost use Rattle.definitions.specs.World.{the_limits};
-ghost use Rattle.definitions.specs.Ranges.{holder_of as holder_said, shown_oh as oh_said, shown_svid as svid_said, shown_len as len_said};
-ghost use Rattle.definitions.specs.Answer.{nlm_answer, test_answer, test_res as test_res_said};
+ghost use Rattle.definitions.specs.Ranges.{shown_oh as oh_said, shown_svid as svid_said};
+ghost use Rattle.definitions.specs.Shown.{free_test, nobody as nobody_said, shown_holder as holder_said};
+ghost use Rattle.definitions.specs.Answer.{nlm_answer, test_answer};
 ghost use Rattle.nlm4_types.specs.Version.{view_of_version};
 ghost use Rattle.nlm4_types.specs.Arguments.{view_of_testargs};
-ghost use Rattle.nlm4_types.specs.Stat.{view_of_stat, is_denied};
+ghost use Rattle.nlm4_types.specs.Stat.{view_of_stat};
 ghost use Rattle.owner_ids.specs.Said.{said};
 ghost use Rattle.letters.specs.Meanings.{test_res_of, holder_of as holder_told};
 ghost use Rattle.held_locks.specs.Asked.{shown};
@@ -15,19 +16,17 @@ ghost use Rattle.call_plans.specs.Planned.{IsPlan, AsksOnlyIf};
 
 use crate::checks::place_of;
 use crate::copies::{cookie_of, mode_of, owner_of};
+use crate::telling::no_place;
 use call_outcome::{CallResult, Outcome};
 use call_plans::{Answer, Change, Plan, Told};
 use grace::CallKind;
 use hosts_db::HostStore;
-use letters::{Holder, ShortBytes, TestRes};
+use letters::{Destination, Holder, Letter, Message, ShortBytes, TestRes};
 use lock_world::World;
 use nlm4_types::{Stat, TestArgs, Version, WIDE};
 use owner_ids::{Owner, Starved};
 use range_table::{Mode, RangeTable};
 use std::alloc::Global;
-
-/// A file's last byte.
-const TOP: u64 = 0x7fff_ffff_ffff_ffff;
 
 pub(crate) fn plan<R: RangeTable, S: HostStore>(
     world: &World<R, S>,
@@ -37,7 +36,7 @@ pub(crate) fn plan<R: RangeTable, S: HostStore>(
     ensures plan { IfOk result (λ made. IsPlan (nlm_answer the_limits world.now.world (view_of_version version) (nlm.Test (view_of_testargs args.now))) world.now.world made) }
     ensures asks { IfOk result (AsksOnlyIf false) }
 {
-    let res = test_res(world, args)?;
+    let res = test_res(world, version, args)?;
     Ok(Plan::Decided(Answer {
         told: Told::reply(
             world.alloc(),
@@ -47,18 +46,46 @@ pub(crate) fn plan<R: RangeTable, S: HostStore>(
     }))
 }
 
-pub(crate) fn test_res<R: RangeTable, S: HostStore>(
+/// TEST_MSG: told by TEST_RES to the caller's host.
+pub(crate) fn plan_message<R: RangeTable, S: HostStore>(
     world: &World<R, S>,
+    version: Version,
+    args: &TestArgs<'_, WIDE>,
+) -> Result<Plan, Starved>
+    ensures plan { IfOk result (λ made. IsPlan (nlm_answer the_limits world.now.world (view_of_version version) (nlm.TestMsg (view_of_testargs args.now))) world.now.world made) }
+    ensures asks { IfOk result (AsksOnlyIf false) }
+{
+    let alloc = world.alloc();
+    if world.free_slots() == 0 {
+        return no_place(alloc);
+    }
+    let res = test_res(world, version, args)?;
+    let host = ShortBytes::copy_of(alloc, args.alock.caller_name.bytes)?;
+    let letter = Letter::new(
+        Destination::Host(host),
+        Message::TestResult { version, res },
+    );
+    Ok(Plan::Decided(Answer {
+        told: Told::message(alloc, letter)?,
+        change: Change::Nothing,
+    }))
+}
+
+// What it comes to, as the version shows it.
+fn test_res<R: RangeTable, S: HostStore>(
+    world: &World<R, S>,
+    version: Version,
     args: &TestArgs<'_, WIDE>,
 ) -> Result<TestRes, Starved>
-    ensures { IfOk result (λ res. test_res_of res ≡ test_answer world.now.world (view_of_testargs args.now)) }
+    ensures { IfOk result (λ res. test_res_of res ≡ test_answer world.now.world (view_of_version version) (view_of_testargs args.now)) }
 {
-    let cookie = cookie_of(world.alloc(), &args.cookie)?;
+    let alloc = world.alloc();
+    let cookie = cookie_of(alloc, &args.cookie)?;
     let place = match place_of(world, CallKind::Testing, &args.alock) {
         Ok(place) => place,
-        Err(stat) => return Ok(unheld(cookie, stat)),
+        Err(stat) => return unheld(alloc, version, cookie, stat),
     };
-    let owner = owner_of(world.alloc(), &args.alock)?;
+    let owner = owner_of(alloc, &args.alock)?;
     let wanted = held_locks::Request {
         file: place.file,
         owner: &owner,
@@ -67,37 +94,63 @@ pub(crate) fn test_res<R: RangeTable, S: HostStore>(
         mode: mode_of(args.exclusive),
     };
     match world.first_conflict(&wanted) {
-        None => Ok(unheld(cookie, Stat::Granted)),
+        None => unheld(alloc, version, cookie, Stat::Granted),
         Some(found) => Ok(TestRes {
             cookie,
             stat: Stat::Denied,
-            holder: Some(holder_of(world.alloc(), &found)?),
+            holder: Some(holder_of(alloc, version, &found)?),
         }),
     }
 }
 
-fn unheld(cookie: ShortBytes, stat: Stat) -> TestRes
-    requires { is_denied (view_of_stat stat) ≡ false }
-    ensures { test_res_of result ≡ test_res_said cookie (view_of_stat stat) None }
+// A status without a run in the way. Where the version shows it as a denial, nobody is its holder.
+fn unheld(
+    alloc: Global,
+    version: Version,
+    cookie: ShortBytes,
+    stat: Stat,
+) -> Result<TestRes, Starved>
+    ensures { IfOk result (λ res. test_res_of res ≡ free_test (view_of_version version) cookie (view_of_stat stat)) }
 {
-    TestRes {
+    let stat = stat.shown_in(version);
+    let holder = match stat {
+        Stat::Denied => Some(nobody(alloc)?),
+        _ => None,
+    };
+    Ok(TestRes {
         cookie,
         stat,
-        holder: None,
-    }
+        holder,
+    })
 }
 
-// Who is in the way, as a reply shows it.
-fn holder_of(alloc: Global, found: &held_locks::Holder<'_>) -> Result<Holder, Starved>
+fn nobody(alloc: Global) -> Result<Holder, Starved>
+    ensures { IfOk result (λ holder. holder_told holder ≡ nobody_said) }
+{
+    Ok(Holder {
+        exclusive: false,
+        svid: 0,
+        oh: ShortBytes::copy_of(alloc, &[])?,
+        l_offset: 0,
+        l_len: 0,
+    })
+}
+
+// Who is in the way, as the version shows it.
+fn holder_of(
+    alloc: Global,
+    version: Version,
+    found: &held_locks::Holder<'_>,
+) -> Result<Holder, Starved>
     requires { IsShown (said found.now.owner.now) × (found.now.last < 2 ^ 63) }
-    ensures { IfOk result (λ holder. holder_told holder ≡ holder_said (shown found.now)) }
+    ensures { IfOk result (λ holder. holder_told holder ≡ holder_said (view_of_version version) (shown found.now)) }
 {
     Ok(Holder {
         exclusive: found.mode.is_same(Mode::Exclusive),
         svid: shown_svid(found.owner),
         oh: shown_oh(alloc, found.owner)?,
-        l_offset: found.first,
-        l_len: shown_len(found.first, found.last),
+        l_offset: version.offset_shown(found.first),
+        l_len: version.len_shown(found.first, found.last),
     })
 }
 
@@ -122,15 +175,4 @@ fn shown_oh(alloc: Global, owner: &Owner) -> Result<ShortBytes, Starved>
         Owner::Process(_) => ShortBytes::copy_of(alloc, &[])?,
         Owner::Description(number) => ShortBytes::copy_of(alloc, &number.to_be_bytes())?,
     })
-}
-
-pub(crate) fn shown_len(first: u64, last: u64) -> u64
-    requires { last < 2 ^ 63 }
-    ensures { result ≡ len_said first last }
-{
-    if last == TOP {
-        0
-    } else {
-        (last + 1).saturating_sub(first)
-    }
 }

@@ -4,21 +4,43 @@ ghost use Rattle.definitions.specs.LockRules.{unlock_rules as rules_said};
 ghost use Rattle.definitions.specs.World.{the_limits};
 ghost use Rattle.definitions.specs.Answer.{unlock_answer};
 ghost use Rattle.nlm4_types.specs.Arguments.{view_of_unlockargs};
-ghost use Rattle.call_plans.specs.Planned.{setting_of};
+ghost use Rattle.call_plans.specs.Planned.{setting_of, IsPlan, AsksOnlyIf};
+ghost use Rattle.lock_service.specs.Procedures.{unlock_telling};
+ghost use Rattle.lock_service.specs.Tellings.{telling_of};
 ghost use Rattle.lock_service.specs.Verdicts.{IsVerdict, OnlyAsksIf};
 
 use crate::checks::place_of;
 use crate::copies::owner_of;
+use crate::telling::{Form, ResultCall, Telling};
 use crate::verdict::Verdict;
-use call_plans::{Change, Range};
+use call_plans::{Change, Plan, Range};
 use grace::CallKind;
 use hosts_db::HostStore;
 use lock_world::World;
-use nlm4_types::{Stat, UnlockArgs, WIDE};
+use nlm4_types::{Stat, UnlockArgs, Version, WIDE};
 use owner_ids::Starved;
 use range_table::RangeTable;
 
-pub(crate) fn verdict<R: RangeTable, S: HostStore>(
+pub(crate) fn plan<R: RangeTable, S: HostStore>(
+    world: &World<R, S>,
+    version: Version,
+    args: &UnlockArgs<'_, WIDE>,
+    form: Form,
+) -> Result<Plan, Starved>
+    ensures plan { IfOk result (λ made. IsPlan (telling_of form (unlock_telling form version args.now) world.now.world (unlock_answer the_limits world.now.world (view_of_unlockargs args.now))) world.now.world made) }
+    ensures asks { IfOk result (AsksOnlyIf false) }
+{
+    let telling = Telling {
+        form,
+        result: ResultCall::Unlock,
+        version,
+        cookie: args.cookie,
+        host: args.alock.caller_name,
+    };
+    verdict(world, args)?.told(world.alloc(), world.free_slots(), &telling)
+}
+
+fn verdict<R: RangeTable, S: HostStore>(
     world: &World<R, S>,
     args: &UnlockArgs<'_, WIDE>,
 ) -> Result<Verdict, Starved>
@@ -39,7 +61,8 @@ pub(crate) fn verdict<R: RangeTable, S: HostStore>(
     Ok(unlock_rules(world, range))
 }
 
-/// UNLOCK, and a line's `u`: refused where the table is short of runs and the unlock would raise their number.
+/// UNLOCK, and a line's `u`: refused where the table is short of runs and the unlock would raise their number, or where it
+/// goes past its owner's host's quota.
 pub(crate) fn unlock_rules<R: RangeTable, S: HostStore>(
     world: &World<R, S>,
     range: Range,
@@ -48,7 +71,7 @@ pub(crate) fn unlock_rules<R: RangeTable, S: HostStore>(
     ensures verdict { (reserved : ℕ) → IsVerdict (rules_said the_limits world.now.world (setting_of range)) reserved world.now.world result }
     ensures asks { OnlyAsksIf false result }
 {
-    if world.refuses(&range.change()) {
+    if world.is_refused(&range.change()) {
         return Verdict::says(Stat::DeniedNolocks);
     }
     Verdict::Decided {

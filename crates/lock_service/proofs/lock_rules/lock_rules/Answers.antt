@@ -1,5 +1,6 @@
 use Rattle.std.proofs.Common.{sym, ap, ◌∙◌, subst}
 use Rattle.definitions.specs.Conflict.{conflicts}
+use Rattle.definitions.specs.Quotas.{quotas_of, lacks_room}
 use Rattle.definitions.specs.Settings.{Request}
 use Rattle.definitions.specs.World.{the_limits, slots_free}
 use Rattle.lock_service.specs.Asks.{ask_of}
@@ -7,10 +8,10 @@ use Rattle.lock_service.specs.Verdicts.{IsVerdict}
 use Rattle.lock_service.proofs.Rules.{no_room}
 use Rattle.lock_service.proofs.lock_rules.lock_rules.Goals as goal
 
-pub returns-then-is_short-clause-verdict : goal.returns-then-is_short-clause-verdict
-returns-then-is_short-clause-verdict g c =
+pub returns-then-lacks_room-clause-verdict : goal.returns-then-lacks_room-clause-verdict
+returns-then-lacks_room-clause-verdict g c =
     let w = c.args.world.now.world in
     let a = ask_of c.args.ask (slots_free the_limits w) in
     let free = ap (λ (q : Request). conflicts w.settings q) (sym c.request.ensures) ∙ sym c.conflicts.ensures ∙ c.if-conflicts.false in
-    let short = sym c.is_short.ensures ∙ c.if-is_short.true in
-    subst (λ ruling. IsVerdict ruling c.args.ask.reserved w c.says.result) (sym (no_room w a free short)) (c.says.ensures.verdict c.args.ask.reserved w)
+    let full = ap (λ (q : Request). lacks_room 65536 (quotas_of w.hosts) w.settings q) (sym c.request-2.ensures) ∙ sym c.lacks_room.ensures ∙ c.if-lacks_room.true in
+    subst (λ ruling. IsVerdict ruling c.args.ask.reserved w c.says.result) (sym (no_room w a free full)) (c.says.ensures.verdict c.args.ask.reserved w)

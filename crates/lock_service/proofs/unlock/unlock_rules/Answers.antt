@@ -2,16 +2,16 @@ use Rattle.std.proofs.Common.{sym, ap, ◌∙◌, subst, true, cond, ◌≡◌}
 use Rattle.definitions.specs.Nlm.{DENIED_NOLOCKS, GRANTED}
 use Rattle.definitions.specs.Rulings.{decided, stays}
 use Rattle.definitions.specs.Settings.{Setting}
-use Rattle.definitions.specs.Starts.{refuses}
+use Rattle.definitions.specs.Quotas.{quotas_of, is_refused}
 use Rattle.definitions.specs.World.{with_setting}
 use Rattle.call_plans.specs.Planned.{setting_of}
 use Rattle.lock_service.specs.Verdicts.{IsVerdict}
 use Rattle.lock_service.proofs.unlock.unlock_rules.Goals as goal
 
-pub returns-then-refuses-clause-verdict : goal.returns-then-refuses-clause-verdict
-returns-then-refuses-clause-verdict g c =
+pub returns-then-is_refused-clause-verdict : goal.returns-then-is_refused-clause-verdict
+returns-then-is_refused-clause-verdict g c =
     let w = c.args.world.now.world in
     let s = setting_of c.args.range in
-    let taken : refuses 65536 w.settings s ≡ true = ap (λ (x : Setting). refuses 65536 w.settings x) (sym c.change.ensures) ∙ sym c.refuses.ensures ∙ c.if-refuses.true in
+    let taken : is_refused 65536 (quotas_of w.hosts) w.settings s ≡ true = ap (λ (x : Setting). is_refused 65536 (quotas_of w.hosts) w.settings x) (sym c.change.ensures) ∙ sym c.is_refused.ensures ∙ c.if-is_refused.true in
     let is = ap (λ b. cond b (stays w DENIED_NOLOCKS) (decided (record { says = GRANTED; world = with_setting w s }))) taken in
     λ reserved. subst (λ ruling. IsVerdict ruling reserved w c.says.result) (sym is) (c.says.ensures.verdict reserved w)
