@@ -1,5 +1,7 @@
 //! Calls and replies in their words (RFC 4506, RFC 5531; RFC 1813, appendix II), written by hand and not by the daemon's own
 //! codec.
+use crate::client_calls::ClientCall;
+use crate::narrow::Narrow;
 use crate::status::Status;
 use std::alloc::{AllocError, Global};
 
@@ -33,7 +35,7 @@ impl Who {
         }
     }
 
-    fn oh(self) -> u32 {
+    pub(crate) fn oh(self) -> u32 {
         match self {
             Who::A => 0x4100_0000,
             Who::B => 0x4200_0000,
@@ -42,7 +44,7 @@ impl Who {
         }
     }
 
-    fn svid(self) -> u32 {
+    pub(crate) fn svid(self) -> u32 {
         match self {
             Who::A => 7,
             Who::B => 8,
@@ -82,6 +84,12 @@ pub(crate) enum Asks {
     FreesAll(Who),
     /// Of the status monitor.
     OfStatus(Status),
+    /// Of the lock manager in this version, 1 or 3.
+    InVersion(u32, Narrow),
+    /// Of the status monitor, by that client: this state.
+    NotifiesOfClient(u32),
+    /// Of a client that was seen on the wire.
+    OfClient(ClientCall),
 }
 
 /// What is replied to a call of this xid.
@@ -101,6 +109,16 @@ pub(crate) enum Told {
     Monitored(u32, u32),
     /// A SUCCESS with the own state.
     State(u32),
+    /// As a version with 4 bytes shows `Held`.
+    HeldNarrow(Who, u32, u32),
+    /// DENIED, with nobody's lock, as such a version shows it.
+    HeldByNobody,
+    /// No SUCCESS: another accept_stat.
+    Refused(u32),
+    /// A SUCCESS with this cookie and this status.
+    ToClient(u32, u32),
+    /// DENIED with this cookie: the process 77 of the server's own host holds byte 100.
+    HeldOnServer(u32),
 }
 
 pub(crate) fn put(bytes: &mut Vec<u8>, words: &[u32]) -> Result<(), AllocError> {
@@ -110,7 +128,7 @@ pub(crate) fn put(bytes: &mut Vec<u8>, words: &[u32]) -> Result<(), AllocError> 
     Ok(())
 }
 
-fn put_long(bytes: &mut Vec<u8>, number: u64) -> Result<(), AllocError> {
+pub(crate) fn put_long(bytes: &mut Vec<u8>, number: u64) -> Result<(), AllocError> {
     bytes.extend_from_slice(number.to_be_bytes().as_slice())
 }
 
@@ -199,6 +217,8 @@ impl Asks {
     fn address(self) -> [u32; 3] {
         match self {
             Asks::OfStatus(asks) => [100_024, 1, asks.procedure()],
+            Asks::NotifiesOfClient(_) => [100_024, 1, 6],
+            Asks::InVersion(version, asks) => [100_021, version, asks.procedure()],
             _ => [100_021, 4, self.procedure()],
         }
     }
@@ -222,6 +242,17 @@ impl Asks {
             Asks::NmLocks(..) | Asks::NmBlocks(..) => 22,
             Asks::FreesAll(_) => 23,
             Asks::OfStatus(asks) => asks.procedure(),
+            Asks::InVersion(_, asks) => asks.procedure(),
+            Asks::NotifiesOfClient(_) => 6,
+            Asks::OfClient(asks) => asks.procedure,
+        }
+    }
+
+    // The credential and the verifier.
+    fn put_credential(self, bytes: &mut Vec<u8>) -> Result<(), AllocError> {
+        match self {
+            Asks::OfClient(asks) => asks.put_credential(bytes),
+            _ => put(bytes, &[0, 0, 0, 0]),
         }
     }
 
@@ -256,6 +287,9 @@ impl Asks {
             Asks::Unshares(who) => put_share(bytes, xid, who, (0, 1)),
             Asks::FreesAll(who) => put(bytes, &[1, who.name(), 5]),
             Asks::OfStatus(asks) => asks.put_arguments(bytes),
+            Asks::InVersion(_, asks) => asks.put_arguments(bytes, xid),
+            Asks::NotifiesOfClient(state) => put(bytes, &[5, 0x6775_6573, 0x7400_0000, state]),
+            Asks::OfClient(asks) => asks.put_arguments(bytes),
         }
     }
 
@@ -264,19 +298,37 @@ impl Asks {
         let mut bytes = Vec::new(alloc);
         put(&mut bytes, &[xid, 0, 2])?;
         put(&mut bytes, &self.address())?;
-        put(&mut bytes, &[0, 0, 0, 0])?;
+        self.put_credential(&mut bytes)?;
         self.put_arguments(&mut bytes, xid)?;
         Ok(bytes)
     }
 }
 
 impl Told {
+    fn accept_stat(self) -> u32 {
+        match self {
+            Told::Refused(accept_stat) => accept_stat,
+            _ => 0,
+        }
+    }
+
     /// The record of the reply to the call of this xid.
     pub(crate) fn record(self, alloc: Global, xid: u32) -> Result<Vec<u8>, AllocError> {
         let mut bytes = Vec::new(alloc);
-        put(&mut bytes, &[xid, 1, 0, 0, 0, 0])?;
+        put(&mut bytes, &[xid, 1, 0, 0, 0, self.accept_stat()])?;
         match self {
-            Told::Done => {}
+            Told::Done | Told::Refused(_) => {}
+            Told::HeldNarrow(who, offset, len) => {
+                put(
+                    &mut bytes,
+                    &[4, xid, 1, 1, who.svid(), 1, who.oh(), offset, len],
+                )?
+            }
+            Told::HeldByNobody => put(&mut bytes, &[4, xid, 1, 0, 0, 0, 0, 0])?,
+            Told::ToClient(cookie, stat) => put(&mut bytes, &[4, cookie, stat])?,
+            Told::HeldOnServer(cookie) => {
+                put(&mut bytes, &[4, cookie, 1, 1, 77, 8, 0, 77, 0, 100, 0, 1])?
+            }
             Told::Stat(stat) => put(&mut bytes, &[4, xid, stat])?,
             Told::ShareStat(stat) => put(&mut bytes, &[4, xid, stat, 0])?,
             Told::Monitored(res, state) => put(&mut bytes, &[res, state])?,

@@ -6,6 +6,10 @@
 #[cfg(test)]
 mod calls;
 #[cfg(test)]
+mod client;
+#[cfg(test)]
+mod client_calls;
+#[cfg(test)]
 mod limits;
 #[cfg(test)]
 mod lines;
@@ -14,7 +18,11 @@ mod messages;
 #[cfg(test)]
 mod monitor;
 #[cfg(test)]
+mod narrow;
+#[cfg(test)]
 mod notices;
+#[cfg(test)]
+mod quotas;
 #[cfg(test)]
 mod repeats;
 #[cfg(test)]
@@ -25,5 +33,7 @@ mod server;
 mod status;
 #[cfg(test)]
 mod streams;
+#[cfg(test)]
+mod versions;
 #[cfg(test)]
 mod waits;

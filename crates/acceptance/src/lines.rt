@@ -94,6 +94,26 @@ fn local_lines_and_calls(rt: HostRuntime) -> Result<(), Fail> {
     Ok(())
 }
 
+// An answer that lists has a line for each lock or host, and `end` behind them.
+#[test]
+fn hosts_line(rt: HostRuntime) -> Result<(), Fail> {
+    let calls = [(150, Asks::Locks(Who::A, 0, 10), Told::Stat(0))];
+    let lines = [
+        ("hosts", "61 1 3 65536\nend"),
+        ("table", "01020304 w 0 9 h61/7/41\nend"),
+        ("hosts ", "bad"),
+        ("stop", "ok"),
+    ];
+    let parts = [
+        BEGINS,
+        Part::Lines(&[("table", "end"), ("hosts", "end")]),
+        Part::Calls(&calls, 64),
+        Part::Lines(&lines),
+    ];
+    assert!(rt; plays(rt.alloc(), Vec::new(rt.alloc()), &parts)?);
+    Ok(())
+}
+
 // In grace nothing is locked or asked about, but `close` acts.
 #[test]
 fn lines_in_grace(rt: HostRuntime) -> Result<(), Fail> {
@@ -123,7 +143,7 @@ fn lines_in_grace(rt: HostRuntime) -> Result<(), Fail> {
     Ok(())
 }
 
-// Whatever is none of the protocol, and what isn't served.
+// Whatever is none of the protocol.
 #[test]
 fn bad_lines(rt: HostRuntime) -> Result<(), Fail> {
     let lines = [
@@ -132,9 +152,6 @@ fn bad_lines(rt: HostRuntime) -> Result<(), Fail> {
         ("getlk p1 aa r 0 1 ", "bad"),
         ("setlk h61/7/41 aa w 0 1", "bad"),
         ("setlkw p1 aa w 0 1 ", "bad"),
-        ("table", "bad"),
-        ("hosts", "bad"),
-        ("stop", "bad"),
         ("getlk d1 aa w 0 0", "free"),
     ];
     assert!(rt;

@@ -53,6 +53,8 @@ pub(crate) enum Part<'a> {
     Acknowledged(u32),
     /// Nothing answers the call of this number under the own state 1.
     Silent(u32),
+    /// The stored row of this owner's host has this quota.
+    Quota(Who, u32),
     /// The stored hosts are those of these owners, in order of name, each with this epoch and this state, and the full quota.
     Rows(&'a [(Who, u32, i32)]),
 }
@@ -309,6 +311,13 @@ fn are_rows<S: HostStore>(store: &S, rows: &[(Who, u32, i32)]) -> bool {
     true
 }
 
+fn is_quota<S: HostStore>(store: &S, who: Who, runs: u32) -> bool {
+    match store.host(who.host().as_bytes()) {
+        Some(row) => row.quota() == runs,
+        None => false,
+    }
+}
+
 fn is_row_of(found: &HostRow, (who, epoch, seen): (Who, u32, i32)) -> bool {
     found.name() == who.host().as_bytes()
         && found.epoch() == epoch
@@ -374,6 +383,7 @@ fn goes<T: RangeTable, S: HostStore>(
         Part::Answered(xid, stat) => answers(daemon, answer_to_grant(alloc, xid, stat)?),
         Part::Acknowledged(xid) => answers(daemon, empty_answer(alloc, xid)?),
         Part::Silent(number) => Ok(is_quiet(daemon, Event::Silent((1 << 32) + number as u64))),
+        Part::Quota(who, runs) => Ok(is_quota(daemon.store(), who, runs)),
         Part::Rows(rows) => Ok(are_rows(daemon.store(), rows)),
     }
 }

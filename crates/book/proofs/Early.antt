@@ -7,7 +7,6 @@ use Rattle.definitions.specs.Step.{Peer, State, Take, Answer, Local, Silent, Gra
 use Rattle.record_reading.specs.Readings.{IsReading}
 use Rattle.record_reading.specs.Answers.{IsAnswerReading}
 use Rattle.local_ops.specs.Grammar.{Reads as LineReads}
-use Rattle.book.specs.Readings.{served_line}
 use Rattle.book.specs.Given.{starved_reading, comes_to}
 use Rattle.book.specs.Notes.{Takes, HearsAnswer, AsksLine, FallsSilent, GraceEnds, BeginsAnew, IsStep, Steps}
 use Rattle.book.proofs.Calls.{starved_early}
@@ -22,7 +21,7 @@ pub answer : (s : State) (bytes : Bytes) (reading : AnswerReading) → IsAnswerR
 answer s bytes reading read = record { said = Answer reading; reads = (reading, read, refl); step = record { gives = refl; leaves = refl; fits = refl } }
 
 pub line : (s : State) (l : ℕ) (bytes : Bytes) (whole : Line) → LineReads bytes whole → Steps s (AsksLine l bytes) (comes_to Starved NotAsked (Says LineStarved)) s
-line s l bytes whole read = record { said = Local l (served_line whole); reads = (served_line whole, record { whole = whole; read = read; is = refl }, refl); step = record { gives = refl; leaves = refl; fits = refl } }
+line s l bytes whole read = record { said = Local l whole; reads = (whole, read, refl); step = record { gives = refl; leaves = refl; fits = refl } }
 
 pub silent : (s : State) (number : ℕ) → Steps s (FallsSilent number) (comes_to Starved NotAsked IsStarved) s
 silent s number = record { said = Silent number; reads = refl; step = record { gives = refl; leaves = refl; fits = refl } }

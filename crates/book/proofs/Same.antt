@@ -1,6 +1,5 @@
 -- A step is fixed by its event, what became of it and the store's answer.
 use Rattle.std.proofs.Common.{◌≡◌, sym, ap, ◌∙◌}
-use Rattle.definitions.specs.Bytes.{Bytes}
 use Rattle.definitions.specs.Replies.{Reading, AnswerReading, Line}
 use Rattle.definitions.specs.World.{the_limits}
 use Rattle.definitions.specs.Step.{Event, Take, Answer, Local}
@@ -8,18 +7,14 @@ use Rattle.definitions.specs.Replay.{Done, after}
 use Rattle.record_reading.specs.Readings.{OneReading}
 use Rattle.record_reading.specs.Answers.{OneAnswerReading}
 use Rattle.local_ops.specs.Grammar.{OneLine}
-use Rattle.book.specs.Readings.{IsServedLine, served_line}
 use Rattle.book.specs.Notes.{Happening, Takes, SendsNext, HearsAnswer, AsksLine, FallsSilent, GraceEnds, BeginsAnew, Reads, OneStep}
 
 module _ (one : OneReading) (one_answer : OneAnswerReading) (one_line : OneLine) where
-  same_line : (bytes : Bytes) (a b : Line) → IsServedLine bytes a → IsServedLine bytes b → a ≡ b
-  same_line bytes a b x y = x.is ∙ ap served_line (one_line bytes x.whole y.whole x.read y.read) ∙ sym y.is
-
   same_event : (event : Happening) (a b : Event) → Reads event a → Reads event b → a ≡ b
   same_event (Takes peer asked) a b x y = x.2 ∙ ap (λ (r : Reading). Take peer asked r) (one asked x.0 y.0 x.1 y.1) ∙ sym y.2
   same_event SendsNext a b x y = x ∙ sym y
   same_event (HearsAnswer bytes) a b x y = x.2 ∙ ap (λ (r : AnswerReading). Answer r) (one_answer bytes x.0 y.0 x.1 y.1) ∙ sym y.2
-  same_event (AsksLine l bytes) a b x y = x.2 ∙ ap (λ (line : Line). Local l line) (same_line bytes x.0 y.0 x.1 y.1) ∙ sym y.2
+  same_event (AsksLine l bytes) a b x y = x.2 ∙ ap (λ (line : Line). Local l line) (one_line bytes x.0 y.0 x.1 y.1) ∙ sym y.2
   same_event (FallsSilent number) a b x y = x ∙ sym y
   same_event GraceEnds a b x y = x ∙ sym y
   same_event BeginsAnew a b x y = x ∙ sym y

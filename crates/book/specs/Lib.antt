@@ -1,4 +1,3 @@
-pub mod Readings
 pub mod Given
 pub mod Notes
 pub mod Shared

@@ -17,7 +17,7 @@ use Rattle.local_ops.specs.Answers.{reply_of}
 use Rattle.book.specs.Given.{Upshot, comes_to, doing_of, given_of}
 use Rattle.record_reading.specs.Answers.{IsAnswerReading}
 use Rattle.record_reading.specs.Readings.{IsReading}
-use Rattle.book.specs.Readings.{IsServedLine}
+use Rattle.local_ops.specs.Grammar.{Reads as LineReads}
 
 pub data Happening : Type 0 where
   Takes : Peer → Bytes → Happening
@@ -59,7 +59,7 @@ abbrev pub Reads : Happening → Event → Type 0
 Reads (Takes peer asked) e = (reading : Reading) × IsReading asked reading × (e ≡ Take peer asked reading)
 Reads SendsNext e = e ≡ Send
 Reads (HearsAnswer bytes) e = (reading : AnswerReading) × IsAnswerReading bytes reading × (e ≡ Answer reading)
-Reads (AsksLine l bytes) e = (line : Line) × IsServedLine bytes line × (e ≡ Local l line)
+Reads (AsksLine l bytes) e = (line : Line) × LineReads bytes line × (e ≡ Local l line)
 Reads (FallsSilent number) e = e ≡ Silent number
 Reads GraceEnds e = e ≡ GraceOver
 Reads BeginsAnew e = e ≡ Restart

@@ -1,8 +1,9 @@
 -- What a receipt tells of an entry.
-use Rattle.std.specs.Prelude.{ℕ, Bool, true, false, ◌&&◌, ◌==◌, cond, not, List, ◌-◌, length, slice_get, Option, option_map}
+use Rattle.std.specs.Prelude.{◌≡◌, Some, ℕ, Bool, true, false, ◌&&◌, ◌==◌, cond, not, List, ◌-◌, length, slice_get, Option, option_map}
 use Rattle.definitions.specs.Bytes.{Bytes, same_bytes, is_any}
-use Rattle.definitions.specs.Step.{Peer}
-use Rattle.book.specs.Given.{record_of}
+use Rattle.definitions.specs.Step.{Peer, Given}
+use Rattle.book.specs.Given.{Upshot, record_of}
+use Rattle.book.specs.Journal.{Book, next_of, Enters}
 use Rattle.book.specs.Notes.{Happening, Takes, SendsNext, HearsAnswer, AsksLine, FallsSilent, GraceEnds, BeginsAnew, Note}
 
 -- the entry's number, its event, and the record that its client got
@@ -19,6 +20,9 @@ newest notes = slice_get notes (length notes - 1)
 
 abbrev pub newest_event : List Note → Option Happening
 newest_event notes = option_map (λ (n : Note). n.event) (newest notes)
+
+abbrev pub newest_given : List Note → Option Given
+newest_given notes = option_map (λ (n : Note). n.upshot.given) (newest notes)
 
 abbrev pub newest_receipt : List Note → Option Receipt
 newest_receipt notes = option_map receipt_of (newest notes)
@@ -42,3 +46,8 @@ same_receipt a b = (a.number == b.number) && (same_event a.event b.event && same
 -- the receipt's number stands among the entries, with its call and its reply
 abbrev pub is_noted : Receipt → List Note → Bool
 is_noted r notes = is_any (λ (n : Note). same_receipt (receipt_of n) r) notes
+
+-- what entered last is the newest entry
+abbrev pub NewestLaw : Type 0
+NewestLaw =
+    (old new : Book) (event : Happening) (upshot : Upshot) → Enters old event upshot new → newest new.journal.notes ≡ Some (record { number = next_of old.journal; event = event; upshot = upshot })

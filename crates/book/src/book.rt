@@ -4,16 +4,19 @@ ghost use Rattle.kept_replies.specs.Pairs.{asker};
 ghost use Rattle.definitions.specs.Outgoing.{next_due};
 ghost use Rattle.definitions.specs.Step.{opening_state};
 ghost use Rattle.book.specs.Notes.{happening_of, Takes};
-ghost use Rattle.book.specs.Receipts.{newest_event, newest_receipt, is_noted};
+ghost use Rattle.book.specs.Given.{given_of};
+ghost use Rattle.book.specs.Receipts.{newest_event, newest_given, newest_receipt, is_noted};
 ghost use Rattle.book.specs.Journal.{begun, room_of, rotated, Enters, IsLegal, IsNext};
 
 use crate::entry::{Act, Entry, SEGMENT};
 use crate::event::BookEvent;
 use crate::receipt::{Receipt, Taken};
+use crate::reply::Reply;
 use crate::segment::{Closed, Segment};
 use crate::shared::Shared;
 use crate::upshot::{Doing, Upshot};
 use call_records::Dest;
+use held_locks::Locks;
 use hosts_db::HostStore;
 use letters::ShortBytes;
 use lock_service::StoreAnswer;
@@ -104,6 +107,13 @@ impl<R: RangeTable, S: HostStore> Book<R, S> {
         self.shared.world.store()
     }
 
+    /// The locks of all owners, to be read: they are those of the state.
+    pub fn locks(&self) -> &Locks<R>
+        ensures { result.now.settings ≡ self.now.journal.end.world.settings }
+    {
+        self.shared.world.locks()
+    }
+
     /// One event: one step of the shared state, and one entry of the journal, which notes what it came to. An answer, a silence
     /// and the end of grace take no memory.
     pub fn apply(&mut self, event: BookEvent) -> Upshot
@@ -159,13 +169,14 @@ impl<R: RangeTable, S: HostStore> Book<R, S> {
         }
     }
 
-    /// The receipt of this segment's newest entry, which took this call.
-    pub fn receipt(&self, taken: Taken) -> Receipt
-        requires { newest_event self.now.journal.notes ≡ Some (Takes (asker taken.peer) taken.record) }
+    /// The receipt of this segment's newest entry, which took this call and gave this reply.
+    pub fn receipt(&self, taken: Taken, reply: Reply) -> Receipt
+        requires call { newest_event self.now.journal.notes ≡ Some (Takes (asker taken.peer) taken.record) }
+        requires reply { newest_given self.now.journal.notes ≡ Some (given_of reply) }
         ensures { Some result ≡ newest_receipt self.now.journal.notes }
     {
         let newest = self.entries.len() - 1;
-        Receipt::of(&self.entries[newest], taken)
+        Receipt::of(self.entries[newest].number, taken, reply)
     }
 
     /// Whether the receipt's number stands in this segment, with its call and its reply.

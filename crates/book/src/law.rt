@@ -1,5 +1,6 @@
 //! What is true of every step.
 ghost use Rattle.book.specs.Notes.{OneStep};
+ghost use Rattle.book.specs.Receipts.{NewestLaw};
 
 use local_ops::one_line;
 use record_reading::{one_answer_reading, one_reading};
@@ -12,3 +13,8 @@ pub fn one_step()
     one_answer_reading();
     one_line();
 }
+
+/// What entered last is the newest entry.
+pub fn newest_entered()
+    ensures { NewestLaw }
+{}

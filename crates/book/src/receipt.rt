@@ -20,36 +20,32 @@ pub struct Taken {
     pub record: Bytes,
 }
 
-/// The number of a call's entry, the call, and its reply. `Book::receipt` alone makes one.
+/// The number of a call's entry, the call, and its reply, which the journal shares. `Book::receipt` alone makes one.
 #[derive(Drop)]
 pub struct Receipt {
     number: u64,
     taken: Taken,
-    reply: Frame,
+    reply: Reply,
 }
 
 impl Model for Receipt {
     ghost use Rattle.kept_replies.specs.Pairs.{asker};
+    ghost use Rattle.book.specs.Given.{given_of, record_of};
     ghost use Rattle.book.specs.Notes.{Takes};
     ghost use Rattle.book.specs.Receipts.{Receipt};
 
     ghost Value = { Receipt };
 
-    ghost view = { λ r. record { number = r.number; event = Takes (asker r.taken.peer) r.taken.record; reply = r.reply } };
+    ghost view = { λ r. record { number = r.number; event = Takes (asker r.taken.peer) r.taken.record; reply = record_of (given_of r.reply) } };
 }
 
 impl Receipt {
-    // Of an entry that took this call.
-    pub(crate) fn of(entry: &Entry, taken: Taken) -> Receipt
-        requires { (note_of entry.now).event ≡ Takes (asker taken.peer) taken.record }
-        ensures { result ≡ receipt_of (note_of entry.now) }
+    // Of the entry of this number, which took this call and gave this reply.
+    pub(crate) fn of(number: u64, taken: Taken, reply: Reply) -> Receipt
+        ensures { result ≡ record { number = number; event = Takes (asker taken.peer) taken.record; reply = record_of (given_of reply) } }
     {
-        let reply = match &entry.act {
-            Act::Event { reply, .. } => record_of(reply),
-            Act::Line { .. } | Act::Sent { .. } => Frame::new(),
-        };
         Receipt {
-            number: entry.number,
+            number,
             taken,
             reply,
         }
@@ -69,15 +65,15 @@ impl Receipt {
         &self.taken
     }
 
-    /// The record of the reply, which is empty where there is none.
-    pub fn reply(&self) -> &[u8]
-        ensures { result.now ≡ self.now.reply }
+    /// What the call got.
+    pub fn reply(&self) -> &Reply
+        ensures { record_of (given_of result.now) ≡ self.now.reply }
     {
-        self.reply.as_slice()
+        &self.reply
     }
 
-    // Whether it is this entry's.
-    pub(crate) fn is_of(&self, entry: &Entry) -> bool
+    /// Whether it is this entry's.
+    pub fn is_of(&self, entry: &Entry) -> bool
         ensures { result ≡ same_receipt (receipt_of (note_of entry.now)) self.now }
     {
         if entry.number != self.number {
@@ -92,7 +88,7 @@ impl Receipt {
         if *peer != self.taken.peer || *record != self.taken.record {
             return false;
         }
-        record_of(reply).as_slice() == self.reply.as_slice()
+        record_of(reply).as_slice() == record_of(&self.reply).as_slice()
     }
 }
 

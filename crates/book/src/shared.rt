@@ -85,9 +85,9 @@ impl<R: RangeTable, S: HostStore> Shared<R, S> {
         ensures noted { gave result.1 ≡ result.0.given }
         ensures counts { self.new.refusals ≡ counted result.0.store self.old.refusals }
     {
-        let (doing, answer) = match self.line(connection, &line) {
-            Ok(answer) => (Doing::Applied, answer),
-            Err(Starved) => (Doing::Starved, LocalAnswer::Starved),
+        let (doing, answer, store) = match self.line(connection, &line) {
+            Ok((answer, store)) => (Doing::Applied, answer, store),
+            Err(Starved) => (Doing::Starved, LocalAnswer::Starved, StoreAnswer::NotAsked),
         };
         let act = Act::Line {
             connection,
@@ -96,7 +96,7 @@ impl<R: RangeTable, S: HostStore> Shared<R, S> {
         };
         let upshot = Upshot {
             doing,
-            store: StoreAnswer::NotAsked,
+            store,
             reply: Reply::Says(answer),
         };
         (upshot, act)

@@ -4,11 +4,15 @@ ghost use Rattle.definitions.specs.Hosts.{NotAsked};
 ghost use Rattle.definitions.specs.Step.{State, Starved};
 ghost use Rattle.record_reading.specs.Values.{view_of_reading};
 ghost use Rattle.book.specs.Given.{comes_to, given_of, starved_reading};
-ghost use Rattle.book.specs.Notes.{happening_of, Steps};
+ghost use Rattle.kept_replies.specs.Pairs.{asker};
+ghost use Rattle.book.specs.Notes.{happening_of, Steps, Takes};
 
 use crate::event::BookEvent;
+use crate::receipt::Taken;
 use crate::reply::Reply;
 use crate::upshot::{Doing, Upshot};
+use bytes::Bytes;
+use kept_replies::Peer;
 use local_ops::{LocalAnswer, LocalCall};
 use lock_service::StoreAnswer;
 use record_reading::{AnswerReading, Reading};
@@ -31,7 +35,7 @@ impl BookEvent {
         ensures { (s : State) → Steps s (happening_of self.now) (comes_to Starved NotAsked (given_of result)) s }
     {
         match self {
-            BookEvent::Take { record, .. } => starved_by(&Reading::read(record)),
+            BookEvent::Take { peer, record } => starved_take(*peer, record),
             BookEvent::Answer { bytes } => {
                 // Whatever its reading is, it changes nothing.
                 let _reading = AnswerReading::read(bytes);
@@ -44,6 +48,22 @@ impl BookEvent {
             BookEvent::Silent { .. } | BookEvent::GraceOver | BookEvent::Restart => Reply::Starved,
         }
     }
+}
+
+impl Taken {
+    /// What the call gets where there was no memory for it before it began: SYSTEM_ERR, and nothing where the record is ignored.
+    pub fn starved(self) -> Reply
+        ensures { (s : State) → Steps s (Takes (asker self.peer) self.«record») (comes_to Starved NotAsked (given_of result)) s }
+    {
+        starved_take(self.peer, &self.record)
+    }
+}
+
+// A record of this peer.
+fn starved_take(peer: Peer, asked: &Bytes) -> Reply
+    ensures { (s : State) → Steps s (Takes (asker peer) asked.now) (comes_to Starved NotAsked (given_of result)) s }
+{
+    starved_by(&Reading::read(asked))
 }
 
 fn starved_by(reading: &Reading<'_>) -> Reply

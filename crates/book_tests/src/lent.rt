@@ -1,36 +1,47 @@
-//! A store that is lent to a book, so that its rows can be read when the book is gone.
+//! A store that is lent to a book, so that its rows can be read when the book is gone, and how often it was asked to write.
 use hosts_db::{HostRow, HostStore, MyId, StoreError, Watch};
 
 #[derive(Drop)]
-pub(crate) struct Lent<'a, S: HostStore>(pub(crate) &'a mut S);
+pub(crate) struct Lent<'a, S: HostStore> {
+    pub(crate) store: &'a mut S,
+    pub(crate) writes: &'a mut usize,
+}
+
+impl<'a, S: HostStore> Lent<'a, S> {
+    // The store, for a call that may write.
+    fn writing(&mut self) -> &mut S {
+        *self.writes = self.writes.saturating_add(1);
+        self.store
+    }
+}
 
 impl<'a, S: HostStore> HostStore for Lent<'a, S> {
-    ghost rows = { λ l. S.rows l.0.now };
+    ghost rows = { λ l. S.rows l.store.now };
 
-    ghost refusals = { λ l. S.refusals l.0.now };
+    ghost refusals = { λ l. S.refusals l.store.now };
 
-    ghost may_leave = { λ l. S.may_leave l.0.now };
+    ghost may_leave = { λ l. S.may_leave l.store.now };
 
-    ghost may_refuse = { λ l. S.may_refuse l.0.now };
+    ghost may_refuse = { λ l. S.may_refuse l.store.now };
 
     fn start(&mut self) -> Result<u32, StoreError> {
-        self.0.start()
+        self.writing().start()
     }
 
     fn monitor(&mut self, name: &[u8], state: i32) -> Result<(), StoreError> {
-        self.0.monitor(name, state)
+        self.writing().monitor(name, state)
     }
 
     fn seen(&mut self, name: &[u8], state: i32) -> Result<(), StoreError> {
-        self.0.seen(name, state)
+        self.writing().seen(name, state)
     }
 
     fn acked(&mut self, name: &[u8], epoch: u32) -> Result<(), StoreError> {
-        self.0.acked(name, epoch)
+        self.writing().acked(name, epoch)
     }
 
     fn quota(&mut self, name: &[u8], runs: u32) -> Result<(), StoreError> {
-        self.0.quota(name, runs)
+        self.writing().quota(name, runs)
     }
 
     fn watch(
@@ -39,26 +50,26 @@ impl<'a, S: HostStore> HostStore for Lent<'a, S> {
         my_id: &MyId<'_>,
         private_bytes: &[u8; 16],
     ) -> Result<(), StoreError> {
-        self.0.watch(mon_name, my_id, private_bytes)
+        self.writing().watch(mon_name, my_id, private_bytes)
     }
 
     fn unwatch(&mut self, mon_name: Option<&[u8]>, my_id: &MyId<'_>) -> Result<(), StoreError> {
-        self.0.unwatch(mon_name, my_id)
+        self.writing().unwatch(mon_name, my_id)
     }
 
     fn own(&self) -> u32 {
-        self.0.own()
+        self.store.own()
     }
 
     fn hosts(&self) -> &[HostRow] {
-        self.0.hosts()
+        self.store.hosts()
     }
 
     fn host(&self, name: &[u8]) -> Option<&HostRow> {
-        self.0.host(name)
+        self.store.host(name)
     }
 
     fn watches(&self) -> &[Watch] {
-        self.0.watches()
+        self.store.watches()
     }
 }

@@ -4,12 +4,13 @@ ghost use Rattle.book.specs.Journal.{room_of};
 
 use crate::books::{begun, memory};
 use crate::calls::{Asks, DONE, is_reply};
-use book::{Book, BookEvent, Closed, Peer, Receipt, SEGMENT, Segment, Taken};
+use book::{Book, BookEvent, Closed, Peer, Receipt, SEGMENT, Segment, Taken, newest_entered};
 use bytes::Bytes;
 use hosts_db::HostStore;
 use range_table::RangeTable;
 use std::alloc::Global;
 use std::test::*;
+use xdr_core::Frame;
 
 // Takes the record, and gives the receipt of its entry.
 fn taken<R: RangeTable, S: HostStore>(book: &mut Book<R, S>, call: Bytes, same: Bytes) -> Receipt
@@ -17,8 +18,9 @@ fn taken<R: RangeTable, S: HostStore>(book: &mut Book<R, S>, call: Bytes, same: 
     requires same { same ≡ call }
 {
     let peer = Peer::PIPE;
-    drop(book.apply(BookEvent::Take { peer, record: call }));
-    book.receipt(Taken { peer, record: same })
+    let upshot = book.apply(BookEvent::Take { peer, record: call });
+    newest_entered();
+    book.receipt(Taken { peer, record: same }, upshot.reply)
 }
 
 // Takes a NULL of this xid. The receipt is that of its SUCCESS.
@@ -33,7 +35,9 @@ fn null<R: RangeTable, S: HostStore>(
         return Err("no room")?;
     }
     let receipt = taken(book, record, same);
-    if !is_reply(receipt.reply(), xid, DONE) {
+    let mut reply = Frame::new();
+    receipt.reply().put(&mut reply)?;
+    if !is_reply(reply.as_slice(), xid, DONE) {
         return Err("no SUCCESS")?;
     }
     Ok(receipt)

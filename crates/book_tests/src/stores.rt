@@ -60,17 +60,24 @@ fn plays<R: RangeTable, S: HostStore>(
     are_answered(alloc, book, lines)
 }
 
-// The same of a new book over a store that is lent to it.
+// How often the store is asked for these lines. A host that has its row costs it no call.
+fn asked(lines: &[Line]) -> usize {
+    lines.iter().filter(|line| line.3 != NOT_ASKED).count()
+}
+
+// The same of a new book over a store that is lent to it, which is asked so often.
 fn plays_over<S: HostStore>(
     alloc: Global,
     store: &mut S,
     restarts: bool,
     lines: &[Line],
 ) -> Result<bool, Fail> {
-    let mut book = begun(alloc, Lent(store)).ok_or(NO_MEMORY)?;
-    let went = plays(alloc, &mut book, restarts, lines);
+    let mut writes = 0;
+    let writer = &mut writes;
+    let mut book = begun(alloc, Lent { store, writes: writer }).ok_or(NO_MEMORY)?;
+    let went = plays(alloc, &mut book, restarts, lines)?;
     drop(book);
-    went
+    Ok(went && writes == asked(lines) + usize::from(restarts))
 }
 
 // The same of one book for all lines, which begins anew before each of them.
@@ -79,10 +86,12 @@ fn plays_both_over<S: HostStore>(
     store: &mut S,
     (first, second): (&[Line], &[Line]),
 ) -> Result<bool, Fail> {
-    let mut book = begun(alloc, Lent(store)).ok_or(NO_MEMORY)?;
+    let mut writes = 0;
+    let writer = &mut writes;
+    let mut book = begun(alloc, Lent { store, writes: writer }).ok_or(NO_MEMORY)?;
     let went = plays(alloc, &mut book, true, first)? && plays(alloc, &mut book, true, second)?;
     drop(book);
-    Ok(went)
+    Ok(went && writes == asked(first) + asked(second) + 2)
 }
 
 fn is_row(row: &HostRow, (name, epoch, seen): Row) -> bool {

@@ -8,6 +8,7 @@ use Rattle.definitions.specs.Outgoing.{Granted}
 use Rattle.definitions.specs.Ranges.{request_of}
 use Rattle.definitions.specs.Replies.{Call, Nlm, Success, SystemErr, TestResResult, Asks}
 use Rattle.definitions.specs.Rulings.{ruled, stays, decided}
+use Rattle.definitions.specs.Shown.{shown_stat}
 use Rattle.definitions.specs.World.{World, the_limits, slots_free, with_all_due}
 use Rattle.definitions.specs.Step.{Event, Take, Peer, Doing, Applied, Starved, Given, Replies, State, Stepped, KeptPair, applied, taken, repeated, look, step, with_row_stored, asked_unless_kept, moved_to_front, IsUnapplied}
 use Rattle.definitions.proofs.RepeatLaws.{repeat_law}
@@ -23,37 +24,37 @@ use Rattle.daemon_core.specs.Told.{early_refusal, stat_in, TellsStat, RefusalIsT
 
 -- ---- an early refusal is what a call says
 
-abbrev SaysStat : Stat → Answered → Type 0
-SaysStat stat a = stat_in a.outcome ≡ Some stat
+abbrev SaysStat : Version → Stat → Answered → Type 0
+SaysStat version stat a = stat_in a.outcome ≡ Some (shown_stat version stat)
 
-says_stays : (w : World) (stat : Stat) (cookie : Bytes) (store : StoreAnswer) → SaysStat stat (ruled store (by_reply cookie (stays w stat)))
-says_stays w stat cookie NotAsked = refl
-says_stays w stat cookie Yes = refl
-says_stays w stat cookie Refused = refl
+says_stays : (w : World) (version : Version) (stat : Stat) (cookie : Bytes) (store : StoreAnswer) → SaysStat version stat (ruled store (by_reply version cookie (stays w stat)))
+says_stays w version stat cookie NotAsked = refl
+says_stays w version stat cookie Yes = refl
+says_stays w version stat cookie Refused = refl
 
-says_decided : (a : Answered) (stat : Stat) (store : StoreAnswer) → stat_in a.outcome ≡ Some stat → SaysStat stat (ruled store (decided a))
-says_decided a stat NotAsked h = h
-says_decided a stat Yes h = h
-says_decided a stat Refused h = h
+says_decided : (a : Answered) (version : Version) (stat : Stat) (store : StoreAnswer) → SaysStat version stat a → SaysStat version stat (ruled store (decided a))
+says_decided a version stat NotAsked h = h
+says_decided a version stat Yes h = h
+says_decided a version stat Refused h = h
 
-says_early : (w : World) (version : Version) (call : NlmCall) (stat : Stat) (store : StoreAnswer) → early_refusal w call ≡ Some stat → SaysStat stat (ruled store (nlm_answer the_limits w version call))
+says_early : (w : World) (version : Version) (call : NlmCall) (stat : Stat) (store : StoreAnswer) → early_refusal w call ≡ Some stat → SaysStat version stat (ruled store (nlm_answer the_limits w version call))
 says_early w version (Test a) stat store e =
-    let answer : Option Stat → Answered = λ o. gives w (Success (TestResResult version (test_unless w a o))) in
-    subst (λ (o : Option Stat). SaysStat stat (ruled store (decided (answer o)))) (sym e) (says_decided (answer (Some stat)) stat store refl)
+    let answer : Option Stat → Answered = λ o. gives w (Success (TestResResult version (test_unless w version a o))) in
+    subst (λ (o : Option Stat). SaysStat version stat (ruled store (decided (answer o)))) (sym e) (says_decided (answer (Some stat)) version stat store refl)
 says_early w version (Locks a) stat store e =
-    subst (λ (o : Option Stat). SaysStat stat (ruled store (by_reply a.cookie (lock_unless the_limits w (lock_ask a (caller_row a) (Granted version a.exclusive a.alock) (slots_free the_limits w)) o)))) (sym e) (says_stays w stat a.cookie store)
+    subst (λ (o : Option Stat). SaysStat version stat (ruled store (by_reply version a.cookie (lock_unless the_limits w (lock_ask a (caller_row a) (Granted version a.exclusive a.alock) (slots_free the_limits w)) o)))) (sym e) (says_stays w version stat a.cookie store)
 says_early w version (NmLock a) stat store e =
-    subst (λ (o : Option Stat). SaysStat stat (ruled store (by_reply a.cookie (lock_unless the_limits w (lock_ask a None (Granted version a.exclusive a.alock) (slots_free the_limits w)) o)))) (sym e) (says_stays w stat a.cookie store)
+    subst (λ (o : Option Stat). SaysStat version stat (ruled store (by_reply version a.cookie (lock_unless the_limits w (lock_ask a None (Granted version a.exclusive a.alock) (slots_free the_limits w)) o)))) (sym e) (says_stays w version stat a.cookie store)
 says_early w version (Cancel a) stat store e =
-    subst (λ (o : Option Stat). SaysStat stat (ruled store (by_reply a.cookie (cancel_unless w (request_of a.exclusive a.alock) o)))) (sym e) (says_stays w stat a.cookie store)
+    subst (λ (o : Option Stat). SaysStat version stat (ruled store (by_reply version a.cookie (cancel_unless w (request_of a.exclusive a.alock) o)))) (sym e) (says_stays w version stat a.cookie store)
 says_early w version (Unlock a) stat store e =
-    subst (λ (o : Option Stat). SaysStat stat (ruled store (by_reply a.cookie (unlock_unless the_limits w a.alock o)))) (sym e) (says_stays w stat a.cookie store)
+    subst (λ (o : Option Stat). SaysStat version stat (ruled store (by_reply version a.cookie (unlock_unless the_limits w a.alock o)))) (sym e) (says_stays w version stat a.cookie store)
 says_early w version (ShareCall a) stat store e =
-    let answer : Option Stat → Answered = λ o. share_told a (share_unless the_limits w a o) in
-    subst (λ (o : Option Stat). SaysStat stat (ruled store (decided (answer o)))) (sym e) (says_decided (answer (Some stat)) stat store refl)
+    let answer : Option Stat → Answered = λ o. share_told version a (share_unless the_limits w a o) in
+    subst (λ (o : Option Stat). SaysStat version stat (ruled store (decided (answer o)))) (sym e) (says_decided (answer (Some stat)) version stat store refl)
 says_early w version (Unshare a) stat store e =
-    let answer : Option Stat → Answered = λ o. share_told a (unshare_unless w a o) in
-    subst (λ (o : Option Stat). SaysStat stat (ruled store (decided (answer o)))) (sym e) (says_decided (answer (Some stat)) stat store refl)
+    let answer : Option Stat → Answered = λ o. share_told version a (unshare_unless w a o) in
+    subst (λ (o : Option Stat). SaysStat version stat (ruled store (decided (answer o)))) (sym e) (says_decided (answer (Some stat)) version stat store refl)
 says_early w version call stat store e = absurd cc
 
 -- ---- what a step gives for a record that asks for a call
@@ -95,7 +96,7 @@ module _ (place i : ℕ) (old new : Hub) (out : Outputs) (t : Answers place i ol
   sent given e = ap (λ (o : Outputs). o.sent) t.outputs ∙ ap (reply_to t.link.number) e
 
   pub tells : (xid : ℕ) (version : Version) (call : NlmCall) (stat : Stat) → t.step.said ≡ Take (asker t.link.peer) t.bytes (Asks xid (Nlm version call)) → look old.state (asker t.link.peer) t.bytes ≡ None
-      → doing_of out.outcome ≡ Applied → early_refusal old.state.world call ≡ Some stat → TellsStat t.link xid stat out
+      → doing_of out.outcome ≡ Applied → early_refusal old.state.world call ≡ Some stat → TellsStat t.link xid (shown_stat version stat) out
   tells xid version call stat is none applied early = record {
     outcome = (ruled (answer_of out.store) (nlm_answer the_limits old.state.world version call)).outcome;
     stat_is = says_early old.state.world version call stat (answer_of out.store) early;

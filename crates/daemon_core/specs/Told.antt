@@ -4,6 +4,7 @@ use Rattle.definitions.specs.Phases.{Testing, Locking, Sharing, Cancelling, Unlo
 use Rattle.definitions.specs.Nlm.{Version, Stat, NlmCall, Test, Locks, Cancel, Unlock, ShareCall, Unshare, NmLock}
 use Rattle.definitions.specs.Ranges.{range_refusal, file_refusal}
 use Rattle.definitions.specs.Replies.{Call, Nlm, Outcome, Success, SystemErr, ResResult, TestResResult, ShareResult, Asks}
+use Rattle.definitions.specs.Shown.{shown_stat}
 use Rattle.definitions.specs.World.{World, the_limits, slots_free, with_all_due}
 use Rattle.definitions.specs.Step.{Take, Applied, Starved, KeptPair, Replies, look, moved_to_front, IsUnapplied}
 use Rattle.kept_replies.specs.Pairs.{asker}
@@ -45,11 +46,11 @@ pub record TellsStat (link : Link) (xid : ℕ) (stat : Stat) (out : Outputs) : T
   pub stat_is : stat_in outcome ≡ Some stat
   pub sent : out.sent ≡ reply_to link.number (Replies xid outcome)
 
--- a call that is done anew and has an early refusal is answered by it: so in grace each that the phase turns away is answered DENIED_GRACE_PERIOD
+-- a call that is done anew and has an early refusal is answered by it, as its version shows it: so in grace each that the phase turns away is answered DENIED_GRACE_PERIOD
 abbrev pub RefusalIsTold : Type 0
 RefusalIsTold =
     (place i : ℕ) (old new : Hub) (out : Outputs) (taken : Answers place i old out new) (xid : ℕ) (version : Version) (call : NlmCall) (stat : Stat) → IsCall taken xid (Nlm version call) → kept_of taken ≡ None
-    → doing_of out.outcome ≡ Applied → early_refusal old.state.world call ≡ Some stat → TellsStat taken.link xid stat out
+    → doing_of out.outcome ≡ Applied → early_refusal old.state.world call ≡ Some stat → TellsStat taken.link xid (shown_stat version stat) out
 
 -- the kept reply is sent again, the calls that went with it are due again, and the pair is now the newest
 pub record IsRepeated (link : Link) (k : KeptPair) (old : Hub) (out : Outputs) (new : Hub) : Type 0 where

@@ -12,6 +12,7 @@ use crate::outputs::{
     Outputs, make_quiet, make_sent, make_starved, make_unnoted, tell, tell_line, tell_to,
 };
 use book::{Book, BookEvent, StoreAnswer};
+use held_locks::Locks;
 use hosts_db::HostStore;
 use kept_replies::Peer;
 use letters::ShortBytes;
@@ -189,6 +190,13 @@ impl<R: RangeTable, S: HostStore> Daemon<R, S> {
         ensures refusals { S.refusals result.now ≡ self.now.refusals }
     {
         self.book.store()
+    }
+
+    /// The locks of all owners, to be read: they are those of the state.
+    pub fn locks(&self) -> &Locks<R>
+        ensures { result.now.settings ≡ self.now.state.world.settings }
+    {
+        self.book.locks()
     }
 
     /// One event, and what comes of it.

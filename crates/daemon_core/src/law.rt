@@ -31,8 +31,8 @@ pub fn grace_tells_of_no_grant()
     ensures { GraceTellsOfNoGrant }
 {}
 
-/// A call that is refused for its file handle, its range or the phase is answered by that status, so that in grace each that
-/// the phase turns away is answered DENIED_GRACE_PERIOD.
+/// A call that is refused for its file handle, its range or the phase is answered by that status, as its version shows it,
+/// so that in grace each that the phase turns away is answered DENIED_GRACE_PERIOD, in every version.
 pub fn early_refusal_is_told()
     ensures { RefusalIsTold }
 {}

@@ -9,15 +9,12 @@ use Rattle.book.proofs.Early.{taken, answer, line, silent, grace, anew}
 use Rattle.book.proofs.event.BookEvent.starved_reply.Goals as goal
 
 pub returns-in-Take : goal.returns-in-Take
-returns-in-Take c =
-    let whole = view_of_reading c.read.result in
-    let read = subst (λ (bytes : List ℕ). IsReading bytes whole) c.deref.ensures c.read.ensures in
-    λ s. rw (c.in-Take.is, c.starved_by.ensures) (taken s (asker c.in-Take.peer) c.in-Take.record whole read)
+returns-in-Take c = λ s. rw c.in-Take.is (c.starved_take.ensures s)
 
 pub returns-in-Answer : goal.returns-in-Answer
 returns-in-Answer c =
     let reading = view_of_answer c.read-reading.result in
-    let read = subst (λ (bytes : List ℕ). IsAnswerReading bytes reading) c.deref-in-Answer.ensures.value c.read-reading.ensures in
+    let read = subst (λ (bytes : List ℕ). IsAnswerReading bytes reading) c.deref.ensures.value c.read-reading.ensures in
     λ s. rw c.in-Answer.is (answer s c.in-Answer.bytes.items reading read)
 
 pub returns-in-Local : goal.returns-in-Local

@@ -1,6 +1,9 @@
 use Rattle.std.proofs.Common.{refl, inl, inr}
-use Rattle.definitions.specs.Replies.{Close, LineOk}
+use Rattle.definitions.specs.Hosts.{NotAsked}
+use Rattle.definitions.specs.Replies.{Close, SetQuota, LineOk}
 use Rattle.definitions.specs.Step.{State}
+use Rattle.call_plans.specs.Planned.{answer_of}
+use Rattle.local_ops.specs.Answers.{reply_of}
 use Rattle.owner_ids.specs.Said.{said}
 use Rattle.book.proofs.Lines.{done}
 use Rattle.book.proofs.shared.Shared.asked.Goals as goal
@@ -9,15 +12,10 @@ pub returns-in-Close-clause-ok : goal.returns-in-Close-clause-ok
 returns-in-Close-clause-ok g c =
     let s : State = record { world = c.self.inside.world.world; kept = c.self.inside.kept } in
     rw (← c.self.view_is, c.in-Close.is)
-    (done s (Close (said c.in-Close.owner) c.in-Close.file) LineOk c.close_file.new.world.world (λ l. refl) c.close_file.ensures.world c.args.connection)
+    (done s (Close (said c.in-Close.owner) c.in-Close.file) NotAsked LineOk c.close_file.new.world.world (λ l. refl) c.close_file.ensures.world c.args.connection refl)
 
-pub returns-in-Table-clause-ok : goal.returns-in-Table-clause-ok
-returns-in-Table-clause-ok g c =
-    let step = c.bad.ensures.step c.args.connection in
-    elim c.in-Table.is [
-      | inl e ↦ rw e step
-      | inr e ↦ elim e [
-        | inl e ↦ rw e step
-        | inr e ↦ rw e step
-      ]
-    ]
+pub returns-in-Quota-clause-ok : goal.returns-in-Quota-clause-ok
+returns-in-Quota-clause-ok g c =
+    let s : State = record { world = c.self.inside.world.world; kept = c.self.inside.kept } in
+    rw (← c.self.view_is, c.in-Quota.is)
+    (done s (SetQuota c.in-Quota.quota.name c.in-Quota.quota.runs) (answer_of c.set_quota.result.1) (reply_of c.set_quota.result.0) c.set_quota.new.world.world c.set_quota.ensures.reply c.set_quota.ensures.world c.args.connection (c.set_quota.ensures.fits c.self.inside.kept c.args.connection))

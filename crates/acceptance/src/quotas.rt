@@ -1,0 +1,50 @@
+//! Quotas of runs, from bytes to bytes: what a host is refused, and who is granted once its quota is raised.
+use crate::calls::{Asks, Grant, Told, Who};
+use crate::server::{BEGINS, Part, plays};
+use std::alloc::Global;
+use std::test::*;
+
+// One run of `a`, which may not become two. Who waits for `b`'s quota alone is granted once it is raised.
+fn keeps_to_quotas(alloc: Global) -> Result<bool, Fail> {
+    let first = [(180, Asks::Locks(Who::A, 0, 10), Told::Stat(0))];
+    let within_one = [
+        (181, Asks::Locks(Who::A, 20, 1), Told::Stat(2)),
+        (182, Asks::Locks(Who::A, 10, 5), Told::Stat(0)),
+        (183, Asks::Unlocks(Who::A, 5, 1), Told::Stat(2)),
+        (184, Asks::Unlocks(Who::A, 0, 5), Told::Stat(0)),
+    ];
+    let waits = [
+        (185, Asks::Tests(Who::B, 0, 0), Told::Held(Who::A, 5, 10)),
+        (186, Asks::Blocks(Who::B, 5, 1), Told::Stat(3)),
+    ];
+    let unlock = [(187, Asks::Unlocks(Who::A, 0, 0), Told::Stat(0))];
+    let grant = Grant {
+        number: 1,
+        who: Who::B,
+        exclusive: 1,
+        offset: 5,
+        len: 1,
+    };
+    let parts = [
+        BEGINS,
+        Part::Calls(&first, 64),
+        Part::Lines(&[("quota 61 1", "ok")]),
+        Part::Calls(&within_one, 64),
+        Part::Quota(Who::A, 1),
+        Part::Lines(&[("quota 62 5", "absent"), ("quota 61 65537", "bad")]),
+        Part::Calls(&waits, 64),
+        Part::Lines(&[("quota 62 0", "ok")]),
+        Part::Calls(&unlock, 64),
+        Part::NothingDue,
+        Part::Lines(&[("quota 62 1", "ok")]),
+        Part::Grants(grant),
+        Part::NothingDue,
+    ];
+    plays(alloc, Vec::new(alloc), &parts)
+}
+
+#[test]
+fn quota_of_runs(rt: HostRuntime) -> Result<(), Fail> {
+    assert!(rt; keeps_to_quotas(rt.alloc())?);
+    Ok(())
+}
