@@ -2,7 +2,7 @@
 //! then comes a mark by which its record would be too long.
 #![tactic(auto)]
 
-use pipe_loops::run_lockd;
+use lockd_program::run_lockd;
 use std::process::ExitCode;
 
 fn main(rt: HostRuntime) -> ExitCode {

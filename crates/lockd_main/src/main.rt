@@ -1,7 +1,7 @@
 //! `lockd`: the lock manager and status monitor of an NFS server.
 #![tactic(auto)]
 
-use pipe_loops::run_lockd;
+use lockd_program::run_lockd;
 use std::process::ExitCode;
 
 fn main(rt: HostRuntime) -> ExitCode {

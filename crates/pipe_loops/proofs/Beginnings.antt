@@ -1,11 +1,12 @@
 -- The beginning of a pipe, event by event.
-use Rattle.std.proofs.Common.{◌≡◌, ℕ, List, [], ◌∷◌, ◌++◌, Option, Some, None, refl, sym, ap, ◌∙◌}
+use Rattle.std.proofs.Common.{◌≡◌, ℕ, suc, Bool, true, false, List, [], ◌∷◌, ◌++◌, Option, Some, None, refl, sym, ap, ◌∙◌}
 use Rattle.std.specs.Option.{option_to_list}
 use Rattle.std.specs.Prelude.{Result, Ok, Err}
 use Rattle.definitions.specs.Step.{Given, Nothing, Replies, Says, Sends, IsStarved, IsRefused}
 use Rattle.daemon_core.specs.declared.outcome.Outcome.{Outcome}
 use Rattle.daemon_core.specs.declared.outcome.Outcome.TheVariants.{Applied, Starved, NoSegment}
 use Rattle.book.specs.Notes.{Happening, GraceEnds, BeginsAnew}
+use Rattle.daemon_core.specs.declared.event.Event.{Event}
 use Rattle.daemon_core.specs.declared.event.Event.TheVariants.{Connect, GraceOver, Restart}
 use Rattle.daemon_core.specs.declared.outputs.Outputs.{Outputs}
 use Rattle.daemon_core.specs.declared.event.Refusal.{Refusal}
@@ -13,7 +14,7 @@ use Rattle.kept_replies.specs.declared.key.Peer.{Peer}
 use Rattle.daemon_core.specs.Outputs.{told, refusal_of}
 use Rattle.daemon_core.specs.Hub.{Hub, place_of, Connects, Happens, HubStep}
 use Rattle.pipe_loops.specs.declared.fault.Fault.{Fault}
-use Rattle.pipe_loops.specs.Pipe.{Passes, Begins, refusals}
+use Rattle.pipe_loops.specs.Pipe.{beginning, Passes, Begins, refusals}
 
 abbrev more : Option Refusal → List Refusal → List Refusal
 more r rest = option_to_list r ++ rest
@@ -38,29 +39,39 @@ connect-short None Applied number peer old new out why h met is = let e : None �
 connect-short None Starved number peer old new out why h met is = let e : Some Refusal.Starved ≡ Some Refusal.RecordTooLong = sym (ap (λ (x : Outputs). x.refusal) h.1) ∙ met ∙ ap (λ r. Some r) is in cc
 connect-short None NoSegment number peer old new out why h met is = absurd h
 
-module _ (pipe : Peer) (old : Hub) where
-  pub first-refused : (new : Hub) (fault : Fault) → Passes (Err fault) Restart old new → Begins pipe (Err fault) old new
-  first-refused new fault a = (a.2, a.4, record { count = 1; outs = a.0 ∷ []; run = (new, a.1, refl); met_is = ap (λ r. more r []) a.3 }, happens-short BeginsAnew old new a.0 a.2 a.1 a.3)
+-- an event of a beginning
+abbrev pub Opens : Event → Type 0
+Opens Restart = Unit {0}
+Opens GraceOver = Unit {0}
+Opens (Connect number peer) = Unit {0}
+Opens _ = ⊥
 
-  module _ (mid : Hub) (a : (out : Outputs) × HubStep old Restart out mid × (out.refusal ≡ None)) where
-    pub second-refused : (new : Hub) (fault : Fault) → Passes (Err fault) GraceOver mid new → Begins pipe (Err fault) old new
-    second-refused new fault b =
-        (b.2, b.4, record { count = 2; outs = a.0 ∷ b.0 ∷ []; run = (mid, a.1, (new, b.1, refl)); met_is = ap (λ r. more r (refusals (b.0 ∷ []))) a.2 ∙ ap (λ r. more r []) b.3 }, happens-short GraceEnds mid new b.0 b.2 b.1 b.3)
+opens-short : (event : Event) → Opens event → (old new : Hub) (out : Outputs) (why : Refusal) → HubStep old event out new → out.refusal ≡ Some why → why ≡ Refusal.RecordTooLong → ⊥
+opens-short Restart o old new out why h = happens-short BeginsAnew old new out why h
+opens-short GraceOver o old new out why h = happens-short GraceEnds old new out why h
+opens-short (Connect number peer) o old new out why h = connect-short (place_of number old.links) out.outcome number peer old new out why h
+opens-short _ o old new out why h = absurd o
 
-    pub last : (next new : Hub) → (b : (out : Outputs) × HubStep mid GraceOver out next × (out.refusal ≡ None)) → (r : Result (Unit {0}) Fault) → Passes r (Connect 0 pipe) next new → Begins pipe r old new
-    last next new b (Ok done) c = record {
-      outs = a.0 ∷ b.0 ∷ c.0 ∷ [];
-      run = (mid, a.1, (next, b.1, (new, c.1, refl)));
-      agreed = ap (λ r. more r (refusals (b.0 ∷ c.0 ∷ []))) a.2 ∙ ap (λ r. more r (refusals (c.0 ∷ []))) b.2 ∙ ap (λ r. more r []) c.2;
-    }
-    last next new b (Err fault) c = (
-      c.2,
-      c.4,
-      record {
-        count = 3;
-        outs = a.0 ∷ b.0 ∷ c.0 ∷ [];
-        run = (mid, a.1, (next, b.1, (new, c.1, refl)));
-        met_is = ap (λ r. more r (refusals (b.0 ∷ c.0 ∷ []))) a.2 ∙ ap (λ r. more r (refusals (c.0 ∷ []))) b.2 ∙ ap (λ r. more r []) c.3;
-      },
-      connect-short (place_of 0 next.links) c.0.outcome 0 pipe next new c.0 c.2 c.1 c.3,
-    )
+-- the first of these events is refused
+pub refused : (event : Event) (rest : List Event) → Opens event → (old new : Hub) (fault : Fault) → Passes (Err fault) event old new → Begins (event ∷ rest) (Err fault) old new
+refused event rest o old new fault a = (a.2, a.4, record { count = 1; outs = a.0 ∷ []; run = (new, a.1, refl); met_is = ap (λ r. more r []) a.3 }, opens-short event o old new a.0 a.2 a.1 a.3)
+
+-- or it is not, and the others decide
+pub passed : (event : Event) (rest : List Event) (old mid new : Hub) (r : Result (Unit {0}) Fault) → Passes (Ok tt) event old mid → Begins rest r mid new → Begins (event ∷ rest) r old new
+passed event rest old mid new (Ok done) a b = record { outs = a.0 ∷ b.outs; run = (mid, a.1, b.run); agreed = ap (λ r. more r (refusals b.outs)) a.2 ∙ b.agreed }
+passed event rest old mid new (Err fault) a b = (
+  b.0,
+  b.1,
+  record { count = suc b.2.count; outs = a.0 ∷ b.2.outs; run = (mid, a.1, b.2.run); met_is = ap (λ r. more r (refusals b.2.outs)) a.2 ∙ b.2.met_is },
+  b.3,
+)
+
+-- it is the last of them
+pub last : (event : Event) → Opens event → (old new : Hub) (r : Result (Unit {0}) Fault) → Passes r event old new → Begins (event ∷ []) r old new
+last event o old new (Ok done) a = record { outs = a.0 ∷ []; run = (new, a.1, refl); agreed = ap (λ r. more r []) a.2 }
+last event o old new (Err fault) a = refused event [] o old new fault a
+
+-- whatever comes behind it, the first event of a beginning is a restart
+pub anew-refused : (grace : Bool) (old new : Hub) (fault : Fault) → Passes (Err fault) Restart old new → Begins (beginning grace) (Err fault) old new
+anew-refused true old new fault a = refused Restart _ tt old new fault a
+anew-refused false old new fault a = refused Restart _ tt old new fault a

@@ -3,3 +3,4 @@ pub mod DueCalls
 pub mod PipeLemmas
 pub mod AnsweredLemmas
 pub mod Beginnings
+mod TableLemmas

@@ -6,13 +6,14 @@ use Rattle.std.specs.Io.KnownBytes.{Appends, Keeps, Consumes}
 use Rattle.std.proofs.lemmas.Grind.{flat_map-append}
 use Rattle.std.proofs.lemmas.List.{append-nil, length-append}
 use Rattle.daemon_core.specs.declared.event.Event.{Event}
-use Rattle.daemon_core.specs.declared.event.Event.TheVariants.{Piece}
+use Rattle.daemon_core.specs.declared.event.Event.TheVariants.{Piece, Connect}
 use Rattle.daemon_core.specs.declared.outcome.Outcome.{Outcome}
 use Rattle.daemon_core.specs.declared.outcome.Outcome.TheVariants.{Applied, Starved, NoSegment}
 use Rattle.daemon_core.specs.declared.outputs.Outputs.{Outputs}
 use Rattle.daemon_core.specs.declared.event.Refusal.{Refusal}
 use Rattle.daemon_core.specs.Sending.{Sending}
 use Rattle.kept_replies.specs.declared.key.Peer.{Peer}
+use Rattle.kept_replies.specs.declared.key.TheConstants.Peer.{PIPE}
 use Rattle.daemon_core.specs.Outputs.{bytes_sent, marked_by}
 use Rattle.daemon_core.specs.Link.{Link, Hears as HearsOn, Receives}
 use Rattle.daemon_core.specs.Hub.{Hub, place_of, Pieces, Connects, Waits, HubStep, Run, all_bytes_sent}
@@ -20,7 +21,7 @@ use Rattle.pipe_loops.specs.declared.fault.Fault.{Fault}
 use Rattle.pipe_loops.specs.FaultOf.{fault_of}
 use Rattle.written.specs.Written.{WroteFront}
 use Rattle.pipe_loops.specs.Answered.{in_order, Breaks}
-use Rattle.pipe_loops.specs.Pipe.{IsPiece, Hears, Turn, Turns, met_by, beginning, PipeRun, joined, AnswersAll, AnswersSome, WholeTurn, BrokenTurn, TurnEnds, BeginsAll, BeginsSome, EndsAt, BrokenPipe, PipeEnds}
+use Rattle.pipe_loops.specs.Pipe.{IsPiece, Hears, Turn, Turns, met_by, beginning, PipeRun, joined, AnswersAll, AnswersSome, WholeTurn, BrokenTurn, TurnEnds, BeginsAll, BeginsSome, EndsAt, BrokenPipe, StreamEnds}
 use Rattle.written.proofs.Appending.{Appends-nil, Appends-more, Appends-kept, Keeps-same, WroteFront-whole, WroteFront-after}
 use Rattle.pipe_loops.proofs.ReadLemmas.{Consumes-nil, Consumes-more, Consumes-kept}
 
@@ -188,9 +189,9 @@ Turns-more old mid new (p ∷ pieces) outs more met piece h t =
       ap (λ (rs : List Refusal). rs ++ met_by t.heard) h.7 ∙ append_assoc (met_by h.4.heard) h.3 (met_by t.heard),
     )
 
-pub PipeRun-more : (pipe : Peer) (start : Hub) (pieces : List (List ℕ)) (outs more : List Outputs) (met : List Refusal) (mid new : Hub) (piece : List ℕ) → PipeRun pipe start pieces outs met mid → (t : Turn mid piece more new)
-    → PipeRun pipe start (pieces ++ piece ∷ []) (outs ++ more) (met ++ met_by t.heard) new
-PipeRun-more pipe start pieces outs more met mid new piece r t = record {
+pub PipeRun-more : (events : List Event) (start : Hub) (pieces : List (List ℕ)) (outs more : List Outputs) (met : List Refusal) (mid new : Hub) (piece : List ℕ) → PipeRun events start pieces outs met mid → (t : Turn mid piece more new)
+    → PipeRun events start (pieces ++ piece ∷ []) (outs ++ more) (met ++ met_by t.heard) new
+PipeRun-more events start pieces outs more met mid new piece r t = record {
   begun = r.begun;
   firsts = r.firsts;
   begins = r.begins;
@@ -206,16 +207,16 @@ joined-more pieces piece = flat_map-append (λ p. p) pieces (piece ∷ []) ∙ a
 -- ---- the whole loop
 
 -- so many pieces, and perhaps more
-pub ends-within : (pipe : Peer) (start : Hub) (most bound : ℕ) → most ≤ bound → (unread left before after : Option (List ℕ)) (hub : Hub) → EndsAt pipe start most unread left before after [] hub → EndsAt pipe start bound unread left before after [] hub
-ends-within pipe start most bound fits unread left before after hub e = record { pieces = e.pieces; few = omega arith; outs = e.outs; run = e.run; read = e.read; wrote = e.wrote }
+pub ends-within : (events : List Event) (start : Hub) (most bound : ℕ) → most ≤ bound → (unread left before after : Option (List ℕ)) (hub : Hub) → EndsAt events start most unread left before after [] hub → EndsAt events start bound unread left before after [] hub
+ends-within events start most bound fits unread left before after hub e = record { pieces = e.pieces; few = omega arith; outs = e.outs; run = e.run; read = e.read; wrote = e.wrote }
 
-module _ (pipe : Peer) (start : Hub) (most next : ℕ) (one_more : most < next) (unread left before after : Option (List ℕ)) (mid : Hub) (so_far : EndsAt pipe start most unread left before after [] mid) where
+module _ (events : List Event) (start : Hub) (most next : ℕ) (one_more : most < next) (unread left before after : Option (List ℕ)) (mid : Hub) (so_far : EndsAt events start most unread left before after [] mid) where
   -- a read that failed
-  pub read-kept : (later : Option (List ℕ)) → Keeps left later → EndsAt pipe start next unread later before after [] mid
+  pub read-kept : (later : Option (List ℕ)) → Keeps left later → EndsAt events start next unread later before after [] mid
   read-kept later k = record { pieces = so_far.pieces; few = omega arith; outs = so_far.outs; run = so_far.run; read = Consumes-kept unread left later _ so_far.read k; wrote = so_far.wrote }
 
   -- the end, which was read as an empty piece
-  pub read-nothing : (later : Option (List ℕ)) (piece : List ℕ) → piece ≡ [] → Consumes left later piece → EndsAt pipe start most unread later before after [] mid
+  pub read-nothing : (later : Option (List ℕ)) (piece : List ℕ) → piece ≡ [] → Consumes left later piece → EndsAt events start most unread later before after [] mid
   read-nothing later piece e read = record {
     pieces = so_far.pieces;
     few = so_far.few;
@@ -227,18 +228,18 @@ module _ (pipe : Peer) (start : Hub) (most next : ℕ) (one_more : most < next) 
   }
 
   module _ (later : Option (List ℕ)) (piece : List ℕ) (read : Consumes left later piece) (new : Hub) (written : Option (List ℕ)) where
-    pub turn-more : (met : List Refusal) → WholeTurn mid new piece after written met → EndsAt pipe start next unread later before written met new
+    pub turn-more : (met : List Refusal) → WholeTurn mid new piece after written met → EndsAt events start next unread later before written met new
     turn-more met t = record {
       pieces = so_far.pieces ++ piece ∷ [];
       few = let longer = length-append so_far.pieces (piece ∷ []) in omega (arith, longer);
       outs = so_far.outs ++ t.outs;
-      run = let P : List Refusal → Type 0 = λ rs. PipeRun pipe start (so_far.pieces ++ piece ∷ []) (so_far.outs ++ t.outs) rs new in
-          subst P t.met_is (PipeRun-more pipe start so_far.pieces so_far.outs t.outs [] mid new piece so_far.run t.turn);
+      run = let P : List Refusal → Type 0 = λ rs. PipeRun events start (so_far.pieces ++ piece ∷ []) (so_far.outs ++ t.outs) rs new in
+          subst P t.met_is (PipeRun-more events start so_far.pieces so_far.outs t.outs [] mid new piece so_far.run t.turn);
       read = let P : List ℕ → Type 0 = λ x. Consumes unread later x in subst P (sym (joined-more so_far.pieces piece)) (Consumes-more unread left later _ piece so_far.read read);
       wrote = let P : List ℕ → Type 0 = λ x. Appends before written x in subst P (sym (bytes-append so_far.outs t.outs)) (Appends-more before after written _ _ so_far.wrote t.wrote);
     }
 
-    turn-broken : (fault : Fault) → BrokenTurn fault mid new piece after written → BrokenPipe fault pipe start next unread later before written
+    turn-broken : (fault : Fault) → BrokenTurn fault mid new piece after written → BrokenPipe fault events start next unread later before written
     turn-broken fault t = record {
       pieces = so_far.pieces;
       few = omega arith;
@@ -254,20 +255,20 @@ module _ (pipe : Peer) (start : Hub) (most next : ℕ) (one_more : most < next) 
       breaks = Breaks-after fault t.mid new before after written so_far.outs t.outs so_far.wrote t.breaks;
     }
 
-    turn-starved : WholeTurn mid new piece after written (Refusal.Starved ∷ []) ⊎ BrokenTurn Fault.Starved mid new piece after written → PipeEnds pipe start next (Err Fault.Starved) unread later before written
-    turn-starved (inl t) = inr (inl (inr (new, turn-more (Refusal.Starved ∷ []) t)))
-    turn-starved (inr t) = inr (inr (turn-broken Fault.Starved t))
+    turn-starved : WholeTurn mid new piece after written (Refusal.Starved ∷ []) ⊎ BrokenTurn Fault.Starved mid new piece after written → (end : Hub) → StreamEnds events start next (Err Fault.Starved) unread later before written end
+    turn-starved (inl t) end = inr (inl (inr (new, turn-more (Refusal.Starved ∷ []) t)))
+    turn-starved (inr t) end = inr (inr (turn-broken Fault.Starved t))
 
-    pub turn-failed : (f : Fault) → TurnEnds (Err f) mid new piece after written → PipeEnds pipe start next (Err f) unread later before written
-    turn-failed Fault.Starved t = turn-starved t
-    turn-failed Fault.RecordTooLong t = (new, turn-more (Refusal.RecordTooLong ∷ []) t)
-    turn-failed Fault.WriteFault t = turn-broken Fault.WriteFault t
-    turn-failed Fault.ReadFault t = absurd t
-    turn-failed Fault.StoreRefused t = absurd t
+    pub turn-failed : (f : Fault) → TurnEnds (Err f) mid new piece after written → (end : Hub) → StreamEnds events start next (Err f) unread later before written end
+    turn-failed Fault.Starved t end = turn-starved t end
+    turn-failed Fault.RecordTooLong t end = (new, turn-more (Refusal.RecordTooLong ∷ []) t)
+    turn-failed Fault.WriteFault t end = turn-broken Fault.WriteFault t
+    turn-failed Fault.ReadFault t end = absurd t
+    turn-failed Fault.StoreRefused t end = absurd t
 
   -- there was no memory for the place of the next piece
-  pub unplaced : PipeEnds pipe start next (Err Fault.Starved) unread left before after
-  unplaced = inr (inl (inl (mid, read-kept left (Keeps-same left))))
+  pub unplaced : (end : Hub) → StreamEnds events start next (Err Fault.Starved) unread left before after end
+  unplaced end = inr (inl (inl (mid, read-kept left (Keeps-same left))))
 
 -- ---- the beginning
 
@@ -277,27 +278,30 @@ connects-sends None Applied number peer old new out h = sent_of h.1
 connects-sends None Starved number peer old new out h = sent_of h.1
 connects-sends None NoSegment number peer old new out h = absurd h
 
--- the three events of the beginning send nothing
-begins-quietly : (pipe : Peer) (old new : Hub) (outs : List Outputs) → Run old (beginning pipe) outs new → all_bytes_sent outs ≡ []
-begins-quietly pipe old new [] h = absurd h
-begins-quietly pipe old new (a ∷ []) h = absurd h.2
-begins-quietly pipe old new (a ∷ b ∷ []) h = absurd h.2.2
-begins-quietly pipe old new (a ∷ b ∷ c ∷ []) h =
-    let connect = h.2.2.1 in
-    heard-bytes a (b ∷ c ∷ []) (sent_of h.1.outputs) ∙ heard-bytes b (c ∷ []) (sent_of h.2.1.outputs) ∙ heard-bytes c [] (connects-sends (place_of 0 h.2.0.links) c.outcome 0 pipe h.2.0 h.2.2.0 c connect)
-begins-quietly pipe old new (a ∷ b ∷ c ∷ d ∷ outs) h = absurd h.2.2.2
+-- the events of the beginning send nothing
+connect-quiet : (old new : Hub) (outs : List Outputs) → Run old (Connect 0 PIPE ∷ []) outs new → all_bytes_sent outs ≡ []
+connect-quiet old new [] h = absurd h
+connect-quiet old new (a ∷ []) h = heard-bytes a [] (connects-sends (place_of 0 old.links) a.outcome 0 PIPE old h.0 a h.1)
+connect-quiet old new (a ∷ b ∷ outs) h = absurd h.2
 
-pub at-start : (pipe : Peer) (start hub : Hub) (unread before : Option (List ℕ)) → BeginsAll pipe start hub → EndsAt pipe start 0 unread unread before before [] hub
-at-start pipe start hub unread before b = record {
+begins-quietly : (grace : Bool) (old new : Hub) (outs : List Outputs) → Run old (beginning grace) outs new → all_bytes_sent outs ≡ []
+begins-quietly true old new [] h = absurd h
+begins-quietly true old new (a ∷ outs) h = heard-bytes a outs (sent_of h.1.outputs) ∙ connect-quiet h.0 new outs h.2
+begins-quietly false old new [] h = absurd h
+begins-quietly false old new (a ∷ []) h = absurd h.2
+begins-quietly false old new (a ∷ b ∷ outs) h = heard-bytes a (b ∷ outs) (sent_of h.1.outputs) ∙ heard-bytes b outs (sent_of h.2.1.outputs) ∙ connect-quiet h.2.0 new outs h.2.2
+
+pub at-start : (grace : Bool) (start hub : Hub) (unread before : Option (List ℕ)) → BeginsAll (beginning grace) start hub → EndsAt (beginning grace) start 0 unread unread before before [] hub
+at-start grace start hub unread before b = record {
   pieces = [];
   few = omega arith;
   outs = b.outs;
   run = record { begun = hub; firsts = b.outs; begins = b.run; agreed = b.agreed; rest = []; turns = (refl, refl, refl); all = sym (append-nil b.outs) };
   read = Consumes-nil unread;
-  wrote = let P : List ℕ → Type 0 = λ x. Appends before before x in subst P (sym (begins-quietly pipe start hub b.outs b.run)) (Appends-nil before);
+  wrote = let P : List ℕ → Type 0 = λ x. Appends before before x in subst P (sym (begins-quietly grace start hub b.outs b.run)) (Appends-nil before);
 }
 
-pub unbegun : (pipe : Peer) (start hub : Hub) (bound : ℕ) (why : Refusal) (unread before : Option (List ℕ)) → BeginsSome pipe why start hub → (why ≡ Refusal.RecordTooLong → ⊥) → PipeEnds pipe start bound (Err (fault_of why)) unread unread before before
-unbegun pipe start hub bound Refusal.Starved unread before some short = inl (inr (record { end = hub; some = some; untouched = record { read = Keeps-same unread; wrote = Keeps-same before } }))
-unbegun pipe start hub bound Refusal.RecordTooLong unread before some short = absurd (short refl)
-unbegun pipe start hub bound Refusal.StoreRefused unread before some short = record { end = hub; some = some; untouched = record { read = Keeps-same unread; wrote = Keeps-same before } }
+pub unbegun : (events : List Event) (start hub : Hub) (bound : ℕ) (why : Refusal) (unread before : Option (List ℕ)) (end : Hub) → BeginsSome events why start hub → (why ≡ Refusal.RecordTooLong → ⊥) → StreamEnds events start bound (Err (fault_of why)) unread unread before before end
+unbegun events start hub bound Refusal.Starved unread before end some short = inl (inr (record { end = hub; some = some; untouched = record { read = Keeps-same unread; wrote = Keeps-same before } }))
+unbegun events start hub bound Refusal.RecordTooLong unread before end some short = absurd (short refl)
+unbegun events start hub bound Refusal.StoreRefused unread before end some short = record { end = hub; some = some; untouched = record { read = Keeps-same unread; wrote = Keeps-same before } }

@@ -1,5 +1,5 @@
 -- One stream from a reader to a writer, as a run of the daemon.
-use Rattle.std.specs.Prelude.{◌≡◌, ℕ, ◌+◌, ◌<◌, ◌≤◌, ◌⊎◌, List, [], ◌∷◌, ◌++◌, length, take, Option, Some, None, Result, Ok, Err}
+use Rattle.std.specs.Prelude.{◌≡◌, ℕ, ◌+◌, ◌<◌, ◌≤◌, ◌⊎◌, Bool, true, false, List, [], ◌∷◌, ◌++◌, length, take, Option, Some, None, Result, Ok, Err}
 use Rattle.std.specs.List.{flat_map}
 use Rattle.std.specs.Option.{option_to_list}
 use Rattle.std.specs.Io.KnownBytes.{Appends, Keeps, Consumes, IsAtEnd}
@@ -7,7 +7,7 @@ use Rattle.daemon_core.specs.declared.event.Event.{Event}
 use Rattle.daemon_core.specs.declared.event.Event.TheVariants.{Connect, Piece, GraceOver, Restart}
 use Rattle.daemon_core.specs.declared.outputs.Outputs.{Outputs}
 use Rattle.daemon_core.specs.declared.event.Refusal.{Refusal}
-use Rattle.kept_replies.specs.declared.key.Peer.{Peer}
+use Rattle.kept_replies.specs.declared.key.TheConstants.Peer.{PIPE}
 use Rattle.daemon_core.specs.Hub.{Hub, place_of, Waits, HubStep, Run, all_bytes_sent}
 use Rattle.pipe_loops.specs.declared.fault.Fault.{Fault}
 use Rattle.pipe_loops.specs.declared.fault.Fault.TheVariants.{Starved, RecordTooLong, StoreRefused, ReadFault, WriteFault}
@@ -59,19 +59,20 @@ Turns old (piece ∷ pieces) outs met new =
     (mid : Hub) × (first : List Outputs) × (rest : List Outputs) × (later : List Refusal) × (turn : Turn old piece first mid) × Turns mid pieces rest later new
     × (outs ≡ first ++ rest) × (met ≡ met_by turn.heard ++ later)
 
--- the server begins anew, its grace period is over, and the pipe's connection begins
-abbrev pub beginning : Peer → List Event
-beginning pipe = Restart ∷ GraceOver ∷ Connect 0 pipe ∷ []
+-- the server begins anew, its grace period is over, unless it is to go on, and the stream's connection begins
+abbrev pub beginning : Bool → List Event
+beginning true = Restart ∷ Connect 0 PIPE ∷ []
+beginning false = Restart ∷ GraceOver ∷ Connect 0 PIPE ∷ []
 
 -- what the events were refused
 abbrev pub refusals : List Outputs → List Refusal
 refusals outs = flat_map (λ (o : Outputs). option_to_list o.refusal) outs
 
--- so it begins, and then come these pieces
-pub record PipeRun (pipe : Peer) (start : Hub) (pieces : List (List ℕ)) (outs : List Outputs) (met : List Refusal) (end : Hub) : Type 0 where
+-- it begins with these events, and then come these pieces
+pub record PipeRun (events : List Event) (start : Hub) (pieces : List (List ℕ)) (outs : List Outputs) (met : List Refusal) (end : Hub) : Type 0 where
   pub begun : Hub
   pub firsts : List Outputs
-  pub begins : Run start (beginning pipe) firsts begun
+  pub begins : Run start events firsts begun
   pub agreed : refusals firsts ≡ []
   pub rest : List Outputs
   pub turns : Turns begun pieces rest met end
@@ -135,43 +136,43 @@ abbrev pub Passes : Result (Unit {0}) Fault → Event → Hub → Hub → Type 0
 Passes (Ok done) event old new = (out : Outputs) × HubStep old event out new × (out.refusal ≡ None)
 Passes (Err fault) event old new = (out : Outputs) × HubStep old event out new × (why : Refusal) × (out.refusal ≡ Some why) × (fault ≡ fault_of why)
 
-pub record BeginsAll (pipe : Peer) (old new : Hub) : Type 0 where
+pub record BeginsAll (events : List Event) (old new : Hub) : Type 0 where
   pub outs : List Outputs
-  pub run : Run old (beginning pipe) outs new
+  pub run : Run old events outs new
   pub agreed : refusals outs ≡ []
 
 -- an event of the beginning is refused, and nothing comes after it
-pub record BeginsSome (pipe : Peer) (why : Refusal) (old new : Hub) : Type 0 where
+pub record BeginsSome (events : List Event) (why : Refusal) (old new : Hub) : Type 0 where
   pub count : ℕ
   pub outs : List Outputs
-  pub run : Run old (take count (beginning pipe)) outs new
+  pub run : Run old (take count events) outs new
   pub met_is : refusals outs ≡ why ∷ []
 
-abbrev pub Begins : Peer → Result (Unit {0}) Fault → Hub → Hub → Type 0
-Begins pipe (Ok done) old new = BeginsAll pipe old new
-Begins pipe (Err fault) old new = (why : Refusal) × (fault ≡ fault_of why) × BeginsSome pipe why old new × (why ≡ Refusal.RecordTooLong → ⊥)
+abbrev pub Begins : List Event → Result (Unit {0}) Fault → Hub → Hub → Type 0
+Begins events (Ok done) old new = BeginsAll events old new
+Begins events (Err fault) old new = (why : Refusal) × (fault ≡ fault_of why) × BeginsSome events why old new × (why ≡ Refusal.RecordTooLong → ⊥)
 
 -- ---- the whole loop
 
 -- what was read came as these pieces, at most so many, all that is sent for them was written, and nothing else
-pub record EndsAt (pipe : Peer) (start : Hub) (most : ℕ) (unread left before after : Option (List ℕ)) (met : List Refusal) (hub : Hub) : Type 0 where
+pub record EndsAt (events : List Event) (start : Hub) (most : ℕ) (unread left before after : Option (List ℕ)) (met : List Refusal) (hub : Hub) : Type 0 where
   pub pieces : List (List ℕ)
   pub few : length pieces ≤ most
   pub outs : List Outputs
-  pub run : PipeRun pipe start pieces outs met hub
+  pub run : PipeRun events start pieces outs met hub
   pub read : Consumes unread left (joined pieces)
   pub wrote : Appends before after (all_bytes_sent outs)
 
-abbrev pub WholePipe : Peer → Hub → ℕ → Option (List ℕ) → Option (List ℕ) → Option (List ℕ) → Option (List ℕ) → List Refusal → Type 0
-WholePipe pipe start most unread left before after met = (hub : Hub) × EndsAt pipe start most unread left before after met hub
+abbrev pub WholePipe : List Event → Hub → ℕ → Option (List ℕ) → Option (List ℕ) → Option (List ℕ) → Option (List ℕ) → List Refusal → Type 0
+WholePipe events start most unread left before after met = (hub : Hub) × EndsAt events start most unread left before after met hub
 
 -- it ended within the turn of the last piece
-pub record BrokenPipe (fault : Fault) (pipe : Peer) (start : Hub) (most : ℕ) (unread left before after : Option (List ℕ)) : Type 0 where
+pub record BrokenPipe (fault : Fault) (events : List Event) (start : Hub) (most : ℕ) (unread left before after : Option (List ℕ)) : Type 0 where
   pub pieces : List (List ℕ)
   pub few : length pieces < most
   pub outs : List Outputs
   pub mid : Hub
-  pub run : PipeRun pipe start pieces outs [] mid
+  pub run : PipeRun events start pieces outs [] mid
   pub last : List ℕ
   pub more : List Outputs
   pub next : Hub
@@ -186,23 +187,26 @@ pub record Untouched (unread left before after : Option (List ℕ)) : Type 0 whe
   pub wrote : Keeps before after
 
 -- the beginning was refused
-pub record Unbegun (pipe : Peer) (start : Hub) (why : Refusal) (unread left before after : Option (List ℕ)) : Type 0 where
+pub record Unbegun (events : List Event) (start : Hub) (why : Refusal) (unread left before after : Option (List ℕ)) : Type 0 where
   pub end : Hub
-  pub some : BeginsSome pipe why start end
+  pub some : BeginsSome events why start end
   pub untouched : Untouched unread left before after
 
 -- memory is wanted for the daemon, by its beginning, for the place of a piece before it is read, by a piece, or for the entry of a sending. No contract can name that there was none for the daemon or for a place
-abbrev pub PipeStarves : Peer → Hub → ℕ → Option (List ℕ) → Option (List ℕ) → Option (List ℕ) → Option (List ℕ) → Type 0
-PipeStarves pipe start bound unread left before after =
-    (Untouched unread left before after ⊎ Unbegun pipe start Refusal.Starved unread left before after)
-    ⊎ ((WholePipe pipe start bound unread left before after [] ⊎ WholePipe pipe start bound unread left before after (Refusal.Starved ∷ []))
-    ⊎ BrokenPipe Starved pipe start bound unread left before after)
+abbrev pub PipeStarves : List Event → Hub → ℕ → Option (List ℕ) → Option (List ℕ) → Option (List ℕ) → Option (List ℕ) → Type 0
+PipeStarves events start bound unread left before after =
+    (Untouched unread left before after ⊎ Unbegun events start Refusal.Starved unread left before after)
+    ⊎ ((WholePipe events start bound unread left before after [] ⊎ WholePipe events start bound unread left before after (Refusal.Starved ∷ []))
+    ⊎ BrokenPipe Starved events start bound unread left before after)
 
--- at most `bound` pieces are read, and the end is a piece of no bytes. A ReadFault comes after `bound` pieces, or where a read failed, which no contract can name: it left what is left to read as it was
-abbrev pub PipeEnds : Peer → Hub → ℕ → Result (Unit {0}) Fault → Option (List ℕ) → Option (List ℕ) → Option (List ℕ) → Option (List ℕ) → Type 0
-PipeEnds pipe start bound (Ok done) unread left before after = ((most : ℕ) × (most < bound) × WholePipe pipe start most unread left before after []) × IsAtEnd left
-PipeEnds pipe start bound (Err ReadFault) unread left before after = WholePipe pipe start bound unread left before after []
-PipeEnds pipe start bound (Err RecordTooLong) unread left before after = WholePipe pipe start bound unread left before after (Refusal.RecordTooLong ∷ [])
-PipeEnds pipe start bound (Err Starved) unread left before after = PipeStarves pipe start bound unread left before after
-PipeEnds pipe start bound (Err StoreRefused) unread left before after = Unbegun pipe start Refusal.StoreRefused unread left before after
-PipeEnds pipe start bound (Err WriteFault) unread left before after = BrokenPipe WriteFault pipe start bound unread left before after
+-- at most `bound` pieces are read, and the end is a piece of no bytes; `end` is the state then. A ReadFault comes after `bound` pieces, or where a read failed, which no contract can name: it left what is left to read as it was
+abbrev pub StreamEnds : List Event → Hub → ℕ → Result (Unit {0}) Fault → Option (List ℕ) → Option (List ℕ) → Option (List ℕ) → Option (List ℕ) → Hub → Type 0
+StreamEnds events start bound (Ok done) unread left before after end = ((most : ℕ) × (most < bound) × EndsAt events start most unread left before after [] end) × IsAtEnd left
+StreamEnds events start bound (Err ReadFault) unread left before after end = WholePipe events start bound unread left before after []
+StreamEnds events start bound (Err RecordTooLong) unread left before after end = WholePipe events start bound unread left before after (Refusal.RecordTooLong ∷ [])
+StreamEnds events start bound (Err Starved) unread left before after end = PipeStarves events start bound unread left before after
+StreamEnds events start bound (Err StoreRefused) unread left before after end = Unbegun events start Refusal.StoreRefused unread left before after
+StreamEnds events start bound (Err WriteFault) unread left before after end = BrokenPipe WriteFault events start bound unread left before after
+
+abbrev pub PipeEnds : List Event → Hub → ℕ → Result (Unit {0}) Fault → Option (List ℕ) → Option (List ℕ) → Option (List ℕ) → Option (List ℕ) → Type 0
+PipeEnds events start bound result unread left before after = (end : Hub) × StreamEnds events start bound result unread left before after end

@@ -1,12 +1,13 @@
-//! The loops of the program `lockd` over a reader and a writer, and its command line.
+//! The loops of the program `lockd` over a reader and a writer.
 #![tactic(auto)]
 
 mod fault;
 mod output;
 mod pipe;
-mod run;
-mod words;
+mod server;
+mod table;
 
 pub use fault::Fault;
 pub use pipe::pipe_loop;
-pub use run::{no_hosts, own_name, run_lockd};
+pub use server::Server;
+pub use table::table_loop;

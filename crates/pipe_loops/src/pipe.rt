@@ -1,17 +1,19 @@
 //! One stream of records from a reader, and to a writer what it is answered and what is due behind each answer.
 
-ghost use Rattle.std.specs.Prelude.{◌≡◌, ◌<◌, ℕ, List, [], Option, IfOk, vec_len};
-ghost use Rattle.kept_replies.specs.declared.key.Peer.{Peer};
+ghost use Rattle.std.specs.Prelude.{◌≡◌, ◌<◌, ℕ, List, [], ◌∷◌, Option, IfOk, vec_len};
+ghost use Rattle.kept_replies.specs.declared.key.TheConstants.Peer.{PIPE};
 ghost use Rattle.pipe_loops.specs.Reads.{ReadsPiece};
 ghost use Rattle.daemon_core.specs.Hub.{Hub, opening};
 ghost use Rattle.pipe_loops.specs.Answered.{SendsNext, SendsDue, AnswersNext};
-ghost use Rattle.pipe_loops.specs.Pipe.{AnswersWaiting, TurnEnds, EndsAt, Passes, Begins, PipeEnds};
+ghost use Rattle.daemon_core.specs.declared.event.Event.{Event};
+ghost use Rattle.daemon_core.specs.declared.event.Event.TheVariants.{Connect};
+ghost use Rattle.pipe_loops.specs.Pipe.{beginning, AnswersWaiting, TurnEnds, EndsAt, Passes, Begins, StreamEnds, PipeEnds};
 
 use crate::fault::{FailedRead, Fault};
 use crate::output::write_outputs;
+use crate::server::Server;
 use daemon_core::{Daemon, Event, Peer};
 use hosts_db::HostStore;
-use letters::ShortBytes;
 use owner_ids::Starved;
 use range_table::RangeTable;
 use std::alloc::Global;
@@ -132,8 +134,8 @@ fn answer_pieces<T: RangeTable, S: HostStore, R: Read, W: Write>(
     writer: &mut W,
     bound: u64,
 ) -> Result<(), Fault>
-    ensures { (pipe : Peer) (start : Hub) (unread before : Option (List ℕ)) → EndsAt pipe start 0 unread (R.remaining reader.old) before (W.contents writer.old) [] daemon.old
-        → PipeEnds pipe start bound result unread (R.remaining reader.new) before (W.contents writer.new) }
+    ensures { (events : List Event) (start : Hub) (unread before : Option (List ℕ)) → EndsAt events start 0 unread (R.remaining reader.old) before (W.contents writer.old) [] daemon.old
+        → StreamEnds events start bound result unread (R.remaining reader.new) before (W.contents writer.new) daemon.new }
 {
     for _turn in 0..bound {
         // The place is got first, so that no byte is lost.
@@ -157,47 +159,60 @@ fn pass<T: RangeTable, S: HostStore>(daemon: &mut Daemon<T, S>, event: Event) ->
     }
 }
 
-/// The server begins anew, its grace period is over, and the pipe's connection begins.
-fn begin<T: RangeTable, S: HostStore>(daemon: &mut Daemon<T, S>) -> Result<(), Fault>
-    ensures { Begins Peer.PIPE result daemon.old daemon.new }
+/// The stream's connection begins.
+fn connect<T: RangeTable, S: HostStore>(daemon: &mut Daemon<T, S>) -> Result<(), Fault>
+    ensures { Begins (Connect 0 PIPE ∷ []) result daemon.old daemon.new }
+{
+    pass(daemon, Event::Connect(CONNECTION, Peer::PIPE))
+}
+
+/// The server begins anew, its grace period is over, unless it is to go on, and the stream's connection begins.
+fn begin<T: RangeTable, S: HostStore>(
+    daemon: &mut Daemon<T, S>,
+    is_grace: bool,
+) -> Result<(), Fault>
+    ensures { Begins (beginning is_grace) result daemon.old daemon.new }
 {
     pass(daemon, Event::Restart)?;
+    if is_grace {
+        return connect(daemon);
+    }
     pass(daemon, Event::GraceOver)?;
-    pass(daemon, Event::Connect(CONNECTION, Peer::PIPE))
+    connect(daemon)
 }
 
 /// Begins, reads a stream to its end, and writes what each whole record is answered, and the calls that are due behind it,
 /// in order, and nothing else.
-fn answer_stream<T: RangeTable, S: HostStore, R: Read, W: Write>(
+pub(crate) fn answer_stream<T: RangeTable, S: HostStore, R: Read, W: Write>(
     alloc: Global,
     daemon: &mut Daemon<T, S>,
+    is_grace: bool,
     reader: &mut R,
     writer: &mut W,
     bound: u64,
 ) -> Result<(), Fault>
-    ensures { PipeEnds Peer.PIPE daemon.old bound result (R.remaining reader.old) (R.remaining reader.new) (W.contents writer.old) (W.contents writer.new) }
+    ensures { StreamEnds (beginning is_grace) daemon.old bound result (R.remaining reader.old) (R.remaining reader.new) (W.contents writer.old) (W.contents writer.new) daemon.new }
 {
-    begin(daemon)?;
+    begin(daemon, is_grace)?;
     answer_pieces(alloc, daemon, reader, writer, bound)
 }
 
-/// A daemon with this table, which has no runs, and this store, begins, reads a stream to its end, and writes what each
-/// whole record is answered, and the calls of the server's own that are due behind it, in order, and nothing else. An end
-/// inside a record is no fault. After `bound` reads that were not the end it gives up with `ReadFault`.
+/// The server begins anew, reads a stream to its end, and writes what each whole record is answered, and the calls of the
+/// server's own that are due behind it, in order, and nothing else. Its table has no runs. An end inside a record is no
+/// fault. After `bound` reads that were not the end it gives up with `ReadFault`.
 pub fn pipe_loop<T: RangeTable + Drop, S: HostStore + Drop, R: Read, W: Write>(
     alloc: Global,
-    table: T,
-    store: S,
-    own_name: ShortBytes,
+    server: Server<T, S>,
     reader: &mut R,
     writer: &mut W,
     bound: u64,
 ) -> Result<(), Fault>
-    requires { T.settings table ≡ [] }
-    ensures { PipeEnds Peer.PIPE (opening own_name (S.rows store) (S.refusals store)) bound result (R.remaining reader.old) (R.remaining reader.new) (W.contents writer.old) (W.contents writer.new) }
+    requires { T.settings server.table ≡ [] }
+    ensures { PipeEnds (beginning server.is_grace) (opening server.own_name (S.rows server.store) (S.refusals server.store)) bound result (R.remaining reader.old) (R.remaining reader.new) (W.contents writer.old) (W.contents writer.new) }
 {
-    let mut daemon = Daemon::new(alloc, table, store, own_name)?;
-    let ended = answer_stream(alloc, &mut daemon, reader, writer, bound);
+    let is_grace = server.is_grace;
+    let mut daemon = server.into_daemon(alloc)?;
+    let ended = answer_stream(alloc, &mut daemon, is_grace, reader, writer, bound);
     drop(daemon);
     ended
 }

@@ -3,3 +3,5 @@
 
 #[cfg(test)]
 mod streams;
+#[cfg(test)]
+mod tables;

@@ -1,6 +1,7 @@
 //! Streams through the loop of `lockd pipe`, over readers and writers in memory.
 use hosts_db::{FULL_QUOTA, HostRow, MemHosts};
-use pipe_loops::{Fault, no_hosts, own_name, pipe_loop};
+use letters::ShortBytes;
+use pipe_loops::{Fault, Server, pipe_loop};
 use range_table::FlatTable;
 use std::alloc::Global;
 use std::io::{self, Error, ErrorKind, Read, Write};
@@ -12,7 +13,7 @@ const NULL: [u32; 10] = [1, 0, 2, 100021, 4, 0, 0, 0, 0, 0];
 const NULL_REPLY: [u32; 7] = [0x8000_0018, 1, 1, 0, 0, 0, 0];
 
 /// The bytes of these words.
-fn words(alloc: Global, words: &[u32]) -> Result<Vec<u8>, Fail> {
+pub(crate) fn words(alloc: Global, words: &[u32]) -> Result<Vec<u8>, Fail> {
     let mut bytes = Vec::new(alloc);
     for word in words {
         bytes.extend_from_slice(&word.to_be_bytes())?;
@@ -21,7 +22,7 @@ fn words(alloc: Global, words: &[u32]) -> Result<Vec<u8>, Fail> {
 }
 
 /// A record of one fragment.
-fn record(alloc: Global, message: &[u32]) -> Result<Vec<u8>, Fail> {
+pub(crate) fn record(alloc: Global, message: &[u32]) -> Result<Vec<u8>, Fail> {
     let mut bytes = words(alloc, &[(1 << 31) + 4 * (message.len() % 1024) as u32])?;
     bytes.extend_from_slice(&words(alloc, message)?)?;
     Ok(bytes)
@@ -29,10 +30,10 @@ fn record(alloc: Global, message: &[u32]) -> Result<Vec<u8>, Fail> {
 
 /// Gives its bytes by at most so many at once, and fails at one of its reads.
 #[derive(Drop)]
-struct Source<'a> {
-    rest: &'a [u8],
-    most: usize,
-    reads_left: usize,
+pub(crate) struct Source<'a> {
+    pub(crate) rest: &'a [u8],
+    pub(crate) most: usize,
+    pub(crate) reads_left: usize,
 }
 
 impl<'a> Read for Source<'a> {
@@ -50,9 +51,9 @@ impl<'a> Read for Source<'a> {
 
 /// Holds so many bytes, and then fails.
 #[derive(Drop)]
-struct Sink {
-    held: Vec<u8>,
-    room: usize,
+pub(crate) struct Sink {
+    pub(crate) held: Vec<u8>,
+    pub(crate) room: usize,
 }
 
 impl Write for Sink {
@@ -72,6 +73,31 @@ impl Write for Sink {
     }
 }
 
+/// A store of no hosts.
+pub(crate) fn no_hosts(alloc: Global) -> Result<MemHosts, Fault> {
+    match MemHosts::new(alloc, 0, Vec::new(alloc), Vec::new(alloc)) {
+        Ok(store) => Ok(store),
+        Err(_) => Err(Fault::StoreRefused),
+    }
+}
+
+/// A server of these hosts, named `server`, in grace or behind it.
+pub(crate) fn server(
+    alloc: Global,
+    store: MemHosts,
+    is_grace: bool,
+) -> Result<Server<FlatTable, MemHosts>, Fault> {
+    let Ok(own_name) = ShortBytes::copy_of(alloc, b"server") else {
+        return Err(Fault::Starved);
+    };
+    Ok(Server {
+        table: FlatTable::new(alloc)?,
+        store,
+        own_name,
+        is_grace,
+    })
+}
+
 /// A daemon of these hosts answers what the source gives.
 fn serve_over(
     alloc: Global,
@@ -79,8 +105,7 @@ fn serve_over(
     source: &mut Source<'_>,
     sink: &mut Sink,
 ) -> Result<(), Fault> {
-    let table = FlatTable::new(alloc)?;
-    pipe_loop(alloc, table, store, own_name(alloc)?, source, sink, 1_000)
+    pipe_loop(alloc, server(alloc, store, false)?, source, sink, 1_000)
 }
 
 /// A daemon of no hosts answers what the source gives.
@@ -112,7 +137,7 @@ fn null(rt: HostRuntime) -> Result<(), Fail> {
     Ok(())
 }
 
-const LOCK: [u32; 27] = [
+pub(crate) const LOCK: [u32; 27] = [
     2,
     0,
     2,
@@ -142,7 +167,7 @@ const LOCK: [u32; 27] = [
     3,
 ];
 
-const LOCK_REPLY: [u32; 10] = [0x8000_0024, 2, 1, 0, 0, 0, 0, 4, 2, 0];
+pub(crate) const LOCK_REPLY: [u32; 10] = [0x8000_0024, 2, 1, 0, 0, 0, 0, 4, 2, 0];
 
 const TEST: [u32; 24] = [
     3,
@@ -280,7 +305,7 @@ fn refused_headers(rt: HostRuntime) -> Result<(), Fail> {
         ),
         (
             &[1, 0, 2, 100021, 2, 0, 0, 0, 0, 0],
-            &[0x8000_0020, 1, 1, 0, 0, 0, 2, 4, 4],
+            &[0x8000_0020, 1, 1, 0, 0, 0, 2, 1, 4],
         ),
         (
             &[1, 0, 2, 100021, 4, 16, 0, 0, 0, 0],

@@ -1,0 +1,76 @@
+//! The stream on standard input is served.
+
+use crate::stores::{no_hosts, stored_hosts};
+use config::{Name, StreamConfig};
+use hosts_db::HostStore;
+use hosts_sql::SqlHosts;
+use letters::ShortBytes;
+use pipe_loops::{Fault, Server, pipe_loop, table_loop};
+use range_arena::ArenaTable;
+use sqlite::Alter;
+use std::alloc::Global;
+use std::io::{self, BufWriter};
+
+/// The most reads of a reader loop.
+const MAX_READS: u64 = 1_000_000_000;
+
+/// What is written of the stream.
+#[derive(Clone, Copy)]
+pub(crate) enum Told {
+    /// What each record is answered, and the calls of the server's own.
+    Replies,
+    /// The table of locks at its end.
+    Table,
+}
+
+fn own_name(alloc: Global, name: &Name) -> Result<ShortBytes, Fault> {
+    match ShortBytes::copy_of(alloc, name.as_str().as_bytes()) {
+        Ok(copy) => Ok(copy),
+        Err(_) => Err(Fault::Starved),
+    }
+}
+
+fn serve_over<S: HostStore + Drop>(
+    rt: &HostRuntime,
+    told: Told,
+    asked: &StreamConfig,
+    store: S,
+) -> Result<(), Fault> {
+    let alloc = rt.alloc();
+    let server = Server {
+        table: ArenaTable::new(alloc)?,
+        store,
+        own_name: own_name(alloc, &asked.name)?,
+        is_grace: asked.grace,
+    };
+    let mut reader = rt.reader();
+    let Ok(mut writer) = BufWriter::new(alloc, io::writer(rt)) else {
+        return Err(Fault::Starved);
+    };
+    match told {
+        Told::Replies => pipe_loop(alloc, server, &mut reader, &mut writer, MAX_READS),
+        Told::Table => table_loop(alloc, server, &mut reader, &mut writer, MAX_READS),
+    }
+}
+
+// It is generic, so that the proof of a call sees no more of a database than its trait.
+fn serve_database<S: Alter + Drop>(
+    rt: &HostRuntime,
+    told: Told,
+    asked: &StreamConfig,
+    store: SqlHosts<S>,
+) -> Result<(), Fault> {
+    serve_over(rt, told, asked, store)
+}
+
+/// Serves the stream on standard input, with the hosts of the file or none.
+pub(crate) fn serve_stream(
+    rt: &HostRuntime,
+    told: Told,
+    asked: &StreamConfig,
+) -> Result<(), Fault> {
+    match &asked.db {
+        None => serve_over(rt, told, asked, no_hosts(rt.alloc())?),
+        Some(path) => serve_database(rt, told, asked, stored_hosts(rt, path)?),
+    }
+}
