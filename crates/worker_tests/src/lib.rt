@@ -1,0 +1,7 @@
+//! Tests of the channel of jobs, of workers over one book, and of the audit.
+#![tactic(auto)]
+
+#[cfg(test)]
+mod closing;
+#[cfg(test)]
+mod parts;

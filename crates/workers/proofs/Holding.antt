@@ -1,0 +1,51 @@
+-- What the lock keeps stays in step.
+use Rattle.std.proofs.Common.{◌≡◌, ℕ, ◌+◌, List, [], ◌∷◌, ◌++◌, refl, sym, ap, ◌∙◌, arith, subst, Option, Some, None, IfSome}
+use Rattle.definitions.specs.Step.{State}
+use Rattle.kept_replies.specs.Pairs.{asker}
+use Rattle.book.specs.Given.{Upshot}
+use Rattle.std.specs.Prelude.{option_map}
+use Rattle.book.specs.Notes.{Note, Happening, Takes}
+use Rattle.book.specs.Receipts.{Receipt, receipt_of, newest, newest_receipt}
+use Rattle.book.specs.Journal.{Journal, Book, next_of, begun, rotated, noted, Enters}
+use Rattle.workers.specs.Holds.{Held, takes_in, takes_of, all_takes, Join, IsOneHistory, IsInStep}
+use Rattle.workers.proofs.Joins.{takes_in_append, takes_of_append, join_last, join_more}
+
+pub begins_in_step : (total : ℕ) (closed : List Journal) (b : Book) → closed ≡ [] → b.journal.notes ≡ [] → b.journal.first ≡ 1 → total ≡ 0 → IsInStep total (record { closed = closed; book = b })
+begins_in_step total closed b none empty first zero =
+    subst (λ (js : List Journal). IsInStep total (record { closed = js; book = b })) (sym none)
+    (record { counted = let e : takes_in b.journal.notes ≡ 0 = ap takes_in empty in omega (arith, zero, e); joined = (b.journal.base, (refl, first, tt)) })
+
+pub turns_in_step : (total : ℕ) (closed closed' : List Journal) (j : Journal) (b b' : Book) → j ≡ b.journal → closed' ≡ closed ++ j ∷ [] → b' ≡ rotated b → IsInStep total (record { closed = closed; book = b }) → IsInStep total (record { closed = closed'; book = b' })
+turns_in_step total closed closed' j b b' same more turned old =
+    let now : closed' ≡ closed ++ b.journal ∷ [] = more ∙ ap (λ (k : Journal). closed ++ k ∷ []) same in
+    subst (λ (h : Held). IsInStep total h) (λ i. record { closed = sym now i; book = sym turned i })
+    (record {
+      counted = let c = old.counted in let t = takes_of_append closed b.journal in omega (arith, c, t);
+      joined = (old.joined.0, join_more old.joined.0 1 closed b.journal old.joined.1);
+    })
+
+pub enters_in_step : (total total' : ℕ) (closed : List Journal) (b b' : Book) (peer : _) (asked : _) (upshot : Upshot) → Enters b (Takes peer asked) upshot b' → total' ≡ total + 1 → IsInStep total (record { closed = closed; book = b }) → IsInStep total' (record { closed = closed; book = b' })
+enters_in_step total total' closed b b' peer asked upshot enters more old =
+    let n : Note = record { number = next_of b.journal; event = Takes peer asked; upshot = upshot } in
+    let notes : b'.journal.notes ≡ b.journal.notes ++ n ∷ [] = ap (λ (j : Journal). j.notes) enters.journal in
+    let took : takes_in b'.journal.notes ≡ takes_in b.journal.notes + 1 = ap takes_in notes ∙ takes_in_append b.journal.notes n in
+    record {
+      counted = let c = old.counted in omega (arith, c, took, more);
+      joined = (old.joined.0, join_last old.joined.0 1 closed b.journal b'.journal (ap (λ (j : Journal). j.base) enters.journal) (ap (λ (j : Journal). j.first) enters.journal) old.joined.1);
+    }
+
+-- the gathered amount is that of all segments
+pub finished : {K : Type 0} (amount total : ℕ) (closed all : List Journal) (j : Journal) (b : Book) (kept : Option K) (items : K → List Journal) → amount ≡ total → IsInStep total (record { closed = closed; book = b }) → j ≡ b.journal → all ≡ closed ++ j ∷ [] → IfSome kept (λ s. items s ≡ all) → IfSome kept (λ s. amount ≡ takes_of (items s))
+finished amount total closed all j b None items whole old same more is = tt
+finished amount total closed all j b (Some s) items whole old same more is =
+    let c = old.counted in
+    let t : takes_of (items s) ≡ takes_of closed + takes_in b.journal.notes = ap takes_of (is ∙ more ∙ ap (λ (k : Journal). closed ++ k ∷ []) same) ∙ takes_of_append closed b.journal in
+    omega (arith, whole, c, t)
+
+-- the event of a receipt, if there is one
+abbrev event_or : Happening → Option Receipt → Happening
+event_or e None = e
+event_or e (Some r) = r.event
+
+pub told_event : (r : Receipt) (n : Note) (notes : List Note) → Some r ≡ newest_receipt notes → newest notes ≡ Some n → r.event ≡ n.event
+told_event r n notes is last = ap (event_or n.event) (is ∙ ap (option_map receipt_of) last)

@@ -1,0 +1,4 @@
+pub mod Joins
+pub mod Holding
+pub mod Answering
+pub mod Auditing

@@ -1,0 +1,35 @@
+use Rattle.std.proofs.Common.{◌≡◌, refl, ap, ◌∙◌, sym, subst, Some, None, ◌++◌, ◌∷◌, []}
+use Rattle.std.proofs.lemmas.List.{append-nil}
+use Rattle.kept_replies.specs.Pairs.{asker}
+use Rattle.definitions.specs.Hosts.{NotAsked}
+use Rattle.definitions.specs.Step.{Starved}
+use Rattle.book.specs.Given.{comes_to, given_of}
+use Rattle.book.specs.Notes.{Happening, Takes, Steps}
+use Rattle.workers.specs.Answers.{Worker, asks, asks_of, posted}
+use Rattle.workers.proofs.worker.Worker.answer.Goals.{in-Err, in_default}
+use Rattle.workers.proofs.worker.Worker.answer.Goals as goal
+
+-- what the desk was handed is the job's call
+the_call : (g : _) (c : goal.Joined-take g) → Takes (asker c.peer-peer.result) c.into_record.result ≡ asks c.args.job
+the_call g c = λ i. Takes (c.peer-peer.ensures i) (c.into_record.ensures i)
+
+pub returns-clause-answered : goal.returns-clause-answered
+returns-clause-answered g c = elim c.match-take.branch [
+  | in-Err w ↦
+      let none = w.in-Err.ensures.none in
+      let given = given_of w.starved.result in (
+        record { job = c.args.job; receipt = None; given = given },
+        refl,
+        λ s. subst (λ (e : Happening). Steps s e (comes_to Starved NotAsked given) s) (ap asks_of none.0 ∙ the_call g c) (w.starved.ensures s),
+        ap g.O.Outbox.handed w.outbox-is ∙ w.post_last.ensures ∙ (λ i. none.2 i ++ posted (c.connection-connection.ensures i) given),
+        none.1 ∙ ap (λ (x : Worker). x.receipts) c.self.view_is ∙ sym (append-nil _),
+      )
+  | in_default w ↦
+      let t = w.in_default.ensures.taken in (
+        record { job = c.args.job; receipt = Some t.0; given = t.1 },
+        refl,
+        (t.2 ∙ the_call g c, t.3),
+        ap g.O.Outbox.handed w.outbox-is ∙ t.5 ∙ ap (λ n. g.O.Outbox.handed c.args.outbox.now ++ posted n t.1) c.connection-connection.ensures,
+        t.4 ∙ ap (λ (x : Worker). x.receipts ++ t.0 ∷ []) c.self.view_is,
+      )
+]

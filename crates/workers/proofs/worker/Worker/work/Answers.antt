@@ -1,0 +1,17 @@
+use Rattle.std.proofs.Common.{ap, ◌∙◌, ◌++◌}
+use Rattle.jobs.specs.Passes.{with_taken}
+use Rattle.workers.specs.Answers.{Worker, listed}
+use Rattle.workers.proofs.Answering.{Worked-none, Worked-more}
+use Rattle.workers.proofs.worker.Worker.work.Goals as goal
+
+pub loop-init : goal.loop-init
+loop-init g c = Worked-none _ _
+
+pub loop-preserved : goal.loop-preserved
+loop-preserved g c =
+    let a = c.answer.ensures.answered in
+    Worked-more _ _ _ _ _ _ _ _ c.loop.invariant
+    (c.in-Some-receive.ensures.taken ∙ ap (λ (w : Worker). with_taken w.seat c.in-Some-receive.job) c.self.view_is)
+    a.0 a.1 a.2 a.3
+    (a.4 ∙ ap (λ (w : Worker). w.receipts ++ listed a.0.receipt) c.self.view_is)
+    c.answer.ensures.seat

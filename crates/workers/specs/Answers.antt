@@ -1,0 +1,87 @@
+-- What a worker answered.
+use Rattle.std.specs.Prelude.{◌≡◌, ℕ, List, [], ◌∷◌, ◌++◌, map, Option, Some, None}
+use Rattle.definitions.specs.Bytes.{Bytes}
+use Rattle.definitions.specs.Hosts.{NotAsked}
+use Rattle.definitions.specs.Step.{State, Given, Nothing, Replies, Says, Sends, IsStarved, IsRefused, Starved}
+use Rattle.call_outcome.specs.Replies.{reply_bytes}
+use Rattle.book.specs.Given.{comes_to, record_of}
+use Rattle.book.specs.Notes.{Happening, Takes, Steps}
+use Rattle.book.specs.Receipts.{Receipt}
+use Rattle.book.specs.declared.receipt.Taken.{Taken}
+use Rattle.kept_replies.specs.Pairs.{asker}
+use Rattle.jobs.specs.Task.{Task}
+use Rattle.jobs.specs.declared.passes.View.{View}
+use Rattle.jobs.specs.Passes.{with_hand}
+
+-- a record that was handed over, and the connection that it is for
+pub record Sent : Type 0 where
+  pub connection : ℕ
+  pub reply : Bytes
+
+-- the record of a reply; nothing where there is none
+abbrev pub posted : ℕ → Given → List Sent
+posted connection (Replies xid outcome) = record { connection = connection; reply = reply_bytes xid outcome } ∷ []
+posted connection Nothing = []
+posted connection (Says line) = []
+posted connection (Sends number letter) = []
+posted connection IsStarved = []
+posted connection IsRefused = []
+
+abbrev pub asks : Task → Happening
+asks job = Takes job.peer job.asked
+
+abbrev pub asks_of : Taken → Happening
+asks_of t = Takes (asker t.peer) t.«record»
+
+-- what a call gets that met want of memory before it began: SYSTEM_ERR, or nothing where its record is ignored
+abbrev pub StarvesAs : Task → Given → Type 0
+StarvesAs job given = (s : State) → Steps s (asks job) (comes_to Starved NotAsked given) s
+
+-- a job that was taken, the receipt of its entry, if there is one, and what it was given
+pub record Answer : Type 0 where
+  pub job : Task
+  pub receipt : Option Receipt
+  pub given : Given
+
+-- the receipt is of this job's peer and record, and it was given the receipt's reply; without an entry, what a starved call gets
+abbrev pub IsMet : Answer → Option Receipt → Type 0
+IsMet a (Some r) = (r.event ≡ asks a.job) × (record_of a.given ≡ r.reply)
+IsMet a None = StarvesAs a.job a.given
+
+abbrev pub AreMet : List Answer → Type 0
+AreMet [] = Unit {0}
+AreMet (a ∷ rest) = IsMet a a.receipt × AreMet rest
+
+abbrev pub sent_for : Answer → List Sent
+sent_for a = posted a.job.connection a.given
+
+abbrev pub all_sent : List Answer → List Sent
+all_sent [] = []
+all_sent (a ∷ rest) = sent_for a ++ all_sent rest
+
+abbrev pub listed : Option Receipt → List Receipt
+listed (Some r) = r ∷ []
+listed None = []
+
+abbrev pub all_receipts : List Answer → List Receipt
+all_receipts [] = []
+all_receipts (a ∷ rest) = listed a.receipt ++ all_receipts rest
+
+-- what its seat knows, and all receipts that it was given
+pub record Worker : Type 0 where
+  pub seat : View
+  pub receipts : List Receipt
+
+abbrev pub with_jobs : View → List Task → View
+with_jobs v jobs = with_hand v (record { put = v.hand.put; taken = v.hand.taken ++ jobs })
+
+-- these jobs were taken and answered, in order: each receipt and each record is that of its job
+pub record Answered (answers : List Answer) (old new : Worker) (sent sent' : List Sent) : Type 0 where
+  pub met : AreMet answers
+  pub taken : new.seat ≡ with_jobs old.seat (map (λ (a : Answer). a.job) answers)
+  pub handed : sent' ≡ sent ++ all_sent answers
+  pub receipts : new.receipts ≡ old.receipts ++ all_receipts answers
+
+-- all that the worker did was to take jobs and to answer them
+abbrev pub Worked : Worker → Worker → List Sent → List Sent → Type 0
+Worked old new sent sent' = (answers : List Answer) × Answered answers old new sent sent'

@@ -1,0 +1,63 @@
+-- What the lock keeps, and what one hold of it does.
+use Rattle.std.specs.Prelude.{◌≡◌, ◌⊎◌, ℕ, ◌+◌, Bool, true, false, cond, List, [], ◌∷◌, ◌++◌, Option, Some}
+use Rattle.definitions.specs.Step.{State}
+use Rattle.book.specs.Given.{Upshot}
+use Rattle.book.specs.Notes.{Happening, Takes, SendsNext, HearsAnswer, AsksLine, FallsSilent, GraceEnds, BeginsAnew, Note}
+use Rattle.book.specs.Journal.{Journal, Book, next_of, rotated, Enters}
+use Rattle.book.specs.Receipts.{Receipt, newest_receipt}
+
+-- the journals of the segments that are closed, in order, and the book with its open one
+pub record Held : Type 0 where
+  pub closed : List Journal
+  pub book : Book
+
+-- the event is a record that was taken
+abbrev pub is_take : Happening → Bool
+is_take (Takes peer asked) = true
+is_take SendsNext = false
+is_take (HearsAnswer bytes) = false
+is_take (AsksLine l line) = false
+is_take (FallsSilent number) = false
+is_take GraceEnds = false
+is_take BeginsAnew = false
+
+-- how many of the entries took a record
+abbrev pub takes_in : List Note → ℕ
+takes_in [] = 0
+takes_in (n ∷ notes) = cond (is_take n.event) 1 0 + takes_in notes
+
+abbrev pub takes_of : List Journal → ℕ
+takes_of [] = 0
+takes_of (j ∷ journals) = takes_in j.notes + takes_of journals
+
+abbrev pub all_takes : Held → ℕ
+all_takes h = takes_of h.closed + takes_in h.book.journal.notes
+
+-- each journal begins where the one before it ends, with the number behind its last
+abbrev pub Join : State → ℕ → List Journal → Type 0
+Join base first [] = Unit {0}
+Join base first (j ∷ journals) = (j.base ≡ base) × (j.first ≡ first) × Join j.end (next_of j) journals
+
+-- the segments are one history, whose first number is 1
+abbrev pub IsOneHistory : List Journal → Type 0
+IsOneHistory journals = (base : State) × Join base 1 journals
+
+-- the total is the number of calls that all segments took, which are one history
+pub record IsInStep (total : ℕ) (h : Held) : Type 0 where
+  pub counted : total ≡ all_takes h
+  pub joined : IsOneHistory (h.closed ++ h.book.journal ∷ [])
+
+-- the open segment is closed, and a fresh one begins where it ends
+abbrev pub turned : Held → Held
+turned h = record { closed = h.closed ++ h.book.journal ∷ []; book = rotated h.book }
+
+-- nothing happened, but perhaps a segment was closed
+abbrev pub Rests : Held → Held → Type 0
+Rests old new = (new ≡ old) ⊎ (new ≡ turned old)
+
+-- one event was one entry, the newest, and nothing else happened, but perhaps that a segment was closed before it
+pub record Notes (old : Held) (event : Happening) (upshot : Upshot) (new : Held) : Type 0 where
+  pub before : Held
+  pub rests : Rests old before
+  pub closed : new.closed ≡ before.closed
+  pub enters : Enters before.book event upshot new.book

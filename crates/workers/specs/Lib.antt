@@ -1,0 +1,4 @@
+pub mod Holds
+pub mod Answers
+pub mod Audits
+pub mod Places

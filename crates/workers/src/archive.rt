@@ -1,0 +1,56 @@
+//! What is noted for an audit.
+ghost use Rattle.std.specs.Prelude.{◌≡◌, ◌<◌, [], ◌∷◌, ◌++◌, IfOk, IfSome};
+ghost use Rattle.std.specs.Option.{ForSome};
+ghost use Rattle.workers.specs.Places.{HasPlace};
+
+use book::Starved;
+use history::History;
+use std::alloc::Global;
+
+/// Items in the order in which they came. They are kept for an audit alone; else contracts alone see them.
+#[derive(Drop)]
+pub(crate) struct Archive<T> {
+    pub(crate) all: History<T>,
+    kept: Option<Vec<T>>,
+    ghost same: { ForSome kept (λ items. items.items ≡ all.items) },
+}
+
+impl<T: Drop> Archive<T> {
+    pub(crate) fn new(alloc: Global, is_kept: bool) -> Archive<T>
+        ensures { result.all.items ≡ [] }
+    {
+        Archive {
+            all: History::new(),
+            kept: is_kept.then(|| Vec::new(alloc)),
+        }
+    }
+
+    /// Gets a place for one item more, where they are kept.
+    pub(crate) fn reserve(&mut self) -> Result<(), Starved>
+        ensures place { IfOk result (λ _. HasPlace self.new.kept) }
+        ensures same { self.new.all.items ≡ self.old.all.items }
+    {
+        if let Some(items) = &mut self.kept {
+            items.reserve(1)?;
+        }
+        Ok(())
+    }
+
+    /// One item more.
+    pub(crate) fn add(&mut self, item: T)
+        requires place { HasPlace self.old.kept }
+        ensures { self.new.all.items ≡ self.old.all.items ++ item ∷ [] }
+    {
+        self.all = self.all.and(&item);
+        if let Some(items) = &mut self.kept {
+            items.push_reserved(item);
+        }
+    }
+
+    /// The items, where they were kept.
+    pub(crate) fn into_kept(self) -> Option<Vec<T>>
+        ensures { IfSome result (λ items. items.items ≡ self.all.items) }
+    {
+        self.kept
+    }
+}

@@ -1,0 +1,83 @@
+//! What a worker has beside its seat.
+ghost use Rattle.std.specs.Prelude.{◌≡◌, ◌+◌, ◌<◌, [], ◌∷◌, ◌++◌, IfOk, IfErr, length};
+ghost use Rattle.definitions.specs.Step.{Given};
+ghost use Rattle.book.specs.Given.{record_of};
+ghost use Rattle.book.specs.Receipts.{Receipt as Told};
+ghost use Rattle.workers.specs.Answers.{asks_of, posted};
+ghost use Rattle.workers.specs.Places.{HasPlace};
+
+use crate::archive::Archive;
+use crate::outbox::{Outbox, post};
+use crate::shared::Shared;
+use book::{Receipt, Segment, Starved, Taken};
+use bytes::Bytes;
+use hosts_db::HostStore;
+use range_table::RangeTable;
+use std::alloc::Global;
+use std::sync::ledger::{Ledger, Share};
+use std::sync::{Mutex, Wait};
+
+/// A share of the ledger, a segment for when the open one is full, and the receipts of the calls that were taken.
+#[derive(Drop)]
+pub(crate) struct Desk<L: Ledger> {
+    alloc: Global,
+    pub(crate) share: Share<L>,
+    spare: Option<Segment>,
+    pub(crate) receipts: Archive<Receipt>,
+    ghost part: { 0 < share.parts },
+    ghost counted: { share.amount ≡ length receipts.all.items },
+}
+
+impl<L: Ledger> Desk<L> {
+    pub(crate) fn new(alloc: Global, share: Share<L>, is_kept: bool) -> Desk<L>
+        requires part { (0 < share.parts) × (share.amount ≡ 0) }
+        ensures { result.receipts.all.items ≡ [] }
+    {
+        Desk {
+            alloc,
+            share,
+            spare: None,
+            receipts: Archive::new(alloc, is_kept),
+        }
+    }
+
+    // What there has to be before the hold: a segment, a place for the receipt, and a second handle on the record.
+    fn prepare(&mut self, asked: &Bytes) -> Result<Bytes, Starved>
+        ensures same { IfOk result (λ same. same ≡ asked.now) }
+        ensures place { IfOk result (λ _. HasPlace self.new.receipts.kept) }
+        ensures all { self.new.receipts.all.items ≡ self.old.receipts.all.items }
+    {
+        if self.spare.is_none() {
+            self.spare = Some(Segment::new(self.alloc)?);
+        }
+        self.receipts.reserve()?;
+        Ok(asked.clone()?)
+    }
+
+    /// Takes a call in one hold, and hands its reply over. The call comes back where no entry could be made.
+    pub(crate) fn take<R: RangeTable, S: HostStore, O: Outbox, W: Wait>(
+        &mut self,
+        rt: &W,
+        shared: &Mutex<Shared<R, S, L>>,
+        outbox: &mut O,
+        connection: u64,
+        taken: Taken,
+    ) -> Result<(), Taken>
+        ensures taken { IfOk result (λ _. (receipt : Told) × (given : Given) × (receipt.event ≡ asks_of taken) × (record_of given ≡ receipt.reply)
+            × (self.new.receipts.all.items ≡ self.old.receipts.all.items ++ receipt ∷ [])
+            × (O.handed outbox.new ≡ O.handed outbox.old ++ posted connection given)) }
+        ensures none { IfErr result (λ back. (back ≡ taken) × (self.new.receipts.all.items ≡ self.old.receipts.all.items) × (O.handed outbox.new ≡ O.handed outbox.old)) }
+    {
+        let Ok(same) = self.prepare(&taken.record) else {
+            return Err(taken);
+        };
+        // The book's lock is free again behind this line.
+        let got = shared
+            .lock(rt)
+            .take(taken, same, &mut self.spare, &mut self.share);
+        let receipt = got?;
+        post(outbox, connection, receipt.reply());
+        self.receipts.add(receipt);
+        Ok(())
+    }
+}

@@ -1,0 +1,15 @@
+//! Workers over one book: jobs go through the channel from those who read records to those who answer them, each job is answered
+//! in one hold of the book's lock, and what was done can be audited at the end.
+#![tactic(auto)]
+
+mod archive;
+mod audits;
+mod desk;
+mod outbox;
+mod shared;
+mod worker;
+
+pub use audits::{AuditMismatch, audit};
+pub use outbox::{Gate, MemoryOutbox, Outbox, Parcel};
+pub use shared::{Ends, Shared};
+pub use worker::{Leaves, Worker};

@@ -1,0 +1,91 @@
+//! Where replies go, and what stands before a hold.
+ghost use Rattle.std.specs.Prelude.{◌≡◌, List, [], ◌∷◌, ◌++◌};
+ghost use Rattle.book.specs.Given.{given_of, record_of};
+ghost use Rattle.workers.specs.Answers.{Sent, posted};
+
+use book::Reply;
+use history::History;
+use jobs::Job;
+use std::alloc::Global;
+use xdr_core::Frame;
+
+/// Runs before a worker takes the book's lock.
+pub trait Gate {
+    fn before(&self, job: &Job);
+}
+
+/// Takes replies to their connections. Contracts see all that it was handed. Whether a record reaches anybody is not said: where
+/// a connection is broken the record is lost, and the worker goes on.
+pub trait Outbox {
+    ghost handed: { Self → List Sent };
+
+    /// A reply that has a record.
+    fn hand(&mut self, connection: u64, reply: &Reply)
+        ensures { handed self.new ≡ handed self.old ++ record { connection = connection; reply = record_of (given_of reply.now) } ∷ [] };
+}
+
+/// Hands over a reply, if it has a record.
+pub(crate) fn post<O: Outbox>(outbox: &mut O, connection: u64, reply: &Reply)
+    ensures { O.handed outbox.new ≡ O.handed outbox.old ++ posted connection (given_of reply.now) }
+{
+    match reply {
+        Reply::Answers { .. } | Reply::Refuses { .. } | Reply::SystemErr { .. } => {
+            outbox.hand(connection, reply);
+        }
+        Reply::Nothing | Reply::Says(_) | Reply::Starved | Reply::StoreRefused => {}
+    }
+}
+
+/// As `post`, of a reply that nobody else needs.
+pub(crate) fn post_last<O: Outbox>(outbox: &mut O, connection: u64, reply: Reply)
+    ensures { O.handed outbox.new ≡ O.handed outbox.old ++ posted connection (given_of reply) }
+{
+    post(outbox, connection, &reply);
+}
+
+/// A record for a connection.
+#[derive(Drop)]
+pub struct Parcel {
+    pub connection: u64,
+    pub record: Frame,
+}
+
+/// An outbox that keeps records in memory, as many as it finds memory for, and tells of all that it was handed.
+#[derive(Drop)]
+pub struct MemoryOutbox {
+    kept: Vec<Parcel>,
+    all: History<Parcel>,
+}
+
+impl MemoryOutbox {
+    pub fn new(alloc: Global) -> MemoryOutbox
+        ensures { result.all.items ≡ [] }
+    {
+        MemoryOutbox {
+            kept: Vec::new(alloc),
+            all: History::new(),
+        }
+    }
+
+    /// The records that it kept, the oldest first.
+    pub fn kept(&self) -> &[Parcel] {
+        &self.kept
+    }
+}
+
+impl Outbox for MemoryOutbox {
+    ghost use Rattle.std.specs.Prelude.{map};
+    ghost use Rattle.workers.specs.Answers.{Sent};
+    ghost use Rattle.workers.specs.declared.outbox.Parcel.{Parcel as Packed};
+
+    ghost handed = { λ o. map (λ (p : Packed). record { connection = p.connection; reply = p.«record» }) o.all.items };
+
+    fn hand(&mut self, connection: u64, reply: &Reply) {
+        let mut record = Frame::new();
+        // An empty frame has room for each reply.
+        let _ = reply.put(&mut record);
+        let parcel = Parcel { connection, record };
+        self.all = self.all.and(&parcel);
+        let _ = self.kept.push(parcel);
+    }
+}

@@ -1,0 +1,152 @@
+//! What a worker does.
+ghost use Rattle.std.specs.Prelude.{◌≡◌, ◌+◌, ◌<◌, [], ◌∷◌, ◌++◌, IfOk, IfSome, IfNone, Some, None, length, MatchResult};
+ghost use Rattle.jobs.specs.Passes.{with_put};
+ghost use Rattle.workers.specs.Answers.{Answer, Worked, IsMet, posted, listed};
+
+use crate::desk::Desk;
+use crate::outbox::{Gate, Outbox, post_last};
+use crate::shared::Shared;
+use book::{Receipt, Taken};
+use hosts_db::HostStore;
+use jobs::{Channel, Closed, Job, Place, Seat};
+use range_table::RangeTable;
+use std::alloc::Global;
+use std::marker::Model;
+use std::sync::ledger::{Ledger, Share};
+use std::sync::{Mutex, Wait};
+
+/// Whoever answers jobs: a worker's thread, or a connection's own. It has a seat at the channel, and a desk. Contracts see what
+/// the seat knows, and the receipts of all calls that it took.
+#[derive(Drop)]
+pub struct Worker<P: Place, L: Ledger> {
+    seat: Seat<P>,
+    desk: Desk<L>,
+}
+
+impl<P: Place, L: Ledger> Model for Worker<P, L> {
+    ghost use Rattle.workers.specs.Answers.{Worker};
+
+    ghost Value = { Worker };
+
+    ghost view = { λ w. record { seat = w.seat; receipts = w.desk.receipts.all.items } };
+}
+
+/// What a worker leaves behind.
+#[derive(Drop)]
+pub struct Leaves<P: Place, L: Ledger> {
+    pub seat: Seat<P>,
+    pub share: Share<L>,
+    /// Of the calls that it took, in order, where they were kept.
+    pub receipts: Option<Vec<Receipt>>,
+}
+
+impl<P: Place, L: Ledger> Worker<P, L> {
+    /// With this seat and this part of the ledger. `is_kept` keeps its receipts for an audit.
+    pub fn new(alloc: Global, seat: Seat<P>, share: Share<L>, is_kept: bool) -> Worker<P, L>
+        requires part { (0 < share.parts) × (share.amount ≡ 0) }
+        ensures { result ≡ record { seat = seat; receipts = [] } }
+    {
+        Worker {
+            seat,
+            desk: Desk::new(alloc, share, is_kept),
+        }
+    }
+
+    /// Ends it. Its share is the number of its receipts.
+    pub fn leave(self) -> Leaves<P, L>
+        ensures seat { result.seat ≡ self.seat }
+        ensures share { (0 < result.share.parts) × (result.share.amount ≡ length self.receipts) }
+        ensures receipts { IfSome result.receipts (λ receipts. receipts.items ≡ self.receipts) }
+    {
+        let Worker { seat, desk } = self;
+        let Desk {
+            share,
+            receipts,
+            ..
+        } = desk;
+        Leaves {
+            seat,
+            share,
+            receipts: receipts.into_kept(),
+        }
+    }
+
+    /// Puts a job and wakes another for it, or gives it back: the channel is closed.
+    pub fn send<W: Wait>(&mut self, rt: &W, channel: &Channel<P>, job: Job) -> Result<(), Closed>
+        ensures put { MatchResult result (λ _. self.new ≡ record { seat = with_put self.old.seat job; receipts = self.old.receipts }) (λ e. (e.job ≡ job) × (self.new ≡ self.old)) }
+    {
+        self.seat.send(rt, channel, job)
+    }
+
+    /// As `send`, but nobody is woken: it takes a job itself next.
+    pub fn put<W: Wait>(&mut self, rt: &W, channel: &Channel<P>, job: Job) -> Result<(), Closed>
+        ensures put { MatchResult result (λ _. self.new ≡ record { seat = with_put self.old.seat job; receipts = self.old.receipts }) (λ e. (e.job ≡ job) × (self.new ≡ self.old)) }
+    {
+        self.seat.put(rt, channel, job)
+    }
+
+    /// Takes jobs and answers them, until the channel is closed and no job is left.
+    pub fn work<R: RangeTable, S: HostStore, G: Gate, O: Outbox, W: Wait>(
+        &mut self,
+        rt: &W,
+        channel: &Channel<P>,
+        shared: &Mutex<Shared<R, S, L>>,
+        gate: &G,
+        outbox: &mut O,
+    )
+        ensures worked { Worked self.old self.new (O.handed outbox.old) (O.handed outbox.new) }
+    {
+        for _ in rt.forever() {
+            let Some(job) = self.seat.receive(rt, channel) else {
+                break;
+            };
+            gate.before(&job);
+            self.answer(rt, shared, outbox, job);
+        }
+    }
+
+    /// Takes as many jobs, if there are so many, whoever put them, and answers them.
+    pub fn help<R: RangeTable, S: HostStore, G: Gate, O: Outbox, W: Wait>(
+        &mut self,
+        rt: &W,
+        channel: &Channel<P>,
+        shared: &Mutex<Shared<R, S, L>>,
+        gate: &G,
+        outbox: &mut O,
+        count: usize,
+    )
+        ensures worked { Worked self.old self.new (O.handed outbox.old) (O.handed outbox.new) }
+    {
+        for _ in 0..count {
+            let Some(job) = self.seat.try_receive(rt, channel) else {
+                break;
+            };
+            gate.before(&job);
+            self.answer(rt, shared, outbox, job);
+        }
+    }
+
+    // Answers one job, in one hold.
+    fn answer<R: RangeTable, S: HostStore, O: Outbox, W: Wait>(
+        &mut self,
+        rt: &W,
+        shared: &Mutex<Shared<R, S, L>>,
+        outbox: &mut O,
+        job: Job,
+    )
+        ensures answered { (a : Answer) × (a.job ≡ job) × IsMet a a.receipt
+            × (O.handed outbox.new ≡ O.handed outbox.old ++ posted job.connection a.given)
+            × (self.new.receipts ≡ self.old.receipts ++ listed a.receipt) }
+        ensures seat { self.new.seat ≡ self.old.seat }
+    {
+        let connection = job.connection();
+        let peer = job.peer();
+        let taken = Taken {
+            peer,
+            record: job.into_record(),
+        };
+        if let Err(taken) = self.desk.take(rt, shared, outbox, connection, taken) {
+            post_last(outbox, connection, taken.starved());
+        }
+    }
+}
