@@ -40,18 +40,21 @@ fn granted(line: &[u8]) -> Frame {
 
 #[test]
 fn each_kind(rt: HostRuntime) -> Result<(), Fail> {
-    let lines: [(&[u8], &str); 11] = [
+    let lines: [(&[u8], &str); 14] = [
         (b"getlk d1 AA r 0 0", "getlk"),
         (b"setlk p1 aa w 5 0", "setlk"),
         (b"setlk p1 aa u 6 1", "setlk"),
         (b"setlkw p9 01020304 w 0 1", "setlkw"),
         (b"setlkw d0 01020304 u 0 1", "setlkw"),
         (b"close d1 aa", "close"),
-        (b"quota 61 65536", "quota"),
         (b"table", "table"),
         (b"hosts", "hosts"),
         (b"stop", "stop"),
         (b"stop ", "bad"),
+        (b"quota 61 65536", "quota"),
+        (b"quota 61 65537", "bad"),
+        (b"quota 61 01", "bad"),
+        (b"quota 6 1", "bad"),
     ];
     for (line, kind) in lines {
         assert_eq!(rt; kind_of(line), kind);
