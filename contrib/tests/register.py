@@ -6,9 +6,11 @@ import time
 from stand_ins import TCP, UDP, Cut, Mapper, StandIn, Trickle, marked, mute, opaque, success, words, xid_of
 from tried import cases, equal, run, test
 
-OWN = {(100021, 4, TCP): 4045, (100024, 1, TCP): 4045}
+VERSIONS = (1, 3, 4)
+LOCKS = {(100021, version, TCP): 4045 for version in VERSIONS}
+OWN = {**LOCKS, (100024, 1, TCP): 4045}
 ENDED = "the port mapper ended the connection before its answer was whole"
-OTHERS = {(100003, 3, TCP): 2049, (100021, 3, UDP): 77}
+OTHERS = {(100003, 3, TCP): 2049, (100021, 2, UDP): 77}
 
 
 def register(answer, *arguments):
@@ -26,7 +28,8 @@ def refusal(answer, *arguments):
 @test
 def set_default():
     mapper = Mapper(OTHERS)
-    told = "set program 100021 version 4 over TCP at port 4045\nset program 100024 version 1 over TCP at port 4045\n"
+    locks = "".join(f"set program 100021 version {version} over TCP at port 4045\n" for version in VERSIONS)
+    told = f"{locks}set program 100024 version 1 over TCP at port 4045\n"
     equal(register(mapper, "set", "--port", "4045"), (0, told, ""))
     equal(mapper.kept, {**OTHERS, **OWN})
 
@@ -34,9 +37,9 @@ def set_default():
 @test
 def set_all():
     mapper = Mapper()
-    asked = ["set", "--port", "9", "--nsm-port", "10", "--notify-port", "11", "--versions", "1,3,4"]
+    asked = ["set", "--port", "9", "--nsm-port", "10", "--notify-port", "11", "--versions", "3,4"]
     equal(register(mapper, *asked)[0], 0)
-    locks = {(100021, version, TCP): 9 for version in (1, 3, 4)}
+    locks = {(100021, version, TCP): 9 for version in (3, 4)}
     equal(mapper.kept, {**locks, (100024, 1, TCP): 10, (100024, 1, UDP): 11})
 
 
@@ -52,7 +55,7 @@ def set_keeps():
     mapper = Mapper({(100024, 1, TCP): 1, **OTHERS})
     told = refusal(mapper, "set", "--port", "4045", "--keep")
     equal(told, "program 100024 version 1 over TCP stands at port 1 already")
-    equal(mapper.kept, {**OTHERS, (100021, 4, TCP): 4045, (100024, 1, TCP): 1})
+    equal(mapper.kept, {**OTHERS, **LOCKS, (100024, 1, TCP): 1})
 
 
 @test
@@ -78,14 +81,14 @@ def set_refused():
     mapper = Mapper()
     mapper.set = lambda _key, _port: 0
     told = refusal(mapper, "set", "--port", "4045")
-    equal(told, "the port mapper refused program 100021 version 4 over TCP at port 4045, though nothing stands there")
+    equal(told, "the port mapper refused program 100021 version 1 over TCP at port 4045, though nothing stands there")
 
 
 @test
 def unset():
     mapper = Mapper({**OTHERS, **OWN, (100024, 1, UDP): 11})
     status, told, _ = register(mapper, "unset")
-    equal((status, told.count("\n"), mapper.kept), (0, 3, OTHERS))
+    equal((status, told.count("\n"), mapper.kept), (0, 5, OTHERS))
     equal(register(mapper, "unset")[0], 0)
     equal(mapper.kept, OTHERS)
 

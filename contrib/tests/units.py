@@ -8,7 +8,7 @@ from tried import CONTRIB, cases, equal, run, test
 COMMANDS = CONTRIB.parent / "crates/config/specs/Lockd.antt"
 
 
-@cases(register=("lockd-register", "serves version 4 alone"), relay=("lockd-notify-relay", "sees the relay's address"))
+@cases(register=("lockd-register", "default: all three"), relay=("lockd-notify-relay", "sees the relay's address"))
 def helps(program, told):
     status, text, _ = run(program, "--help")
     equal(status, 0)
