@@ -1,5 +1,6 @@
 //! A channel that is closed.
 ghost use Rattle.std.specs.Prelude.{◌≡◌};
+
 use crate::parts::job;
 use jobs::{Opened, Place};
 use std::alloc::Global;

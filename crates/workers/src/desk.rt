@@ -17,20 +17,20 @@ use std::alloc::Global;
 use std::sync::ledger::{Ledger, Share};
 use std::sync::{Mutex, Wait};
 
-/// A share of the ledger, a segment for when the open one is full, and the receipts of the calls that were taken.
+/// One part of the ledger, a segment for when the open one is full, and the receipts of the calls that were taken.
 #[derive(Drop)]
 pub(crate) struct Desk<L: Ledger> {
     alloc: Global,
     pub(crate) share: Share<L>,
     spare: Option<Segment>,
     pub(crate) receipts: Archive<Receipt>,
-    ghost part: { 0 < share.parts },
+    ghost part: { share.parts ≡ 1 },
     ghost counted: { share.amount ≡ length receipts.all.items },
 }
 
 impl<L: Ledger> Desk<L> {
     pub(crate) fn new(alloc: Global, share: Share<L>, is_kept: bool) -> Desk<L>
-        requires part { (0 < share.parts) × (share.amount ≡ 0) }
+        requires part { (share.parts ≡ 1) × (share.amount ≡ 0) }
         ensures { result.receipts.all.items ≡ [] }
     {
         Desk {

@@ -41,9 +41,9 @@ pub struct Leaves<P: Place, L: Ledger> {
 }
 
 impl<P: Place, L: Ledger> Worker<P, L> {
-    /// With this seat and this part of the ledger. `is_kept` keeps its receipts for an audit.
+    /// With this seat and this one part of the ledger. `is_kept` keeps its receipts for an audit.
     pub fn new(alloc: Global, seat: Seat<P>, share: Share<L>, is_kept: bool) -> Worker<P, L>
-        requires part { (0 < share.parts) × (share.amount ≡ 0) }
+        requires part { (share.parts ≡ 1) × (share.amount ≡ 0) }
         ensures { result ≡ record { seat = seat; receipts = [] } }
     {
         Worker {
@@ -55,7 +55,7 @@ impl<P: Place, L: Ledger> Worker<P, L> {
     /// Ends it. Its share is the number of its receipts.
     pub fn leave(self) -> Leaves<P, L>
         ensures seat { result.seat ≡ self.seat }
-        ensures share { (0 < result.share.parts) × (result.share.amount ≡ length self.receipts) }
+        ensures share { (result.share.parts ≡ 1) × (result.share.amount ≡ length self.receipts) }
         ensures receipts { IfSome result.receipts (λ receipts. receipts.items ≡ self.receipts) }
     {
         let Worker { seat, desk } = self;
