@@ -7,14 +7,6 @@ pub(crate) struct Lent<'a, S: HostStore> {
     pub(crate) writes: &'a mut usize,
 }
 
-impl<'a, S: HostStore> Lent<'a, S> {
-    // The store, for a call that may write.
-    fn writing(&mut self) -> &mut S {
-        *self.writes = self.writes.saturating_add(1);
-        self.store
-    }
-}
-
 impl<'a, S: HostStore> HostStore for Lent<'a, S> {
     ghost rows = { λ l. S.rows l.store.now };
 
@@ -25,23 +17,28 @@ impl<'a, S: HostStore> HostStore for Lent<'a, S> {
     ghost may_refuse = { λ l. S.may_refuse l.store.now };
 
     fn start(&mut self) -> Result<u32, StoreError> {
-        self.writing().start()
+        *self.writes = self.writes.saturating_add(1);
+        self.store.start()
     }
 
     fn monitor(&mut self, name: &[u8], state: i32) -> Result<(), StoreError> {
-        self.writing().monitor(name, state)
+        *self.writes = self.writes.saturating_add(1);
+        self.store.monitor(name, state)
     }
 
     fn seen(&mut self, name: &[u8], state: i32) -> Result<(), StoreError> {
-        self.writing().seen(name, state)
+        *self.writes = self.writes.saturating_add(1);
+        self.store.seen(name, state)
     }
 
     fn acked(&mut self, name: &[u8], epoch: u32) -> Result<(), StoreError> {
-        self.writing().acked(name, epoch)
+        *self.writes = self.writes.saturating_add(1);
+        self.store.acked(name, epoch)
     }
 
     fn quota(&mut self, name: &[u8], runs: u32) -> Result<(), StoreError> {
-        self.writing().quota(name, runs)
+        *self.writes = self.writes.saturating_add(1);
+        self.store.quota(name, runs)
     }
 
     fn watch(
@@ -50,11 +47,13 @@ impl<'a, S: HostStore> HostStore for Lent<'a, S> {
         my_id: &MyId<'_>,
         private_bytes: &[u8; 16],
     ) -> Result<(), StoreError> {
-        self.writing().watch(mon_name, my_id, private_bytes)
+        *self.writes = self.writes.saturating_add(1);
+        self.store.watch(mon_name, my_id, private_bytes)
     }
 
     fn unwatch(&mut self, mon_name: Option<&[u8]>, my_id: &MyId<'_>) -> Result<(), StoreError> {
-        self.writing().unwatch(mon_name, my_id)
+        *self.writes = self.writes.saturating_add(1);
+        self.store.unwatch(mon_name, my_id)
     }
 
     fn own(&self) -> u32 {

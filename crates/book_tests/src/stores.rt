@@ -74,10 +74,17 @@ fn plays_over<S: HostStore>(
 ) -> Result<bool, Fail> {
     let mut writes = 0;
     let writer = &mut writes;
-    let mut book = begun(alloc, Lent { store, writes: writer }).ok_or(NO_MEMORY)?;
+    let mut book = begun(
+        alloc,
+        Lent {
+            store,
+            writes: writer,
+        },
+    )
+    .ok_or(NO_MEMORY)?;
     let went = plays(alloc, &mut book, restarts, lines)?;
     drop(book);
-    Ok(went && writes == asked(lines) + usize::from(restarts))
+    Ok(went && writes == asked(lines).saturating_add(usize::from(restarts)))
 }
 
 // The same of one book for all lines, which begins anew before each of them.
@@ -88,10 +95,17 @@ fn plays_both_over<S: HostStore>(
 ) -> Result<bool, Fail> {
     let mut writes = 0;
     let writer = &mut writes;
-    let mut book = begun(alloc, Lent { store, writes: writer }).ok_or(NO_MEMORY)?;
+    let mut book = begun(
+        alloc,
+        Lent {
+            store,
+            writes: writer,
+        },
+    )
+    .ok_or(NO_MEMORY)?;
     let went = plays(alloc, &mut book, true, first)? && plays(alloc, &mut book, true, second)?;
     drop(book);
-    Ok(went && writes == asked(first) + asked(second) + 2)
+    Ok(went && writes == asked(first).saturating_add(asked(second)).saturating_add(2))
 }
 
 fn is_row(row: &HostRow, (name, epoch, seen): Row) -> bool {

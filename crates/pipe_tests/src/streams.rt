@@ -1,4 +1,6 @@
 //! Streams through the loop of `lockd pipe`, over readers and writers in memory.
+ghost use Rattle.std.specs.Prelude.{◌≡◌, [], IfOk};
+
 use hosts_db::{FULL_QUOTA, HostRow, MemHosts};
 use letters::ShortBytes;
 use pipe_loops::{Fault, Server, pipe_loop};
@@ -86,7 +88,9 @@ pub(crate) fn server(
     alloc: Global,
     store: MemHosts,
     is_grace: bool,
-) -> Result<Server<FlatTable, MemHosts>, Fault> {
+) -> Result<Server<FlatTable, MemHosts>, Fault>
+    ensures { IfOk result (λ server. server.table ≡ []) }
+{
     let Ok(own_name) = ShortBytes::copy_of(alloc, b"server") else {
         return Err(Fault::Starved);
     };
