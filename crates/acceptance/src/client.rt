@@ -140,31 +140,60 @@ fn words(alloc: Global, text: &str) -> Result<Vec<u32>, Fail> {
     Ok(words)
 }
 
-#[test]
-fn client_calls_are_answered(rt: HostRuntime) -> Result<(), Fail> {
-    let alloc = rt.alloc();
-    let calls = lines(alloc, &CALLS)?;
-    let grant = words(alloc, GRANT)?;
-    let more_calls = lines(alloc, &MORE_CALLS)?;
-    let reclaim = lines(alloc, &RECLAIM)?;
-    let last_call = lines(alloc, &LAST_CALL)?;
-    let restarted = [(1, Asks::NotifiesOfClient(5), Told::Done)];
+// What it asks, in turn, and what the server calls.
+#[derive(Clone, Copy)]
+struct Script<'a> {
+    /// Before it is granted the lock that it waits for, and behind that.
+    before: &'a [Line],
+    behind: &'a [Line],
+    grant: &'a [u32],
+    /// The server's restart, told to it and to the holder on the server's own host.
+    notice: &'a [u32],
+    holders_notice: &'a [u32],
+    reclaim: &'a [Line],
+    /// Its own restart, and its last call.
+    restarted: &'a [Line],
+    last: &'a [Line],
+}
+
+fn is_served(alloc: Global, script: Script<'_>) -> Result<bool, Fail> {
     let parts = [
         BEGINS,
-        Part::Calls(&calls, 64),
-        Part::Sends("guest", &grant),
-        Part::Calls(&more_calls, 64),
+        Part::Calls(script.before, 64),
+        Part::Sends("guest", script.grant),
+        Part::Calls(script.behind, 64),
         Part::Answered(1, 0),
         Part::NothingDue,
         RESTARTS,
-        Part::Sends("guest", &notice(1, 3)),
-        Part::Sends("hosthold", &notice(2, 3)),
-        Part::Calls(&reclaim, 64),
+        Part::Sends("guest", script.notice),
+        Part::Sends("hosthold", script.holders_notice),
+        Part::Calls(script.reclaim, 64),
         Part::GraceEnds,
-        Part::Calls(&restarted, 64),
-        Part::Calls(&last_call, 64),
+        Part::Calls(script.restarted, 64),
+        Part::Calls(script.last, 64),
         Part::NothingDue,
     ];
-    assert!(rt; plays(alloc, Vec::new(alloc), &parts)?);
+    plays(alloc, Vec::new(alloc), &parts)
+}
+
+#[test]
+fn client_calls_are_answered(rt: HostRuntime) -> Result<(), Fail> {
+    let alloc = rt.alloc();
+    let before = lines(alloc, &CALLS)?;
+    let behind = lines(alloc, &MORE_CALLS)?;
+    let reclaim = lines(alloc, &RECLAIM)?;
+    let last = lines(alloc, &LAST_CALL)?;
+    let grant = words(alloc, GRANT)?;
+    let script = Script {
+        before: &before,
+        behind: &behind,
+        grant: &grant,
+        notice: &notice(1, 3),
+        holders_notice: &notice(2, 3),
+        reclaim: &reclaim,
+        restarted: &[(1, Asks::NotifiesOfClient(5), Told::Done)],
+        last: &last,
+    };
+    assert!(rt; is_served(alloc, script)?);
     Ok(())
 }
