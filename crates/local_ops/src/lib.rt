@@ -17,6 +17,6 @@ pub use call::LocalCall;
 pub use fields::BadLine;
 pub use granted::put_granted;
 pub use law::one_line;
-pub use quota::{HostName, Quota};
 pub use listing::{HostsText, ListedHost, ListedRun, TableText};
+pub use quota::{HostName, Quota};
 pub use written::WriteFault;

@@ -192,7 +192,7 @@ module _ (entries : List Entry) (at : ℕ) (item : Entry) (within : at < length 
       ap (λ l. meet_all from receipts (map note_of l)) (sym (take-append-drop at entries))
       ∙ ap (meet_all from receipts) (map-append note_of (take at entries) (drop at entries))
       ∙ stop_on from receipts (map note_of (take at entries)) (map note_of (drop at entries)) last left before
-          (ap (λ l. meet_all last left (map note_of l)) rest ∙ as_onwards (meet last left (note_of item)) (map note_of (drop (suc at) entries)) ∙ ap (λ o. onwards o (map note_of (drop (suc at) entries))) missed)
+      (ap (λ l. meet_all last left (map note_of l)) rest ∙ as_onwards (meet last left (note_of item)) (map note_of (drop (suc at) entries)) ∙ ap (λ o. onwards o (map note_of (drop (suc at) entries))) missed)
 
 module _ (segments : List Journal) (at : ℕ) (item : Journal) (within : at < length segments) (is : item ≡ get_or segments at item) (receipts : List Receipt) (last : ℕ) (left : List Receipt) (before : meet_all 0 receipts (notes_of (take at segments)) ≡ Some (last, left)) where
   pub segment_met : (o : Option At) → meet_all last left item.notes ≡ o → meet_all 0 receipts (notes_of (take (at + 1) segments)) ≡ o
@@ -207,7 +207,7 @@ module _ (segments : List Journal) (at : ℕ) (item : Journal) (within : at < le
       ap (λ l. meet_all 0 receipts (notes_of l)) (sym (take-append-drop at segments))
       ∙ ap (meet_all 0 receipts) (notes_of-append (take at segments) (drop at segments))
       ∙ stop_on 0 receipts (notes_of (take at segments)) (notes_of (drop at segments)) last left before
-          (ap (λ l. meet_all last left (notes_of l)) rest ∙ meet_all-append last left item.notes (notes_of (drop (suc at) segments)) ∙ ap (λ o. onwards o (notes_of (drop (suc at) segments))) missed)
+      (ap (λ l. meet_all last left (notes_of l)) rest ∙ meet_all-append last left item.notes (notes_of (drop (suc at) segments)) ∙ ap (λ o. onwards o (notes_of (drop (suc at) segments))) missed)
 
 pub none_left : (l : List Receipt) → (length l == 0) ≡ true → l ≡ []
 none_left [] none = refl
