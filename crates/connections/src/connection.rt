@@ -1,0 +1,149 @@
+//! A connection that is open.
+ghost use Rattle.std.specs.Prelude.{◌≡◌, IfOk};
+
+use std::io::{self, ErrorKind, Write};
+use std::marker::Model;
+use std::net::{Shutdown, TcpStream};
+use std::sync::atomic::{AtomicBool, AtomicU64, Ordering};
+use std::sync::{Mutex, MutexGuard, Wait};
+use std::time::Duration;
+use thiserror::Error;
+
+/// How long a turn of a write waits for the peer, in milliseconds.
+const TURN_MILLIS: u64 = 20;
+
+/// How many turns a write has.
+const TURNS: usize = 4;
+
+/// The bytes were not all written. The connection is shut, and never written again.
+#[derive(Clone, Copy, Debug, PartialEq, Eq, Error)]
+#[error("its peer takes no bytes")]
+pub struct Lost;
+
+// What the connection's own lock keeps.
+#[derive(Drop)]
+pub(crate) struct Outgoing {
+    is_lost: bool,
+}
+
+/// A connection that is open. Whoever has something for it writes it whole, one after another. Contracts see its number.
+#[derive(Drop)]
+pub struct Connection {
+    number: u64,
+    stream: TcpStream,
+    outgoing: Mutex<Outgoing>,
+    // How many of its jobs are done, and whether its reader waits for that.
+    done: AtomicU64,
+    is_awaited: AtomicBool,
+}
+
+impl Model for Connection {
+    ghost use Rattle.std.specs.Prelude.{ℕ};
+
+    ghost Value = { ℕ };
+
+    ghost view = { λ c. c.number };
+}
+
+// Writes all. Each turn ends by the stream's own write timeout, so this ends, whatever the peer does.
+fn write_whole(stream: &TcpStream, bytes: &[u8]) -> Result<(), Lost> {
+    let mut to = stream;
+    let mut rest = bytes;
+    for _ in 0..TURNS {
+        match to.write(rest) {
+            Ok(count) => rest = rest.get(count..).ok_or(Lost)?,
+            Err(error) if error.kind() == ErrorKind::Interrupted => {}
+            Err(_) => return Err(Lost),
+        }
+        if rest.is_empty() {
+            return Ok(());
+        }
+    }
+    Err(Lost)
+}
+
+impl Connection {
+    /// Over this stream, whose writes get their timeout. `idle` is how long a read waits for bytes; with `None` it waits on.
+    /// The error is the socket's.
+    pub fn new(number: u64, stream: TcpStream, idle: Option<Duration>) -> io::Result<Connection>
+        ensures { IfOk result (λ c. c ≡ number) }
+    {
+        stream.set_nodelay(true)?;
+        stream.set_write_timeout(Some(Duration::from_millis(TURN_MILLIS)))?;
+        stream.set_read_timeout(idle)?;
+        Ok(Connection {
+            number,
+            stream,
+            outgoing: Mutex::new(Outgoing { is_lost: false }),
+            done: AtomicU64::new(0),
+            is_awaited: AtomicBool::new(false),
+        })
+    }
+
+    pub fn number(&self) -> u64
+        ensures { result ≡ self.now }
+    {
+        self.number
+    }
+
+    /// What comes in.
+    pub fn stream(&self) -> &TcpStream {
+        &self.stream
+    }
+
+    /// Writes the bytes whole, before or behind what others write. A turn of 20 ms that moves none of them, or the end of the
+    /// fourth before all are written, loses the connection: it is shut, and this and each later call answers `Lost`.
+    pub fn send<R: Wait>(&self, rt: &R, bytes: &[u8]) -> Result<(), Lost> {
+        let mut outgoing = self.outgoing.lock(rt);
+        self.write(&mut outgoing, bytes)
+    }
+
+    // For whoever writes more than one piece between those of others.
+    pub(crate) fn outgoing<R: Wait>(&self, rt: &R) -> MutexGuard<'_, Outgoing> {
+        self.outgoing.lock(rt)
+    }
+
+    // Under the connection's lock.
+    pub(crate) fn write(&self, outgoing: &mut Outgoing, bytes: &[u8]) -> Result<(), Lost> {
+        if outgoing.is_lost {
+            return Err(Lost);
+        }
+        let written = write_whole(&self.stream, bytes);
+        if written.is_err() {
+            outgoing.is_lost = true;
+            self.shut();
+        }
+        written
+    }
+
+    /// Nothing more is read. What was read is still answered.
+    pub fn end_reading(&self) {
+        let _ = self.stream.shutdown(Shutdown::Read);
+    }
+
+    /// Nothing more is read or written.
+    pub fn shut(&self) {
+        let _ = self.stream.shutdown(Shutdown::Both);
+    }
+
+    /// So many jobs more are done: their replies are written, or lost.
+    pub fn count_done(&self, jobs: u64) {
+        self.done.fetch_add(jobs, Ordering::SeqCst);
+        if self.is_awaited.load(Ordering::SeqCst) {
+            self.done.wake_all();
+        }
+    }
+
+    /// Waits until so many of its jobs are done.
+    pub fn wait_for<R: Wait>(&self, rt: &R, jobs: u64) {
+        // It says that it waits before it looks, so that it is woken for what it doesn't see.
+        self.is_awaited.store(true, Ordering::SeqCst);
+        for _ in rt.forever() {
+            let done = self.done.load(Ordering::SeqCst);
+            if done >= jobs {
+                break;
+            }
+            self.done.park(rt, (done & 0xffff_ffff) as u32);
+        }
+    }
+}
