@@ -7,3 +7,5 @@ mod answering;
 mod closing;
 #[cfg(test)]
 mod parts;
+#[cfg(test)]
+mod reading;

@@ -1,11 +1,10 @@
 -- A worker goes on.
-use Rattle.std.proofs.Common.{◌≡◌, List, [], ◌∷◌, ◌++◌, map, refl, sym, ap, ◌∙◌, append_assoc}
+use Rattle.std.proofs.Common.{◌≡◌, List, [], ◌∷◌, ◌++◌, map, sym, ap, ◌∙◌, append_assoc}
 use Rattle.std.proofs.lemmas.List.{map-append, append-nil}
 use Rattle.jobs.specs.Task.{Task}
 use Rattle.jobs.specs.declared.passes.View.{View}
 use Rattle.jobs.specs.Passes.{with_taken}
-use Rattle.book.specs.Receipts.{Receipt}
-use Rattle.workers.specs.Answers.{Sent, posted, Answer, IsMet, AreMet, sent_for, all_sent, listed, all_receipts, Worker, with_jobs, Answered, Worked}
+use Rattle.workers.specs.Answers.{Sent, posted, Answer, IsMet, AreMet, sent_for, all_sent, listed, all_receipts, Worker, with_jobs, Worked}
 
 all_sent-append : (xs : List Answer) (a : Answer) → all_sent (xs ++ a ∷ []) ≡ all_sent xs ++ sent_for a
 all_sent-append [] a = append-nil (sent_for a)

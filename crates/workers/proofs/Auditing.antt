@@ -1,5 +1,5 @@
 -- An audit meets entries one after another.
-use Rattle.std.proofs.Common.{append_assoc, ◌+◌, ◌<◌, ◌≤◌, length, take, drop, get_or, ◌≡◌, ℕ, suc, Bool, true, false, cond, List, [], ◌∷◌, ◌++◌, map, Option, Some, None, refl, sym, ap, ◌∙◌, subst, true≢false, ◌==◌, ◌&&◌, not, is_some, arith}
+use Rattle.std.proofs.Common.{append_assoc, ◌+◌, ◌<◌, length, take, drop, get_or, ◌≡◌, ℕ, suc, Bool, true, false, cond, List, [], ◌∷◌, ◌++◌, map, Option, Some, None, refl, sym, ap, ◌∙◌, subst, true≢false, ◌==◌, ◌&&◌, not, is_some, arith}
 use Rattle.std.proofs.lemmas.Bool.{eq-eqb, eqb-true, and_from}
 use Rattle.std.proofs.lemmas.List.{take_more, take-append-drop, map-append, append-nil}
 use Rattle.std.proofs.Math.Seq.{drop-cons}

@@ -1,13 +1,13 @@
 -- What the lock keeps stays in step.
-use Rattle.std.proofs.Common.{◌≡◌, ℕ, ◌+◌, List, [], ◌∷◌, ◌++◌, refl, sym, ap, ◌∙◌, arith, subst, Option, Some, None, IfSome}
-use Rattle.definitions.specs.Step.{State}
-use Rattle.kept_replies.specs.Pairs.{asker}
+use Rattle.std.proofs.Common.{◌≡◌, ℕ, ◌+◌, List, [], ◌∷◌, ◌++◌, refl, sym, ap, ◌∙◌, arith, subst, Option, Some, None, IfSome, false, cond}
+use Rattle.definitions.specs.Bytes.{Bytes}
+use Rattle.call_records.specs.declared.dest.Dest.{Dest}
 use Rattle.book.specs.Given.{Upshot}
 use Rattle.std.specs.Prelude.{option_map}
-use Rattle.book.specs.Notes.{Note, Happening, Takes}
+use Rattle.book.specs.Notes.{Note, Happening, Takes, SendsNext}
 use Rattle.book.specs.Receipts.{Receipt, receipt_of, newest, newest_receipt}
-use Rattle.book.specs.Journal.{Journal, Book, next_of, begun, rotated, noted, Enters}
-use Rattle.workers.specs.Holds.{Held, takes_in, takes_of, all_takes, Join, IsOneHistory, IsInStep}
+use Rattle.book.specs.Journal.{Journal, Book, next_of, rotated, Enters, IsNext}
+use Rattle.workers.specs.Holds.{Held, is_take, takes_in, takes_of, IsInStep}
 use Rattle.workers.proofs.Joins.{takes_in_append, takes_of_append, join_last, join_more}
 
 pub begins_in_step : (total : ℕ) (closed : List Journal) (b : Book) → closed ≡ [] → b.journal.notes ≡ [] → b.journal.first ≡ 1 → total ≡ 0 → IsInStep total (record { closed = closed; book = b })
@@ -33,6 +33,21 @@ enters_in_step total total' closed b b' peer asked upshot enters more old =
       counted = let c = old.counted in omega (arith, c, took, more);
       joined = (old.joined.0, join_last old.joined.0 1 closed b.journal b'.journal (ap (λ (j : Journal). j.base) enters.journal) (ap (λ (j : Journal). j.first) enters.journal) old.joined.1);
     }
+
+-- an entry that takes no record changes no total
+pub untaken_in_step : (total : ℕ) (closed : List Journal) (b b' : Book) (event : Happening) (upshot : Upshot) → Enters b event upshot b' → is_take event ≡ false → IsInStep total (record { closed = closed; book = b }) → IsInStep total (record { closed = closed; book = b' })
+untaken_in_step total closed b b' event upshot enters untaken old =
+    let n : Note = record { number = next_of b.journal; event = event; upshot = upshot } in
+    let notes : b'.journal.notes ≡ b.journal.notes ++ n ∷ [] = ap (λ (j : Journal). j.notes) enters.journal in
+    let took : takes_in b'.journal.notes ≡ takes_in b.journal.notes + 0 = subst (λ t. takes_in b'.journal.notes ≡ takes_in b.journal.notes + cond t 1 0) untaken (ap takes_in notes ∙ takes_in_append b.journal.notes n) in
+    record {
+      counted = let c = old.counted in omega (arith, c, took);
+      joined = (old.joined.0, join_last old.joined.0 1 closed b.journal b'.journal (ap (λ (j : Journal). j.base) enters.journal) (ap (λ (j : Journal). j.first) enters.journal) old.joined.1);
+    }
+
+pub next_in_step : (total : ℕ) (closed : List Journal) (b b' : Book) (next : Option (ℕ × Dest × Bytes)) → IsNext b next b' → IsInStep total (record { closed = closed; book = b }) → IsInStep total (record { closed = closed; book = b' })
+next_in_step total closed b b' None next old = subst (λ (x : Book). IsInStep total (record { closed = closed; book = x })) (sym next.1) old
+next_in_step total closed b b' (Some (number, to, bytes)) next old = untaken_in_step total closed b b' SendsNext _ next.3 refl old
 
 -- the gathered amount is that of all segments
 pub finished : {K : Type 0} (amount total : ℕ) (closed all : List Journal) (j : Journal) (b : Book) (kept : Option K) (items : K → List Journal) → amount ≡ total → IsInStep total (record { closed = closed; book = b }) → j ≡ b.journal → all ≡ closed ++ j ∷ [] → IfSome kept (λ s. items s ≡ all) → IfSome kept (λ s. amount ≡ takes_of (items s))

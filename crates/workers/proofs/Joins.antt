@@ -1,5 +1,5 @@
 -- Journals that join, and what they took, where one more is closed.
-use Rattle.std.proofs.Common.{◌≡◌, ℕ, ◌+◌, List, [], ◌∷◌, ◌++◌, refl, sym, ap, ◌∙◌, arith, cond, true, false}
+use Rattle.std.proofs.Common.{◌≡◌, ℕ, ◌+◌, List, [], ◌∷◌, ◌++◌, refl, ◌∙◌, arith, cond}
 use Rattle.definitions.specs.Step.{State}
 use Rattle.book.specs.Notes.{Note}
 use Rattle.book.specs.Journal.{Journal, next_of, begun}

@@ -1,10 +1,9 @@
 -- What the lock keeps, and what one hold of it does.
-use Rattle.std.specs.Prelude.{◌≡◌, ◌⊎◌, ℕ, ◌+◌, Bool, true, false, cond, List, [], ◌∷◌, ◌++◌, Option, Some}
+use Rattle.std.specs.Prelude.{◌≡◌, ◌⊎◌, ℕ, ◌+◌, Bool, true, false, cond, List, [], ◌∷◌, ◌++◌}
 use Rattle.definitions.specs.Step.{State}
 use Rattle.book.specs.Given.{Upshot}
 use Rattle.book.specs.Notes.{Happening, Takes, SendsNext, HearsAnswer, AsksLine, FallsSilent, GraceEnds, BeginsAnew, Note}
 use Rattle.book.specs.Journal.{Journal, Book, next_of, rotated, Enters}
-use Rattle.book.specs.Receipts.{Receipt, newest_receipt}
 
 -- the journals of the segments that are closed, in order, and the book with its open one
 pub record Held : Type 0 where

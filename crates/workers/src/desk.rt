@@ -8,7 +8,7 @@ ghost use Rattle.workers.specs.Places.{HasPlace};
 
 use crate::archive::Archive;
 use crate::outbox::{Outbox, post};
-use crate::shared::Shared;
+use crate::shared::{Entered, Shared};
 use book::{Receipt, Segment, Starved, Taken};
 use bytes::Bytes;
 use hosts_db::HostStore;
@@ -20,7 +20,7 @@ use std::sync::{Mutex, Wait};
 /// One part of the ledger, a segment for when the open one is full, and the receipts of the calls that were taken.
 #[derive(Drop)]
 pub(crate) struct Desk<L: Ledger> {
-    alloc: Global,
+    pub(crate) alloc: Global,
     pub(crate) share: Share<L>,
     spare: Option<Segment>,
     pub(crate) receipts: Archive<Receipt>,
@@ -41,6 +41,19 @@ impl<L: Ledger> Desk<L> {
         }
     }
 
+    /// Its share, and its receipts.
+    pub(crate) fn into_parts(self) -> (Share<L>, Archive<Receipt>)
+        ensures share { (result.0.parts ≡ 1) × (result.0.amount ≡ length self.receipts.all.items) }
+        ensures receipts { result.1.all.items ≡ self.receipts.all.items }
+    {
+        let Desk {
+            share,
+            receipts,
+            ..
+        } = self;
+        (share, receipts)
+    }
+
     // What there has to be before the hold: a segment, a place for the receipt, and a second handle on the record.
     fn prepare(&mut self, asked: &Bytes) -> Result<Bytes, Starved>
         ensures same { IfOk result (λ same. same ≡ asked.now) }
@@ -54,7 +67,8 @@ impl<L: Ledger> Desk<L> {
         Ok(asked.clone()?)
     }
 
-    /// Takes a call in one hold, and hands its reply over. The call comes back where no entry could be made.
+    /// Takes a call in one hold, and hands its reply over: whether a call of the server's own is due then. The call comes back
+    /// where no entry could be made.
     pub(crate) fn take<R: RangeTable, S: HostStore, O: Outbox, W: Wait>(
         &mut self,
         rt: &W,
@@ -62,7 +76,7 @@ impl<L: Ledger> Desk<L> {
         outbox: &mut O,
         connection: u64,
         taken: Taken,
-    ) -> Result<(), Taken>
+    ) -> Result<bool, Taken>
         ensures taken { IfOk result (λ _. (receipt : Told) × (given : Given) × (receipt.event ≡ asks_of taken) × (record_of given ≡ receipt.reply)
             × (self.new.receipts.all.items ≡ self.old.receipts.all.items ++ receipt ∷ [])
             × (O.handed outbox.new ≡ O.handed outbox.old ++ posted connection given)) }
@@ -75,9 +89,9 @@ impl<L: Ledger> Desk<L> {
         let got = shared
             .lock(rt)
             .take(taken, same, &mut self.spare, &mut self.share);
-        let receipt = got?;
+        let Entered { receipt, is_due } = got?;
         post(outbox, connection, receipt.reply());
         self.receipts.add(receipt);
-        Ok(())
+        Ok(is_due)
     }
 }

@@ -6,10 +6,12 @@ mod archive;
 mod audits;
 mod desk;
 mod outbox;
+mod reading;
 mod shared;
 mod worker;
 
 pub use audits::{AuditMismatch, audit};
 pub use outbox::{Gate, MemoryOutbox, Outbox, Parcel};
-pub use shared::{Ends, Shared};
+pub use reading::{Ending, Origin, Source};
+pub use shared::{Ends, Entered, Next, Shared, prepare_spare};
 pub use worker::{Leaves, Worker};

@@ -22,6 +22,19 @@ pub trait Outbox {
     /// A reply that has a record.
     fn hand(&mut self, connection: u64, reply: &Reply)
         ensures { handed self.new ≡ handed self.old ++ record { connection = connection; reply = record_of (given_of reply.now) } ∷ [] };
+
+    /// The next replies are for this connection. Replies that are joined for another are written now, since what comes next may
+    /// hold the worker for long.
+    fn turn_to(&mut self, connection: u64)
+        ensures { handed self.new ≡ handed self.old };
+
+    /// One job of this connection is done: it has its reply, or none. `is_due`: a call of the server's own is due then.
+    fn done(&mut self, connection: u64, is_due: bool)
+        ensures { handed self.new ≡ handed self.old };
+
+    /// Writes the replies that are joined.
+    fn flush(&mut self)
+        ensures { handed self.new ≡ handed self.old };
 }
 
 /// Hands over a reply, if it has a record.
@@ -88,4 +101,10 @@ impl Outbox for MemoryOutbox {
         self.all = self.all.and(&parcel);
         let _ = self.kept.push(parcel);
     }
+
+    fn turn_to(&mut self, _connection: u64) {}
+
+    fn done(&mut self, _connection: u64, _is_due: bool) {}
+
+    fn flush(&mut self) {}
 }

@@ -1,19 +1,25 @@
 //! What the lock keeps: the book, its closed segments, and the number of calls taken.
-ghost use Rattle.std.specs.Prelude.{◌≡◌, ◌+◌, ◌<◌, true, [], ◌∷◌, ◌++◌, Some, IfOk, IfErr, IfSome};
+ghost use Rattle.std.specs.Prelude.{◌≡◌, ◌+◌, ◌<◌, true, false, is_some, [], ◌∷◌, ◌++◌, Some, IfOk, IfErr, IfSome};
+ghost use Rattle.definitions.specs.Outgoing.{next_due};
 ghost use Rattle.book.specs.Given.{Upshot as Became};
 ghost use Rattle.book.specs.Journal.{Journal, room_of};
+ghost use Rattle.book.specs.Notes.{happening_of};
 ghost use Rattle.book.specs.Receipts.{newest_receipt};
-ghost use Rattle.workers.specs.Holds.{takes_of, IsOneHistory, Rests, Notes};
+ghost use Rattle.workers.specs.Holds.{is_take, takes_of, IsOneHistory, Rests, Notes};
+ghost use Rattle.workers.specs.Sending.{IsNextOf};
 ghost use Rattle.workers.specs.Answers.{asks_of};
 
 use crate::archive::Archive;
-use book::{Book, BookEvent, Closed, Receipt, Segment, Starved, Taken, newest_entered};
+use book::{Book, BookEvent, Closed, Receipt, Segment, Starved, Taken, Upshot, newest_entered};
 use bytes::Bytes;
+use call_records::Dest;
+use held_locks::Locks;
 use hosts_db::HostStore;
 use range_table::RangeTable;
 use std::alloc::Global;
 use std::marker::Model;
 use std::sync::ledger::{Book as Total, Ledger, Share};
+use xdr_core::Frame;
 
 /// The book, its closed segments, and beside them how many calls were taken. Contracts see the journals, whose numbers and
 /// states join, and the total is that of their entries that took a record.
@@ -39,6 +45,38 @@ impl<R: RangeTable, S: HostStore, L: Ledger> Model for Shared<R, S, L> {
 pub struct Ends<R: RangeTable, S: HostStore> {
     /// The segments in order, where they were kept.
     pub segments: Option<Vec<Closed<R, S>>>,
+}
+
+/// What a hold gives that took a call.
+#[derive(Drop)]
+pub struct Entered {
+    /// The receipt of its entry.
+    pub receipt: Receipt,
+    /// Whether a call of the server's own is due behind it.
+    pub is_due: bool,
+}
+
+/// What is sent next.
+#[derive(Drop)]
+pub enum Next {
+    /// The call of the server's own of this number, whom it is for, and its record. It has its entry.
+    Call {
+        number: u64,
+        to: Dest,
+        record: Frame,
+    },
+    /// No call is due.
+    NothingDue,
+    /// A call is due, and there was no room for its entry. It is due still.
+    NoRoom,
+}
+
+/// Gets a segment where there is none. Where there is no memory for one there is none behind it either, and a hold that meets a
+/// full segment makes no entry.
+pub fn prepare_spare(alloc: Global, spare: &mut Option<Segment>) {
+    if spare.is_none() {
+        *spare = Segment::new(alloc).ok();
+    }
 }
 
 impl<R: RangeTable, S: HostStore, L: Ledger> Shared<R, S, L> {
@@ -82,11 +120,12 @@ impl<R: RangeTable, S: HostStore, L: Ledger> Shared<R, S, L> {
         same: Bytes,
         spare: &mut Option<Segment>,
         share: &mut Share<L>,
-    ) -> Result<Receipt, Taken>
+    ) -> Result<Entered, Taken>
         requires same { same ≡ taken.«record» }
         requires part { 0 < share.old.parts }
-        ensures noted { IfOk result (λ receipt. (upshot : Became) × Notes self.old (asks_of taken) upshot self.new × (newest_receipt self.new.book.journal.notes ≡ Some receipt)) }
-        ensures told { IfOk result (λ receipt. (receipt.event ≡ asks_of taken) × (share.new.amount ≡ share.old.amount + 1)) }
+        ensures noted { IfOk result (λ entered. (upshot : Became) × Notes self.old (asks_of taken) upshot self.new × (newest_receipt self.new.book.journal.notes ≡ Some entered.receipt)) }
+        ensures told { IfOk result (λ entered. (entered.receipt.event ≡ asks_of taken) × (share.new.amount ≡ share.old.amount + 1)) }
+        ensures due { IfOk result (λ entered. entered.is_due ≡ is_some (next_due self.new.book.journal.end.world.calls)) }
         ensures none { IfErr result (λ back. (back ≡ taken) × Rests self.old self.new × (share.new.amount ≡ share.old.amount)) }
         ensures parts { share.new.parts ≡ share.old.parts }
     {
@@ -98,7 +137,69 @@ impl<R: RangeTable, S: HostStore, L: Ledger> Shared<R, S, L> {
         newest_entered();
         let receipt = self.book.receipt(taken, upshot.reply);
         self.total.add(share, 1);
-        Ok(receipt)
+        let is_due = self.book.has_due();
+        Ok(Entered { receipt, is_due })
+    }
+
+    /// One hold of an event that is no record: a line, an answer, a silence, the end of grace, or a restart. It is one entry. The
+    /// event comes back where there was no room for its entry, and then none was made.
+    pub fn apply(
+        &mut self,
+        event: BookEvent,
+        spare: &mut Option<Segment>,
+    ) -> Result<Upshot, BookEvent>
+        requires untaken { is_take (happening_of event) ≡ false }
+        ensures noted { IfOk result (λ upshot. Notes self.old (happening_of event) upshot self.new) }
+        ensures none { IfErr result (λ back. (back ≡ event) × Rests self.old self.new) }
+    {
+        if !self.make_room(spare) {
+            return Err(event);
+        }
+        Ok(self.book.apply(event))
+    }
+
+    /// One hold that sends the call of the server's own that is due first, which is one entry.
+    pub fn next_call(&mut self, spare: &mut Option<Segment>) -> Next
+        ensures { IsNextOf self.old result self.new }
+    {
+        if !self.book.has_due() {
+            return Next::NothingDue;
+        }
+        if !self.make_room(spare) {
+            return Next::NoRoom;
+        }
+        match self.book.next_call() {
+            Some((number, to, record)) => Next::Call { number, to, record },
+            None => Next::NothingDue,
+        }
+    }
+
+    /// Whether a call of the server's own is due.
+    pub fn has_due(&self) -> bool
+        ensures { result ≡ is_some (next_due self.now.book.journal.end.world.calls) }
+    {
+        self.book.has_due()
+    }
+
+    /// The own state's number, which each restart changes.
+    pub fn own_state(&self) -> u32
+        ensures { result ≡ self.now.book.journal.end.world.hosts.own }
+    {
+        self.book.store().own()
+    }
+
+    /// The locks of all owners, to be printed.
+    pub fn locks(&self) -> &Locks<R>
+        ensures { result.now.settings ≡ self.now.book.journal.end.world.settings }
+    {
+        self.book.locks()
+    }
+
+    /// The store of hosts, to be printed.
+    pub fn store(&self) -> &S
+        ensures { S.rows result.now ≡ self.now.book.journal.end.world.hosts }
+    {
+        self.book.store()
     }
 }
 

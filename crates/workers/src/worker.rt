@@ -1,6 +1,6 @@
 //! What a worker does.
 ghost use Rattle.std.specs.Prelude.{◌≡◌, ◌+◌, ◌<◌, [], ◌∷◌, ◌++◌, IfOk, IfSome, IfNone, Some, None, length, MatchResult};
-ghost use Rattle.jobs.specs.Passes.{with_put};
+ghost use Rattle.jobs.specs.Passes.{with_put, with_taken};
 ghost use Rattle.workers.specs.Answers.{Answer, Worked, IsMet, posted, listed};
 
 use crate::desk::Desk;
@@ -19,8 +19,8 @@ use std::sync::{Mutex, Wait};
 /// the seat knows, and the receipts of all calls that it took.
 #[derive(Drop)]
 pub struct Worker<P: Place, L: Ledger> {
-    seat: Seat<P>,
-    desk: Desk<L>,
+    pub(crate) seat: Seat<P>,
+    pub(crate) desk: Desk<L>,
 }
 
 impl<P: Place, L: Ledger> Model for Worker<P, L> {
@@ -52,6 +52,17 @@ impl<P: Place, L: Ledger> Worker<P, L> {
         }
     }
 
+    /// From 1 on, in the order in which they were made.
+    pub fn number(&self) -> u64
+        ensures { result ≡ self.now.seat.name }
+    {
+        self.seat.number()
+    }
+
+    pub(crate) fn alloc(&self) -> Global {
+        self.desk.alloc
+    }
+
     /// Ends it. Its share is the number of its receipts.
     pub fn leave(self) -> Leaves<P, L>
         ensures seat { result.seat ≡ self.seat }
@@ -59,11 +70,7 @@ impl<P: Place, L: Ledger> Worker<P, L> {
         ensures receipts { IfSome result.receipts (λ receipts. receipts.items ≡ self.receipts) }
     {
         let Worker { seat, desk } = self;
-        let Desk {
-            share,
-            receipts,
-            ..
-        } = desk;
+        let (share, receipts) = desk.into_parts();
         Leaves {
             seat,
             share,
@@ -85,7 +92,7 @@ impl<P: Place, L: Ledger> Worker<P, L> {
         self.seat.put(rt, channel, job)
     }
 
-    /// Takes jobs and answers them, until the channel is closed and no job is left.
+    /// Takes jobs and answers them, until the channel is closed and no job is left. Before it sleeps it flushes.
     pub fn work<R: RangeTable, S: HostStore, G: Gate, O: Outbox, W: Wait>(
         &mut self,
         rt: &W,
@@ -97,15 +104,14 @@ impl<P: Place, L: Ledger> Worker<P, L> {
         ensures worked { Worked self.old self.new (O.handed outbox.old) (O.handed outbox.new) }
     {
         for _ in rt.forever() {
-            let Some(job) = self.seat.receive(rt, channel) else {
+            let Some(job) = self.next_job(rt, channel, outbox) else {
                 break;
             };
-            gate.before(&job);
-            self.answer(rt, shared, outbox, job);
+            self.serve(rt, shared, gate, outbox, job);
         }
     }
 
-    /// Takes as many jobs, if there are so many, whoever put them, and answers them.
+    /// Takes as many jobs, if there are so many, whoever put them, and answers them. Then it flushes.
     pub fn help<R: RangeTable, S: HostStore, G: Gate, O: Outbox, W: Wait>(
         &mut self,
         rt: &W,
@@ -121,19 +127,58 @@ impl<P: Place, L: Ledger> Worker<P, L> {
             let Some(job) = self.seat.try_receive(rt, channel) else {
                 break;
             };
-            gate.before(&job);
-            self.answer(rt, shared, outbox, job);
+            self.serve(rt, shared, gate, outbox, job);
         }
+        outbox.flush();
     }
 
-    // Answers one job, in one hold.
+    // The oldest job. Where there is none it flushes, and waits.
+    fn next_job<O: Outbox, W: Wait>(
+        &mut self,
+        rt: &W,
+        channel: &Channel<P>,
+        outbox: &mut O,
+    ) -> Option<Job>
+        ensures taken { IfSome result (λ job. self.new ≡ record { seat = with_taken self.old.seat job; receipts = self.old.receipts }) }
+        ensures none { IfNone result (self.new ≡ self.old) }
+        ensures handed { O.handed outbox.new ≡ O.handed outbox.old }
+    {
+        if let Some(job) = self.seat.try_receive(rt, channel) {
+            return Some(job);
+        }
+        outbox.flush();
+        self.seat.receive(rt, channel)
+    }
+
+    // What stands before one job, its answer, and word that it is done.
+    fn serve<R: RangeTable, S: HostStore, G: Gate, O: Outbox, W: Wait>(
+        &mut self,
+        rt: &W,
+        shared: &Mutex<Shared<R, S, L>>,
+        gate: &G,
+        outbox: &mut O,
+        job: Job,
+    )
+        ensures answered { (a : Answer) × (a.job ≡ job) × IsMet a a.receipt
+            × (O.handed outbox.new ≡ O.handed outbox.old ++ posted job.connection a.given)
+            × (self.new.receipts ≡ self.old.receipts ++ listed a.receipt) }
+        ensures seat { self.new.seat ≡ self.old.seat }
+    {
+        let connection = job.connection();
+        outbox.turn_to(connection);
+        gate.before(&job);
+        let is_due = self.answer(rt, shared, outbox, job);
+        outbox.done(connection, is_due);
+    }
+
+    // Answers one job, in one hold: whether a call of the server's own is due then.
     fn answer<R: RangeTable, S: HostStore, O: Outbox, W: Wait>(
         &mut self,
         rt: &W,
         shared: &Mutex<Shared<R, S, L>>,
         outbox: &mut O,
         job: Job,
-    )
+    ) -> bool
         ensures answered { (a : Answer) × (a.job ≡ job) × IsMet a a.receipt
             × (O.handed outbox.new ≡ O.handed outbox.old ++ posted job.connection a.given)
             × (self.new.receipts ≡ self.old.receipts ++ listed a.receipt) }
@@ -145,8 +190,12 @@ impl<P: Place, L: Ledger> Worker<P, L> {
             peer,
             record: job.into_record(),
         };
-        if let Err(taken) = self.desk.take(rt, shared, outbox, connection, taken) {
-            post_last(outbox, connection, taken.starved());
+        match self.desk.take(rt, shared, outbox, connection, taken) {
+            Ok(is_due) => is_due,
+            Err(taken) => {
+                post_last(outbox, connection, taken.starved());
+                false
+            }
         }
     }
 }

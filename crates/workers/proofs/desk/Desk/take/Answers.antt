@@ -4,10 +4,10 @@ use Rattle.workers.proofs.desk.Desk.take.Goals as goal
 
 pub returns-clause-taken : goal.returns-clause-taken
 returns-clause-taken g c = (
-  c.in_ok-receipt.receipt,
+  c.in_ok-receipt.field-0.receipt,
   given_of c.reply.result.now,
   c.in_ok-receipt.ensures.told.0,
   c.reply.ensures,
-  c.add.ensures ∙ ap (λ l. l ++ c.in_ok-receipt.receipt ∷ []) c.prepare.ensures.all,
+  c.add.ensures ∙ ap (λ l. l ++ c.in_ok-receipt.field-0.receipt ∷ []) c.prepare.ensures.all,
   c.post.ensures,
 )

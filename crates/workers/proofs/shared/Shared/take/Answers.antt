@@ -1,4 +1,4 @@
-use Rattle.std.proofs.Common.{◌≡◌, ap, ◌∙◌, sym, Some}
+use Rattle.std.proofs.Common.{ap, ◌∙◌, sym, Some}
 use Rattle.std.specs.Prelude.{option_map}
 use Rattle.kept_replies.specs.Pairs.{asker}
 use Rattle.book.specs.Given.{Upshot}

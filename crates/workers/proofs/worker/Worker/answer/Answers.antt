@@ -6,7 +6,7 @@ use Rattle.definitions.specs.Step.{Starved}
 use Rattle.book.specs.Given.{comes_to, given_of}
 use Rattle.book.specs.Notes.{Happening, Takes, Steps}
 use Rattle.workers.specs.Answers.{Worker, asks, asks_of, posted}
-use Rattle.workers.proofs.worker.Worker.answer.Goals.{in-Err, in_default}
+use Rattle.workers.proofs.worker.Worker.answer.Goals.{in-Err, in-Ok}
 use Rattle.workers.proofs.worker.Worker.answer.Goals as goal
 
 -- what the desk was handed is the job's call
@@ -24,8 +24,8 @@ returns-clause-answered g c = elim c.match-take.branch [
         ap g.O.Outbox.handed w.outbox-is ∙ w.post_last.ensures ∙ (λ i. none.2 i ++ posted (c.connection-connection.ensures i) given),
         none.1 ∙ ap (λ (x : Worker). x.receipts) c.self.view_is ∙ sym (append-nil _),
       )
-  | in_default w ↦
-      let t = w.in_default.ensures.taken in (
+  | in-Ok w ↦
+      let t = w.in-Ok.ensures.taken in (
         record { job = c.args.job; receipt = Some t.0; given = t.1 },
         refl,
         (t.2 ∙ the_call g c, t.3),

@@ -9,9 +9,9 @@ loop-init g c = Worked-none _ _
 
 pub loop-preserved : goal.loop-preserved
 loop-preserved g c =
-    let a = c.answer.ensures.answered in
+    let a = c.serve.ensures.answered in
     Worked-more _ _ _ _ _ _ _ _ c.loop.invariant
     (c.in-Some.ensures.taken ∙ ap (λ (w : Worker). with_taken w.seat c.in-Some.job) c.self.view_is)
     a.0 a.1 a.2 a.3
     (a.4 ∙ ap (λ (w : Worker). w.receipts ++ listed a.0.receipt) c.self.view_is)
-    c.answer.ensures.seat
+    c.serve.ensures.seat

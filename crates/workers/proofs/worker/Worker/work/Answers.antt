@@ -1,6 +1,5 @@
 use Rattle.std.proofs.Common.{ap, ◌∙◌, ◌++◌}
-use Rattle.jobs.specs.Passes.{with_taken}
-use Rattle.workers.specs.Answers.{Worker, listed}
+use Rattle.workers.specs.Answers.{Worker, listed, posted}
 use Rattle.workers.proofs.Answering.{Worked-none, Worked-more}
 use Rattle.workers.proofs.worker.Worker.work.Goals as goal
 
@@ -9,9 +8,11 @@ loop-init g c = Worked-none _ _
 
 pub loop-preserved : goal.loop-preserved
 loop-preserved g c =
-    let a = c.answer.ensures.answered in
+    let a = c.serve.ensures.answered in
+    let taken = c.in-Some-next_job.ensures.taken in
     Worked-more _ _ _ _ _ _ _ _ c.loop.invariant
-    (c.in-Some-receive.ensures.taken ∙ ap (λ (w : Worker). with_taken w.seat c.in-Some-receive.job) c.self.view_is)
-    a.0 a.1 a.2 a.3
-    (a.4 ∙ ap (λ (w : Worker). w.receipts ++ listed a.0.receipt) c.self.view_is)
-    c.answer.ensures.seat
+    (ap (λ (w : Worker). w.seat) taken)
+    a.0 a.1 a.2
+    (a.3 ∙ ap (λ l. l ++ posted c.in-Some-next_job.job.connection a.0.given) c.in-Some-next_job.ensures.handed)
+    (a.4 ∙ ap (λ (w : Worker). w.receipts ++ listed a.0.receipt) taken)
+    c.serve.ensures.seat

@@ -1,0 +1,272 @@
+-- A connection's own thread reads on.
+use Rattle.std.proofs.Common.{◌≡◌, ℕ, suc, ◌+◌, ◌<◌, Bool, true, false, List, [], ◌∷◌, ◌++◌, length, take, map, Option, Some, None, Result, Err, refl, sym, ap, ◌∙◌, subst, append_assoc, arith}
+use Rattle.std.proofs.lemmas.List.{map-append, append-nil, length-append, length-take-le}
+use Rattle.std.proofs.Math.Seq.{take-append-add, take-length}
+use Rattle.std.proofs.KnownBytes.{Consumes-nil, Consumes-trans}
+use Rattle.std.specs.Io.KnownBytes.{Consumes}
+use Rattle.definitions.specs.Bytes.{Bytes}
+use Rattle.jobs.specs.Task.{Task}
+use Rattle.jobs.specs.declared.passes.View.{View}
+use Rattle.jobs.specs.Passes.{with_put, with_hand}
+use Rattle.record_mark.specs.Stream.{Splits}
+use Rattle.record_mark.specs.Assembled.{Assembled, IsSplit}
+use Rattle.workers.specs.declared.reading.Origin.{Origin}
+use Rattle.workers.specs.declared.reading.Ending.{Ending}
+use Rattle.workers.specs.declared.reading.Ending.TheVariants.{Over, Failed, TooLong, Closed, Starved}
+use Rattle.workers.specs.Answers.{Sent, sent_for, listed, Answer, AreMet, all_sent, all_receipts, Worker, Worked}
+use Rattle.workers.specs.Reading.{job_of, counted, jobs_of, Serves, HavePut, Puts, heard, EndsSo, Fed, Cuts, EndsBy, IsRead}
+
+-- ---- jobs of records
+
+counted-twice : (o : Origin) (m n k : ℕ) → m + n ≡ k → counted (counted o m) n ≡ counted o k
+counted-twice o m n k e = ap (λ p. record { connection = o.connection; peer = o.peer; put = p }) (omega (arith, e))
+
+counted-none : (o : Origin) → counted o 0 ≡ o
+counted-none o = ap (λ p. record { connection = o.connection; peer = o.peer; put = p }) (omega arith)
+
+pub jobs_of-append : (o : Origin) (xs ys : List Bytes) → jobs_of o (xs ++ ys) ≡ jobs_of o xs ++ jobs_of (counted o (length xs)) ys
+jobs_of-append o [] ys = ap (λ (p : Origin). jobs_of p ys) (sym (counted-none o))
+jobs_of-append o (x ∷ xs) ys =
+    ap (λ l. job_of o x ∷ l) (jobs_of-append (counted o 1) xs ys ∙ ap (λ (p : Origin). jobs_of (counted o 1) xs ++ jobs_of p ys) (counted-twice o 1 (length xs) (suc (length xs)) (omega arith)))
+
+-- ---- records are put
+
+abbrev with_puts : Worker → List Task → Worker
+with_puts w l = record { seat = with_hand w.seat (record { put = l; taken = w.seat.hand.taken }); receipts = w.receipts }
+
+pub HavePut-none : (o : Origin) (w : Worker) → HavePut [] o o w w
+HavePut-none o w = record { numbered = sym (counted-none o); put = ap (with_puts w) (sym (append-nil w.seat.hand.put)) }
+
+pub HavePut-next : (xs : List Bytes) (asked : Bytes) (o p q : Origin) (v w x : Worker) → HavePut xs o p v w → x ≡ record { seat = with_put w.seat (job_of p asked); receipts = w.receipts } → q ≡ counted p 1 → HavePut (xs ++ asked ∷ []) o q v x
+HavePut-next xs asked o p q v w x before put number = record {
+  numbered = number ∙ ap (λ (r : Origin). counted r 1) before.numbered ∙ counted-twice o (length xs) 1 (length (xs ++ asked ∷ [])) (sym (length-append xs (asked ∷ [])));
+  put = put
+      ∙ (λ i. record { seat = with_put (before.put i).seat (job_of (before.numbered i) asked); receipts = (before.put i).receipts })
+      ∙ ap (with_puts v) (append_assoc v.seat.hand.put (jobs_of o xs) (job_of (counted o (length xs)) asked ∷ []) ∙ ap (λ l. v.seat.hand.put ++ l) (sym (jobs_of-append o xs (asked ∷ []))));
+}
+
+-- ---- and jobs are taken and answered
+
+all_sent-all : (xs ys : List Answer) → all_sent (xs ++ ys) ≡ all_sent xs ++ all_sent ys
+all_sent-all [] ys = refl
+all_sent-all (x ∷ xs) ys = ap (λ l. sent_for x ++ l) (all_sent-all xs ys) ∙ sym (append_assoc (sent_for x) (all_sent xs) (all_sent ys))
+
+all_receipts-all : (xs ys : List Answer) → all_receipts (xs ++ ys) ≡ all_receipts xs ++ all_receipts ys
+all_receipts-all [] ys = refl
+all_receipts-all (x ∷ xs) ys = ap (λ l. listed x.receipt ++ l) (all_receipts-all xs ys) ∙ sym (append_assoc (listed x.receipt) (all_receipts xs) (all_receipts ys))
+
+met-all : (xs ys : List Answer) → AreMet xs → AreMet ys → AreMet (xs ++ ys)
+met-all [] ys before after = after
+met-all (x ∷ xs) ys before after = (before.0, met-all xs ys before.1 after)
+
+abbrev with_both : View → List Task → List Task → View
+with_both v put taken = with_hand v (record { put = put; taken = taken })
+
+abbrev job : Answer → Task
+job a = a.job
+
+pub Serves-none : (w : Worker) (s : List Sent) → Serves [] w w s s
+Serves-none w s = record {
+  answers = [];
+  met = tt;
+  hand = λ i. with_both w.seat (sym (append-nil w.seat.hand.put) i) (sym (append-nil w.seat.hand.taken) i);
+  handed = sym (append-nil s);
+  receipts = sym (append-nil w.receipts);
+}
+
+pub Serves-more : (jobs : List Task) (records : List Bytes) (o p : Origin) (v w x y : Worker) (s s' s'' : List Sent) → Serves jobs v w s s' → HavePut records o p w x → Worked x y s' s'' → Serves (jobs ++ jobs_of o records) v y s s''
+Serves-more jobs records o p v w x y s s' s'' so_far put worked =
+    let first = so_far.answers in
+    let bs = worked.0 in
+    let more = worked.1 in record {
+      answers = first ++ bs;
+      met = met-all first bs so_far.met more.met;
+      hand = more.taken
+          ∙ ap (λ (u : Worker). with_both u.seat u.seat.hand.put (u.seat.hand.taken ++ map job bs)) put.put
+          ∙ ap (λ (u : View). with_both u (u.hand.put ++ jobs_of o records) (u.hand.taken ++ map job bs)) so_far.hand
+          ∙ (λ i. with_both v.seat (append_assoc v.seat.hand.put jobs (jobs_of o records) i) ((append_assoc v.seat.hand.taken (map job first) (map job bs) ∙ ap (λ l. v.seat.hand.taken ++ l) (sym (map-append job first bs))) i));
+      handed = more.handed ∙ ap (λ l. l ++ all_sent bs) so_far.handed ∙ append_assoc s (all_sent first) (all_sent bs) ∙ ap (λ l. s ++ l) (sym (all_sent-all first bs));
+      receipts = more.receipts ∙ ap (λ (u : Worker). u.receipts ++ all_receipts bs) put.put ∙ ap (λ l. l ++ all_receipts bs) so_far.receipts
+          ∙ append_assoc v.receipts (all_receipts first) (all_receipts bs) ∙ ap (λ l. v.receipts ++ l) (sym (all_receipts-all first bs));
+    }
+
+-- ---- the loop
+
+-- so far the stream goes on, and the jobs of all its records were put
+pub record SoFar (o p : Origin) (before after : Option (List ℕ)) (a : Assembled) (old new : Worker) (sent sent' : List Sent) : Type 0 where
+  pub split : IsSplit a
+  pub going : a.failed ≡ false
+  pub consumed : Consumes before after a.received
+  pub numbered : p ≡ counted o (length a.given)
+  pub serves : Serves (jobs_of o a.given) old new sent sent'
+
+pub SoFar-none : (o : Origin) (before : Option (List ℕ)) (a : Assembled) (w : Worker) (s : List Sent) → a ≡ record { received = []; given = []; failed = false } → IsSplit a → SoFar o o before before a w w s s
+SoFar-none o before a w s new split = record {
+  split = split;
+  going = ap (λ (b : Assembled). b.failed) new;
+  consumed = subst (λ (b : Assembled). Consumes before before b.received) (sym new) (Consumes-nil before);
+  numbered = sym (ap (λ (b : Assembled). counted o (length b.given)) new ∙ counted-none o);
+  serves = subst (λ (b : Assembled). Serves (jobs_of o b.given) w w s s) (sym new) (Serves-none w s);
+}
+
+-- it goes on from here
+pub Consumes-rest : (a b d : Option (List ℕ)) (bs : List ℕ) → Consumes a b bs → Consumes b d [] → Consumes a d (bs ++ [])
+Consumes-rest a b d bs p q = Consumes-trans a b d bs [] p q
+
+module _ (o p : Origin) (before mid after : Option (List ℕ)) (a : Assembled) (v w : Worker) (s s' : List Sent) (so_far : SoFar o p before mid a v w s s') where
+  whole : Splits a.received a.given false
+  whole = subst (λ fault. Splits a.received a.given fault) so_far.going so_far.split
+
+  all_of : (ending : Ending) → Consumes mid after [] → EndsBy ending a.given false (length a.given) [] after → IsRead ending o p before after v w s s'
+  all_of ending none ends = record {
+    bytes = a.received;
+    lost = [];
+    consumed = Consumes-rest before mid after a.received so_far.consumed none;
+    records = a.given;
+    fault = false;
+    splits = whole;
+    count = length a.given;
+    ends = ends;
+    numbered = so_far.numbered;
+    serves = subst (λ l. Serves (jobs_of o l) v w s s') (sym (take-length a.given)) so_far.serves;
+  }
+
+  -- nothing more is read
+  pub stops : (ending : Ending) → Consumes mid after [] → EndsSo (Err ending) after → IsRead ending o p before after v w s s'
+  stops Over none ends = all_of Over none (refl, refl, refl, ends)
+  stops Failed none ends = all_of Failed none (refl, refl, refl)
+  stops TooLong none ends = absurd ends
+  stops Closed none ends = absurd ends
+  stops Starved none ends = absurd ends
+
+  module _ (piece : List ℕ) (heard : Consumes mid after piece) (a' : Assembled) (records : List Bytes) (q : Origin) (x y : Worker) (s'' : List Sent) (worked : Worked x y s' s'') where
+    taken : Consumes before after (a.received ++ piece)
+    taken = Consumes-trans before mid after a.received piece so_far.consumed heard
+
+    -- so many of the records were put
+    puts_on : (xs : List Bytes) → HavePut xs p q w x → (q ≡ counted o (length a.given + length xs)) × Serves (jobs_of o (a.given ++ xs)) v y s s''
+    puts_on xs put = (
+      put.numbered ∙ ap (λ (r : Origin). counted r (length xs)) so_far.numbered ∙ counted-twice o (length a.given) (length xs) _ refl,
+      subst (λ l. Serves l v y s s'') (ap (λ (r : Origin). jobs_of o a.given ++ jobs_of r xs) so_far.numbered ∙ sym (jobs_of-append o a.given xs))
+          (Serves-more (jobs_of o a.given) xs p q v w x y s s' s'' so_far.serves put worked),
+    )
+
+    module _ (fault : Bool) (fed : Fed a piece records fault a') where
+      read_now : Consumes before after a'.received
+      read_now = subst (Consumes before after) (sym fed.received) taken
+
+      splits_now : Splits a'.received a'.given fault
+      splits_now = subst (λ f. Splits a'.received a'.given f) fed.failed fed.split
+
+      -- the channel took no more
+      cut_short : (count : ℕ) → count < length records → HavePut (take count records) p q w x → length (take count records) ≡ count → IsRead Closed o q before after v y s s''
+      cut_short count few put many =
+          let on = puts_on (take count records) put in
+          let sum : length a.given + length (take count records) ≡ length a.given + count = ap (λ n. length a.given + n) many in
+          let these : a.given ++ take count records ≡ take (length a.given + count) a'.given = sym (ap (take (length a.given + count)) fed.given ∙ take-append-add a.given records count) in
+          let size : length a'.given ≡ length a.given + length records = ap length fed.given ∙ length-append a.given records in record {
+            bytes = a'.received;
+            lost = [];
+            consumed = subst (Consumes before after) (sym (append-nil a'.received)) read_now;
+            records = a'.given;
+            fault = fault;
+            splits = splits_now;
+            count = length a.given + count;
+            ends = (omega (arith, size, few), refl);
+            numbered = on.0 ∙ ap (counted o) sum;
+            serves = subst (λ l. Serves (jobs_of o l) v y s s'') these on.1;
+          }
+
+      all_put : HavePut records p q w x → (q ≡ counted o (length a'.given)) × Serves (jobs_of o a'.given) v y s s''
+      all_put put =
+          let on = puts_on records put in (
+            on.0 ∙ ap (counted o) (sym (ap length fed.given ∙ length-append a.given records)),
+            subst (λ l. Serves (jobs_of o l) v y s s'') (sym fed.given) on.1,
+          )
+
+      -- the stream has a record that is too long
+      too_long : fault ≡ true → HavePut records p q w x → IsRead TooLong o q before after v y s s''
+      too_long is put =
+          let on = all_put put in record {
+            bytes = a'.received;
+            lost = [];
+            consumed = subst (Consumes before after) (sym (append-nil a'.received)) read_now;
+            records = a'.given;
+            fault = fault;
+            splits = splits_now;
+            count = length a'.given;
+            ends = (is, refl, refl);
+            numbered = on.0;
+            serves = subst (λ l. Serves (jobs_of o l) v y s s'') (sym (take-length a'.given)) on.1;
+          }
+
+      more : fault ≡ false → HavePut records p q w x → SoFar o q before after a' v y s s''
+      more is put =
+          let on = all_put put in
+          record { split = fed.split; going = fed.failed ∙ is; consumed = read_now; numbered = on.0; serves = on.1 }
+
+    -- there was no memory for the piece
+    starved : records ≡ [] → HavePut records p q w x → IsRead Starved o q before after v y s s''
+    starved none put =
+        let on = puts_on records put in
+        let same : a.given ++ records ≡ a.given = ap (λ l. a.given ++ l) none ∙ append-nil a.given in record {
+          bytes = a.received;
+          lost = piece;
+          consumed = taken;
+          records = a.given;
+          fault = false;
+          splits = whole;
+          count = length a.given;
+          ends = (refl, refl);
+          numbered = on.0 ∙ ap (counted o) (sym (length-append a.given records) ∙ ap length same);
+          serves = subst (λ l. Serves (jobs_of o l) v y s s'') (same ∙ sym (take-length a.given)) on.1;
+        }
+
+    -- ---- by what became of the piece
+
+    pub closes : (fault : Option Ending) → Cuts a piece records fault a' → Puts false records p q w x → IsRead Closed o q before after v y s s''
+    closes None cuts puts = cut_short false cuts puts.0 puts.1 puts.2 (length-take-le puts.0 records (omega (arith, puts.1)))
+    closes (Some TooLong) cuts puts = cut_short true cuts puts.0 puts.1 puts.2 (length-take-le puts.0 records (omega (arith, puts.1)))
+    closes (Some Starved) cuts puts = let e = ap length cuts.1 in absurd (omega (arith, puts.1, e))
+    closes (Some Over) cuts puts = absurd cuts
+    closes (Some Failed) cuts puts = absurd cuts
+    closes (Some Closed) cuts puts = absurd cuts
+
+    pub ends : (ending : Ending) → Cuts a piece records (Some ending) a' → Puts true records p q w x → IsRead ending o q before after v y s s''
+    ends TooLong cuts puts = too_long true cuts refl puts
+    ends Starved cuts puts = starved cuts.1 puts
+    ends Over cuts puts = absurd cuts
+    ends Failed cuts puts = absurd cuts
+    ends Closed cuts puts = absurd cuts
+
+    pub goes_on : Cuts a piece records None a' → Puts true records p q w x → SoFar o q before after a' v y s s''
+    goes_on cuts puts = more false cuts refl puts
+
+-- ---- a piece, where a read may have been interrupted
+
+pub heard_some : (mid after : Option (List ℕ)) (place : List ℕ) (r : Result ℕ Ending) (ending : Ending) → r ≡ Err ending → Consumes mid after (heard r place) → Consumes mid after []
+heard_some mid after place r ending is c = subst (λ (q : Result ℕ Ending). Consumes mid after (heard q place)) is c
+
+-- nothing was read
+pub unread : (o : Origin) (before : Option (List ℕ)) (w : Worker) (s : List Sent) (a : Assembled) → a ≡ record { received = []; given = []; failed = false } → IsSplit a → IsRead Starved o o before before w w s s
+unread o before w s a new split =
+    let none : Splits [] [] false = subst (λ (b : Assembled). IsSplit b) new split in record {
+      bytes = [];
+      lost = [];
+      consumed = Consumes-nil before;
+      records = [];
+      fault = false;
+      splits = none;
+      count = 0;
+      ends = (refl, refl);
+      numbered = sym (counted-none o);
+      serves = Serves-none w s;
+    }
+
+-- one came back: those before it were put
+pub Puts-some : (o p : Origin) (v w : Worker) (xs : List Bytes) (asked : Bytes) (rest all : List Bytes) → xs ++ asked ∷ rest ≡ all → HavePut xs o p v w → Puts false all o p v w
+Puts-some o p v w xs asked rest all is put =
+    let size : length all ≡ length xs + length (asked ∷ rest) = ap length (sym is) ∙ length-append xs (asked ∷ rest) in
+    let zero : length xs ≡ length xs + 0 = omega arith in
+    let these : take (length xs) all ≡ xs = ap (take (length xs)) (sym is) ∙ ap (λ n. take n (xs ++ asked ∷ rest)) zero ∙ take-append-add xs (asked ∷ rest) 0 ∙ append-nil xs in
+    (length xs, omega (arith, size), subst (λ l. HavePut l o p v w) (sym these) put)

@@ -1,0 +1,94 @@
+-- What a connection's own thread reads, puts and answers.
+use Rattle.std.specs.Prelude.{◌≡◌, ℕ, ◌+◌, ◌<◌, Bool, true, false, List, [], ◌∷◌, ◌++◌, length, take, map, Option, Some, None, Result, Ok, Err}
+use Rattle.std.specs.Io.KnownBytes.{Consumes, IsAtEnd}
+use Rattle.definitions.specs.Bytes.{Bytes}
+use Rattle.record_mark.specs.Stream.{Splits}
+use Rattle.record_mark.specs.Assembled.{Assembled, IsSplit}
+use Rattle.kept_replies.specs.Pairs.{asker}
+use Rattle.jobs.specs.Task.{Task}
+use Rattle.jobs.specs.Passes.{with_hand}
+use Rattle.workers.specs.declared.reading.Origin.{Origin}
+use Rattle.workers.specs.declared.reading.Ending.{Ending}
+use Rattle.workers.specs.declared.reading.Ending.TheVariants.{Over, Failed, TooLong, Closed, Starved}
+use Rattle.workers.specs.Answers.{Answer, AreMet, Sent, all_sent, all_receipts, Worker}
+
+-- the job of this record, under the next number
+abbrev pub job_of : Origin → Bytes → Task
+job_of o asked = record { connection = o.connection; peer = asker o.peer; number = o.put; asked = asked }
+
+-- so many more were put
+abbrev pub counted : Origin → ℕ → Origin
+counted o count = record { connection = o.connection; peer = o.peer; put = o.put + count }
+
+-- the jobs of these records, numbered on
+abbrev pub jobs_of : Origin → List Bytes → List Task
+jobs_of o [] = []
+jobs_of o (asked ∷ rest) = job_of o asked ∷ jobs_of (counted o 1) rest
+
+-- these jobs were put, and some were taken and answered, in order: each receipt and each record is that of its job
+pub record Serves (jobs : List Task) (old new : Worker) (sent sent' : List Sent) : Type 0 where
+  pub answers : List Answer
+  pub met : AreMet answers
+  pub hand : new.seat ≡ with_hand old.seat (record { put = old.seat.hand.put ++ jobs; taken = old.seat.hand.taken ++ map (λ (a : Answer). a.job) answers })
+  pub handed : sent' ≡ sent ++ all_sent answers
+  pub receipts : new.receipts ≡ old.receipts ++ all_receipts answers
+
+-- the bytes of a read
+abbrev pub heard : Result ℕ Ending → List ℕ → List ℕ
+heard (Ok count) place = take count place
+heard (Err ending) place = []
+
+-- a stream that is over has no byte left
+abbrev pub EndsSo : Result ℕ Ending → Option (List ℕ) → Type 0
+EndsSo (Ok count) after = Unit {0}
+EndsSo (Err Over) after = IsAtEnd after
+EndsSo (Err Failed) after = Unit {0}
+EndsSo (Err TooLong) after = ⊥
+EndsSo (Err Closed) after = ⊥
+EndsSo (Err Starved) after = ⊥
+
+-- the piece was taken, and ends these records
+pub record Fed (old : Assembled) (piece : List ℕ) (records : List Bytes) (fault : Bool) (new : Assembled) : Type 0 where
+  pub split : IsSplit new
+  pub received : new.received ≡ old.received ++ piece
+  pub given : new.given ≡ old.given ++ records
+  pub failed : new.failed ≡ fault
+
+abbrev pub Cuts : Assembled → List ℕ → List Bytes → Option Ending → Assembled → Type 0
+Cuts old piece records None new = Fed old piece records false new
+Cuts old piece records (Some TooLong) new = Fed old piece records true new
+Cuts old piece records (Some Starved) new = (new ≡ old) × (records ≡ [])
+Cuts old piece records (Some Over) new = ⊥
+Cuts old piece records (Some Failed) new = ⊥
+Cuts old piece records (Some Closed) new = ⊥
+
+-- these were put, numbered on, and nothing else happened
+pub record HavePut (records : List Bytes) (o o' : Origin) (old new : Worker) : Type 0 where
+  pub numbered : o' ≡ counted o (length records)
+  pub put : new ≡ record { seat = with_hand old.seat (record { put = old.seat.hand.put ++ jobs_of o records; taken = old.seat.hand.taken }); receipts = old.receipts }
+
+-- all were put, or those before one that came back
+abbrev pub Puts : Bool → List Bytes → Origin → Origin → Worker → Worker → Type 0
+Puts true records o o' old new = HavePut records o o' old new
+Puts false records o o' old new = (count : ℕ) × (count < length records) × HavePut (take count records) o o' old new
+
+-- which records were put, where the stream's bytes make these records, and which bytes that were read are not among those
+abbrev pub EndsBy : Ending → List Bytes → Bool → ℕ → List ℕ → Option (List ℕ) → Type 0
+EndsBy Over records fault count lost after = (fault ≡ false) × (count ≡ length records) × (lost ≡ []) × IsAtEnd after
+EndsBy Failed records fault count lost after = (fault ≡ false) × (count ≡ length records) × (lost ≡ [])
+EndsBy TooLong records fault count lost after = (fault ≡ true) × (count ≡ length records) × (lost ≡ [])
+EndsBy Closed records fault count lost after = (count < length records) × (lost ≡ [])
+EndsBy Starved records fault count lost after = (fault ≡ false) × (count ≡ length records)
+
+-- the jobs that were put are, numbered on, those of the first records of the bytes that were read; all of them, unless the channel took no more or there was no memory for the last bytes
+pub record IsRead (ending : Ending) (o o' : Origin) (before after : Option (List ℕ)) (old new : Worker) (sent sent' : List Sent) : Type 0 where
+  pub bytes : List ℕ
+  pub lost : List ℕ
+  pub consumed : Consumes before after (bytes ++ lost)
+  pub records : List Bytes
+  pub fault : Bool
+  pub splits : Splits bytes records fault
+  pub count : ℕ
+  pub ends : EndsBy ending records fault count lost after
+  pub numbered : o' ≡ counted o count
+  pub serves : Serves (jobs_of o (take count records)) old new sent sent'

@@ -1,0 +1,181 @@
+//! A connection's own thread: it reads records, puts each as a job, and answers as many jobs as it put.
+ghost use Rattle.std.specs.Prelude.{◌≡◌, ◌+◌, ◌<◌, ◌≤◌, true, false, length, take, ◌∷◌, [], vec_len, IfOk, MatchResult};
+ghost use Rattle.std.specs.Io.KnownBytes.{Consumes};
+ghost use Rattle.jobs.specs.Passes.{with_put};
+ghost use Rattle.workers.specs.Reading.{heard, EndsSo, Cuts, Puts, job_of, counted, IsRead};
+
+use crate::outbox::{Gate, Outbox};
+use crate::shared::Shared;
+use crate::worker::Worker;
+use bytes::Bytes;
+use hosts_db::HostStore;
+use jobs::{Channel, Job, Place};
+use kept_replies::Peer;
+use range_table::RangeTable;
+use record_mark::{Assembler, MarkError, Records};
+use std::alloc::{AllocError, Global};
+use std::io::{ErrorKind, Read};
+use std::sync::ledger::Ledger;
+use std::sync::{Mutex, Wait};
+
+/// The most bytes that are read at once.
+const PIECE: usize = 65_536;
+
+/// The most reads of a connection.
+const READS: u64 = 1_000_000_000;
+
+/// Whose records they are, and how many of them were put as jobs: that is the next one's number.
+#[derive(Clone, Copy, Debug, PartialEq, Eq)]
+pub struct Origin {
+    /// The number of the connection.
+    pub connection: u64,
+    /// Who asks on it.
+    pub peer: Peer,
+    /// How many jobs were put, from 0.
+    pub put: u64,
+}
+
+/// Where records come from.
+#[derive(Drop)]
+pub struct Source<T> {
+    pub stream: T,
+    pub origin: Origin,
+}
+
+/// How reading ended.
+#[derive(Clone, Copy, Debug, PartialEq, Eq)]
+pub enum Ending {
+    /// The stream ended. An end inside a record is no fault.
+    Over,
+    /// A read failed, or none brought bytes in time, or there were a billion reads.
+    Failed,
+    /// The stream has a record that would be longer than 8,192 bytes. The records before it were put.
+    TooLong,
+    /// The channel is closed, or 2^64 - 1 jobs were put. A record is left that was not put.
+    Closed,
+    /// There was no memory for bytes that were read. Records that were whole before them were put.
+    Starved,
+}
+
+// The place of what is read.
+fn make_place(alloc: Global) -> Result<Vec<u8>, AllocError>
+    ensures { IfOk result (λ place. vec_len place ≡ PIECE) }
+{
+    Ok(vec![in alloc; 0u8; PIECE]?)
+}
+
+// Reads once: how many bytes came. An interruption brings none.
+fn hear<T: Read>(stream: &mut T, place: &mut [u8]) -> Result<usize, Ending>
+    requires { 0 < length place.old }
+    ensures room { IfOk result (λ count. count ≤ length place.new) }
+    ensures bytes { Consumes (T.remaining stream.old) (T.remaining stream.new) (heard result place.new) }
+    ensures ends { EndsSo result (T.remaining stream.new) }
+{
+    match stream.read(place) {
+        Ok(0) => Err(Ending::Over),
+        Ok(count) => Ok(count),
+        Err(error) if error.kind() == ErrorKind::Interrupted => Ok(0),
+        Err(_) => Err(Ending::Failed),
+    }
+}
+
+// The records that the piece ends, and how the stream ends with them, if it does.
+fn cut(assembler: &mut Assembler, alloc: Global, piece: &[u8]) -> (Records, Option<Ending>)
+    ensures { Cuts assembler.old piece.now result.0.items result.1 assembler.new }
+{
+    match assembler.feed(piece) {
+        Ok(records) => (records, None),
+        Err(MarkError::RecordTooLong(records)) => (records, Some(Ending::TooLong)),
+        Err(MarkError::Starved) => (Vec::new(alloc), Some(Ending::Starved)),
+    }
+}
+
+impl<P: Place, L: Ledger> Worker<P, L> {
+    /// Reads the stream to its end. Each whole record is a job, numbered from `put` on, in order. Nobody is woken for the first
+    /// record of a read, since this worker takes as many jobs as it put before it reads on, whoever put them.
+    pub fn read<R: RangeTable, S: HostStore, G: Gate, O: Outbox, T: Read, W: Wait>(
+        &mut self,
+        rt: &W,
+        channel: &Channel<P>,
+        shared: &Mutex<Shared<R, S, L>>,
+        gate: &G,
+        outbox: &mut O,
+        source: &mut Source<T>,
+    ) -> Ending
+        ensures { IsRead result source.old.origin source.new.origin (T.remaining source.old.stream) (T.remaining source.new.stream)
+            self.old self.new (O.handed outbox.old) (O.handed outbox.new) }
+    {
+        let alloc = self.alloc();
+        let mut assembler = Assembler::new(alloc);
+        let Ok(mut place) = make_place(alloc) else {
+            return Ending::Starved;
+        };
+        for _ in 0..READS {
+            let piece = place.as_mut_slice();
+            let count = match hear(&mut source.stream, piece) {
+                Ok(count) => count,
+                Err(ending) => return ending,
+            };
+            let (records, fault) = cut(&mut assembler, alloc, &piece[..count]);
+            let asked = records.len();
+            let is_put = self.put_all(rt, channel, &mut source.origin, records);
+            self.help(rt, channel, shared, gate, outbox, asked);
+            if !is_put {
+                return Ending::Closed;
+            }
+            match fault {
+                Some(ending) => return ending,
+                None => {}
+            }
+        }
+        Ending::Failed
+    }
+
+    // Puts the records of one read. Whether the channel took them all.
+    fn put_all<W: Wait>(
+        &mut self,
+        rt: &W,
+        channel: &Channel<P>,
+        origin: &mut Origin,
+        records: Records,
+    ) -> bool
+        ensures { Puts result records.items origin.old origin.new self.old self.new }
+    {
+        let mut is_first = true;
+        for asked in records {
+            if !self.put_next(rt, channel, origin, asked, is_first) {
+                return false;
+            }
+            is_first = false;
+        }
+        true
+    }
+
+    // Puts one record. Whether the channel took it, and there was a number for it.
+    fn put_next<W: Wait>(
+        &mut self,
+        rt: &W,
+        channel: &Channel<P>,
+        origin: &mut Origin,
+        asked: Bytes,
+        is_first: bool,
+    ) -> bool
+        ensures put { result ≡ true → (self.new ≡ record { seat = with_put self.old.seat (job_of origin.old asked); receipts = self.old.receipts }) × (origin.new ≡ counted origin.old 1) }
+        ensures back { result ≡ false → (self.new ≡ self.old) × (origin.new ≡ origin.old) }
+    {
+        let Some(next) = origin.put.checked_add(1) else {
+            return false;
+        };
+        let job = Job::new(origin.connection, origin.peer, origin.put, asked);
+        let put = if is_first {
+            self.put(rt, channel, job)
+        } else {
+            self.send(rt, channel, job)
+        };
+        if put.is_err() {
+            return false;
+        }
+        origin.put = next;
+        true
+    }
+}
