@@ -1,0 +1,201 @@
+//! All threads.
+use crate::accepting::{Post, accept};
+use crate::service::{Chief, Service, Side};
+use connections::Door;
+use std::alloc::Global;
+use std::sync::Wait;
+use std::thread;
+use std::thread::{Builder, JoinHandle, Scope, Threads};
+use std::time::Clock;
+use thiserror::Error;
+
+/// A thread could not be started. All that were started have ended.
+#[derive(Clone, Copy, Debug, PartialEq, Eq, Error)]
+#[error("1 Starved")]
+pub struct NoThread;
+
+/// Where connections come in, and what each worker has.
+#[derive(Drop)]
+pub struct Staff<W> {
+    pub alloc: Global,
+    pub callers: Door,
+    pub locals: Door,
+    pub workers: Vec<W>,
+    /// The bytes of each thread's stack.
+    pub stack: usize,
+}
+
+// A worker's thread.
+fn hire<'s, E, R, W, C>(
+    rt: &'s R,
+    scope: &'s Scope<'s, E>,
+    service: &'s C,
+    worker: W,
+    stack: usize,
+) -> Option<JoinHandle<W>>
+where
+    R: Threads + Sync,
+    W: Send + Drop + 's,
+    C: Service<R, W> + Sync,
+{
+    Builder::new()
+        .stack_size(stack)
+        .spawn_scoped(scope, move || service.work(rt, worker))
+        .ok()
+}
+
+// The thread of a door. Whether there is one.
+fn open<'s, E, R, W, C>(
+    rt: &'s R,
+    scope: &'s Scope<'s, E>,
+    service: &'s C,
+    post: Post,
+    door: &'s Door,
+) -> bool
+where
+    R: Threads + Clock + Sync,
+    W: 's,
+    C: Service<R, W> + Sync,
+{
+    Builder::new()
+        .stack_size(post.stack)
+        .spawn_scoped(
+            scope,
+            move || accept::<E, R, W, C>(rt, scope, service, post, door),
+        )
+        .is_ok()
+}
+
+// A thread for each worker. False where one could not be started: its worker and those behind it are dropped.
+fn hire_all<'s, E, R, W, C>(
+    rt: &'s R,
+    scope: &'s Scope<'s, E>,
+    service: &'s C,
+    workers: Vec<W>,
+    stack: usize,
+    hands: &mut Vec<JoinHandle<W>>,
+) -> bool
+where
+    R: Threads + Sync,
+    W: Send + Drop + 's,
+    C: Service<R, W> + Sync,
+{
+    for worker in workers {
+        let Some(hand) = hire::<E, R, W, C>(rt, scope, service, worker, stack) else {
+            return false;
+        };
+        if hands.push(hand).is_err() {
+            return false;
+        }
+    }
+    true
+}
+
+// Waits for all workers.
+fn gather<R: Threads, W: Drop>(rt: &R, hands: Vec<JoinHandle<W>>, back: &mut Vec<W>) -> bool {
+    for hand in hands {
+        if back.push(hand.join(rt)).is_err() {
+            return false;
+        }
+    }
+    true
+}
+
+// Both doors are open while the chief presides. It comes back once no connection is left.
+fn serve_doors<R, W, C, K>(
+    rt: &R,
+    service: &C,
+    callers: &Door,
+    locals: &Door,
+    stack: usize,
+    chief: &mut K,
+) -> bool
+where
+    R: Threads + Wait + Clock + Sync,
+    C: Service<R, W> + Sync,
+    K: Chief<R>,
+{
+    thread::scope(thread::scope_env(), rt, |scope| {
+        let is_open = open::<_, R, W, C>(
+            rt,
+            scope,
+            service,
+            Post {
+                side: Side::Callers,
+                stack,
+            },
+            callers,
+        ) && open::<_, R, W, C>(
+            rt,
+            scope,
+            service,
+            Post {
+                side: Side::Locals,
+                stack,
+            },
+            locals,
+        );
+        if is_open {
+            chief.preside(rt);
+        }
+        service.stop(rt);
+        is_open
+    })
+}
+
+// All threads, once the workers have theirs.
+fn serve_all<R, W, C, K>(
+    rt: &R,
+    service: &C,
+    staff: Staff<W>,
+    chief: &mut K,
+    back: &mut Vec<W>,
+) -> bool
+where
+    R: Threads + Wait + Clock + Sync,
+    W: Send + Drop,
+    C: Service<R, W> + Sync,
+    K: Chief<R>,
+{
+    let Staff {
+        alloc,
+        callers,
+        locals,
+        workers,
+        stack,
+    } = staff;
+    let callers = &callers;
+    let locals = &locals;
+    thread::scope(thread::scope_env(), rt, |scope| {
+        let mut hands = Vec::new(alloc);
+        let is_staffed = hire_all::<_, R, W, C>(rt, scope, service, workers, stack, &mut hands);
+        let is_served = is_staffed
+            && serve_doors::<R, W, C, K>(rt, service, callers, locals, stack, chief);
+        service.close();
+        gather(rt, hands, back) && is_served
+    })
+}
+
+/// Starts all threads, and comes back with what the workers had once the server was stopped and all have ended.
+pub fn run<R, W, C, K>(
+    rt: &R,
+    service: &C,
+    staff: Staff<W>,
+    chief: &mut K,
+) -> Result<Vec<W>, NoThread>
+where
+    R: Threads + Wait + Clock + Sync,
+    W: Send + Drop,
+    C: Service<R, W> + Sync,
+    K: Chief<R>,
+{
+    let mut back = Vec::new(staff.alloc);
+    if back.reserve(staff.workers.len()).is_err() {
+        return Err(NoThread);
+    }
+    if serve_all::<R, W, C, K>(rt, service, staff, chief, &mut back) {
+        Ok(back)
+    } else {
+        Err(NoThread)
+    }
+}
