@@ -4,8 +4,10 @@
 
 mod asked;
 mod counts;
+mod listing;
 mod locks;
 mod quotas;
 
 pub use asked::{Change, Holder, Request};
+pub use listing::Listing;
 pub use locks::Locks;

@@ -10,10 +10,12 @@ ghost use Rattle.owner_ranges.specs.Stands.{Stands};
 ghost use Rattle.range_table.specs.Settings.{mode_at};
 ghost use Rattle.held_locks.specs.Asked.{asked, changed, setting_by, shown, shown_found};
 ghost use Rattle.held_locks.specs.Held.{IsKnown, KeepsKnown, KeepsNames, SameNames, HoldsNothing};
+ghost use Rattle.held_locks.specs.Listing.{IsListing};
 ghost use Rattle.held_locks.specs.Stranger.{IsAsker};
 
 use crate::asked::{Change, Holder, Request};
 use crate::counts::{self, make_place};
+use crate::listing::Listing;
 use history::History;
 use owner_ids::{HostOf, NOBODY, Owner, OwnerId, Owners, Starved};
 use range_table::{FileId, NoRuns, RangeTable, Run};
@@ -281,6 +283,30 @@ impl<R: RangeTable> Locks<R> {
         ensures { slice_get (runs self.now.settings) i ≡ Some (shown result) }
     {
         let run = self.table.runs(&self.owners, i);
+        Holder {
+            file: run.file,
+            owner: self.owners.get(run.owner),
+            first: run.first,
+            last: run.last,
+            mode: run.mode,
+        }
+    }
+
+    /// All locks in a row, for whoever reads all of them. `None` where there is no memory for them.
+    pub fn listing(&self) -> Option<Listing>
+        ensures { IfSome result (λ all. IsListing self.now all) }
+    {
+        let (table, owners) = self.parts();
+        Listing::of(self.alloc, table, owners)
+    }
+
+    /// The i-th of all locks, as `holder`, out of their row, and without a search.
+    pub fn listed(&self, all: &Listing, i: u32) -> Holder<'_>
+        requires listing { IsListing self.now all.now }
+        requires within { i < used self.now.settings }
+        ensures { slice_get (runs self.now.settings) i ≡ Some (shown result) }
+    {
+        let run = all.get(i);
         Holder {
             file: run.file,
             owner: self.owners.get(run.owner),

@@ -1,7 +1,8 @@
 -- The i-th run by number is the i-th run by owner.
-use Rattle.std.proofs.Common.{◌≡◌, ℕ, zero, suc, true, List, [], ◌∷◌, map, refl, sym, ap, ◌∙◌, subst, ◌⊎◌, inl, inr, Some, slice_get}
+use Rattle.std.proofs.Common.{◌≡◌, ℕ, zero, suc, true, List, [], ◌∷◌, map, refl, sym, ap, ◌∙◌, subst, ◌⊎◌, inl, inr, Some, length, slice_get}
 use Rattle.std.proofs.lemmas.Bool.{true≢false}
 use Rattle.std.proofs.lemmas.Cmp.{tied_itself}
+use Rattle.std.proofs.lemmas.List.{length-map}
 use Rattle.std.specs.List.{AllByRecursion}
 use Rattle.std.specs.Ordering.{is_lt}
 use Rattle.std.specs.declared.cmp.Ordering.{Ordering}
@@ -9,7 +10,7 @@ use Rattle.std.specs.declared.cmp.Ordering.TheVariants.{Less, Equal, Greater}
 use Rattle.definitions.specs.Bytes.{Bytes, Holds, IsBelowAll, IsAscending}
 use Rattle.definitions.specs.Owners.{Owner}
 use Rattle.definitions.specs.Settings.{Mode, Setting}
-use Rattle.definitions.specs.Starts.{Run, Start, IsRun, start_of, start_cmp, starts, runs, run_at}
+use Rattle.definitions.specs.Starts.{Run, Start, IsRun, start_of, start_cmp, starts, runs, run_at, used}
 use Rattle.definitions.proofs.Orders.{below_of}
 use Rattle.definitions.proofs.StartLaws.{start_total, starts_law}
 use Rattle.range_table.specs.File.{file_cmp}
@@ -137,18 +138,34 @@ module _ (names : Names) (held : Held) (settings : List Setting) (h : Stands nam
       ∙ ap (λ z. fields u.file u.owner u.first z t.mode) (sym a.last ∙ b.last)
       ∙ ap (λ z. fields u.file u.owner u.first u.last z) (sym a.mode ∙ b.mode)
 
+  -- the runs by number are those by owner, one by one
+  list_over : (rs : List NumberRun) → AreRuns (number_cmp names) held rs → (ts : List Run) × Paired names rs ts × (ts ≡ runs settings)
+  list_over rs a =
+      let p = pairs_of rs a.each in (
+        p.0,
+        p.1,
+        same_members p.0 (runs settings) (ascends_over rs p.0 p.1 a.ordered) (runs_ascend settings (starts settings) (starts_law.in_order settings))
+            (λ t k. run_listed names held settings h t (p.2 t k))
+            (λ t k.
+            let b = runs_over.back names held settings t h k in
+            let q = held_pair rs p.0 b.0 p.1 (a.all b.0 b.2) in
+            subst (Holds p.0) (same_back b.0 q.0 t q.2 b.1) q.1),
+      )
+
   pub nth_over : (rs : List NumberRun) (i : ℕ) (r : NumberRun) → AreRuns (number_cmp names) held rs → slice_get rs i ≡ Some r → (t : Run) × (slice_get (runs settings) i ≡ Some t) × IsSameRun names r t
   nth_over rs i r a e =
-      let p = pairs_of rs a.each in
-      let all : p.0 ≡ runs settings =
-      same_members p.0 (runs settings) (ascends_over rs p.0 p.1 a.ordered) (runs_ascend settings (starts settings) (starts_law.in_order settings))
-      (λ t k. run_listed names held settings h t (p.2 t k))
-      (λ t k.
-      let b = runs_over.back names held settings t h k in
-      let q = held_pair rs p.0 b.0 p.1 (a.all b.0 b.2) in
-      subst (Holds p.0) (same_back b.0 q.0 t q.2 b.1) q.1) in
+      let p = list_over rs a in
       let q = read_pair names rs p.0 i r p.1 e in
-      (q.0, subst (λ ts. slice_get ts i ≡ Some q.0) all q.1, q.2)
+      (q.0, subst (λ ts. slice_get ts i ≡ Some q.0) p.2 q.1, q.2)
+
+  length-paired : (rs : List NumberRun) (ts : List Run) → Paired names rs ts → length rs ≡ length ts
+  length-paired [] [] p = refl
+  length-paired [] (t ∷ ts) p = absurd p
+  length-paired (r ∷ rs) [] p = absurd p
+  length-paired (r ∷ rs) (t ∷ ts) p = ap suc (length-paired rs ts p.1)
+
+  pub length_over : (rs : List NumberRun) → AreRuns (number_cmp names) held rs → length rs ≡ used settings
+  length_over rs a = let p = list_over rs a in length-paired rs p.0 p.1 ∙ ap length p.2 ∙ length-map (starts settings) (run_at settings)
 
 pub run_order_over : RunOrderLaw
 run_order_over names held settings rs i r h a e = nth_over names held settings h rs i r a e

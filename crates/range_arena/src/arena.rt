@@ -78,6 +78,10 @@ impl RangeTable for ArenaTable {
         ordered::run_at(self.runs.list(), owners, i as usize)
     }
 
+    fn copy_runs(&self, list: &mut Vec<Run>) {
+        self.runs.list().copy_to(list);
+    }
+
     fn first_conflict<O: OwnerOrder>(&self, owners: &O, wanted: &Run) -> Option<Run> {
         self.runs.first_conflict(owners, wanted)
     }

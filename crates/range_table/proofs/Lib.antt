@@ -25,3 +25,4 @@ pub mod OneLess
 pub mod Halves
 pub mod Splitting
 pub mod InWay
+pub mod Ascents

@@ -1,13 +1,15 @@
 //! The texts.
 
-ghost use Rattle.std.specs.Prelude.{[], ◌∷◌, codes};
-ghost use Rattle.definitions.specs.Starts.{runs};
+ghost use Rattle.std.specs.Prelude.{◌≡◌, ◌<◌, [], ◌∷◌, codes, IfSome, Some, slice_get};
+ghost use Rattle.definitions.specs.Starts.{runs, used};
+ghost use Rattle.held_locks.specs.Asked.{shown};
+ghost use Rattle.held_locks.specs.Listing.{IsListing};
 ghost use Rattle.local_ops.specs.Texts.{line};
 ghost use Rattle.table_text.specs.Texts.{runs_text, rows_text};
 ghost use Rattle.written.specs.Written.{Wrote};
 
 use crate::lines::{put_host, put_run};
-use held_locks::Locks;
+use held_locks::{Holder, Listing, Locks};
 use hosts_db::HostRow;
 use range_table::RangeTable;
 use std::io::Write;
@@ -19,21 +21,45 @@ use xdr_core::Frame;
 /// its file (2^63 - 1, POSIX fcntl). Without locks nothing is printed.
 ///
 /// The writer gets at most 4,096 bytes at a time. Where a write fails or takes nothing, the fault is `24 WriteFault`, and the
-/// writer holds a front of the text. It takes no memory.
+/// writer holds a front of the text.
 ///
-/// A line costs its length and one call of `RangeTable::runs`. Over the tables of this repository that is a binary search,
-/// and the square of the number of runs that have the line's file and first byte.
+/// It takes memory for a copy of the runs, and time by the length of the text and by their number times its logarithm. Where
+/// that memory can't be had, each line costs a search, and the square of the number of runs that have its file and first byte.
 pub fn print_table<R: RangeTable, W: Write>(
     locks: &Locks<R>,
     writer: &mut W,
 ) -> Result<(), WriteFault>
     ensures { Wrote (W.contents writer.old) (W.contents writer.new) result (runs_text (runs locks.now.settings)) }
 {
+    print_row(locks, &locks.listing(), writer)
+}
+
+// Prints all locks, out of their row where there is one.
+fn print_row<R: RangeTable, W: Write>(
+    locks: &Locks<R>,
+    all: &Option<Listing>,
+    writer: &mut W,
+) -> Result<(), WriteFault>
+    requires row { IfSome all.now (IsListing locks.now) }
+    ensures { Wrote (W.contents writer.old) (W.contents writer.new) result (runs_text (runs locks.now.settings)) }
+{
     let mut block = Frame::new();
     for i in 0..locks.used() {
-        put_run(&mut block, writer, &locks.holder(i))?;
+        put_run(&mut block, writer, &holder(locks, all, i))?;
     }
     write_whole(writer, block.as_slice())
+}
+
+// The i-th of all locks, out of their row where there is one.
+fn holder<'a, R: RangeTable>(locks: &'a Locks<R>, all: &Option<Listing>, i: u32) -> Holder<'a>
+    requires row { IfSome all.now (IsListing locks.now) }
+    requires within { i < used locks.now.settings }
+    ensures { slice_get (runs locks.now.settings) i ≡ Some (shown result) }
+{
+    match all {
+        Some(all) => locks.listed(all, i),
+        None => locks.holder(i),
+    }
 }
 
 /// Prints the hosts, one line for each row `NAME EPOCH SEEN QUOTA`, in the order of the rows. NAME is in lower-case

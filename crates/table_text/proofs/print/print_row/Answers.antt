@@ -5,7 +5,7 @@ use Rattle.local_ops.specs.Texts.{run_line}
 use Rattle.table_text.specs.Texts.{runs_text}
 use Rattle.table_text.proofs.Passing.{WroteAllBut-item, Wrote-rest, failed-item, all_items}
 use Rattle.table_text.proofs.Pieces.{length-runs}
-use Rattle.table_text.proofs.print.print_table.Goals as goal
+use Rattle.table_text.proofs.print.print_row.Goals as goal
 
 pub loop-i-preserved : goal.loop-i-preserved
 loop-i-preserved g c =

@@ -1,0 +1,13 @@
+-- All runs by number, in the order of their owners.
+use Rattle.std.specs.Prelude.{List}
+use Rattle.owner_ids.specs.Names.{named, number_cmp}
+use Rattle.owner_ranges.specs.Stands.{Stands}
+use Rattle.range_table.specs.Settings.{AreRuns, Held as NumberHeld}
+use Rattle.range_table.specs.declared.run.Run.{Run as NumberRun}
+use Rattle.held_locks.specs.Held.{Held}
+
+-- the runs are all that the settings leave, each owner by its number
+pub record IsListing (h : Held) (runs : List NumberRun) : Type 0 where
+  pub held : NumberHeld
+  pub stands : Stands (named h.names) held h.settings
+  pub all : AreRuns (number_cmp (named h.names)) held runs
