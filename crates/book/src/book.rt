@@ -12,6 +12,7 @@ use crate::entry::{Act, Entry, SEGMENT};
 use crate::event::BookEvent;
 use crate::receipt::{Receipt, Taken};
 use crate::reply::Reply;
+use crate::seen::Seen;
 use crate::segment::{Closed, Segment};
 use crate::shared::Shared;
 use crate::upshot::{Doing, Upshot};
@@ -25,7 +26,6 @@ use range_table::RangeTable;
 use std::alloc::Global;
 use std::marker::Model;
 use std::mem;
-use std::snapshot::Snapshot;
 use xdr_core::Frame;
 
 /// The world, the kept replies, and the journal of this segment. Contracts see the journal, whose end is the state, and how
@@ -33,7 +33,7 @@ use xdr_core::Frame;
 #[derive(Drop)]
 pub struct Book<R: RangeTable, S: HostStore> {
     shared: Shared<R, S>,
-    base: Snapshot<Shared<R, S>>,
+    base: Seen<Shared<R, S>>,
     entries: Vec<Entry>,
     /// The number of the newest entry, over all segments.
     newest: u64,
@@ -64,7 +64,7 @@ impl<R: RangeTable + Drop, S: HostStore + Drop> Book<R, S> {
     {
         let segment = Segment::new(alloc)?;
         let shared = Shared::new(alloc, table, store, own_name)?;
-        let base = Snapshot::of(&shared);
+        let base = Seen::of(&shared);
         Ok(Book {
             shared,
             base,
@@ -78,7 +78,7 @@ impl<R: RangeTable + Drop, S: HostStore + Drop> Book<R, S> {
         ensures closed { result ≡ self.journal }
         ensures legal { IsLegal result }
     {
-        let end = Snapshot::of(&self.shared);
+        let end = Seen::of(&self.shared);
         Closed {
             newest: self.newest,
             base: self.base,
@@ -158,8 +158,8 @@ impl<R: RangeTable, S: HostStore> Book<R, S> {
         ensures legal { IsLegal result }
         ensures next { self.new ≡ rotated self.old }
     {
-        let end = Snapshot::of(&self.shared);
-        let base = mem::replace(&mut self.base, Snapshot::of(&self.shared));
+        let end = Seen::of(&self.shared);
+        let base = mem::replace(&mut self.base, Seen::of(&self.shared));
         let entries = mem::replace(&mut self.entries, fresh.entries);
         Closed {
             newest: self.newest,

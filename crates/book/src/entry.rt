@@ -1,11 +1,11 @@
 //! Entries of the journal.
 use crate::event::BookEvent;
 use crate::reply::Reply;
+use crate::seen::Seen;
 use crate::upshot::Doing;
 use letters::Letter;
 use local_ops::LocalAnswer;
 use lock_service::StoreAnswer;
-use std::snapshot::Snapshot;
 
 /// The most entries of a segment.
 pub const SEGMENT: usize = 1_024;
@@ -23,12 +23,12 @@ pub enum Act {
     Line {
         connection: u64,
         line: Vec<u8>,
-        answer: Snapshot<LocalAnswer>,
+        answer: Seen<LocalAnswer>,
     },
     /// The server's own call of this number was sent. Contracts see its letter.
     Sent {
         number: u64,
-        letter: Snapshot<Letter>,
+        letter: Seen<Letter>,
     },
 }
 

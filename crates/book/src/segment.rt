@@ -4,13 +4,13 @@ ghost use Rattle.book.specs.Notes.{note_of};
 ghost use Rattle.book.specs.declared.entry.TheConstants.{SEGMENT};
 
 use crate::entry::{Entry, SEGMENT};
+use crate::seen::Seen;
 use crate::shared::Shared;
 use hosts_db::HostStore;
 use owner_ids::Starved;
 use range_table::RangeTable;
 use std::alloc::Global;
 use std::marker::Model;
-use std::snapshot::Snapshot;
 
 /// Room for the entries of one segment.
 #[derive(Drop)]
@@ -33,9 +33,9 @@ impl Segment {
 #[derive(Drop)]
 pub struct Closed<R: RangeTable, S: HostStore> {
     pub(crate) newest: u64,
-    pub(crate) base: Snapshot<Shared<R, S>>,
+    pub(crate) base: Seen<Shared<R, S>>,
     pub(crate) entries: Vec<Entry>,
-    pub(crate) end: Snapshot<Shared<R, S>>,
+    pub(crate) end: Seen<Shared<R, S>>,
 }
 
 impl<R: RangeTable, S: HostStore> Model for Closed<R, S> {

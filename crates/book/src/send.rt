@@ -8,12 +8,12 @@ ghost use Rattle.call_records.specs.Records.{call_record};
 ghost use Rattle.book.specs.Given.{comes_to};
 ghost use Rattle.book.specs.Notes.{IsStep};
 
+use crate::seen::Seen;
 use crate::shared::Shared;
 use call_records::{Dest, put_record};
 use hosts_db::HostStore;
 use letters::Letter;
 use range_table::RangeTable;
-use std::snapshot::Snapshot;
 use xdr_core::Frame;
 
 /// A call that is sent: its number, whom it is for, its record, and its letter, which contracts see.
@@ -22,7 +22,7 @@ pub(crate) struct Sending {
     pub(crate) number: u64,
     pub(crate) to: Dest,
     pub(crate) frame: Frame,
-    pub(crate) letter: Snapshot<Letter>,
+    pub(crate) letter: Seen<Letter>,
     pub(crate) ghost goes: { dest_of to ≡ letter.value.to },
     pub(crate) ghost says: { frame ≡ call_record number letter.value.message },
 }
@@ -41,7 +41,7 @@ impl<R: RangeTable, S: HostStore> Shared<R, S> {
         let mut frame = Frame::new();
         // An empty frame has room for each record.
         let _ = put_record(number, letter.message(), &mut frame);
-        let letter = Snapshot::of(letter);
+        let letter = Seen::of(letter);
         self.world.sent();
         Some(Sending {
             number,

@@ -10,6 +10,7 @@ use crate::entry::Act;
 use crate::event::BookEvent;
 use crate::kept::KeptReply;
 use crate::reply::Reply;
+use crate::seen::Seen;
 use crate::upshot::{Doing, Upshot, nothing};
 use hosts_db::{HostStore, StoreError};
 use kept_replies::KeptReplies;
@@ -22,7 +23,6 @@ use range_table::RangeTable;
 use record_reading::AnswerReading;
 use std::alloc::Global;
 use std::marker::Model;
-use std::snapshot::Snapshot;
 
 /// What the events of the book act on. A contract sees it as the state of `definitions`, and how often the store refused.
 #[derive(Drop)]
@@ -92,7 +92,7 @@ impl<R: RangeTable, S: HostStore> Shared<R, S> {
         let act = Act::Line {
             connection,
             line,
-            answer: Snapshot::of(&answer),
+            answer: Seen::of(&answer),
         };
         let upshot = Upshot {
             doing,
