@@ -6,6 +6,8 @@ mod answering;
 #[cfg(test)]
 mod closing;
 #[cfg(test)]
+mod overlapping;
+#[cfg(test)]
 mod parts;
 #[cfg(test)]
 mod reading;

@@ -1,0 +1,116 @@
+//! What is left at the end.
+ghost use Rattle.std.specs.Prelude.{◌≡◌, ◌+◌};
+
+use crate::fault::StaffFault;
+use book::Receipt;
+use hosts_db::HostStore;
+use jobs::{Channel, Keeper, Place};
+use range_table::RangeTable;
+use std::alloc::Global;
+use std::sync::ledger::{Ledger, Share};
+use workers::{Leaves, Shared, Worker, audit};
+
+/// Parts of the ledger that came back.
+#[derive(Drop)]
+pub(crate) struct Back<L: Ledger> {
+    share: Share<L>,
+    count: u64,
+    ghost counted: { share.parts ≡ count },
+}
+
+impl<L: Ledger> Back<L> {
+    /// From a share without parts.
+    pub(crate) fn new(share: Share<L>) -> Back<L>
+        requires { share.parts ≡ 0 }
+    {
+        Back { share, count: 0 }
+    }
+
+    fn add(&mut self, share: Share<L>) -> Result<(), StaffFault>
+        requires { share.parts ≡ 1 }
+    {
+        let Some(count) = self.count.checked_add(1) else {
+            return Err(StaffFault::AuditMismatch);
+        };
+        self.share.merge(share);
+        self.count = count;
+        Ok(())
+    }
+}
+
+/// Gathers what those who answered jobs leave.
+#[derive(Drop)]
+pub struct Gatherer<P: Place, L: Ledger> {
+    keeper: Keeper<P>,
+    back: Back<L>,
+    receipts: Vec<Receipt>,
+}
+
+impl<P: Place, L: Ledger> Gatherer<P, L> {
+    pub(crate) fn new(alloc: Global, keeper: Keeper<P>, back: Back<L>) -> Gatherer<P, L> {
+        Gatherer {
+            keeper,
+            back,
+            receipts: Vec::new(alloc),
+        }
+    }
+
+    /// Takes the next one back, in the order in which they were cut.
+    pub fn take(&mut self, channel: &Channel<P>, worker: Worker<P, L>) -> Result<(), StaffFault> {
+        let Leaves {
+            seat,
+            share,
+            receipts,
+        } = worker.leave();
+        if self.keeper.gather(channel, seat).is_err() {
+            return Err(StaffFault::AuditMismatch);
+        }
+        self.back.add(share)?;
+        if let Some(mut receipts) = receipts {
+            self.receipts.append(&mut receipts)?;
+        }
+        Ok(())
+    }
+
+    /// Takes all of these back.
+    pub fn take_all(
+        &mut self,
+        channel: &Channel<P>,
+        workers: Vec<Worker<P, L>>,
+    ) -> Result<(), StaffFault> {
+        for worker in workers {
+            self.take(channel, worker)?;
+        }
+        Ok(())
+    }
+
+    /// Whether all came back, and the journal and all receipts agree: how many calls were taken, where that was kept, and else 0.
+    /// `parts` are all parts of the ledger.
+    pub fn settle<T: RangeTable + Drop, S: HostStore + Drop>(
+        self,
+        channel: &Channel<P>,
+        shared: Shared<T, S, L>,
+        parts: u64,
+    ) -> Result<u64, StaffFault>
+        requires { parts ≡ L.parts }
+    {
+        let Gatherer {
+            mut keeper,
+            mut back,
+            mut receipts,
+        } = self;
+        if back.count != parts || !keeper.settle(channel) {
+            return Err(StaffFault::AuditMismatch);
+        }
+        let ends = shared
+            .finish(&mut back.share)
+            .map_err(|_| StaffFault::Starved)?;
+        let Some(segments) = ends.segments else {
+            return Ok(0);
+        };
+        match audit(&segments, &mut receipts) {
+            Ok(()) => Ok(receipts.len() as u64),
+            Err(_) => Err(StaffFault::AuditMismatch),
+        }
+    }
+}
