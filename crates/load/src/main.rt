@@ -1,0 +1,69 @@
+//! A client that measures a server over loopback, and the floor that it is measured against:
+//!
+//! - `load null PORT CONNECTIONS DEPTH CALLS` makes so many NULL calls on each of so many connections, DEPTH of them at once,
+//!   and prints how long they took; `load test` makes TESTs, and `load lock` a LOCK and an UNLOCK by turns, of a byte of each
+//!   connection's own;
+//! - `load floor PORT` answers each record with one fixed reply, a thread for each connection, until it is killed.
+#![tactic(auto)]
+
+mod asking;
+mod calls;
+mod floor;
+
+use anyhow::{Result, bail};
+use asking::{Plan, ask_all};
+use calls::Cell;
+use std::alloc::Global;
+use std::env;
+use std::io::Print;
+use std::net::{Net, TcpListener, TcpStream};
+use std::sync::Wait;
+use std::thread::Threads;
+use std::time::{Clock, Instant};
+
+fn measure<R>(rt: &R, alloc: Global, plan: &Plan) -> Result<()>
+where
+    R: Net<Stream = TcpStream> + Threads + Wait + Clock + Print + Sync,
+{
+    let begun = Instant::now(rt)?;
+    let answered = ask_all(rt, alloc, plan)?;
+    let micros = begun.elapsed(rt)?.as_micros();
+    println!(rt; "{answered} answered in {micros} us")?;
+    Ok(())
+}
+
+fn done<R>(rt: &R, alloc: Global, words: &[&str]) -> Result<()>
+where
+    R: Net<Listener = TcpListener, Stream = TcpStream> + Threads + Wait + Clock + Print + Sync,
+{
+    match words {
+        ["floor", port] => Ok(floor::serve(rt, alloc, port.parse()?)?),
+        [what, port, connections, depth, calls] => {
+            let Some(cell) = Cell::named(what) else {
+                bail!("no cell is named {what}");
+            };
+            let plan = Plan {
+                cell,
+                port: port.parse()?,
+                connections: connections.parse()?,
+                depth: depth.parse()?,
+                calls: calls.parse()?,
+            };
+            measure(rt, alloc, &plan)
+        }
+        _ => bail!("nothing is done by {} words", words.len()),
+    }
+}
+
+fn main(rt: HostRuntime) -> Result<()> {
+    let alloc = rt.alloc();
+    let mut arguments = Vec::new(alloc);
+    for word in env::args(&rt)?.skip(1) {
+        arguments.push(word)?;
+    }
+    let mut words = Vec::new(alloc);
+    for word in &arguments {
+        words.push(word.as_str())?;
+    }
+    done(&rt, alloc, &words)
+}
