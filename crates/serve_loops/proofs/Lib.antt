@@ -1,0 +1,4 @@
+pub mod Reading
+pub mod LineLemmas
+pub mod CallLemmas
+pub mod PartLemmas

@@ -1,0 +1,222 @@
+-- Lines go on.
+use Rattle.std.proofs.Common.{◌≡◌, ℕ, ◌+◌, ◌<◌, inl, inr, Bool, true, false, ◌||◌, eqb, List, [], ◌∷◌, ◌++◌, length, take, drop, get_or, Option, Some, None, refl, sym, ◌∙◌, ap, subst, append_assoc}
+use Rattle.std.specs.Prelude.{Result, Ok, Err, IfOk, IfErr}
+use Rattle.std.proofs.lemmas.Bool.{eqb-true}
+use Rattle.std.specs.Io.KnownBytes.{Appends, Consumes, Keeps, IsAtEnd}
+use Rattle.std.proofs.lemmas.Grind.{flat_map-append}
+use Rattle.std.proofs.lemmas.List.{append-nil, take_more, take-append-drop}
+use Rattle.std.proofs.lemmas.List.Folds.{list_any-append}
+use Rattle.definitions.specs.Bytes.{Bytes}
+use Rattle.definitions.specs.Step.{State, Given, Starved}
+use Rattle.definitions.specs.Hosts.{NotAsked}
+use Rattle.book.specs.declared.event.BookEvent.{BookEvent}
+use Rattle.book.specs.Given.{Upshot}
+use Rattle.book.specs.Notes.{Happening, AsksLine, Steps, happening_of}
+use Rattle.workers.specs.Holds.{Held, Notes}
+use Rattle.written.specs.Written.{WroteFront, Wrote}
+use Rattle.written.specs.declared.WriteFault.{WriteFault}
+use Rattle.written.proofs.Appending.{Appends-nil, Appends-more, Appends-kept, WroteFront-whole}
+use Rattle.serve_loops.specs.declared.ending.Ending.{Ending}
+use Rattle.serve_loops.specs.declared.ending.Ending.TheVariants as ending
+use Rattle.serve_loops.specs.Lines.{IsOpen, AreOpen, ended, kept, text_of, texts, IsAnswered, AreAnswered, Serves, ServesFront, Breaks, Cuts, Ends, Turns, Takes, AnswersLine, Finishes, Hears, StarvesAs, TellsOf}
+use Rattle.serve_loops.proofs.Reading.{Consumes-nil, Consumes-more, Keeps-consumes}
+
+pub open-append : (xs ys : Bytes) → IsOpen xs → IsOpen ys → IsOpen (xs ++ ys)
+open-append xs ys p q = list_any-append (λ b. eqb b 10) xs ys ∙ (λ i. p i || q i)
+
+open-all : (ls ms : List Bytes) → AreOpen ls → AreOpen ms → AreOpen (ls ++ ms)
+open-all [] ms p q = q
+open-all (l ∷ ls) ms p q = (p.0, open-all ls ms p.1 q)
+
+answered-all : (c : ℕ) (ls ms : List Bytes) (gs hs : List Given) → AreAnswered c ls gs → AreAnswered c ms hs → AreAnswered c (ls ++ ms) (gs ++ hs)
+answered-all c [] ms [] hs p q = q
+answered-all c [] ms (g ∷ gs) hs p q = absurd p
+answered-all c (l ∷ ls) ms [] hs p q = absurd p
+answered-all c (l ∷ ls) ms (g ∷ gs) hs p q = (p.0, answered-all c ls ms gs hs p.1 q)
+
+-- ---- bytes that are answered
+
+pub Serves-none : (c : ℕ) (part : Bytes) (x : Option Bytes) → IsOpen part → Serves c part [] part x x
+Serves-none c part x o = record { lines = []; givens = []; joined = append-nil part; whole = tt; unended = o; answered = tt; wrote = Appends-nil x }
+
+pub Serves-byte : (c : ℕ) (part : Bytes) (b : ℕ) (x : Option Bytes) → IsOpen part → eqb b 10 ≡ false → Serves c part (b ∷ []) (part ++ b ∷ []) x x
+Serves-byte c part b x o other =
+    record { lines = []; givens = []; joined = refl; whole = tt; unended = open-append part (b ∷ []) o (ap (λ t. t || false) other); answered = tt; wrote = Appends-nil x }
+
+pub Serves-line : (c : ℕ) (part : Bytes) (x y : Option Bytes) (given : Given) → IsOpen part → IsAnswered c (kept part) given → Appends x y (text_of given) → Serves c part (10 ∷ []) [] x y
+Serves-line c part x y given o answered wrote = record {
+  lines = part ∷ [];
+  givens = given ∷ [];
+  joined = sym (append-nil (part ++ 10 ∷ [])) ∙ sym (append-nil ((part ++ 10 ∷ []) ++ []));
+  whole = (o, tt);
+  unended = refl;
+  answered = (answered, tt);
+  wrote = subst (λ bytes. Appends x y bytes) (sym (append-nil (text_of given))) wrote;
+}
+
+pub Serves-append : (c : ℕ) (p q r : Bytes) (bs cs : Bytes) (x y z : Option Bytes) → Serves c p bs q x y → Serves c q cs r y z → Serves c p (bs ++ cs) r x z
+Serves-append c p q r bs cs x y z s t = record {
+  lines = s.lines ++ t.lines;
+  givens = s.givens ++ t.givens;
+  joined =
+      sym (append_assoc p bs cs) ∙ ap (λ (l : Bytes). l ++ cs) s.joined ∙ append_assoc (ended s.lines) q cs
+      ∙ ap (λ (l : Bytes). ended s.lines ++ l) t.joined ∙ sym (append_assoc (ended s.lines) (ended t.lines) r)
+      ∙ ap (λ (l : Bytes). l ++ r) (sym (flat_map-append (λ (line : Bytes). line ++ 10 ∷ []) s.lines t.lines));
+  whole = open-all s.lines t.lines s.whole t.whole;
+  unended = t.unended;
+  answered = answered-all c s.lines t.lines s.givens t.givens s.answered t.answered;
+  wrote = subst (λ bytes. Appends x z bytes) (sym (flat_map-append text_of s.givens t.givens)) (Appends-more x y z (texts s.givens) (texts t.givens) s.wrote t.wrote);
+}
+
+-- ---- ends
+
+pub Front-none : (c : ℕ) (part bytes : Bytes) (x : Option Bytes) → IsOpen part → ServesFront c part bytes x x
+Front-none c part bytes x o = record { front = []; rest = bytes; is = refl; left = part; serves = Serves-none c part x o }
+
+pub Front-all : (c : ℕ) (part bytes left : Bytes) (x y : Option Bytes) → Serves c part bytes left x y → ServesFront c part bytes x y
+Front-all c part bytes left x y s = record { front = bytes; rest = []; is = sym (append-nil bytes); left = left; serves = s }
+
+module _ (c : ℕ) (p q : Bytes) (bs : Bytes) (x y : Option Bytes) (s : Serves c p bs q x y) where
+  Front-after : (cs : Bytes) (z : Option Bytes) → ServesFront c q cs y z → ServesFront c p (bs ++ cs) x z
+  Front-after cs z f = record {
+    front = bs ++ f.front;
+    rest = f.rest;
+    is = ap (λ (l : Bytes). bs ++ l) f.is ∙ sym (append_assoc bs f.front f.rest);
+    left = f.left;
+    serves = Serves-append c p q f.left bs f.front x y z s f.serves;
+  }
+
+  Breaks-after : (cs : Bytes) (z : Option Bytes) → Breaks c q cs y z → Breaks c p (bs ++ cs) x z
+  Breaks-after cs z f = record {
+    front = bs ++ f.front;
+    rest = f.rest;
+    is = ap (λ (l : Bytes). bs ++ l) f.is ∙ sym (append_assoc bs f.front (10 ∷ f.rest));
+    line = f.line;
+    between = f.between;
+    serves = Serves-append c p q f.line bs f.front x y f.between s f.serves;
+    given = f.given;
+    answered = f.answered;
+    wrote = f.wrote;
+  }
+
+  Cuts-after : (e : Ending) (cs : Bytes) (z : Option Bytes) → Cuts e c q cs y z → Cuts e c p (bs ++ cs) x z
+  Cuts-after ending.Over cs z h = absurd h
+  Cuts-after ending.Stopped cs z h = Front-after cs z h
+  Cuts-after ending.Starved cs z h = Front-after cs z h
+  Cuts-after ending.ReadFault cs z h = Front-after cs z h
+  Cuts-after ending.WriteFault cs z h = Breaks-after cs z h
+
+  pub Takes-after : (e : Option Ending) (cs r : Bytes) (z : Option Bytes) → Takes e c q cs r y z → Takes e c p (bs ++ cs) r x z
+  Takes-after None cs r z h = Serves-append c p q r bs cs x y z s h
+  Takes-after (Some e) cs r z h = Cuts-after e cs z h
+
+  pub Ends-after : (u m l : Option Bytes) → Consumes u m bs → (e : Ending) (z : Option Bytes) → Ends e c q m l y z → Ends e c p u l x z
+  Ends-after u m l read ending.Over z h = (bs ++ h.0, Consumes-more u m l bs h.0 read h.1, h.2, (h.3.0, Serves-append c p q h.3.0 bs h.0 x y z s h.3.1))
+  Ends-after u m l read ending.Stopped z h = (bs ++ h.0, Consumes-more u m l bs h.0 read h.1, Front-after h.0 z h.2)
+  Ends-after u m l read ending.Starved z h = (bs ++ h.0, Consumes-more u m l bs h.0 read h.1, Front-after h.0 z h.2)
+  Ends-after u m l read ending.ReadFault z h = (bs ++ h.0, Consumes-more u m l bs h.0 read h.1, Front-after h.0 z h.2)
+  Ends-after u m l read ending.WriteFault z h = (bs ++ h.0, Consumes-more u m l bs h.0 read h.1, Breaks-after h.0 z h.2)
+
+-- more bytes may stand behind those that cut it
+pub Cuts-longer : (e : Ending) (c : ℕ) (p bs cs : Bytes) (x y : Option Bytes) → Cuts e c p bs x y → Cuts e c p (bs ++ cs) x y
+Cuts-longer ending.Over c p bs cs x y h = absurd h
+Cuts-longer ending.Stopped c p bs cs x y h = record { front = h.front; rest = h.rest ++ cs; is = ap (λ (l : Bytes). l ++ cs) h.is ∙ append_assoc h.front h.rest cs; left = h.left; serves = h.serves }
+Cuts-longer ending.Starved c p bs cs x y h = record { front = h.front; rest = h.rest ++ cs; is = ap (λ (l : Bytes). l ++ cs) h.is ∙ append_assoc h.front h.rest cs; left = h.left; serves = h.serves }
+Cuts-longer ending.ReadFault c p bs cs x y h = record { front = h.front; rest = h.rest ++ cs; is = ap (λ (l : Bytes). l ++ cs) h.is ∙ append_assoc h.front h.rest cs; left = h.left; serves = h.serves }
+Cuts-longer ending.WriteFault c p bs cs x y h = record {
+  front = h.front;
+  rest = h.rest ++ cs;
+  is = ap (λ (l : Bytes). l ++ cs) h.is ∙ append_assoc h.front (10 ∷ h.rest) cs;
+  line = h.line;
+  between = h.between;
+  serves = h.serves;
+  given = h.given;
+  answered = h.answered;
+  wrote = h.wrote;
+}
+
+-- ---- a line
+
+-- the end of a line is the byte that was taken
+pub line-said : (e : Option Ending) (c : ℕ) (part line : Bytes) (x y : Option Bytes) → IsOpen part → line ≡ kept part → AnswersLine e c line x y → Takes e c part (10 ∷ []) [] x y
+line-said None c part line x y o is h = Serves-line c part x y h.0 o (subst (λ (l : Bytes). IsAnswered c l h.0) is h.1) h.2
+line-said (Some ending.Stopped) c part line x y o is h = Front-all c part (10 ∷ []) [] x y (Serves-line c part x y h.0 o (subst (λ (l : Bytes). IsAnswered c l h.0) is h.1) h.2)
+line-said (Some ending.WriteFault) c part line x y o is h =
+    record { front = []; rest = []; is = refl; line = part; between = x; serves = Serves-none c part x o; given = h.0; answered = subst (λ (l : Bytes). IsAnswered c l h.0) is h.1; wrote = h.2 }
+line-said (Some ending.Over) c part line x y o is h = absurd h
+line-said (Some ending.Starved) c part line x y o is h = absurd h
+line-said (Some ending.ReadFault) c part line x y o is h = absurd h
+
+pub flush_done : (a b d : Option Bytes) (x : Bytes) → Appends a b x → Keeps b d → Appends a d x
+flush_done a b d x p k = Appends-kept a b d x p k
+
+pub flush_failed : (a b d : Option Bytes) (x : Bytes) → Appends a b x → Keeps b d → WroteFront a d x
+flush_failed a b d x p k = WroteFront-whole a d x (Appends-kept a b d x p k)
+
+pub line_answered : (e : Option Ending) (c : ℕ) (line : Bytes) (given : Given) (x y : Option Bytes) (r : Result (Unit {0}) WriteFault) → IsAnswered c line given → Wrote x y r (text_of given) → Finishes r e → AnswersLine e c line x y
+line_answered None c line given x y (Ok done) a w f = (given, a, w)
+line_answered None c line given x y (Err fault) a w f = absurd f
+line_answered (Some ending.Stopped) c line given x y (Ok done) a w f = (given, a, w)
+line_answered (Some ending.Stopped) c line given x y (Err fault) a w f = absurd f
+line_answered (Some ending.WriteFault) c line given x y (Ok done) a w f = absurd f
+line_answered (Some ending.WriteFault) c line given x y (Err fault) a w f = (given, a, w)
+line_answered (Some ending.Over) c line given x y (Ok done) a w f = absurd f
+line_answered (Some ending.Over) c line given x y (Err fault) a w f = absurd f
+line_answered (Some ending.Starved) c line given x y (Ok done) a w f = absurd f
+line_answered (Some ending.Starved) c line given x y (Err fault) a w f = absurd f
+line_answered (Some ending.ReadFault) c line given x y (Ok done) a w f = absurd f
+line_answered (Some ending.ReadFault) c line given x y (Err fault) a w f = absurd f
+
+-- ---- a piece
+
+pub piece-heard : (e : Option Ending) (c : ℕ) (part bytes rest : Bytes) (u l x y : Option Bytes) → Consumes u l bytes → (bytes ≡ [] → IsAtEnd l) → Hears e c part bytes rest x y → Turns e c part rest u l x y
+piece-heard None c part bytes rest u l x y read over h = (bytes, read, h)
+piece-heard (Some ending.Over) c part bytes rest u l x y read over h = (bytes, read, over h.0, (rest, subst (λ (b : Bytes). Serves c part b rest x y) (sym h.0) h.1))
+piece-heard (Some ending.Stopped) c part bytes rest u l x y read over h = (bytes, read, h)
+piece-heard (Some ending.Starved) c part bytes rest u l x y read over h = (bytes, read, h)
+piece-heard (Some ending.ReadFault) c part bytes rest u l x y read over h = (bytes, read, h)
+piece-heard (Some ending.WriteFault) c part bytes rest u l x y read over h = (bytes, read, h)
+
+pub takes-hears : (e : Option Ending) (c : ℕ) (part bytes rest : Bytes) (x y : Option Bytes) → Takes e c part bytes rest x y → Hears e c part bytes rest x y
+takes-hears None c part bytes rest x y h = h
+takes-hears (Some ending.Over) c part bytes rest x y h = absurd h
+takes-hears (Some ending.Stopped) c part bytes rest x y h = h
+takes-hears (Some ending.Starved) c part bytes rest x y h = h
+takes-hears (Some ending.ReadFault) c part bytes rest x y h = h
+takes-hears (Some ending.WriteFault) c part bytes rest x y h = h
+
+-- nothing was read
+pub nothing-read : (c : ℕ) (part : Bytes) (u l x : Option Bytes) → IsOpen part → Keeps u l → Turns None c part part u l x x
+nothing-read c part u l x o keeps = ([], Keeps-consumes u l keeps, Serves-none c part x o)
+
+pub read-failed : (c : ℕ) (part : Bytes) (u l x : Option Bytes) → IsOpen part → Keeps u l → Ends ending.ReadFault c part u l x x
+read-failed c part u l x o keeps = ([], Keeps-consumes u l keeps, Front-none c part [] x o)
+
+pub unplaced : (c : ℕ) (part : Bytes) (u x : Option Bytes) → IsOpen part → Ends ending.Starved c part u u x x
+unplaced c part u x o = ([], Consumes-nil u, Front-none c part [] x o)
+
+-- ---- a byte
+
+pub byte_ended : (e : Option Ending) (c : ℕ) (part rest : Bytes) (byte : ℕ) (t : Bool) (x y : Option Bytes) → t ≡ eqb byte 10 → t ≡ true → Takes e c part (10 ∷ []) rest x y → Takes e c part (byte ∷ []) rest x y
+byte_ended e c part rest byte t x y is fed h = subst (λ (b : ℕ). Takes e c part (b ∷ []) rest x y) (sym (eqb-true byte 10 (sym is ∙ fed))) h
+
+pub byte_added : (c : ℕ) (part more : Bytes) (byte : ℕ) (t : Bool) (x : Option Bytes) → IsOpen part → t ≡ eqb byte 10 → t ≡ false → more ≡ part ++ byte ∷ [] → Serves c part (byte ∷ []) more x x
+byte_added c part more byte t x o is other added = subst (λ (l : Bytes). Serves c part (byte ∷ []) l x x) (sym added) (Serves-byte c part byte x o (sym is ∙ other))
+
+module _ (c : ℕ) (p piece : Bytes) (i d : ℕ) (q : Bytes) (x y : Option Bytes) (within : i < length piece) (s : Serves c p (take i piece) q x y) where
+  pub piece-more : (r : Bytes) (z : Option Bytes) → Serves c q (get_or piece i d ∷ []) r y z → Serves c p (take (i + 1) piece) r x z
+  piece-more r z t = subst (λ (l : Bytes). Serves c p l r x z) (sym (take_more piece i d within)) (Serves-append c p q r (take i piece) (get_or piece i d ∷ []) x y z s t)
+
+  pub piece-cut : (e : Ending) (z : Option Bytes) → Cuts e c q (get_or piece i d ∷ []) y z → Cuts e c p piece x z
+  piece-cut e z h =
+      let front = subst (λ (l : Bytes). Cuts e c p l x z) (sym (take_more piece i d within)) (Cuts-after c p q (take i piece) x y s e (get_or piece i d ∷ []) z h) in
+      subst (λ (l : Bytes). Cuts e c p l x z) (take-append-drop (i + 1) piece) (Cuts-longer e c p (take (i + 1) piece) (drop (i + 1) piece) x z front)
+
+-- ---- what a hold gave
+
+pub starved_told : (event : Happening) (given : Given) (u : Upshot) → u.doing ≡ Starved → u.store ≡ NotAsked → ((s : State) → Steps s event u s) → given ≡ u.given → StarvesAs event given
+starved_told event given u doing store steps is = record { upshot = u; doing = doing; store = store; steps = steps; given_is = is }
+
+pub asked : (old new : Held) (c : ℕ) (line : Bytes) (event : BookEvent) (r : Result Upshot BookEvent) (given : Given) → happening_of event ≡ AsksLine c line → IfOk r (λ u. Notes old (happening_of event) u new) → IfErr r (λ back. back ≡ event) → TellsOf r given → IsAnswered c line given
+asked old new c line event (Ok u) given is noted none told = inl (old, new, u, subst (λ (h : Happening). Notes old h u new) is noted, sym told)
+asked old new c line event (Err back) given is noted none told = inr (subst (λ (h : Happening). StarvesAs h given) (ap happening_of none ∙ is) told)

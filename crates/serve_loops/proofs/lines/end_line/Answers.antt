@@ -1,0 +1,14 @@
+use Rattle.std.proofs.Common.{sym, subst}
+use Rattle.definitions.specs.Bytes.{Bytes}
+use Rattle.std.proofs.Common.{◌∷◌, []}
+use Rattle.serve_loops.specs.Lines.{Takes}
+use Rattle.serve_loops.proofs.LineLemmas.{line-said, Front-none}
+use Rattle.serve_loops.proofs.lines.end_line.Goals as goal
+
+pub returns-in-Ok : goal.returns-in-Ok
+returns-in-Ok g c =
+    subst (λ (l : Bytes). Takes c.answer_line.result c.args.connection c.args.part.now (10 ∷ []) l (g.O.Write.contents c.args.output.now) (g.O.Write.contents c.answer_line.new.output)) (sym c.in-Ok.ensures.next)
+    (line-said c.answer_line.result c.args.connection c.args.part.now c.in-Ok.line.items _ _ c.requires c.in-Ok.ensures.line c.answer_line.ensures)
+
+pub returns-in-Err : goal.returns-in-Err
+returns-in-Err g c = Front-none _ _ _ _ c.requires

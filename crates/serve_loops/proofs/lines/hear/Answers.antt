@@ -1,0 +1,12 @@
+use Rattle.std.proofs.Common.{◌≡◌, [], arith}
+use Rattle.std.proofs.lemmas.Grind.{common_steps}
+use Rattle.serve_loops.proofs.LineLemmas.{Serves-none, Front-none}
+use Rattle.serve_loops.proofs.lines.hear.Goals as goal
+
+pub returns-then-is_empty : goal.returns-then-is_empty
+returns-then-is_empty g c =
+    let none : c.args.piece.now ≡ [] = grind (arith, common_steps) in
+    (none, Serves-none _ _ _ c.requires)
+
+pub returns-then-is_stopping : goal.returns-then-is_stopping
+returns-then-is_stopping g c = Front-none _ _ _ _ c.requires

@@ -1,0 +1,116 @@
+//! Who answers a line.
+ghost use Rattle.std.specs.Prelude.{◌≡◌, false, IfOk, IfErr};
+ghost use Rattle.book.specs.Given.{given_of};
+ghost use Rattle.book.specs.Notes.{happening_of};
+ghost use Rattle.workers.specs.Holds.{is_take, Notes};
+ghost use Rattle.serve_loops.specs.Lines.{IsAnswered, TellsOf};
+
+use crate::signals::Signals;
+use book::{BookEvent, Reply, Segment, Upshot};
+use hosts_db::HostStore;
+use range_table::RangeTable;
+use std::alloc::Global;
+use std::sync::ledger::Ledger;
+use std::sync::{Mutex, Wait};
+use workers::{Shared, prepare_spare};
+
+/// Answers the lines of local programs, and hears of the end.
+pub(crate) trait Answers {
+    /// What a line, without its line feed, is answered on the connection of this number.
+    fn ask(&mut self, connection: u64, line: Vec<u8>) -> Reply
+        ensures { IsAnswered connection line.items (given_of result) };
+
+    /// Whether the server is to stop.
+    fn is_stopping(&self) -> bool;
+
+    /// The server is to stop.
+    fn stop(&self);
+}
+
+/// Answers each line in a hold of the book's lock.
+#[derive(Drop)]
+pub(crate) struct Clerk<'a, R: RangeTable, S: HostStore, L: Ledger, G, W> {
+    alloc: Global,
+    rt: &'a W,
+    shared: &'a Mutex<Shared<R, S, L>>,
+    signals: &'a G,
+    spare: Option<Segment>,
+}
+
+impl<'a, R: RangeTable, S: HostStore, L: Ledger, G, W> Clerk<'a, R, S, L, G, W> {
+    pub(crate) fn new(
+        alloc: Global,
+        rt: &'a W,
+        shared: &'a Mutex<Shared<R, S, L>>,
+        signals: &'a G,
+    ) -> Self {
+        Clerk {
+            alloc,
+            rt,
+            shared,
+            signals,
+            spare: None,
+        }
+    }
+}
+
+// What an event came to, and whether a call is due then.
+#[derive(Drop)]
+struct Done {
+    upshot: Result<Upshot, BookEvent>,
+    is_due: bool,
+}
+
+// One hold.
+fn apply<R: RangeTable, S: HostStore, L: Ledger>(
+    held: &mut Shared<R, S, L>,
+    event: BookEvent,
+    spare: &mut Option<Segment>,
+) -> Done
+    requires { is_take (happening_of event) ≡ false }
+    ensures noted { IfOk result.upshot (λ upshot. Notes held.old (happening_of event) upshot held.new) }
+    ensures none { IfErr result.upshot (λ back. back ≡ event) }
+{
+    let upshot = held.apply(event, spare);
+    let is_due = held.has_due();
+    Done { upshot, is_due }
+}
+
+fn reply_of(upshot: Upshot) -> Reply
+    ensures { given_of result ≡ upshot.given }
+{
+    upshot.reply
+}
+
+// What the line is told. Without an entry it is a line that starved.
+#[tactic(auto, using(crate::proofs::LineLemmas::starved_told))]
+fn told(upshot: Result<Upshot, BookEvent>) -> Reply
+    ensures { TellsOf upshot (given_of result) }
+{
+    match upshot {
+        Ok(upshot) => reply_of(upshot),
+        Err(event) => reply_of(event.starved()),
+    }
+}
+
+impl<'a, R: RangeTable, S: HostStore, L: Ledger, G: Signals, W: Wait> Answers
+    for Clerk<'a, R, S, L, G, W> {
+    fn ask(&mut self, connection: u64, line: Vec<u8>) -> Reply {
+        prepare_spare(self.alloc, &mut self.spare);
+        let event = BookEvent::Local { connection, line };
+        // The book's lock is free again behind this line.
+        let done = apply(&mut self.shared.lock(self.rt), event, &mut self.spare);
+        if done.is_due {
+            self.signals.call_is_due();
+        }
+        told(done.upshot)
+    }
+
+    fn is_stopping(&self) -> bool {
+        self.signals.is_stopping()
+    }
+
+    fn stop(&self) {
+        self.signals.stop();
+    }
+}

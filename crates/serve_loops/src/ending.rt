@@ -1,0 +1,16 @@
+//! How a local program's connection ends.
+
+/// How a local program's connection ends.
+#[derive(Clone, Copy, Debug, PartialEq, Eq)]
+pub enum Ending {
+    /// The stream's end. What stood there without a line feed was dropped.
+    Over,
+    /// The line `stop` was answered `ok`, or the server stops for another cause.
+    Stopped,
+    /// There was no memory for a line, which was not answered.
+    Starved,
+    /// A read failed.
+    ReadFault,
+    /// A write failed. A front of the line's answer was written.
+    WriteFault,
+}

@@ -1,0 +1,17 @@
+//! The loops of a server's threads beside those that answer records: the server's own calls are sent, and the lines of a local
+//! program are answered.
+#![tactic(auto)]
+
+mod clerk;
+mod courier;
+mod due;
+mod ending;
+mod lines;
+mod part;
+mod signals;
+
+pub use courier::{Courier, MemoryCourier, Parcel};
+pub use due::{Due, MOST_CALLS, send_due};
+pub use ending::Ending;
+pub use lines::serve_lines;
+pub use signals::Signals;

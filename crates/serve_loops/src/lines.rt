@@ -1,0 +1,263 @@
+//! The lines of a local program are answered.
+ghost use Rattle.std.specs.Prelude.{◌≡◌, ◌<◌, ◌∷◌, [], eqb, IfOk, vec_len};
+ghost use Rattle.book.specs.Given.{given_of};
+ghost use Rattle.written.specs.Written.{Wrote};
+ghost use Rattle.serve_loops.specs.Lines.{AnswersLine, Ends, Finishes, Hears, IsOpen, Reads, Takes, Turns, text_of};
+
+use crate::clerk::{Answers, Clerk};
+use crate::ending::Ending;
+use crate::part::Part;
+use crate::signals::Signals;
+use book::{LocalAnswer, Reply, Starved};
+use hosts_db::HostStore;
+use range_table::RangeTable;
+use std::alloc::Global;
+use std::io::{ErrorKind, Read, Write};
+use std::sync::ledger::Ledger;
+use std::sync::{Mutex, Wait};
+use workers::Shared;
+use written::WriteFault;
+
+/// The most bytes that are read at once.
+const PIECE: usize = 4_096;
+
+// A read failed.
+#[derive(Clone, Copy)]
+struct FailedRead {
+    is_interrupted: bool,
+}
+
+fn make_place(alloc: Global) -> Result<Vec<u8>, Starved>
+    ensures { IfOk result (λ place. 0 < vec_len place) }
+{
+    Ok(vec![in alloc; 0u8; PIECE]?)
+}
+
+// Reads what there is, up to what the place has room for.
+fn read_piece<I: Read>(input: &mut I, mut place: Vec<u8>) -> Result<Vec<u8>, FailedRead>
+    requires { 0 < vec_len place }
+    ensures { Reads (I.remaining input.old) (I.remaining input.new) result }
+{
+    match input.read(place.as_mut_slice()) {
+        Ok(count) => {
+            place.truncate(count);
+            Ok(place)
+        }
+        Err(error) => Err(FailedRead {
+            is_interrupted: error.kind() == ErrorKind::Interrupted,
+        }),
+    }
+}
+
+// Writes what a line is answered.
+fn write_reply<O: Write>(output: &mut O, reply: &Reply) -> Result<(), WriteFault>
+    ensures { Wrote (O.contents output.old) (O.contents output.new) result (text_of (given_of reply.now)) }
+{
+    match reply {
+        Reply::Says(answer) => answer.write(output),
+        Reply::Answers { .. } | Reply::Refuses { .. } | Reply::SystemErr { .. } => Ok(()),
+        Reply::Nothing | Reply::Starved | Reply::StoreRefused => Ok(()),
+    }
+}
+
+// Writes it, and hands it on.
+#[tactic(auto, using(crate::proofs::LineLemmas::flush_done, crate::proofs::LineLemmas::flush_failed))]
+fn tell<O: Write>(output: &mut O, reply: &Reply) -> Result<(), WriteFault>
+    ensures { Wrote (O.contents output.old) (O.contents output.new) result (text_of (given_of reply.now)) }
+{
+    write_reply(output, reply)?;
+    match output.flush() {
+        Ok(()) => Ok(()),
+        Err(_) => Err(WriteFault),
+    }
+}
+
+// How the line ends the connection, if it does.
+fn finish<A: Answers>(
+    clerk: &A,
+    told: Result<(), WriteFault>,
+    is_stop: bool,
+    reply: Reply,
+) -> Option<Ending>
+    ensures { Finishes told result }
+{
+    if told.is_err() {
+        return Some(Ending::WriteFault);
+    }
+    if is_stop && matches!(reply, Reply::Says(LocalAnswer::Done)) {
+        clerk.stop();
+        return Some(Ending::Stopped);
+    }
+    None
+}
+
+// Answers a line. How that ends the connection, if it does.
+fn answer_line<A: Answers, O: Write>(
+    clerk: &mut A,
+    connection: u64,
+    output: &mut O,
+    line: Vec<u8>,
+) -> Option<Ending>
+    ensures { AnswersLine result connection line.items (O.contents output.old) (O.contents output.new) }
+{
+    let is_stop = line.as_slice() == b"stop".as_slice();
+    let reply = clerk.ask(connection, line);
+    let told = tell(output, &reply);
+    finish(clerk, told, is_stop, reply)
+}
+
+fn is_feed(byte: u8) -> bool
+    ensures { result ≡ eqb byte 10 }
+{
+    byte == b'\n'
+}
+
+// The line is whole, and is answered.
+fn end_line<A: Answers, O: Write>(
+    clerk: &mut A,
+    connection: u64,
+    part: &mut Part,
+    output: &mut O,
+) -> Option<Ending>
+    requires { IsOpen part.old }
+    ensures { Takes result connection part.old (10 ∷ []) part.new (O.contents output.old) (O.contents output.new) }
+{
+    match part.end() {
+        Ok(line) => answer_line(clerk, connection, output, line),
+        Err(Starved) => Some(Ending::Starved),
+    }
+}
+
+// One byte more: the end of a line answers it.
+#[tactic(auto, using(crate::proofs::LineLemmas::byte_ended))]
+fn take_byte<A: Answers, O: Write>(
+    clerk: &mut A,
+    connection: u64,
+    part: &mut Part,
+    output: &mut O,
+    byte: u8,
+) -> Option<Ending>
+    requires { IsOpen part.old }
+    ensures { Takes result connection part.old (byte ∷ []) part.new (O.contents output.old) (O.contents output.new) }
+{
+    let is_end = is_feed(byte);
+    if is_end {
+        return end_line(clerk, connection, part, output);
+    }
+    part.add(byte);
+    None
+}
+
+// Bytes more: each line that ends among them is answered.
+fn take_piece<A: Answers, O: Write>(
+    clerk: &mut A,
+    connection: u64,
+    part: &mut Part,
+    output: &mut O,
+    piece: &[u8],
+) -> Option<Ending>
+    requires { IsOpen part.old }
+    ensures { Takes result connection part.old piece.now part.new (O.contents output.old) (O.contents output.new) }
+{
+    for byte in piece {
+        match take_byte(clerk, connection, part, output, *byte) {
+            Some(ending) => return Some(ending),
+            None => {}
+        }
+    }
+    None
+}
+
+// What was read is answered. None was the stream's end.
+fn hear<A: Answers, O: Write>(
+    clerk: &mut A,
+    connection: u64,
+    part: &mut Part,
+    output: &mut O,
+    piece: &[u8],
+) -> Option<Ending>
+    requires { IsOpen part.old }
+    ensures { Hears result connection part.old piece.now part.new (O.contents output.old) (O.contents output.new) }
+{
+    if piece.is_empty() {
+        return Some(Ending::Over);
+    }
+    if clerk.is_stopping() {
+        return Some(Ending::Stopped);
+    }
+    take_piece(clerk, connection, part, output, piece)
+}
+
+// Reads once, and answers what came.
+fn turn<A: Answers, I: Read, O: Write>(
+    alloc: Global,
+    clerk: &mut A,
+    connection: u64,
+    part: &mut Part,
+    input: &mut I,
+    output: &mut O,
+) -> Option<Ending>
+    requires { IsOpen part.old }
+    ensures { Turns result connection part.old part.new (I.remaining input.old) (I.remaining input.new) (O.contents output.old) (O.contents output.new) }
+{
+    // The place is got first, so that no byte is lost.
+    let Ok(place) = make_place(alloc) else {
+        return Some(Ending::Starved);
+    };
+    match read_piece(input, place) {
+        Ok(piece) => hear(clerk, connection, part, output, piece.as_slice()),
+        Err(failed) if failed.is_interrupted => None,
+        Err(_) => Some(Ending::ReadFault),
+    }
+}
+
+fn serve<A: Answers, I: Read, O: Write, W: Wait>(
+    alloc: Global,
+    rt: &W,
+    clerk: &mut A,
+    connection: u64,
+    input: &mut I,
+    output: &mut O,
+    mut part: Part,
+) -> Ending
+    requires { IsOpen part }
+    ensures { Ends result connection part (I.remaining input.old) (I.remaining input.new) (O.contents output.old) (O.contents output.new) }
+{
+    for _ in rt.forever() {
+        match turn(alloc, clerk, connection, &mut part, input, output) {
+            Some(ending) => return ending,
+            None => {}
+        }
+    }
+    Ending::Stopped
+}
+
+/// Answers the lines of a local program on the connection of this number, each in a hold of its own, in order, and writes what
+/// each is answered, whole, and nothing else. It ends with the stream, where the server stops, where there is no memory for
+/// a line, and where a read or a write fails. A line past 512 bytes is answered `bad`, and its first 513 stand in the
+/// journal. What the connection's lines locked stays.
+pub fn serve_lines<R, S, L, G, I, O, W>(
+    alloc: Global,
+    rt: &W,
+    shared: &Mutex<Shared<R, S, L>>,
+    signals: &G,
+    connection: u64,
+    input: &mut I,
+    output: &mut O,
+) -> Ending
+where
+    R: RangeTable + Drop,
+    S: HostStore + Drop,
+    L: Ledger,
+    G: Signals,
+    I: Read,
+    O: Write,
+    W: Wait,
+    ensures { Ends result connection [] (I.remaining input.old) (I.remaining input.new) (O.contents output.old) (O.contents output.new) }
+{
+    let Ok(part) = Part::new(alloc) else {
+        return Ending::Starved;
+    };
+    let mut clerk = Clerk::new(alloc, rt, shared, signals);
+    serve(alloc, rt, &mut clerk, connection, input, output, part)
+}

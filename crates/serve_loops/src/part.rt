@@ -1,0 +1,74 @@
+//! A line that comes in.
+ghost use Rattle.std.specs.Prelude.{◌≡◌, ◌≤◌, ◌<◌, ◌++◌, ◌∷◌, [], length, take, vec_capacity, IfOk, OnOk, OnErr};
+
+use book::Starved;
+use history::History;
+use std::alloc::Global;
+use std::marker::Model;
+use std::mem;
+
+/// The most bytes that are kept of a line: one more than a line of the protocol has at most.
+const KEPT: usize = 513;
+
+/// What has come of a line so far. Contracts see all of it; its first bytes alone are kept.
+#[derive(Drop)]
+pub(crate) struct Part {
+    alloc: Global,
+    kept: Vec<u8>,
+    all: History<u8>,
+}
+
+impl Model for Part {
+    ghost use Rattle.std.specs.Prelude.{◌≡◌, ◌≤◌, ℕ, List, take, vec_capacity};
+
+    ghost Value = { List ℕ };
+
+    ghost view = { λ p. p.all.items };
+
+    ghost invariant = { λ p. (p.kept.items ≡ take 513 p.all.items) × (513 ≤ vec_capacity p.kept) };
+}
+
+// The byte is kept, if there are not as many yet.
+fn keep(kept: &mut Vec<u8>, byte: u8)
+    requires { KEPT ≤ vec_capacity kept.old }
+    ensures short { length kept.old.items < KEPT → kept.new.items ≡ kept.old.items ++ byte ∷ [] }
+    ensures full { KEPT ≤ length kept.old.items → kept.new.items ≡ kept.old.items }
+    ensures room { vec_capacity kept.new ≡ vec_capacity kept.old }
+{
+    if kept.len() < KEPT {
+        kept.push_reserved(byte);
+    }
+}
+
+impl Part {
+    /// Nothing has come.
+    pub(crate) fn new(alloc: Global) -> Result<Part, Starved>
+        ensures { IfOk result (λ part. part ≡ []) }
+    {
+        Ok(Part {
+            alloc,
+            kept: Vec::with_capacity(alloc, KEPT)?,
+            all: History::new(),
+        })
+    }
+
+    /// One byte more.
+    #[tactic(auto, using(crate::proofs::PartLemmas::kept_more))]
+    pub(crate) fn add(&mut self, byte: u8)
+        ensures { self.new ≡ self.old ++ byte ∷ [] }
+    {
+        keep(&mut self.kept, byte);
+        self.all = self.all.and(&byte);
+    }
+
+    /// The line is whole: what was kept of it. Starved: there is no memory for the next one, and nothing changed.
+    pub(crate) fn end(&mut self) -> Result<Vec<u8>, Starved>
+        ensures line { IfOk result (λ line. line.items ≡ take 513 self.old) }
+        ensures next { OnOk result (self.new ≡ []) }
+        ensures stays { OnErr result (self.new ≡ self.old) }
+    {
+        let fresh = Vec::with_capacity(self.alloc, KEPT)?;
+        self.all = History::new();
+        Ok(mem::replace(&mut self.kept, fresh))
+    }
+}
