@@ -1,0 +1,127 @@
+//! The sender.
+ghost use Rattle.std.specs.Prelude.{◌≡◌, [], IfOk};
+
+use crate::awaited::{Awaited, Waiting};
+use crate::locals::Locals;
+use crate::office::Office;
+use crate::settings::Settings;
+use crate::turn::Untaken;
+use book::{Dest, Segment};
+use history::History;
+use mio::Waker;
+use peers::Peers;
+use serve_loops::{Courier, Parcel};
+use std::alloc::Global;
+use std::io;
+use std::marker::Model;
+use std::net::{Net, SocketAddr};
+use std::time::{Clock, Instant};
+use xdr_core::Frame;
+
+/// Makes the server's own calls, on one thread. It keeps one connection to each peer while that answers. Contracts see the
+/// calls that it was handed.
+#[derive(Drop)]
+pub struct Sender<'a, R, D> {
+    pub(crate) alloc: Global,
+    pub(crate) rt: &'a R,
+    locals: &'a D,
+    pub(crate) settings: Settings,
+    peers: Peers,
+    pub(crate) office: Office,
+    pub(crate) awaited: Awaited,
+    pub(crate) spare: Option<Segment>,
+    pub(crate) kept: Option<Untaken>,
+    pub(crate) now: Instant,
+    all: History<Parcel>,
+}
+
+impl<'a, R, D> Model for Sender<'a, R, D> {
+    ghost use Rattle.std.specs.Prelude.{List, map};
+    ghost use Rattle.serve_loops.specs.Calls.{Call};
+    ghost use Rattle.serve_loops.specs.declared.courier.Parcel.{Parcel as Packed};
+
+    ghost Value = { List Call };
+
+    ghost view = { λ s. map (λ (p : Packed). record { number = p.number; to = p.to; bytes = p.bytes }) s.all.items };
+}
+
+impl<'a, R: Net + Clock, D: Locals> Sender<'a, R, D> {
+    /// Calls the peers of this file at their ports, and these local programs. The error is the system's, or there is no memory.
+    pub fn new(
+        alloc: Global,
+        rt: &'a R,
+        settings: Settings,
+        peers: Peers,
+        locals: &'a D,
+    ) -> io::Result<Sender<'a, R, D>>
+        ensures { IfOk result (λ s. s ≡ []) }
+    {
+        Ok(Sender {
+            alloc,
+            rt,
+            locals,
+            settings,
+            peers,
+            office: Office::new(rt, alloc)?,
+            awaited: Awaited::new(alloc)?,
+            spare: None,
+            kept: None,
+            now: Instant::now(rt)?,
+            all: History::new(),
+        })
+    }
+
+    /// Wakes the sender, where something came due or it is to stop. It is asked for once.
+    pub fn waker(&self) -> io::Result<Waker> {
+        self.office.waker()
+    }
+
+    // The place of the host of this name, at the port of the record.
+    fn place_of(&mut self, name: &[u8], record: &[u8]) -> Option<usize>
+        ensures { self.new ≡ self.old }
+    {
+        let address = self.peers.address(name)?;
+        let port = self.settings.port_of(record);
+        self.office
+            .place_of(SocketAddr::new(address, port), self.now)
+    }
+
+    // A host that has no address is silent at once.
+    fn call(&mut self, number: u64, name: &[u8], record: &[u8])
+        ensures { self.new ≡ self.old }
+    {
+        let place = self.place_of(name, record);
+        let later = self.now.checked_add(self.settings.silence);
+        let until = match (place, later) {
+            (Some(_), Some(later)) => later,
+            _ => self.now,
+        };
+        self.awaited
+            .add(Waiting::new(number, record, place, self.now, until));
+        if let Some(place) = place {
+            self.office.send(self.rt, place, record, self.now);
+        }
+    }
+
+    fn dispatch(&mut self, parcel: &Parcel)
+        ensures { self.new ≡ self.old }
+    {
+        match &parcel.to {
+            Dest::Host(name) => self.call(parcel.number, name.as_slice(), parcel.bytes.as_slice()),
+            Dest::Connection(connection) => {
+                // Where the connection has ended the line is thrown away.
+                let _ = self.locals.tell(*connection, parcel.bytes.as_slice());
+            }
+        }
+    }
+}
+
+impl<'a, R: Net + Clock, D: Locals> Courier for Sender<'a, R, D> {
+    ghost handed = { λ s. s };
+
+    fn hand(&mut self, number: u64, to: Dest, bytes: Frame) {
+        let parcel = Parcel { number, to, bytes };
+        self.dispatch(&parcel);
+        self.all = self.all.and(&parcel);
+    }
+}

@@ -1,0 +1,54 @@
+//! What the sender is told at the start.
+use std::time::Duration;
+
+/// The lock manager's program (XNFS; RFC 1813, appendix II).
+const NLM_PROGRAM: u32 = 100_021;
+
+/// The status monitor's program (XNFS).
+const NSM_PROGRAM: u32 = 100_024;
+
+/// The ports that peers listen on, and how long the sender waits.
+#[derive(Clone, Copy, Debug)]
+pub struct Settings {
+    /// The port of calls to the lock manager.
+    pub nlm_port: u16,
+    /// The port of calls to the status monitor.
+    pub nsm_port: u16,
+    /// The port of all other calls.
+    pub watch_port: u16,
+    /// How long the grace period goes on, from the start and from each restart.
+    pub grace: Duration,
+    /// How long a call waits for its answer.
+    pub silence: Duration,
+}
+
+// The word at this place of a record.
+fn word(record: &[u8], at: usize) -> Option<u32> {
+    let (_, behind) = record.split_at_checked(at)?;
+    let bytes = behind.first_chunk::<4>()?;
+    Some(u32::from_be_bytes(*bytes))
+}
+
+/// The xid of a record (RFC 5531, section 9), which comes first.
+pub(crate) fn xid_of(record: &[u8]) -> Option<u32> {
+    word(record, 0)
+}
+
+/// The procedure of a GRANTED_MSG, whose answer is a call of its own.
+const GRANTED_MSG: u32 = 10;
+
+/// Whether the call of this record is over once it has its reply: a GRANTED_MSG waits for a GRANTED_RES.
+pub(crate) fn ends_with_reply(record: &[u8]) -> bool {
+    word(record, 12) != Some(NLM_PROGRAM) || word(record, 20) != Some(GRANTED_MSG)
+}
+
+impl Settings {
+    /// The port that takes the call of this record.
+    pub(crate) fn port_of(&self, record: &[u8]) -> u16 {
+        match word(record, 12) {
+            Some(NLM_PROGRAM) => self.nlm_port,
+            Some(NSM_PROGRAM) => self.nsm_port,
+            _ => self.watch_port,
+        }
+    }
+}
