@@ -6,5 +6,5 @@ use lockd_program::run_lockd;
 use std::process::ExitCode;
 
 fn main(rt: HostRuntime) -> ExitCode {
-    run_lockd(&rt)
+    run_lockd(&rt, &rt)
 }

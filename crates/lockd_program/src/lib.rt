@@ -2,6 +2,7 @@
 #![tactic(auto)]
 
 mod program;
+mod serving;
 mod stores;
 mod streams;
 

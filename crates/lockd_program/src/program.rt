@@ -1,9 +1,17 @@
 //! The program: its words, and how it ends.
 
+use crate::serving::serve_config;
 use crate::streams::{Told, serve_stream};
-use config::{Config, ConfigFault, config};
+use config::{Config, ConfigFault, ServeConfig, config};
+use log::Log;
 use pipe_loops::Fault;
+use std::fmt::Display;
+use std::io::Print;
+use std::net::{Net, TcpListener, TcpStream};
 use std::process::ExitCode;
+use std::sync::Wait;
+use std::thread::Threads;
+use std::time::Clock;
 use std::{env, io};
 
 /// The exit status of a command line that is refused.
@@ -43,7 +51,7 @@ fn refuse_for(rt: &HostRuntime, cause: &str) -> ExitCode {
 }
 
 /// The status, and the fault on standard error.
-fn end(rt: &HostRuntime, ended: Result<(), Fault>) -> ExitCode {
+fn end<F: Display + Drop>(rt: &HostRuntime, ended: Result<(), F>) -> ExitCode {
     match ended {
         Ok(()) => ExitCode::SUCCESS,
         Err(fault) => {
@@ -53,17 +61,43 @@ fn end(rt: &HostRuntime, ended: Result<(), Fault>) -> ExitCode {
     }
 }
 
-/// The whole program, with the words that it was called with. Its status is 0 where it came to the end of its input, or where
-/// the words ask for help or the version; 1 where a fault ended it, whose number and name go to standard error; and 2 where
-/// the words are refused, and standard error says which word is wrong and what would be right.
-pub fn run_lockd(rt: &HostRuntime) -> ExitCode {
-    let Ok(words) = arguments(rt) else {
-        return refuse_for(rt, "the words can't be read");
+// The server's end, and what its audit found.
+fn end_server<F: Display + Drop>(
+    rt: &HostRuntime,
+    asked: &ServeConfig,
+    ended: Result<u64, F>,
+) -> ExitCode {
+    match ended {
+        Ok(calls) if asked.audit => match println!(rt; "audit yes {calls}") {
+            Ok(()) => ExitCode::SUCCESS,
+            Err(_) => end(rt, Err(Fault::WriteFault)),
+        },
+        Ok(_) => ExitCode::SUCCESS,
+        Err(fault) => end(rt, Err(fault)),
+    }
+}
+
+/// The whole program, with the words that it was called with. Its status is 0 where it came to the end of its input, where it
+/// was told to stop, or where the words ask for help or the version; 1 where a fault ended it, whose number and name go to
+/// standard error; and 2 where the words are refused, and standard error says which word is wrong and what would be right.
+/// `host` and `rt` are the same: what asks for files, and what asks for threads and sockets.
+pub fn run_lockd<R>(host: &HostRuntime, rt: &R) -> ExitCode
+where
+    R: Net<Listener = TcpListener, Stream = TcpStream>
+        + Threads
+        + Wait
+        + Clock
+        + Print
+        + Log
+        + Sync,
+{
+    let Ok(words) = arguments(host) else {
+        return refuse_for(host, "the words can't be read");
     };
-    match config(rt.alloc(), &words) {
-        Ok(Config::Pipe(asked)) => end(rt, serve_stream(rt, Told::Replies, &asked)),
-        Ok(Config::Table(asked)) => end(rt, serve_stream(rt, Told::Table, &asked)),
-        Ok(Config::Serve(_)) => refuse_for(rt, "'serve' is not served yet"),
-        Err(fault) => refuse(rt, &fault),
+    match config(host.alloc(), &words) {
+        Ok(Config::Pipe(asked)) => end(host, serve_stream(host, Told::Replies, &asked)),
+        Ok(Config::Table(asked)) => end(host, serve_stream(host, Told::Table, &asked)),
+        Ok(Config::Serve(asked)) => end_server(host, &asked, serve_config(host, rt, &asked)),
+        Err(fault) => refuse(host, &fault),
     }
 }

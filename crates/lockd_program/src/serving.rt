@@ -1,0 +1,131 @@
+//! A server on sockets.
+
+use crate::stores::stored_hosts;
+use config::ServeConfig;
+use hosts_sql::SqlHosts;
+use jobs::Job;
+use letters::ShortBytes;
+use log::Log;
+use peers::{Peers, PeersFault};
+use pipe_loops::Fault as StoreFault;
+use server::{Backing, CallSettings, Settings, serve};
+use sqlite::Alter;
+use std::alloc::Global;
+use std::fs;
+use std::io::Print;
+use std::net::{Net, SocketAddr, TcpListener, TcpStream};
+use std::sync::Wait;
+use std::thread::Threads;
+use std::time::{Clock, Duration};
+use thiserror::Error;
+use workers::Gate;
+
+/// What ends `serve` before it is told to stop. It is printed by number and name.
+#[derive(Clone, Copy, Debug, PartialEq, Eq, Error)]
+pub(crate) enum ServeFault {
+    /// There was no memory.
+    #[error("1 Starved")]
+    Starved,
+    /// A line of the file of peers is wrong.
+    #[error("20 BadLine")]
+    BadLine,
+    /// The file of peers can't be read.
+    #[error("23 ReadFault")]
+    ReadFault,
+    /// The store of hosts can't be had.
+    #[error("{0}")]
+    Store(StoreFault),
+    /// The server ended.
+    #[error("{0}")]
+    Server(server::Fault),
+}
+
+// Holds no job back.
+struct Open;
+
+impl Gate for Open {
+    fn before(&self, _job: &Job) {}
+}
+
+fn read_peers(host: &HostRuntime, path: &str) -> Result<Peers, ServeFault> {
+    let Ok(bytes) = fs::read(host, path) else {
+        return Err(ServeFault::ReadFault);
+    };
+    match Peers::read(host.alloc(), bytes.as_slice()) {
+        Ok(peers) => Ok(peers),
+        Err(PeersFault::Starved) => Err(ServeFault::Starved),
+        Err(PeersFault::BadLine(number)) => {
+            let _ = eprintln!(host;
+                "error: line {number} of {path} is no name, a space and an IP address, or a further line for a name"
+            );
+            Err(ServeFault::BadLine)
+        }
+    }
+}
+
+fn settings_of(asked: &ServeConfig) -> Settings {
+    Settings {
+        rpc: SocketAddr::new(asked.bind, asked.ports.rpc.get()),
+        local_port: asked.ports.local.get(),
+        calls: CallSettings {
+            nlm_port: asked.ports.peer_nlm.get(),
+            nsm_port: asked.ports.peer_nsm.get(),
+            watch_port: asked.ports.watch.get(),
+            grace: Duration::from_secs(u64::from(asked.times.grace.get())),
+            silence: Duration::from_secs(u64::from(asked.times.silence.get())),
+        },
+        idle: Duration::from_secs(u64::from(asked.times.idle.get())),
+        workers: asked.workers.get() as u16,
+        is_audited: asked.audit,
+    }
+}
+
+// It is generic, so that the proof of a call sees no more of a database than its trait.
+fn serve_database<S, R>(
+    rt: &R,
+    alloc: Global,
+    asked: &ServeConfig,
+    peers: Peers,
+    store: SqlHosts<S>,
+) -> Result<u64, ServeFault>
+where
+    S: Alter + Drop + Send,
+    R: Net<Listener = TcpListener, Stream = TcpStream>
+        + Threads
+        + Wait
+        + Clock
+        + Print
+        + Log
+        + Sync,
+{
+    let name = asked.name.as_str().as_bytes();
+    let Ok(own_name) = ShortBytes::copy_of(alloc, name) else {
+        return Err(ServeFault::Starved);
+    };
+    let backing = Backing {
+        store,
+        peers,
+        own_name,
+    };
+    serve(rt, alloc, &settings_of(asked), backing, &Open).map_err(ServeFault::Server)
+}
+
+/// Serves until a local program says `stop`: how many calls were taken, where that was kept.
+pub(crate) fn serve_config<R>(
+    host: &HostRuntime,
+    rt: &R,
+    asked: &ServeConfig,
+) -> Result<u64, ServeFault>
+where
+    R: Net<Listener = TcpListener, Stream = TcpStream>
+        + Threads
+        + Wait
+        + Clock
+        + Print
+        + Log
+        + Sync,
+{
+    let peers = read_peers(host, asked.peers.as_str())?;
+    let store = stored_hosts(host, &asked.db).map_err(ServeFault::Store)?;
+    serve_database(rt, host.alloc(), asked, peers, store)
+}

@@ -1,0 +1,21 @@
+//! The server over sockets: connections, workers, and the sender, over one book.
+#![tactic(auto)]
+
+mod chief;
+mod context;
+mod fault;
+mod incoming;
+mod lines;
+mod notes;
+mod outbox;
+mod peer;
+mod seats;
+mod serving;
+mod settings;
+mod signals;
+mod wire;
+
+pub use fault::Fault;
+pub use sender::Settings as CallSettings;
+pub use serving::serve;
+pub use settings::{Backing, Settings};

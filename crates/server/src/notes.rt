@@ -1,0 +1,23 @@
+//! What is noted of connections that were closed before their peers ended them.
+use log::{Log, error, info, warn};
+use std::net::SocketAddr;
+
+/// Notes how reading from a caller ended.
+pub(crate) fn caller<R: Log>(rt: &R, from: SocketAddr, ending: workers::Ending) {
+    match ending {
+        workers::Ending::Over | workers::Ending::Closed => {}
+        workers::Ending::Failed => info!(rt; "{from} was idle, or its connection failed: closed"),
+        workers::Ending::TooLong => warn!(rt; "{from} sent too long a record: closed"),
+        workers::Ending::Starved => error!(rt; "no memory for what {from} sent: closed"),
+    }
+}
+
+/// Notes how the talk with a local program ended.
+pub(crate) fn local<R: Log>(rt: &R, from: SocketAddr, ending: serve_loops::Ending) {
+    match ending {
+        serve_loops::Ending::Over | serve_loops::Ending::Stopped => {}
+        serve_loops::Ending::ReadFault => info!(rt; "local program {from} failed: closed"),
+        serve_loops::Ending::WriteFault => warn!(rt; "local program {from} takes no bytes: closed"),
+        serve_loops::Ending::Starved => error!(rt; "no memory for a line of {from}: closed"),
+    }
+}

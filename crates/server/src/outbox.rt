@@ -1,0 +1,69 @@
+//! Replies go to the connections that their calls came on.
+ghost use Rattle.std.specs.Prelude.{◌≡◌, [], ◌∷◌, ◌++◌};
+
+use crate::wire::Wire;
+use book::Reply;
+use connections::Roster;
+use history::History;
+use serve_loops::Signals;
+use std::alloc::Global;
+use std::sync::{Mutex, Wait};
+use workers::{Outbox, Parcel};
+use xdr_core::Frame;
+
+/// Joins the replies of one connection, and writes them to its socket.
+#[derive(Drop)]
+pub(crate) struct SocketOutbox<'a, K, Q, R> {
+    wire: Wire<'a, K, R>,
+    signals: &'a Q,
+    all: History<Parcel>,
+}
+
+impl<'a, K: Drop, Q: Signals, R: Wait> SocketOutbox<'a, K, Q, R> {
+    pub(crate) fn new(
+        alloc: Global,
+        rt: &'a R,
+        callers: &'a Mutex<Roster<K>>,
+        signals: &'a Q,
+    ) -> SocketOutbox<'a, K, Q, R> {
+        SocketOutbox {
+            wire: Wire::new(alloc, rt, callers),
+            signals,
+            all: History::new(),
+        }
+    }
+}
+
+impl<'a, K: Drop, Q: Signals, R: Wait> Outbox for SocketOutbox<'a, K, Q, R> {
+    ghost use Rattle.std.specs.Prelude.{map};
+    ghost use Rattle.workers.specs.Answers.{Sent};
+    ghost use Rattle.workers.specs.declared.outbox.Parcel.{Parcel as Packed};
+
+    ghost handed = { λ o. map (λ (p : Packed). record { connection = p.connection; reply = p.«record» }) o.all.items };
+
+    fn hand(&mut self, connection: u64, reply: &Reply) {
+        let mut record = Frame::new();
+        // An empty frame has room for each reply.
+        let _ = reply.put(&mut record);
+        let parcel = Parcel { connection, record };
+        self.all = self.all.and(&parcel);
+        self.wire.turn_to(connection);
+        self.wire.join(&parcel.record);
+    }
+
+    fn turn_to(&mut self, connection: u64) {
+        self.wire.turn_to(connection);
+    }
+
+    fn done(&mut self, connection: u64, is_due: bool) {
+        self.wire.turn_to(connection);
+        self.wire.count();
+        if is_due {
+            self.signals.call_is_due();
+        }
+    }
+
+    fn flush(&mut self) {
+        self.wire.flush();
+    }
+}

@@ -1,0 +1,302 @@
+//! A server, from its start to its end.
+ghost use Rattle.std.specs.Prelude.{◌≡◌, ◌+◌, [], IfOk};
+
+use crate::chief::Sends;
+use crate::context::{Context, Latches, Rosters};
+use crate::fault::Fault;
+use crate::lines::LocalLines;
+use crate::seats::{callers, locals, take_back};
+use crate::settings::{Backing, Settings};
+use crate::signals::Bells;
+use book::{Book, BookEvent, Reply};
+use connections::{Door, PLACES};
+use hosts_db::HostStore;
+use jobs::{Channel, Opened, Place};
+use log::Log;
+use peers::Peers;
+use range_arena::ArenaTable;
+use range_table::RangeTable;
+use sender::Sender;
+use server_threads::{Service, Staff, run};
+use staff::{Cutter, Gatherer};
+use std::alloc::Global;
+use std::io::{self, Print};
+use std::marker::Brand;
+use std::net::{Ipv4Addr, Net, SocketAddr, SocketAddrV4, TcpListener, TcpStream};
+use std::sync::ledger::{Blank, Ledger};
+use std::sync::{Mutex, Wait};
+use std::thread::Threads;
+use std::time::Clock;
+use workers::{Gate, Shared, Worker};
+
+/// The bytes of a thread's stack.
+const STACK: usize = 262_144;
+
+// Both doors, and what shuts them.
+#[derive(Drop)]
+struct Listening {
+    callers: Door,
+    locals: Door,
+    latches: Latches,
+}
+
+fn loopback(port: u16) -> SocketAddr {
+    SocketAddr::V4(SocketAddrV4::new(Ipv4Addr::LOCALHOST, port))
+}
+
+fn listen<R>(rt: &R, settings: &Settings) -> io::Result<Listening>
+where
+    R: Net<Listener = TcpListener, Stream = TcpStream>,
+{
+    let (callers, callers_latch) = Door::new(TcpListener::bind(rt, settings.rpc)?)?;
+    let (locals, locals_latch) = Door::new(TcpListener::bind(rt, loopback(settings.local_port))?)?;
+    Ok(Listening {
+        callers,
+        locals,
+        latches: Latches {
+            callers: callers_latch,
+            locals: locals_latch,
+        },
+    })
+}
+
+// The server begins anew, with the store's rows.
+fn restart<T: RangeTable, S: HostStore, L: Ledger>(
+    shared: &mut Shared<T, S, L>,
+) -> Result<(), Fault> {
+    match shared.apply(BookEvent::Restart, &mut None) {
+        Ok(upshot) => match upshot.reply {
+            Reply::Starved => Err(Fault::Starved),
+            Reply::StoreRefused => Err(Fault::StoreRefused),
+            _ => Ok(()),
+        },
+        Err(_) => Err(Fault::Starved),
+    }
+}
+
+// All threads, from their start to their end: what the workers had, once it was said that the server is ready.
+fn run_threads<P, L, T, S, G, R>(
+    rt: &R,
+    context: &Context<'_, P, L, T, S, G>,
+    staff: Staff<Worker<P, L>>,
+    sender: Sender<'_, R, LocalLines<'_, R>>,
+) -> Result<Vec<Worker<P, L>>, Fault>
+where
+    P: Place + Send + Sync,
+    L: Ledger + Send + Sync,
+    T: RangeTable + Drop + Send,
+    S: HostStore + Drop + Send,
+    G: Gate + Sync,
+    R: Net + Threads + Wait + Clock + Print + Log + Sync,
+{
+    let mut sends = Sends::new(sender, context.shared, context.bells);
+    let back = match run(rt, context, staff, &mut sends) {
+        Ok(back) => back,
+        Err(_) => return Err(Fault::Starved),
+    };
+    if sends.is_told() {
+        Ok(back)
+    } else {
+        Err(Fault::WriteFault)
+    }
+}
+
+// What stands before the threads, and what is left behind them.
+#[derive(Drop)]
+struct Inside<P: Place, L: Ledger, T: RangeTable, S: HostStore> {
+    channel: Channel<P>,
+    shared: Mutex<Shared<T, S, L>>,
+    rosters: Rosters<P, L>,
+}
+
+// What the server's own calls need.
+#[derive(Drop)]
+struct Calling<'a, R> {
+    sender: Sender<'a, R, LocalLines<'a, R>>,
+    bells: Bells,
+}
+
+fn call<'a, R: Net + Clock + Wait>(
+    rt: &'a R,
+    alloc: Global,
+    settings: &Settings,
+    peers: Peers,
+    locals: &'a LocalLines<'a, R>,
+) -> io::Result<Calling<'a, R>> {
+    let sender = Sender::new(alloc, rt, settings.calls, peers, locals)?;
+    let bells = Bells::new(sender.waker()?);
+    Ok(Calling { sender, bells })
+}
+
+// Opens the doors, and serves until it is stopped.
+fn serve_inside<P, L, T, S, G, R>(
+    rt: &R,
+    alloc: Global,
+    settings: &Settings,
+    gate: &G,
+    peers: Peers,
+    inside: &Inside<P, L, T, S>,
+    workers: Vec<Worker<P, L>>,
+) -> Result<Vec<Worker<P, L>>, Fault>
+where
+    P: Place + Send + Sync,
+    L: Ledger + Send + Sync,
+    T: RangeTable + Drop + Send,
+    S: HostStore + Drop + Send,
+    G: Gate + Sync,
+    R: Net<Listener = TcpListener, Stream = TcpStream>
+        + Threads
+        + Wait
+        + Clock
+        + Print
+        + Log
+        + Sync,
+{
+    let Listening {
+        callers,
+        locals,
+        latches,
+    } = match listen(rt, settings) {
+        Ok(listening) => listening,
+        Err(_) => return Err(Fault::ReadFault),
+    };
+    let lines = LocalLines::new(rt, &inside.rosters.locals);
+    let Calling { sender, bells } = match call(rt, alloc, settings, peers, &lines) {
+        Ok(calling) => calling,
+        Err(_) => return Err(Fault::Starved),
+    };
+    let context = Context {
+        alloc,
+        channel: &inside.channel,
+        shared: &inside.shared,
+        rosters: &inside.rosters,
+        latches: &latches,
+        bells: &bells,
+        gate,
+        idle: settings.idle,
+    };
+    let staff = Staff {
+        alloc,
+        callers,
+        locals,
+        workers,
+        stack: STACK,
+    };
+    run_threads(rt, &context, staff, sender)
+}
+
+// Everything is put together, served, and taken apart.
+fn serve_as<P, L, T, S, G, R>(
+    rt: &R,
+    alloc: Global,
+    settings: &Settings,
+    table: T,
+    backing: Backing<S>,
+    gate: &G,
+    opened: Opened,
+    blank: Blank,
+    parts: u64,
+) -> Result<u64, Fault>
+where
+    P: Place + Send + Sync,
+    L: Ledger + Send + Sync,
+    T: RangeTable + Drop + Send,
+    S: HostStore + Drop + Send,
+    G: Gate + Sync,
+    R: Net<Listener = TcpListener, Stream = TcpStream>
+        + Threads
+        + Wait
+        + Clock
+        + Print
+        + Log
+        + Sync,
+    requires empty { T.settings table ≡ [] }
+    requires place { (opened.slip.table_id ≡ P.table) × (opened.slip.me.0.of ≡ P.key) }
+    requires ledger { (blank.name ≡ L.name) × (blank.parts ≡ L.parts) × (blank.parts ≡ parts) }
+{
+    let (channel, keeper) = opened.named::<P>();
+    let (total, share) = blank.open::<L>();
+    let Backing {
+        store,
+        peers,
+        own_name,
+    } = backing;
+    let book = Book::new(alloc, table, store, own_name).map_err(|_| Fault::Starved)?;
+    let mut shared = Shared::new(alloc, book, total, settings.is_audited);
+    restart(&mut shared)?;
+    let mut cutter = Cutter::new(alloc, keeper, share, parts, settings.is_audited);
+    let callers = callers(alloc, &mut cutter, &channel)?;
+    let workers = cutter.cut_all(&channel, settings.workers)?;
+    let inside = Inside {
+        channel,
+        shared: Mutex::new(shared),
+        rosters: Rosters {
+            callers: Mutex::new(callers),
+            locals: Mutex::new(locals(alloc)?),
+        },
+    };
+    let back = serve_inside(rt, alloc, settings, gate, peers, &inside, workers)?;
+    end(cutter.into_gatherer(), inside, back, parts)
+}
+
+// What was cut is taken back, and the journal is checked.
+fn end<P: Place, L: Ledger, T: RangeTable + Drop, S: HostStore + Drop>(
+    gatherer: Gatherer<P, L>,
+    inside: Inside<P, L, T, S>,
+    workers: Vec<Worker<P, L>>,
+    parts: u64,
+) -> Result<u64, Fault>
+    requires { parts ≡ L.parts }
+{
+    let Inside {
+        channel,
+        shared,
+        rosters,
+        ..
+    } = inside;
+    let mut gatherer = gatherer;
+    take_back(&mut gatherer, &channel, &mut rosters.callers.into_inner())?;
+    gatherer.take_all(&channel, workers)?;
+    Ok(gatherer.settle(&channel, shared.into_inner(), parts)?)
+}
+
+/// Serves until a local program says `stop`: how many calls were taken, where that was audited, and else 0. It begins the server
+/// anew over the store's hosts, opens both doors, starts the threads, and prints `ready`; in the end all threads are joined and
+/// what they did is settled. Before each job the gate is told.
+///
+/// `Starved`: no memory, or a thread could not be started. `StoreRefused`: the store refused the new own state. `ReadFault`: a
+/// door could not be had; the store has the new own state by then. `WriteFault`: `ready` could not be written. `AuditMismatch`:
+/// the journal and the receipts don't agree, after all was served. With each of these every thread that was started has ended.
+pub fn serve<S, G, R>(
+    rt: &R,
+    alloc: Global,
+    settings: &Settings,
+    backing: Backing<S>,
+    gate: &G,
+) -> Result<u64, Fault>
+where
+    S: HostStore + Drop + Send,
+    G: Gate + Sync,
+    R: Net<Listener = TcpListener, Stream = TcpStream>
+        + Threads
+        + Wait
+        + Clock
+        + Print
+        + Log
+        + Sync,
+{
+    let table = ArenaTable::new(alloc).map_err(|_| Fault::Starved)?;
+    let opened = Opened::new(alloc)?;
+    let parts = PLACES as u64 + u64::from(settings.workers);
+    serve_as::<Brand, Brand, _, _, _, _>(
+        rt,
+        alloc,
+        settings,
+        table,
+        backing,
+        gate,
+        opened,
+        Blank::new(parts),
+        parts,
+    )
+}

@@ -1,0 +1,33 @@
+//! What a server is told.
+use letters::ShortBytes;
+use peers::Peers;
+use std::net::SocketAddr;
+use std::time::Duration;
+
+/// What a server is told.
+#[derive(Clone, Copy, Debug)]
+pub struct Settings {
+    /// Where calls by record come in.
+    pub rpc: SocketAddr,
+    /// The port of loopback on which the lines of local programs come in.
+    pub local_port: u16,
+    /// The ports of its peers, and how long it waits for them.
+    pub calls: sender::Settings,
+    /// How long a connection for calls by record may be idle. A zero refuses each.
+    pub idle: Duration,
+    /// How many workers there are beside the connections' own threads.
+    pub workers: u16,
+    /// Whether the journal is kept and checked at the end.
+    pub is_audited: bool,
+}
+
+/// What a server stands on.
+#[derive(Drop)]
+pub struct Backing<S> {
+    /// Where its hosts are stored.
+    pub store: S,
+    /// The addresses of the hosts that it calls.
+    pub peers: Peers,
+    /// The name under which it monitors and notifies.
+    pub own_name: ShortBytes,
+}

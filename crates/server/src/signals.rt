@@ -1,0 +1,36 @@
+//! What the threads tell one another.
+use mio::Waker;
+use serve_loops::Signals;
+use std::sync::atomic::{AtomicBool, Ordering};
+
+/// Whether the server is to stop, and what wakes the sender.
+#[derive(Drop)]
+pub(crate) struct Bells {
+    is_stopping: AtomicBool,
+    waker: Waker,
+}
+
+impl Bells {
+    pub(crate) fn new(waker: Waker) -> Bells {
+        Bells {
+            is_stopping: AtomicBool::new(false),
+            waker,
+        }
+    }
+}
+
+impl Signals for Bells {
+    fn is_stopping(&self) -> bool {
+        self.is_stopping.load(Ordering::SeqCst)
+    }
+
+    fn call_is_due(&self) {
+        // Where this fails, the sender looks a moment later.
+        let _ = self.waker.wake();
+    }
+
+    fn stop(&self) {
+        self.is_stopping.store(true, Ordering::SeqCst);
+        let _ = self.waker.wake();
+    }
+}

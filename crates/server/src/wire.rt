@@ -1,0 +1,100 @@
+//! Replies on their way to their connections.
+use connections::{Connection, Roster};
+use record_mark::last_mark;
+use std::alloc::{AllocError, Global};
+use std::sync::{Arc, Mutex, Wait};
+use xdr_core::Frame;
+
+/// The most bytes of replies that are written at once.
+const MOST: usize = 16_384;
+
+/// The bytes of the largest frame and its mark.
+const LARGEST: usize = 4_100;
+
+/// Replies to one connection that are written together, and how many of its jobs they end.
+#[derive(Drop)]
+pub(crate) struct Wire<'a, K, R> {
+    rt: &'a R,
+    callers: &'a Mutex<Roster<K>>,
+    to: Option<Arc<Connection, Global>>,
+    joined: Vec<u8>,
+    done: u64,
+}
+
+impl<'a, K: Drop, R: Wait> Wire<'a, K, R> {
+    pub(crate) fn new(alloc: Global, rt: &'a R, callers: &'a Mutex<Roster<K>>) -> Wire<'a, K, R> {
+        Wire {
+            rt,
+            callers,
+            to: None,
+            joined: Vec::new(alloc),
+            done: 0,
+        }
+    }
+
+    fn is_to(&self, number: u64) -> bool {
+        match &self.to {
+            Some(connection) => connection.number() == number,
+            None => false,
+        }
+    }
+
+    /// What comes next is for the connection of this number.
+    pub(crate) fn turn_to(&mut self, number: u64) {
+        if self.is_to(number) {
+            return;
+        }
+        self.flush();
+        self.to = self.callers.lock(self.rt).find(number);
+    }
+
+    // Writes what is joined.
+    fn write(&mut self) {
+        if let Some(connection) = &self.to {
+            if !self.joined.is_empty() {
+                // Who takes no bytes is shut by this.
+                let _ = connection.send(self.rt, self.joined.as_slice());
+            }
+        }
+        self.joined.clear();
+    }
+
+    fn append(&mut self, record: &[u8]) -> Result<(), AllocError> {
+        let size = u16::try_from(record.len()).map_err(|_| AllocError)?;
+        self.joined.extend_from_slice(&last_mark(u32::from(size)))?;
+        self.joined.extend_from_slice(record)
+    }
+
+    /// Joins a record.
+    pub(crate) fn join(&mut self, record: &Frame) {
+        if self.joined.len() > MOST - LARGEST {
+            self.write();
+        }
+        if self.append(record.as_slice()).is_err() {
+            self.lose();
+        }
+    }
+
+    // There is no memory for a reply.
+    fn lose(&mut self) {
+        self.joined.clear();
+        if let Some(connection) = &self.to {
+            connection.shut();
+        }
+    }
+
+    /// One more job is done.
+    pub(crate) fn count(&mut self) {
+        self.done = self.done.wrapping_add(1);
+    }
+
+    /// Writes what is joined, and tells that its jobs are done.
+    pub(crate) fn flush(&mut self) {
+        self.write();
+        let done = self.done;
+        self.done = 0;
+        if let Some(connection) = self.to.take() {
+            connection.count_done(done);
+        }
+    }
+}

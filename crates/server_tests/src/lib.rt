@@ -1,0 +1,13 @@
+//! Tests of a server over loopback.
+#![tactic(auto)]
+
+#[cfg(test)]
+mod calls;
+#[cfg(test)]
+mod client;
+#[cfg(test)]
+mod overlapping;
+#[cfg(test)]
+mod sending;
+#[cfg(test)]
+mod servers;
