@@ -2,7 +2,8 @@
 //! the rules.
 use crate::calls::{Asks, Told};
 use crate::client_calls::{ClientCall, FILE_HANDLE};
-use crate::server::{BEGINS, Line, Part, RESTARTS, plays};
+use crate::plays::plays;
+use crate::server::{BEGINS, Line, Part, RESTARTS};
 use crate::status::notice;
 use nlm4_types::{Lock, Netobj, NlmCall, Version, WIDE};
 use record_reading::{Call, Reading};

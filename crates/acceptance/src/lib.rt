@@ -22,6 +22,8 @@ mod narrow;
 #[cfg(test)]
 mod notices;
 #[cfg(test)]
+mod plays;
+#[cfg(test)]
 mod quotas;
 #[cfg(test)]
 mod repeats;
@@ -31,6 +33,8 @@ mod rows;
 mod server;
 #[cfg(test)]
 mod status;
+#[cfg(test)]
+mod stores;
 #[cfg(test)]
 mod streams;
 #[cfg(test)]

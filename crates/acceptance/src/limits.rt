@@ -1,6 +1,7 @@
 //! A table that is full, a store that is full, and streams that are cut at random.
 use crate::calls::{Asks, Told, Who};
-use crate::server::{Line, Part, all_hosts, plays, sent_by, sent_by_flat};
+use crate::plays::{all_hosts, plays, sent_by, sent_by_flat};
+use crate::server::{Line, Part};
 use std::alloc::Global;
 use std::test::*;
 

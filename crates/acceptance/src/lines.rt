@@ -1,6 +1,7 @@
 //! Lines of local programs, beside the calls of clients: all share one table.
 use crate::calls::{Asks, Told, Who, put, put_fragment};
-use crate::server::{BEGINS, Heard, Part, plays};
+use crate::plays::plays;
+use crate::server::{BEGINS, Heard, Part};
 use std::alloc::{AllocError, Global};
 use std::test::*;
 

@@ -1,7 +1,9 @@
 //! The message forms: an empty reply at once, and the result in a call of the server's own (XNFS, NLM_TEST_MSG and NLM_LOCK_MSG).
 use crate::calls::{Asks, Told, Who};
-use crate::server::{BEGINS, Line, Part, RESTARTS, plays, plays_to};
+use crate::plays::plays;
+use crate::server::{BEGINS, Line, Part, RESTARTS};
 use crate::status::notice;
+use crate::stores::plays_to;
 use std::alloc::Global;
 use std::test::*;
 

@@ -1,7 +1,9 @@
 //! The status monitor: what hosts tell, who is called then, and how the server begins anew (XNFS, NSM).
 use crate::calls::{Asks, Told, Who};
-use crate::server::{BEGINS, Part, RESTARTS, plays, plays_from, plays_to};
+use crate::plays::plays_from;
+use crate::server::{BEGINS, Part, RESTARTS};
 use crate::status::{Status, notice};
+use crate::stores::{plays_both, plays_from_the_highest, plays_to};
 use crate::waits::grant;
 use std::alloc::Global;
 use std::test::*;
@@ -104,7 +106,7 @@ fn monitors_and_crashes(alloc: Global) -> Result<bool, Fail> {
         Part::Sends("a", &notice(1, 3)),
         Part::Calls(&in_grace, 64),
     ];
-    plays(alloc, Vec::new(alloc), &parts)
+    plays_both(alloc, &parts)
 }
 
 #[test]
@@ -116,7 +118,10 @@ fn monitor_and_simulated_crash(rt: HostRuntime) -> Result<(), Fail> {
 fn wraps(alloc: Global) -> Result<bool, Fail> {
     let state = [(12, Asks::OfStatus(Status::State), Told::Monitored(0, 1))];
     let parts = [BEGINS, Part::Calls(&state, 64)];
-    plays_from(alloc, 0x7fff_ffff, Vec::new(alloc), &parts)
+    Ok(
+        plays_from(alloc, 0x7fff_ffff, Vec::new(alloc), &parts)?
+            && plays_from_the_highest(alloc, &parts)?,
+    )
 }
 
 // Who acknowledges a notice has the own state that it told as its epoch.

@@ -1,6 +1,7 @@
 //! Quotas of runs, from bytes to bytes: what a host is refused, and who is granted once its quota is raised.
 use crate::calls::{Asks, Grant, Told, Who};
-use crate::server::{BEGINS, Line, Part, plays};
+use crate::plays::plays;
+use crate::server::{BEGINS, Line, Part};
 use std::alloc::Global;
 use std::test::*;
 

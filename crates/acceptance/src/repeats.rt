@@ -1,6 +1,7 @@
 //! Calls that come again, and a server that begins anew.
 use crate::calls::{Asks, Told, Who};
-use crate::server::{Line, Part, is_row, plays};
+use crate::plays::{is_row, plays};
+use crate::server::{Line, Part};
 use std::alloc::Global;
 use std::test::*;
 

@@ -1,6 +1,8 @@
 //! The rows, under their own names.
 use crate::calls::{Asks, Told, Who};
-use crate::server::{Part, all_hosts, is_row, plays};
+use crate::plays::{all_hosts, is_row, plays};
+use crate::server::{BEGINS, Part};
+use crate::stores::plays_both;
 use std::test::*;
 
 const GRANTED: Told = Told::Stat(0);
@@ -75,7 +77,7 @@ fn grace(rt: HostRuntime) -> Result<(), Fail> {
         Part::GraceEnds,
         Part::Calls(&after, 64),
     ];
-    assert!(rt; plays(rt.alloc(), Vec::new(rt.alloc()), &parts)?);
+    assert!(rt; plays_both(rt.alloc(), &parts)?);
     Ok(())
 }
 
@@ -117,12 +119,13 @@ fn share_conflict(rt: HostRuntime) -> Result<(), Fail> {
         (46, Asks::Shares(Who::A, 2, 1), Told::ShareStat(0)),
         (47, Asks::Shares(Who::B, 0, 2), Told::ShareStat(1)),
     ];
-    assert!(rt; is_row(rt.alloc(), &row)?);
+    let shares = [BEGINS, Part::Calls(&row, 64)];
+    assert!(rt; plays_both(rt.alloc(), &shares)?);
     let refused = [
         (48, Asks::Locks(Who::B, 0, 1), NO_LOCKS),
         (49, Asks::Tests(Who::A, 0, 0), GRANTED),
     ];
-    let parts = [Part::Begins { is_over: true }, Part::Calls(&refused, 64)];
+    let parts = [BEGINS, Part::Calls(&refused, 64)];
     assert!(rt; plays(rt.alloc(), all_hosts(rt.alloc())?, &parts)?);
     Ok(())
 }

@@ -1,13 +1,8 @@
-//! A daemon over a table of ranges and hosts in memory, and what it sends. All but what makes it is generic, and so cheap
-//! to prove.
-ghost use Rattle.std.specs.Prelude.{◌≡◌, ◌<◌, []};
-
+//! What comes to a daemon, and whether it sends what it should.
 use crate::calls::{Asks, Grant, Told, Who, answer_to_grant, empty_answer, put, put_fragment};
 use daemon_core::{Addressee, Daemon, Event, Outputs, Peer, Refusal};
-use hosts_db::{FULL_QUOTA, HostRow, HostStore, MemHosts};
-use letters::ShortBytes;
-use range_arena::ArenaTable;
-use range_table::{FlatTable, RangeTable};
+use hosts_db::{FULL_QUOTA, HostRow, HostStore};
+use range_table::RangeTable;
 use std::alloc::Global;
 use std::test::*;
 
@@ -74,32 +69,8 @@ pub(crate) struct Heard<'a> {
 // As many records as any stream of bytes has.
 const MOST_RECORDS: usize = 2;
 
-fn opened<T: RangeTable + Drop>(
-    alloc: Global,
-    table: T,
-    own: u32,
-    hosts: Vec<HostRow>,
-) -> Result<Daemon<T, MemHosts>, Fail>
-    requires table { T.settings table ≡ [] }
-    requires own { own < 2147483648 }
-{
-    let store = MemHosts::new(alloc, own, hosts, Vec::new(alloc))?;
-    let name = ShortBytes::copy_of(alloc, b"server")?;
-    Ok(Daemon::new(alloc, table, store, name)?)
-}
-
-/// As many hosts as a store has.
-pub(crate) fn all_hosts(alloc: Global) -> Result<Vec<HostRow>, Fail> {
-    let mut hosts = Vec::new(alloc);
-    for number in 0..4_096u32 {
-        let name = Vec::from_slice(alloc, number.to_be_bytes().as_slice())?;
-        hosts.push(HostRow::new(name, 1, 0, FULL_QUOTA))?;
-    }
-    Ok(hosts)
-}
-
 // The stream of these calls.
-fn asked(alloc: Global, lines: &[Line]) -> Result<Vec<u8>, Fail> {
+pub(crate) fn asked(alloc: Global, lines: &[Line]) -> Result<Vec<u8>, Fail> {
     let mut stream = Vec::new(alloc);
     for (xid, asks, _) in lines {
         put_fragment(&mut stream, &asks.record(alloc, *xid)?)?;
@@ -124,7 +95,7 @@ fn put_sent(stream: &mut Vec<u8>, outputs: &Outputs) -> Result<(), Fail> {
 }
 
 // All that is sent for these events, in order.
-fn sent_for<T: RangeTable, S: HostStore>(
+pub(crate) fn sent_for<T: RangeTable, S: HostStore>(
     alloc: Global,
     daemon: &mut Daemon<T, S>,
     events: Vec<Event>,
@@ -136,7 +107,7 @@ fn sent_for<T: RangeTable, S: HostStore>(
     Ok(stream)
 }
 
-fn begun(alloc: Global, is_over: bool) -> Result<Vec<Event>, Fail> {
+pub(crate) fn begun(alloc: Global, is_over: bool) -> Result<Vec<Event>, Fail> {
     let mut events = Vec::new(alloc);
     events.push(Event::Restart)?;
     if is_over {
@@ -187,7 +158,7 @@ fn takes(alloc: Global, count: usize) -> Result<Vec<Event>, Fail> {
 }
 
 // What is sent where the bytes come in pieces of so many, and so many records are taken once all are there.
-fn sent_of<T: RangeTable, S: HostStore>(
+pub(crate) fn sent_of<T: RangeTable, S: HostStore>(
     alloc: Global,
     daemon: &mut Daemon<T, S>,
     (stream, most): (&[u8], usize),
@@ -298,7 +269,7 @@ fn are_sent<T: RangeTable, S: HostStore>(
     is_sent(alloc, daemon, host, &told)
 }
 
-fn are_rows<S: HostStore>(store: &S, rows: &[(Who, u32, i32)]) -> bool {
+pub(crate) fn are_rows<S: HostStore>(store: &S, rows: &[(Who, u32, i32)]) -> bool {
     let hosts = store.hosts();
     if hosts.len() != rows.len() {
         return false;
@@ -325,7 +296,10 @@ fn is_row_of(found: &HostRow, (who, epoch, seen): (Who, u32, i32)) -> bool {
         && found.quota() == FULL_QUOTA
 }
 
-fn is_quiet<T: RangeTable, S: HostStore>(daemon: &mut Daemon<T, S>, event: Event) -> bool {
+pub(crate) fn is_quiet<T: RangeTable, S: HostStore>(
+    daemon: &mut Daemon<T, S>,
+    event: Event,
+) -> bool {
     let outputs = daemon.step(event);
     outputs.sent.is_none() && outputs.refusal.is_none()
 }
@@ -388,7 +362,8 @@ fn goes<T: RangeTable, S: HostStore>(
     }
 }
 
-fn go<T: RangeTable, S: HostStore>(
+/// Whether the daemon sends just the replies of these parts, byte for byte.
+pub(crate) fn go<T: RangeTable, S: HostStore>(
     alloc: Global,
     daemon: &mut Daemon<T, S>,
     parts: &[Part<'_>],
@@ -399,85 +374,4 @@ fn go<T: RangeTable, S: HostStore>(
         }
     }
     Ok(true)
-}
-
-/// Whether a server of these hosts sends just the replies of these parts, byte for byte.
-pub(crate) fn plays(alloc: Global, hosts: Vec<HostRow>, parts: &[Part<'_>]) -> Result<bool, Fail> {
-    plays_from(alloc, 0, hosts, parts)
-}
-
-/// The same from no host, and whether in the end nothing is due and the stored hosts are these.
-pub(crate) fn plays_to(
-    alloc: Global,
-    parts: &[Part<'_>],
-    rows: &[(Who, u32, i32)],
-) -> Result<bool, Fail> {
-    let mut daemon = opened(alloc, ArenaTable::new(alloc)?, 0, Vec::new(alloc))?;
-    let went = match go(alloc, &mut daemon, parts) {
-        Ok(true) => Ok(is_quiet(&mut daemon, Event::Send) && are_rows(daemon.store(), rows)),
-        other => other,
-    };
-    drop(daemon);
-    went
-}
-
-/// The same where the store's own state is `own`.
-pub(crate) fn plays_from(
-    alloc: Global,
-    own: u32,
-    hosts: Vec<HostRow>,
-    parts: &[Part<'_>],
-) -> Result<bool, Fail>
-    requires { own < 2147483648 }
-{
-    let mut daemon = opened(alloc, ArenaTable::new(alloc)?, own, hosts)?;
-    let went = go(alloc, &mut daemon, parts);
-    drop(daemon);
-    went
-}
-
-fn send<T: RangeTable, S: HostStore>(
-    alloc: Global,
-    daemon: &mut Daemon<T, S>,
-    lines: &[Line],
-    most: usize,
-) -> Result<Vec<u8>, Fail> {
-    sent_for(alloc, daemon, begun(alloc, true)?)?;
-    sent_of(alloc, daemon, (&asked(alloc, lines)?, most), lines.len())
-}
-
-/// What a server sends for calls that come in pieces of so many bytes.
-pub(crate) fn sent_by(alloc: Global, lines: &[Line], most: usize) -> Result<Vec<u8>, Fail> {
-    let mut daemon = opened(alloc, ArenaTable::new(alloc)?, 0, Vec::new(alloc))?;
-    let sent = send(alloc, &mut daemon, lines, most);
-    drop(daemon);
-    sent
-}
-
-/// What a server over the flat table sends for these calls.
-pub(crate) fn sent_by_flat(alloc: Global, lines: &[Line]) -> Result<Vec<u8>, Fail> {
-    let mut daemon = opened(alloc, FlatTable::new(alloc)?, 0, Vec::new(alloc))?;
-    let sent = send(alloc, &mut daemon, lines, 8_192);
-    drop(daemon);
-    sent
-}
-
-/// Whether a server replies so after its grace period, however the stream is cut.
-pub(crate) fn is_row(alloc: Global, lines: &[Line]) -> Result<bool, Fail> {
-    let begins = Part::Begins { is_over: true };
-    let whole = plays(alloc, Vec::new(alloc), &[begins, Part::Calls(lines, 8_192)])?;
-    let cut = plays(alloc, Vec::new(alloc), &[begins, Part::Calls(lines, 5)])?;
-    Ok(whole && cut)
-}
-
-/// Whether this is heard after the grace period of a stream that comes whole, and of one that comes byte by byte.
-pub(crate) fn is_stream<'a>(
-    alloc: Global,
-    stream: &'a [u8],
-    heard: Heard<'a>,
-) -> Result<bool, Fail> {
-    let begins = Part::Begins { is_over: true };
-    let whole = [begins, Part::Bytes(stream, 8_192, heard)];
-    let bytes = [begins, Part::Bytes(stream, 1, heard)];
-    Ok(plays(alloc, Vec::new(alloc), &whole)? && plays(alloc, Vec::new(alloc), &bytes)?)
 }

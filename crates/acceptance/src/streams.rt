@@ -1,5 +1,6 @@
 //! Streams in their words, and what is sent for them (RFC 5531; RFC 1813, appendix II), written by hand.
-use crate::server::{Heard, is_stream};
+use crate::plays::is_stream;
+use crate::server::Heard;
 use daemon_core::Refusal;
 use std::alloc::Global;
 use std::test::*;

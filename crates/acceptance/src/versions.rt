@@ -1,7 +1,8 @@
 //! Calls of versions 1 and 3: what they are answered, and in which version the server calls back (XNFS, NLM).
 use crate::calls::{Asks, Told, Who};
 use crate::narrow::Narrow;
-use crate::server::{BEGINS, Part, plays};
+use crate::plays::plays;
+use crate::server::{BEGINS, Part};
 use std::alloc::Global;
 use std::test::*;
 

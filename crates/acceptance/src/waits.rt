@@ -1,7 +1,9 @@
 //! Locks that are waited for, from bytes to bytes: who waits, who is granted, and what the server calls then (XNFS, NLM_LOCK,
 //! NLM_CANCEL and NLM_GRANTED).
 use crate::calls::{Asks, Grant, Told, Who};
-use crate::server::{BEGINS, Part, plays};
+use crate::plays::plays;
+use crate::server::{BEGINS, Line, Part};
+use crate::stores::plays_both;
 use std::alloc::Global;
 use std::test::*;
 
@@ -53,9 +55,43 @@ fn tells_deadlock(alloc: Global) -> Result<bool, Fail> {
     plays(alloc, Vec::new(alloc), &parts)
 }
 
+// What an open file description holds, what is asked of the other bytes, and how it waits for them.
+#[derive(Clone, Copy)]
+struct Description<'a> {
+    holds: &'a [(&'a str, &'a str)],
+    calls: &'a [Line],
+    waits: &'a [(&'a str, &'a str)],
+}
+
+fn is_let_wait(alloc: Global, row: Description<'_>) -> Result<bool, Fail> {
+    let parts = [
+        BEGINS,
+        Part::Lines(row.holds),
+        Part::Calls(row.calls, 64),
+        Part::Lines(row.waits),
+        Part::NothingDue,
+    ];
+    plays(alloc, Vec::new(alloc), &parts)
+}
+
+// An open file description is no step of a cycle, and waits.
+fn description_waits(alloc: Global) -> Result<bool, Fail> {
+    let calls = [
+        (15, Asks::Locks(Who::A, 1, 1), Told::Stat(0)),
+        (17, Asks::Blocks(Who::A, 2, 1), Told::Stat(3)),
+    ];
+    let row = Description {
+        holds: &[("setlk d7 01020304 w 2 1", "ok")],
+        calls: &calls,
+        waits: &[("setlkw d7 01020304 w 1 1", "wait")],
+    };
+    is_let_wait(alloc, row)
+}
+
 #[test]
 fn deadlock(rt: HostRuntime) -> Result<(), Fail> {
     assert!(rt; tells_deadlock(rt.alloc())?);
+    assert!(rt; description_waits(rt.alloc())?);
     Ok(())
 }
 
@@ -151,7 +187,7 @@ fn stores_waiters(alloc: Global) -> Result<bool, Fail> {
         Part::Calls(&last, 64),
         Part::Rows(&after),
     ];
-    plays(alloc, Vec::new(alloc), &parts)
+    plays_both(alloc, &parts)
 }
 
 #[test]
