@@ -1,0 +1,5 @@
+pub mod RowLaws
+pub mod AnewLaws
+pub mod HonestLaws
+pub mod StepLaws
+pub mod RunLaws

@@ -1,0 +1,270 @@
+-- Rows stay, and what is told of a lock that stands is of a host with a row.
+use Rattle.std.proofs.Common.{◌≡◌, ℕ, zero, suc, ℤ, pos, Bool, true, false, cond, ◌&&◌, ◌||◌, leb, List, [], ◌∷◌, length, take, refl, sym, ap, subst, ◌∙◌, Option, Some, None, inl, inr}
+use Rattle.std.proofs.lemmas.Bool.{true≢false, or_cases, and_parts}
+use Rattle.std.proofs.lemmas.Map.Lookups.{exact_bytes}
+use Rattle.std.proofs.lemmas.Slice.Eq.{bytes_eq-Decides}
+use Rattle.std.specs.declared.cmp.Ordering.{Ordering}
+use Rattle.std.specs.declared.cmp.Ordering.TheVariants.{Less, Equal, Greater}
+use Rattle.definitions.specs.Bytes.{Bytes, Holds, same_bytes, is_any, put, placed, first_that, without_first}
+use Rattle.definitions.specs.Nlm.{Version, Stat, Null, Test, Locks, Cancel, Unlock, TestMsg, LockMsg, CancelMsg, UnlockMsg, GrantedRes, ShareCall, Unshare, NmLock, FreeAll, LockArgs}
+use Rattle.definitions.specs.Hosts.{Hosts, HostRow, StoreCall, StoreAnswer, NotAsked, Yes, Refused, Begin, Monitor, Seen, Acked, Quota, Watched, Unwatched, has_row, full_quota, row_cmp, with_row, with_new_row, with_seen, with_epoch, with_quota, after_store}
+use Rattle.definitions.specs.Monitored.{stands}
+use Rattle.definitions.specs.Shown.{shown_stat}
+use Rattle.definitions.specs.Replies.{Call, Nlm, Nsm, SystemErr, Ignored, Turned, Asks}
+use Rattle.definitions.specs.World.{World, the_limits, slots_free}
+use Rattle.definitions.specs.Rulings.{Told, Ruling, each, decided, ruled}
+use Rattle.definitions.specs.Outgoing.{Outgoing, next_due}
+use Rattle.definitions.specs.Answer.{Answered, gives, replied, sent_back, by_reply, by_call, by_message, lock_letter, lock_answer, lock_msg_answer, ruling}
+use Rattle.definitions.specs.Step.{Peer, KeptPair, State, Event, Take, Send, Answer, Silent, Local, GraceOver, Restart, Doing, Applied, Starved, Stepped, look, is_same_key, is_success, is_kept_kind, is_restart, kept_after, taken, applied, starved, sent, restart, step, store_call, with_row_stored}
+use Rattle.definitions.specs.Replay.{fits}
+use Rattle.definitions.specs.Asking.{hosts_after}
+use Rattle.definitions.specs.Uses.{new_pair}
+use Rattle.definitions.proofs.Lists.{or_left, or_right}
+use Rattle.definitions.proofs.MoveLaws.{by_cond}
+use Rattle.definitions.proofs.CallLaws.{holds_first}
+use Rattle.definitions.proofs.StoreLaws.{store_law}
+use Rattle.definitions.proofs.StandingLaws.{shown_law}
+use Rattle.definitions.proofs.MonitoredLaws.{monitored_law}
+use Rattle.definitions.proofs.SideSteps.{settle_keeps}
+use Rattle.record_reading.specs.Readings.{IsReading, OneReading}
+use Rattle.restart_laws.specs.Rows.{monitored_by, tells_lock, telling_of, telling, PairHasRow, KeptHaveRows}
+
+-- ---- a row stays
+
+module _ (name : Bytes) where
+  abbrev is_named : HostRow → Bool
+  is_named r = same_bytes r.name name
+
+  put_keeps : (x : HostRow) (rows : List HostRow) → is_any is_named rows ≡ true → is_any is_named (put row_cmp x rows) ≡ true
+  put_keeps x [] e = absurd (true≢false (sym e))
+  put_keeps x (y ∷ ys) e = go (row_cmp x y) refl (put_keeps x ys)
+    where
+      go : (o : Ordering) → row_cmp x y ≡ o → (is_any is_named ys ≡ true → is_any is_named (put row_cmp x ys) ≡ true) → is_any is_named (placed o x y ys (put row_cmp x ys)) ≡ true
+      go Less k more = or_right (is_named x) (is_any is_named (y ∷ ys)) e
+      go Equal k more = ap (λ n. same_bytes n name || is_any is_named ys) (exact_bytes x.name y.name k) ∙ e
+      go Greater k more = elim (or_cases (is_named y) (is_any is_named ys) e) [
+        | inl h ↦ or_left (is_named y) (is_any is_named (put row_cmp x ys)) h
+        | inr h ↦ or_right (is_named y) (is_any is_named (put row_cmp x ys)) (more h)
+      ]
+
+  new_row_keeps : (hosts : Hosts) (other : Bytes) (state : ℤ) → has_row hosts name ≡ true → is_any is_named (with_new_row other state hosts) ≡ true
+  new_row_keeps hosts other state e = go (has_row hosts other)
+    where
+      go : (b : Bool) → is_any is_named (cond b hosts.rows (with_row other hosts.own state hosts.rows)) ≡ true
+      go true = e
+      go false = put_keeps (record { name = other; epoch = hosts.own; seen = state; quota = full_quota }) hosts.rows e
+
+  -- the first row of a name is replaced by one of its name
+  changed_keeps : (other : Bytes) (change : HostRow → HostRow) → ((r : HostRow) → (change r).name ≡ r.name) → (changed : List HostRow → List HostRow) → changed [] ≡ [] → ((r : HostRow) (rows : List HostRow) → changed (r ∷ rows) ≡ cond (same_bytes r.name other) (change r ∷ rows) (r ∷ changed rows)) → (rows : List HostRow) → is_any is_named rows ≡ true → is_any is_named (changed rows) ≡ true
+  changed_keeps other change same changed none one [] e = absurd (true≢false (sym e))
+  changed_keeps other change same changed none one (r ∷ rows) e = ap (is_any is_named) (one r rows) ∙ go (same_bytes r.name other) (changed_keeps other change same changed none one rows)
+    where
+      go : (b : Bool) → (is_any is_named rows ≡ true → is_any is_named (changed rows) ≡ true) → is_any is_named (cond b (change r ∷ rows) (r ∷ changed rows)) ≡ true
+      go true more = ap (λ n. same_bytes n name || is_any is_named rows) (same r) ∙ e
+      go false more = elim (or_cases (is_named r) (is_any is_named rows) e) [
+        | inl h ↦ or_left (is_named r) (is_any is_named (changed rows)) h
+        | inr h ↦ or_right (is_named r) (is_any is_named (changed rows)) (more h)
+      ]
+
+  store_keeps : (hosts : Hosts) (call : StoreCall) → has_row hosts name ≡ true → has_row (after_store hosts call) name ≡ true
+  store_keeps hosts Begin e = e
+  store_keeps hosts (Monitor other state) e = new_row_keeps hosts other state e
+  store_keeps hosts (Seen other seen) e = changed_keeps other (λ r. record r { seen = seen }) (λ r. refl) (with_seen other seen) refl (λ r rows. refl) hosts.rows e
+  store_keeps hosts (Acked other epoch) e = changed_keeps other (λ r. record r { epoch = epoch }) (λ r. refl) (with_epoch other epoch) refl (λ r rows. refl) hosts.rows e
+  store_keeps hosts (Quota other runs) e = changed_keeps other (λ r. record r { quota = runs }) (λ r. refl) (with_quota other runs) refl (λ r rows. refl) hosts.rows e
+  store_keeps hosts (Watched other my bytes) e = new_row_keeps hosts other (pos 0) e
+  store_keeps hosts (Unwatched other my) e = e
+
+  asked_keeps : (hosts : Hosts) (o : Option StoreCall) (store : StoreAnswer) → has_row hosts name ≡ true → has_row (hosts_after hosts o store) name ≡ true
+  asked_keeps hosts None store e = e
+  asked_keeps hosts (Some call) Yes e = store_keeps hosts call e
+  asked_keeps hosts (Some call) NotAsked e = e
+  asked_keeps hosts (Some call) Refused e = e
+
+pub step_keeps : (s : State) (event : Event) (doing : Doing) (store : StoreAnswer) → fits the_limits s (record { event = event; doing = doing; store = store }) ≡ true → (name : Bytes) → has_row s.world.hosts name ≡ true → has_row (step the_limits s event doing store).state.world.hosts name ≡ true
+step_keeps s event doing store fit name e =
+    subst (λ (hosts : Hosts). has_row hosts name ≡ true) (sym (store_law the_limits s event doing store fit)) (asked_keeps name s.world.hosts (store_call the_limits s event) store e)
+
+-- ---- what is told of a call that is done for the first time
+
+one_side : (a b : Bool) → b ≡ false → (a || b) ≡ true → a ≡ true
+one_side true b e h = refl
+one_side false b e h = absurd (true≢false (sym h ∙ e))
+
+inside : {X : Type 0} (x y : X) → Some x ≡ Some y → x ≡ y
+inside x y e = cc
+
+no_name : {X : Type 0} (x : X) → None ≡ Some x → ⊥
+no_name x e = cc
+
+ruled_each : {A B : Type 0} (f : A → B) (store : StoreAnswer) (r : Ruling A) → ruled store (each f r) ≡ f (ruled store r)
+ruled_each f NotAsked r = refl
+ruled_each f Yes r = refl
+ruled_each f Refused r = refl
+
+ruled_decided : {A : Type 0} (x : A) (store : StoreAnswer) → ruled store (decided x) ≡ x
+ruled_decided x NotAsked = refl
+ruled_decided x Yes = refl
+ruled_decided x Refused = refl
+
+-- if this says that a lock stands, the host has a row
+abbrev HasIfTold : Bytes → Answered → Type 0
+HasIfTold name a = tells_lock (telling_of a) ≡ true → has_row a.world.hosts name ≡ true
+
+module _ (w : World) (version : Version) (a : LockArgs) (store : StoreAnswer) where
+  replied_has : HasIfTold a.alock.caller_name (ruled store (by_reply version a.cookie (lock_answer the_limits w version a)))
+  replied_has =
+      let r = lock_answer the_limits w version a in
+      let t = ruled store r in
+      subst (HasIfTold a.alock.caller_name) (sym (ruled_each (replied version a.cookie) store r))
+      (λ told. (monitored_law the_limits w version a store).0 (sym (shown_law version t.says) ∙ one_side (stands (shown_stat version t.says)) false refl told))
+
+  called_has : HasIfTold a.alock.caller_name (ruled store (by_message the_limits w (lock_letter version a) (lock_msg_answer the_limits w version a)))
+  called_has =
+      let r = lock_msg_answer the_limits w version a in
+      let t = ruled store r in
+      let back : Told Stat → Answered = λ told. sent_back (lock_letter version a told.says) told.world in
+      by_cond (λ (q : Ruling Answered). HasIfTold a.alock.caller_name (ruled store q)) (leb 1 (slots_free the_limits w)) (by_call (lock_letter version a) r) (decided (gives w SystemErr))
+      (λ _. subst (HasIfTold a.alock.caller_name) (sym (ruled_each back store r)) (λ told. (monitored_law the_limits w version a store).1 (sym (shown_law version t.says) ∙ one_side (stands (shown_stat version t.says)) false refl told)))
+      (λ _. subst (HasIfTold a.alock.caller_name) (sym (ruled_decided (gives w SystemErr) store)) (λ told. absurd (true≢false (sym told))))
+
+answered_has : (w : World) (local : Bool) (call : Call) (store : StoreAnswer) (name : Bytes) → monitored_by call ≡ Some name → HasIfTold name (ruled store (ruling the_limits w local call))
+answered_has w local (Nlm version (Locks a)) store name e = subst (λ (n : Bytes). HasIfTold n (ruled store (ruling the_limits w local (Nlm version (Locks a))))) (inside a.alock.caller_name name e) (replied_has w version a store)
+answered_has w local (Nlm version (LockMsg a)) store name e = subst (λ (n : Bytes). HasIfTold n (ruled store (ruling the_limits w local (Nlm version (LockMsg a))))) (inside a.alock.caller_name name e) (called_has w version a store)
+answered_has w local (Nlm version Null) store name e = absurd (no_name name e)
+answered_has w local (Nlm version (Test a)) store name e = absurd (no_name name e)
+answered_has w local (Nlm version (Cancel a)) store name e = absurd (no_name name e)
+answered_has w local (Nlm version (Unlock a)) store name e = absurd (no_name name e)
+answered_has w local (Nlm version (TestMsg a)) store name e = absurd (no_name name e)
+answered_has w local (Nlm version (CancelMsg a)) store name e = absurd (no_name name e)
+answered_has w local (Nlm version (UnlockMsg a)) store name e = absurd (no_name name e)
+answered_has w local (Nlm version (GrantedRes a)) store name e = absurd (no_name name e)
+answered_has w local (Nlm version (ShareCall a)) store name e = absurd (no_name name e)
+answered_has w local (Nlm version (Unshare a)) store name e = absurd (no_name name e)
+answered_has w local (Nlm version (NmLock a)) store name e = absurd (no_name name e)
+answered_has w local (Nlm version (FreeAll host state)) store name e = absurd (no_name name e)
+answered_has w local (Nsm call) store name e = absurd (no_name name e)
+
+-- the same behind settle
+fresh_has : (s : State) (peer : Peer) (asked : Bytes) (xid : ℕ) (call : Call) (store : StoreAnswer) (name : Bytes) → monitored_by call ≡ Some name → tells_lock (telling s peer call store None) ≡ true → has_row (taken the_limits s peer asked xid call store None).state.world.hosts name ≡ true
+fresh_has s peer asked xid call store name e told =
+    let a = ruled store (ruling the_limits s.world peer.local call) in
+    subst (λ (hosts : Hosts). has_row hosts name ≡ true) (sym (settle_keeps the_limits a.world).hosts) (answered_has s.world peer.local call store name e told)
+
+-- ---- kept replies
+
+same_record : (peer : Peer) (asked : Bytes) (kept : List KeptPair) (k : KeptPair) → first_that (is_same_key peer asked) kept ≡ Some k → k.asked ≡ asked
+same_record peer asked [] k e = absurd (no_name k e)
+same_record peer asked (j ∷ kept) k e = go (is_same_key peer asked j) refl e (same_record peer asked kept k)
+  where
+    go : (b : Bool) → is_same_key peer asked j ≡ b → cond b (Some j) (first_that (is_same_key peer asked) kept) ≡ Some k → (first_that (is_same_key peer asked) kept ≡ Some k → k.asked ≡ asked) → k.asked ≡ asked
+    go true h found more = ap (λ (x : KeptPair). x.asked) (sym (inside j k found)) ∙ (bytes_eq-Decides j.asked asked).0 (and_parts (same_bytes j.asked asked) _ h).0
+    go false h found more = more found
+
+module _ (P : KeptPair → Type 0) where
+  abbrev All : List KeptPair → Type 0
+  All kept = (k : KeptPair) → Holds kept k → P k
+
+  all_more : (j : KeptPair) (kept : List KeptPair) → P j → All kept → All (j ∷ kept)
+  all_more j kept p all k (inl e) = subst P e p
+  all_more j kept p all k (inr h) = all k h
+
+  all_but_first : (test : KeptPair → Bool) (kept : List KeptPair) → All kept → All (without_first test kept)
+  all_but_first test [] all k h = absurd h
+  all_but_first test (j ∷ kept) all k h = go (test j) (all_but_first test kept (λ k h. all k (inr h))) k h
+    where
+      go : (b : Bool) → All (without_first test kept) → All (cond b kept (j ∷ without_first test kept))
+      go true rest = λ k h. all k (inr h)
+      go false rest = all_more j (without_first test kept) (all j (inl refl)) rest
+
+  all_of_front : (n : ℕ) (kept : List KeptPair) → All kept → All (take n kept)
+  all_of_front zero kept all k h = absurd h
+  all_of_front (suc n) [] all k h = absurd h
+  all_of_front (suc n) (j ∷ kept) all k h = all_more j (take n kept) (all j (inl refl)) (all_of_front n kept (λ k h. all k (inr h))) k h
+
+  module _ (s : State) (all : All s.kept) where
+    taken_all : (peer : Peer) (asked : Bytes) (xid : ℕ) (call : Call) (store : StoreAnswer) (o : Option KeptPair) → look s peer asked ≡ o → (o ≡ None → P (new_pair peer asked xid (ruled store (ruling the_limits s.world peer.local call)))) → All (taken the_limits s peer asked xid call store o).state.kept
+    taken_all peer asked xid call store (Some k) e new =
+        by_cond (λ (t : Stepped). All t.state.kept) (leb (length k.letters) (slots_free the_limits s.world)) _ _
+        (λ _. all_more k _ (all k (holds_first (is_same_key peer asked) s.kept k e)) (all_but_first (is_same_key k.peer k.asked) s.kept all))
+        (λ _. all)
+    taken_all peer asked xid call store None e new =
+        let a = ruled store (ruling the_limits s.world peer.local call) in
+        by_cond All (is_restart peer call store) [] (kept_after the_limits peer asked xid call a s.kept) (λ _. λ k h. absurd h)
+        (λ _. by_cond All (is_success a.outcome && is_kept_kind call) (take the_limits.kept (new_pair peer asked xid a ∷ s.kept)) s.kept
+        (λ _. all_of_front the_limits.kept (new_pair peer asked xid a ∷ s.kept) (all_more (new_pair peer asked xid a) s.kept (new refl) all))
+        (λ _. all))
+
+    abbrev IsNewKept : Event → StoreAnswer → Type 0
+    IsNewKept (Take peer asked (Asks xid call)) store = look s peer asked ≡ None → P (new_pair peer asked xid (ruled store (ruling the_limits s.world peer.local call)))
+    IsNewKept _ store = Unit {0}
+
+    sent_all : (o : Option Outgoing) → All (sent s o).state.kept
+    sent_all None = all
+    sent_all (Some c) = all
+
+    restart_all : (store : StoreAnswer) → All (restart s store).state.kept
+    restart_all Yes = λ k h. absurd h
+    restart_all NotAsked = all
+    restart_all Refused = all
+
+    applied_all : (event : Event) (store : StoreAnswer) → IsNewKept event store → All (applied the_limits s event store).state.kept
+    applied_all (Take peer asked Ignored) store new = all
+    applied_all (Take peer asked (Turned xid refusal)) store new = all
+    applied_all (Take peer asked (Asks xid call)) store new = taken_all peer asked xid call store (look s peer asked) refl new
+    applied_all Send store new = sent_all (next_due s.world.calls)
+    applied_all (Answer reading) store new = all
+    applied_all (Silent number) store new = all
+    applied_all (Local l line) store new = all
+    applied_all GraceOver store new = all
+    applied_all Restart store new = restart_all store
+
+    row_all : (call : Call) (o : Option StoreCall) (store : StoreAnswer) → All (with_row_stored s call o store).kept
+    row_all (Nlm version (Locks a)) (Some call) Yes = all
+    row_all (Nlm version (LockMsg a)) (Some call) Yes = all
+    row_all _ _ _ = all
+
+    starved_all : (event : Event) (store : StoreAnswer) → All (starved the_limits s event store).state.kept
+    starved_all (Take peer asked Ignored) store = all
+    starved_all (Take peer asked (Turned xid refusal)) store = all
+    starved_all (Take peer asked (Asks xid call)) store = row_all call (store_call the_limits s (Take peer asked (Asks xid call))) store
+    starved_all (Local l line) store = all
+    starved_all _ store = all
+
+-- a record that was taken has its reading
+abbrev pub IsRead : Event → Type 0
+IsRead (Take peer asked reading) = IsReading asked reading
+IsRead _ = Unit {0}
+
+still : (s : State) (event : Event) (doing : Doing) (store : StoreAnswer) → fits the_limits s (record { event = event; doing = doing; store = store }) ≡ true → KeptHaveRows s → (k : KeptPair) → Holds s.kept k → PairHasRow (step the_limits s event doing store).state.world.hosts k
+still s event doing store fit old k h xid call name reads is told = step_keeps s event doing store fit name (old k h xid call name reads is told)
+
+same_call : (xid other : ℕ) (call asked : Call) → Asks xid call ≡ Asks other asked → asked ≡ call
+same_call xid other call asked e = cc
+
+module _ (one : OneReading) (s : State) (store : StoreAnswer) where
+  newly_has : (hosts : Hosts) (event : Event) → IsRead event → hosts ≡ (applied the_limits s event store).state.world.hosts → (all : (k : KeptPair) → Holds s.kept k → PairHasRow hosts k) → IsNewKept (PairHasRow hosts) s all event store
+  newly_has hosts (Take peer asked Ignored) reads same all = tt
+  newly_has hosts (Take peer asked (Turned xid refusal)) reads same all = tt
+  newly_has hosts (Take peer asked (Asks xid call)) reads same all = λ none other again name also is told.
+      let e : again ≡ call = same_call xid other call again (one asked (Asks xid call) (Asks other again) reads also) in
+      subst (λ (h : Hosts). has_row h name ≡ true) (sym same)
+      (subst (λ (o : Option KeptPair). has_row (taken the_limits s peer asked xid call store o).state.world.hosts name ≡ true) (sym none)
+      (fresh_has s peer asked xid call store name (ap monitored_by (sym e) ∙ is) told))
+  newly_has hosts _ reads same all = tt
+
+pub kept_rows : (one : OneReading) (s : State) (event : Event) (doing : Doing) (store : StoreAnswer) → fits the_limits s (record { event = event; doing = doing; store = store }) ≡ true → IsRead event → KeptHaveRows s → KeptHaveRows (step the_limits s event doing store).state
+kept_rows one s event Applied store fit reads old =
+    let hosts = (applied the_limits s event store).state.world.hosts in
+    let all = still s event Applied store fit old in
+    applied_all (PairHasRow hosts) s all event store (newly_has one s store hosts event reads refl all)
+kept_rows one s event Starved store fit reads old = starved_all (PairHasRow (starved the_limits s event store).state.world.hosts) s (still s event Starved store fit old) event store
+
+pub standing_has : (s : State) (peer : Peer) (asked : Bytes) (xid : ℕ) (call : Call) (store : StoreAnswer) → fits the_limits s (record { event = Take peer asked (Asks xid call); doing = Applied; store = store }) ≡ true → IsReading asked (Asks xid call) → KeptHaveRows s → (name : Bytes) → monitored_by call ≡ Some name → tells_lock (telling s peer call store (look s peer asked)) ≡ true → has_row (applied the_limits s (Take peer asked (Asks xid call)) store).state.world.hosts name ≡ true
+standing_has s peer asked xid call store fit reads old name is told = go (look s peer asked) refl told
+  where
+    go : (o : Option KeptPair) → look s peer asked ≡ o → tells_lock (telling s peer call store o) ≡ true → has_row (applied the_limits s (Take peer asked (Asks xid call)) store).state.world.hosts name ≡ true
+    go (Some k) e t =
+        let also = subst (λ (bytes : Bytes). IsReading bytes (Asks xid call)) (sym (same_record peer asked s.kept k e)) reads in
+        step_keeps s (Take peer asked (Asks xid call)) Applied store fit name (old k (holds_first (is_same_key peer asked) s.kept k e) xid call name also is t)
+    go None e t = subst (λ (o : Option KeptPair). has_row (taken the_limits s peer asked xid call store o).state.world.hosts name ≡ true) (sym e) (fresh_has s peer asked xid call store name is t)

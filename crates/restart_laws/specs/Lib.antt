@@ -1,0 +1,5 @@
+pub mod Rows
+pub mod Anew
+pub mod Honest
+pub mod Laws
+pub mod Runs

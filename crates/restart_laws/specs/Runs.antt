@@ -1,0 +1,88 @@
+-- The same over every list of events of the daemon.
+use Rattle.std.specs.Prelude.{◌≡◌, ℕ, true, List, [], ◌∷◌, Some}
+use Rattle.definitions.specs.Bytes.{Bytes}
+use Rattle.definitions.specs.Settings.{Setting, Request}
+use Rattle.definitions.specs.Phases.{Grace}
+use Rattle.definitions.specs.Nlm.{Version, NlmCall, LockArgs}
+use Rattle.definitions.specs.Hosts.{Hosts, Yes, has_row}
+use Rattle.definitions.specs.Nsm.{SmSimuCrash}
+use Rattle.definitions.specs.Replies.{Call, Nlm, Nsm}
+use Rattle.definitions.specs.Reclaims.{AreCompatible, IsHonest, IsUnder}
+use Rattle.definitions.specs.Moves.{IsReclaim}
+use Rattle.definitions.specs.Step.{Applied}
+use Rattle.kept_replies.specs.Pairs.{asker}
+use Rattle.call_plans.specs.Planned.{answer_of}
+use Rattle.daemon_core.specs.declared.event.Event.{Event}
+use Rattle.daemon_core.specs.declared.event.Event.TheVariants.{Take, Restart}
+use Rattle.daemon_core.specs.declared.outputs.Outputs.{Outputs}
+use Rattle.daemon_core.specs.Outcomes.{doing_of}
+use Rattle.daemon_core.specs.Outputs.{reply_to}
+use Rattle.daemon_core.specs.Hub.{Hub, Answers, HubStep, Run, opening}
+use Rattle.daemon_core.specs.Told.{IsCall, kept_of}
+use Rattle.restart_laws.specs.Rows.{monitored_by, tells_lock, telling, KeptHaveRows}
+use Rattle.restart_laws.specs.Anew.{IsAnew}
+use Rattle.restart_laws.specs.Honest.{IsHonestReclaim, IsGranted}
+
+-- ---- rows
+
+-- a row that is there stays, whatever comes. From the opening on kept replies are of hosts with rows, and so is each call that is told that its lock is granted or waits, a repeat among them
+pub record RunsKeepRows : Type 0 where
+  pub stay : (old new : Hub) (events : List Event) (outs : List Outputs) → Run old events outs new → (name : Bytes) → has_row old.state.world.hosts name ≡ true → has_row new.state.world.hosts name ≡ true
+  pub kept : (name : Bytes) (hosts : Hosts) (refusals : ℕ) (events : List Event) (outs : List Outputs) (hub : Hub) → Run (opening name hosts refusals) events outs hub → KeptHaveRows hub.state
+  pub standing : (name : Bytes) (hosts : Hosts) (refusals : ℕ) (events : List Event) (outs : List Outputs) (hub new : Hub) → Run (opening name hosts refusals) events outs hub → (place i : ℕ) (out : Outputs) (taken : Answers place i hub out new) (xid : ℕ) (call : Call) (host : Bytes) → IsCall taken xid call → doing_of out.outcome ≡ Applied
+      → monitored_by call ≡ Some host → tells_lock (telling hub.state (asker taken.link.peer) call (answer_of out.store) (kept_of taken)) ≡ true → has_row new.state.world.hosts host ≡ true
+
+-- ---- restarts
+
+-- the event is a restart, or an SM_SIMU_CRASH of a local peer, which acts as one
+pub data Begins (old : Hub) (out : Outputs) (new : Hub) : Type 0 where
+  ByRestart : HubStep old Restart out new → Begins old out new
+  ByCrash : {place i : ℕ} → (taken : Answers place i old out new) → (xid : ℕ) → IsCall taken xid (Nsm SmSimuCrash) → (asker taken.link.peer).local ≡ true → Begins old out new
+
+-- and the store agreed to it
+pub record IsBegun (old : Hub) (out : Outputs) (new : Hub) : Type 0 where
+  pub begins : Begins old out new
+  pub done : doing_of out.outcome ≡ Applied
+  pub agreed : answer_of out.store ≡ Yes
+
+abbrev pub DaemonBeginsAnew : Type 0
+DaemonBeginsAnew = (old new : Hub) (out : Outputs) → IsBegun old out new → IsAnew old.state new.state
+
+-- ---- reclaims
+
+-- if the event takes a record that reclaims a lock, that lock is honest in the list
+abbrev pub ReclaimsHonestly : List Setting → Event → Hub → Outputs → Hub → Type 0
+ReclaimsHonestly list (Take number i) old out new = (place : ℕ) (taken : Answers place i old out new) (r : Request) → IsReclaim taken.step.said r → IsHonest list r
+ReclaimsHonestly list _ old out new = Unit {0}
+
+-- each event finds grace, and each reclaim is honest in the list
+abbrev pub AreHonest : List Setting → (old : Hub) (events : List Event) (outs : List Outputs) (new : Hub) → Run old events outs new → Type 0
+AreHonest list old [] outs new run = Unit {0}
+AreHonest list old (event ∷ events) [] new run = Unit {0}
+AreHonest list old (event ∷ events) (out ∷ outs) new run = (old.state.world.phase ≡ Grace) × ReclaimsHonestly list event old out run.0 × AreHonest list run.0 events outs new run.2
+
+-- a restart that the store agreed to, and then events in grace whose reclaims are honest
+pub record ReclaimsAfterRestart (list : List Setting) (mid : Hub) : Type 0 where
+  pub before : Hub
+  pub begun : Outputs
+  pub start : Hub
+  pub restart : IsBegun before begun start
+  pub events : List Event
+  pub outs : List Outputs
+  pub run : Run start events outs mid
+  pub honest : AreHonest list start events outs mid run
+
+-- the lock is granted, and the reply that says so goes to the connection that asked
+pub record IsGrantedOnWire {place i : ℕ} {old new : Hub} {out : Outputs} (taken : Answers place i old out new) (version : Version) (call : NlmCall) (a : LockArgs) (xid : ℕ) : Type 0 where
+  pub granted : IsGranted version call a xid old.state taken.given new.state
+  pub sent : out.sent ≡ reply_to taken.link.number taken.given
+
+-- whatever came since the restart, in whatever order and number, an honest reclaim is granted
+abbrev pub HonestReclaimsAreGranted : Type 0
+HonestReclaimsAreGranted =
+    (list : List Setting) → AreCompatible list → (mid new : Hub) → ReclaimsAfterRestart list mid → (place i : ℕ) (out : Outputs) (taken : Answers place i mid out new) (xid : ℕ) (version : Version) (call : NlmCall) (a : LockArgs) → IsCall taken xid (Nlm version call) → doing_of out.outcome ≡ Applied
+    → IsHonestReclaim list mid.state (asker taken.link.peer) taken.bytes call a (answer_of out.store) → IsGrantedOnWire taken version call a xid
+
+-- and until grace ends the world stays under the list
+abbrev pub HonestRunsStayUnder : Type 0
+HonestRunsStayUnder = (list : List Setting) (mid : Hub) → ReclaimsAfterRestart list mid → IsUnder list mid.state.world
