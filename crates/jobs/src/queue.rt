@@ -117,7 +117,8 @@ impl Queue {
         }
     }
 
-    /// Takes the oldest job, and waits for one where there is none. `None`: the channel is closed, and none was left.
+    /// Takes the oldest job, and waits for one where there is none. Who slept wakes the next. `None`: the channel is closed, and
+    /// none was left.
     pub fn receive<R: Wait>(&self, rt: &R, slip: &mut Slip) -> Option<Job>
         requires channel { IsSeatAt (sends_on self.now.to) slip.old }
         requires works { (view slip.old).works ≡ true }
@@ -132,6 +133,10 @@ impl Queue {
         self.asleep.fetch_add(1, Ordering::SeqCst);
         let found = self.wait(rt, slip);
         self.asleep.fetch_sub(1, Ordering::SeqCst);
+        if found.is_some() {
+            // There may be more, and whoever put them woke one worker alone.
+            self.nudge();
+        }
         found
     }
 

@@ -4,7 +4,6 @@ use Rattle.std.specs.Borrow.{Bor}
 use Rattle.std.specs.List.{take-map}
 use Rattle.std.specs.Map.{lookup, lookup_entry, remove_entry}
 use Rattle.std.specs.Option.{option_copied}
-use Rattle.std.proofs.Math.Bool.{and_comm}
 use Rattle.std.proofs.lemmas.Cmp.{nat_list_eq_equiv}
 use Rattle.std.proofs.lemmas.Slice.Eq.{bytes_eq-Decides}
 use Rattle.std.specs.Option.{option_map_or}
@@ -37,7 +36,7 @@ same_local false false = refl
 pub same_key_is : (a b : Key) → same_key a b ≡ (bytes_eq b.record a.record && (bytes_eq b.peer.address a.peer.address && cond b.peer.is_local a.peer.is_local (not a.peer.is_local)))
 same_key_is a b =
     rw (same_local a.peer.is_local b.peer.is_local, same_cond a.peer.is_local b.peer.is_local, nat_list_eq_equiv.symm a.peer.address b.peer.address, nat_list_eq_equiv.symm a.record b.record)
-    (and_comm (bytes_eq b.peer.address a.peer.address && cond b.peer.is_local a.peer.is_local (not a.peer.is_local)) (bytes_eq b.record a.record))
+    refl
 
 split : (r a l : Bool) → (r && (a && l)) ≡ true → (r ≡ true) × (a ≡ true) × (l ≡ true)
 split true true true h = (refl, refl, refl)

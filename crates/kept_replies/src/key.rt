@@ -18,9 +18,10 @@ impl Peer {
     };
 }
 
-/// Who asked, and the whole record of the call, which shares the bytes that were received.
+/// The whole record of the call, which shares the bytes that were received, and who asked. The record stands first: where the
+/// hasher begins with it, it takes whole words.
 #[derive(Debug, PartialEq, Eq, Hash, Drop)]
 pub struct Key {
-    pub peer: Peer,
     pub record: Bytes,
+    pub peer: Peer,
 }
