@@ -60,6 +60,8 @@ pub(crate) enum Asks {
     Null,
     Locks(Who, u64, u64),
     Reclaims(Who, u64, u64),
+    /// The same, of a shared lock.
+    ReclaimsShared(Who, u64, u64),
     /// An exclusive lock, for which it waits where it must.
     Blocks(Who, u64, u64),
     /// The same, of a shared lock.
@@ -150,9 +152,9 @@ fn put_lock(
     bytes: &mut Vec<u8>,
     xid: u32,
     (who, offset, len): (Who, u64, u64),
-    reclaim: u32,
+    (exclusive, reclaim): (u32, u32),
 ) -> Result<(), AllocError> {
-    put(bytes, &[4, xid, 0, 1])?;
+    put(bytes, &[4, xid, 0, exclusive])?;
     put_alock(bytes, who, offset, len)?;
     put(bytes, &[reclaim, 3])
 }
@@ -229,6 +231,7 @@ impl Asks {
             Asks::Tests(..) => 1,
             Asks::Locks(..)
             | Asks::Reclaims(..)
+            | Asks::ReclaimsShared(..)
             | Asks::Blocks(..)
             | Asks::BlocksShared(..)
             | Asks::LocksIn(..)
@@ -262,9 +265,12 @@ impl Asks {
             Asks::Locks(who, offset, len)
             | Asks::NmLocks(who, offset, len)
             | Asks::LocksByMessage(who, offset, len) => {
-                put_lock(bytes, xid, (who, offset, len), 0)
+                put_lock(bytes, xid, (who, offset, len), (1, 0))
             }
-            Asks::Reclaims(who, offset, len) => put_lock(bytes, xid, (who, offset, len), 1),
+            Asks::Reclaims(who, offset, len) => put_lock(bytes, xid, (who, offset, len), (1, 1)),
+            Asks::ReclaimsShared(who, offset, len) => {
+                put_lock(bytes, xid, (who, offset, len), (0, 1))
+            }
             Asks::Blocks(who, offset, len) | Asks::NmBlocks(who, offset, len) => {
                 put_block(bytes, xid, (who, offset, len), 1)
             }

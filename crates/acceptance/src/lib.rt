@@ -10,6 +10,8 @@ mod client;
 #[cfg(test)]
 mod client_calls;
 #[cfg(test)]
+mod hostile;
+#[cfg(test)]
 mod limits;
 #[cfg(test)]
 mod lines;
@@ -25,6 +27,8 @@ mod notices;
 mod plays;
 #[cfg(test)]
 mod quotas;
+#[cfg(test)]
+mod reclaims;
 #[cfg(test)]
 mod repeats;
 #[cfg(test)]
