@@ -1,4 +1,4 @@
-//! What stands over restarts: rows of hosts, notices, and reclaims in grace. Each law is the contract of a function that does
+//! What stands over restarts: rows of hosts, notices, and reclaims in grace. Each law is the contract of a function that changes
 //! nothing, over the steps that `Book::apply` and `Daemon::step` are proved to make.
 #![tactic(auto)]
 
@@ -12,5 +12,6 @@ pub use crate::reclaims::{
     world_stays_under_the_list,
 };
 pub use crate::rows::{
-    kept_replies_stay_of_hosts_with_rows, rows_stay, rows_stay_over_runs, standing_lock_has_row,
+    kept_replies_stay_of_hosts_with_rows, lasting_store, lasting_store_of_book, rows_stay,
+    rows_stay_over_runs, standing_lock_has_row,
 };

@@ -1,0 +1,2 @@
+pub mod Stays
+mod Lasts

@@ -1,0 +1,6 @@
+//! Rows of hosts that outlive a crash.
+#![tactic(auto)]
+
+mod lasting;
+
+pub use crate::lasting::Lasting;
