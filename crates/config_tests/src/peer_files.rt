@@ -1,66 +1,95 @@
 //! Files of peers.
 use peers::{Peers, PeersFault};
 use std::alloc::Global;
+use std::fmt::Write;
 use std::net::{IpAddr, Ipv4Addr, Ipv6Addr};
-use std::test::*;
+
+/// What becomes of a file: the address of the peer that is asked for, or the line that is bad.
+#[derive(Clone, Copy, Debug, PartialEq)]
+enum Answer {
+    Address(IpAddr),
+    NoAddress,
+    Bad(u32),
+    Starved,
+}
+
+fn read(alloc: Global, file: &[u8], name: &str) -> Answer {
+    match Peers::read(alloc, file) {
+        Ok(peers) => match peers.address(name.as_bytes()) {
+            Some(address) => Answer::Address(address),
+            None => Answer::NoAddress,
+        },
+        Err(PeersFault::BadLine(line)) => Answer::Bad(line),
+        Err(PeersFault::Starved) => Answer::Starved,
+    }
+}
 
 #[test]
-fn addresses_by_name(rt: HostRuntime) -> Result<(), Fail> {
-    let first = IpAddr::V4(Ipv4Addr::new(192, 0, 2, 1));
-    let second = IpAddr::V6(Ipv6Addr::new(0x2001, 0xdb8, 0, 0, 0, 0, 0, 1));
-    for file in [
-        "a 192.0.2.1\nb.c 2001:db8::1\n",
-        "a 192.0.2.1\nb.c 2001:db8::1",
+fn addresses_by_name(rt: HostRuntime) {
+    let first = Answer::Address(IpAddr::V4(Ipv4Addr::new(192, 0, 2, 1)));
+    let second = Answer::Address(IpAddr::V6(Ipv6Addr::new(0x2001, 0xdb8, 0, 0, 0, 0, 0, 1)));
+    for (file, name, want) in [
+        ("a 192.0.2.1\nb.c 2001:db8::1\n", "a", first),
+        ("a 192.0.2.1\nb.c 2001:db8::1\n", "b.c", second),
+        ("a 192.0.2.1\nb.c 2001:db8::1\n", "b", Answer::NoAddress),
+        ("a 192.0.2.1\nb.c 2001:db8::1", "a", first),
+        ("a 192.0.2.1\nb.c 2001:db8::1", "b.c", second),
+        ("a 192.0.2.1\nb.c 2001:db8::1", "b", Answer::NoAddress),
+        ("", "a", Answer::NoAddress),
     ] {
-        let peers = Peers::read(rt.alloc(), file.as_bytes())?;
-        assert!(rt; peers.address(b"a") == Some(first));
-        assert!(rt; peers.address(b"b.c") == Some(second));
-        assert!(rt; peers.address(b"b").is_none());
+        assert!(rt;
+            read(rt.alloc(), file.as_bytes(), name) == want,
+            "{file} {name}"
+        );
     }
-    let none = Peers::read(rt.alloc(), b"")?;
-    assert!(rt; none.address(b"a").is_none());
-    Ok(())
 }
+
+const BAD_LINES: [(&str, u32); 10] = [
+    ("a", 1),
+    ("\n", 1),
+    ("a 192.0.2.1\n\n", 2),
+    ("a 192.0.2.1\r\n", 1),
+    ("a\r 192.0.2.1", 1),
+    (" 192.0.2.1", 1),
+    ("a  192.0.2.1", 1),
+    ("a 192.0.2.1 ", 1),
+    ("a 192.0.2.256", 1),
+    ("a 192.0.2.1\nb 192.0.2.2\na 192.0.2.1\n", 3),
+];
 
 #[test]
 fn bad_lines(rt: HostRuntime) {
-    for (file, line) in [
-        ("a", 1),
-        ("\n", 1),
-        ("a 192.0.2.1\n\n", 2),
-        ("a 192.0.2.1\r\n", 1),
-        ("a\r 192.0.2.1", 1),
-        (" 192.0.2.1", 1),
-        ("a  192.0.2.1", 1),
-        ("a 192.0.2.1 ", 1),
-        ("a 192.0.2.256", 1),
-        ("a 192.0.2.1\nb 192.0.2.2\na 192.0.2.1\n", 3),
-    ] {
-        let fault = Peers::read(rt.alloc(), file.as_bytes()).map(|_| ());
-        assert_eq!(rt; fault, Err(PeersFault::BadLine(line)), "{file}");
+    for (file, line) in BAD_LINES {
+        assert!(rt;
+            read(rt.alloc(), file.as_bytes(), "a") == Answer::Bad(line),
+            "{file}"
+        );
     }
 }
 
-/// A line of a name of so many bytes.
-fn line_of(alloc: Global, length: usize) -> Result<Vec<u8>, Fail> {
-    let mut line = vec![in alloc; b'n'; length]?;
-    line.extend_from_slice(b" ::1\n")?;
-    Ok(line)
+// What becomes of a line of a name of so many bytes.
+fn answer_to_name(alloc: Global, length: usize) -> Answer {
+    let mut line = String::new(alloc);
+    for _ in 0..length {
+        let _ = line.push('n');
+    }
+    let _ = line.push_str(" ::1\n");
+    read(alloc, line.as_bytes(), "a")
+}
+
+// What becomes of so many lines of hosts, and a line behind them.
+fn answer_to_hosts(alloc: Global, count: u32, more: &str) -> Answer {
+    let mut file = String::new(alloc);
+    for number in 0..count {
+        let _ = write!(file, "host{number} ::1\n");
+    }
+    let _ = file.push_str(more);
+    read(alloc, file.as_bytes(), "a")
 }
 
 #[test]
-fn limits(rt: HostRuntime) -> Result<(), Fail> {
-    let alloc = rt.alloc();
-    assert!(rt; Peers::read(alloc, &line_of(alloc, 1_024)?).is_ok());
-    let longer = Peers::read(alloc, &line_of(alloc, 1_025)?).map(|_| ());
-    assert_eq!(rt; longer, Err(PeersFault::BadLine(1)));
-    let mut file = Vec::new(alloc);
-    for number in 0..4_096u32 {
-        let line = format!(in alloc; "host{number} ::1\n")?;
-        file.extend_from_slice(line.as_bytes())?;
-    }
-    file.extend_from_slice(b"one.more ::1")?;
-    let more = Peers::read(alloc, &file).map(|_| ());
-    assert_eq!(rt; more, Err(PeersFault::BadLine(4_097)));
-    Ok(())
+fn limits(rt: HostRuntime) {
+    assert!(rt; answer_to_name(rt.alloc(), 1_024) == Answer::NoAddress);
+    assert!(rt; answer_to_name(rt.alloc(), 1_025) == Answer::Bad(1));
+    assert!(rt; answer_to_hosts(rt.alloc(), 4_096, "one.more ::1") == Answer::Bad(4_097));
 }

@@ -1,157 +1,156 @@
 //! Words that are accepted, and words that are refused.
-use config::{Config, ConfigFault, ServeConfig, config};
+//!
+//! A row's line is `WORDS = STATUS TEXT`: the exit status, 0 where the words are accepted, and the settings in full, or a part
+//! of what the user is told. Where a line has no text, none is compared.
+use config::config;
 use std::alloc::{AllocError, Global};
-use std::net::{IpAddr, Ipv4Addr};
-use std::test::*;
+use std::process::Abort;
 
-/// The words of a text, which has one space between each two.
-fn words(alloc: Global, text: &str) -> Result<Vec<String>, AllocError> {
-    let mut words = Vec::new(alloc);
+// Puts the words of a text, which has one space between each two, behind others.
+fn append(words: &mut Vec<String>, alloc: Global, text: &str) {
     for word in text.split(' ') {
-        words.push(String::from_str(alloc, word)?)?;
+        if let Ok(word) = String::from_str(alloc, word) {
+            let _ = words.push(word);
+        }
     }
-    Ok(words)
 }
 
-/// The exit status of words, 0 where they are accepted.
-fn status(alloc: Global, text: &str) -> Result<u8, AllocError> {
-    Ok(match config(alloc, &words(alloc, text)?) {
-        Ok(_) => 0,
-        Err(fault) => fault.status(),
-    })
+// The exit status, and what is asked or what the user is told.
+fn told(alloc: Global, words: &[String]) -> Result<String, AllocError> {
+    match config(alloc, words) {
+        Ok(asked) => format!(in alloc; "0 {asked:?}"),
+        Err(fault) => {
+            let status = fault.status();
+            format!(in alloc; "{status} {fault}")
+        }
+    }
 }
 
-/// What the words ask, or what is told where they are refused.
-fn told(alloc: Global, text: &str) -> Result<String, AllocError> {
-    match config(alloc, &words(alloc, text)?) {
-        Ok(asked) => format!(in alloc; "{asked:?}"),
-        Err(fault) => fault.to_string(alloc),
+fn is_told<'s>(told: &'s str, want: &'s str) -> bool {
+    let (status, text) = told.split_once(' ').unwrap_or((told, ""));
+    let (want_status, want_text) = want.split_once(' ').unwrap_or((want, ""));
+    status == want_status
+        && if status == "0" && !want_text.is_empty() {
+            text == want_text
+        } else {
+            text.contains(want_text)
+        }
+}
+
+// Whether words come to this.
+fn come_to(alloc: Global, words: &[String], want: &str) -> bool {
+    match told(alloc, words) {
+        Ok(told) => is_told(told.as_str(), want),
+        Err(AllocError) => false,
     }
+}
+
+// Whether the line holds, whose words stand behind these.
+fn holds(alloc: Global, front: &str, line: &str) -> bool {
+    let (more, want) = line.split_once(" = ").unwrap_or((line, "no status"));
+    let mut words = Vec::new(alloc);
+    if !front.is_empty() {
+        append(&mut words, alloc, front);
+    }
+    append(&mut words, alloc, more);
+    come_to(alloc, &words, want)
+}
+
+fn first_wrong<'s>(alloc: Global, front: &str, script: &'s str) -> Option<&'s str> {
+    for line in script.lines() {
+        if !holds(alloc, front, line) {
+            return Some(line);
+        }
+    }
+    None
+}
+
+fn check(rt: &impl Abort, alloc: Global, front: &str, script: &str) {
+    let wrong = first_wrong(alloc, front, script);
+    assert!(rt; wrong.is_none(), "{wrong:?}");
+}
+
+const STREAMS: &str =
+    "pipe = 0 Pipe(StreamConfig { grace: false, name: Name { text: \"server\" }, db: None })
+pipe --grace = 0 Pipe(StreamConfig { grace: true, name: Name { text: \"server\" }, db: None })
+table --db F --name a.b --grace = 0 Table(StreamConfig { grace: true, name: Name { text: \"a.b\" }, db: Some(FilePath { text: \"F\" }) })";
+
+#[test]
+fn streams(rt: HostRuntime) {
+    check(&rt, rt.alloc(), "", STREAMS);
 }
 
 const COMPLETE: &str =
     "serve --port 1 --local-port 2 --db hosts.db --peers peers --peer-nlm-port 3 --peer-nsm-port 4 --watch-port 65535";
 
-#[test]
-fn streams(rt: HostRuntime) -> Result<(), Fail> {
-    let alloc = rt.alloc();
-    for (text, want) in [
-        (
-            "pipe",
-            "Pipe(StreamConfig { grace: false, name: Name { text: \"server\" }, db: None })",
-        ),
-        (
-            "pipe --grace",
-            "Pipe(StreamConfig { grace: true, name: Name { text: \"server\" }, db: None })",
-        ),
-        (
-            "table --db F --name a.b --grace",
-            "Table(StreamConfig { grace: true, name: Name { text: \"a.b\" }, db: Some(FilePath { text: \"F\" }) })",
-        ),
-    ] {
-        let told = told(alloc, text)?;
-        assert_eq!(rt; told.as_str(), want, "{text}");
-    }
-    Ok(())
-}
-
-/// The numbers of a server's settings, in order of the usage.
-fn numbers(config: &ServeConfig) -> [u32; 9] {
-    [
-        u32::from(config.ports.rpc.get()),
-        u32::from(config.ports.local.get()),
-        u32::from(config.ports.peer_nlm.get()),
-        u32::from(config.ports.peer_nsm.get()),
-        u32::from(config.ports.watch.get()),
-        config.times.grace.get(),
-        config.times.silence.get(),
-        config.times.idle.get(),
-        config.workers.get(),
-    ]
-}
+const DEFAULTS: &str =
+    "--port 1 --local-port 2 --db hosts.db --peers peers --peer-nlm-port 3 --peer-nsm-port 4 \
+--watch-port 65535 = 0 Serve(ServeConfig { ports: Ports { rpc: Port { number: 1 }, local: Port { number: 2 }, \
+peer_nlm: Port { number: 3 }, peer_nsm: Port { number: 4 }, watch: Port { number: 65535 } }, \
+times: Times { grace: Seconds { number: 45 }, silence: Seconds { number: 5 }, idle: Seconds { number: 600 } }, \
+workers: Workers { number: 4 }, name: Name { text: \"server\" }, db: FilePath { text: \"hosts.db\" }, \
+peers: FilePath { text: \"peers\" }, bind: 0.0.0.0, audit: false })";
 
 #[test]
-fn defaults(rt: HostRuntime) -> Result<(), Fail> {
-    let alloc = rt.alloc();
-    let asked = config(alloc, &words(alloc, COMPLETE)?)?;
-    let Config::Serve(serve) = &asked else {
-        panic!(rt; "it asks for something else");
-    };
-    assert_eq!(rt; numbers(serve), [1, 2, 3, 4, 65_535, 45, 5, 600, 4]);
-    assert_eq!(rt; serve.name.as_str(), "server");
-    assert_eq!(rt; serve.db.as_str(), "hosts.db");
-    assert_eq!(rt; serve.peers.as_str(), "peers");
-    assert!(rt; serve.bind == IpAddr::V4(Ipv4Addr::new(0, 0, 0, 0)));
-    assert!(rt; !serve.audit);
-    Ok(())
+fn defaults(rt: HostRuntime) {
+    check(&rt, rt.alloc(), "serve", DEFAULTS);
 }
 
-#[test]
-fn refused_words(rt: HostRuntime) -> Result<(), Fail> {
-    let alloc = rt.alloc();
-    for text in [
-        "",
-        "serve",
-        "lock",
-        "pipe --grace --grace",
-        "pipe --db",
-        "pipe extra",
-        "pipe --name a --name b",
-        "table --port 1",
-        "--name a pipe",
-    ] {
-        assert_eq!(rt; status(alloc, text)?, 2, "{text}");
-    }
-    let none = config(alloc, &[]).map(|_| ());
-    assert!(rt; matches!(&none, Err(ConfigFault::Refused(_))));
-    for text in ["--help", "--version", "pipe --help", "serve --help"] {
-        assert_eq!(rt; status(alloc, text)?, 0, "{text}");
-    }
-    Ok(())
-}
+const REFUSED_WORDS: &str = " = 2
+serve = 2
+lock = 2
+pipe --grace --grace = 2
+pipe --db = 2
+pipe extra = 2
+pipe --name a --name b = 2
+table --port 1 = 2
+--name a pipe = 2
+--help = 0
+--version = 0
+pipe --help = 0
+serve --help = 0";
 
 #[test]
-fn bounds(rt: HostRuntime) -> Result<(), Fail> {
-    let alloc = rt.alloc();
-    for (more, want) in [
-        ("--workers 1", 0),
-        ("--workers 16", 0),
-        ("--workers 0", 2),
-        ("--workers 17", 2),
-        ("--workers 04", 2),
-        ("--grace-seconds 86400", 0),
-        ("--grace-seconds 86401", 2),
-        ("--silence-seconds 1", 0),
-        ("--silence-seconds 0", 2),
-        ("--idle-seconds 86400", 0),
-        ("--idle-seconds +1", 2),
-        ("--bind ::1", 0),
-        ("--bind localhost", 2),
-        ("--audit", 0),
-        ("--audit yes", 2),
-        ("--port 5", 2),
-    ] {
-        let text = format!(in alloc; "{COMPLETE} {more}")?;
-        assert_eq!(rt; status(alloc, text.as_str())?, want, "{more}");
-    }
-    for (port, want) in [("1", 0), ("65535", 0), ("0", 2), ("65536", 2), ("x", 2)] {
-        let text = format!(in alloc;
-            "serve --port {port} --local-port 2 --db d --peers p --peer-nlm-port 3 --peer-nsm-port 4 --watch-port 5"
-        )?;
-        assert_eq!(rt; status(alloc, text.as_str())?, want, "{port}");
-    }
-    Ok(())
+fn refused_words(rt: HostRuntime) {
+    check(&rt, rt.alloc(), "", REFUSED_WORDS);
+    assert!(rt; come_to(rt.alloc(), &[], "2"));
 }
 
+const BOUNDS: &str = "--workers 1 = 0
+--workers 16 = 0
+--workers 0 = 2
+--workers 17 = 2
+--workers 04 = 2
+--grace-seconds 86400 = 0
+--grace-seconds 86401 = 2
+--silence-seconds 1 = 0
+--silence-seconds 0 = 2
+--idle-seconds 86400 = 0
+--idle-seconds +1 = 2
+--bind ::1 = 0
+--bind localhost = 2
+--audit = 0
+--audit yes = 2
+--port 5 = 2";
+
+const WITHOUT_PORT: &str =
+    "serve --local-port 2 --db d --peers p --peer-nlm-port 3 --peer-nsm-port 4 --watch-port 5";
+
+const PORTS: &str = "--port 1 = 0
+--port 65535 = 0
+--port 0 = 2
+--port 65536 = 2
+--port x = 2";
+
 #[test]
-fn told_words(rt: HostRuntime) -> Result<(), Fail> {
-    let alloc = rt.alloc();
-    let text = format!(in alloc; "{COMPLETE} --workers 17")?;
-    let told = told(alloc, text.as_str())?;
-    assert!(rt;
-        told.as_str()
-            .contains("invalid value '17' for '--workers': workers are 1 to 16"),
-        "{told}"
-    );
-    Ok(())
+fn bounds(rt: HostRuntime) {
+    check(&rt, rt.alloc(), COMPLETE, BOUNDS);
+    check(&rt, rt.alloc(), WITHOUT_PORT, PORTS);
+}
+
+const TOLD: &str = "--workers 17 = 2 invalid value '17' for '--workers': workers are 1 to 16";
+
+#[test]
+fn told_words(rt: HostRuntime) {
+    check(&rt, rt.alloc(), COMPLETE, TOLD);
 }

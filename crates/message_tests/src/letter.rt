@@ -1,24 +1,7 @@
 //! Letters: each kind of message, once on its happy path.
-use letters::{Caller, Destination, Letter, LocalLock, Lock, Message, Res, ShortBytes};
-use nlm4_types::{Stat, Version};
-use owner_ids::Owner;
-use range_table::{FileId, Mode};
-use std::alloc::{AllocError, Global};
-use std::test::*;
-
-fn lock(alloc: Global) -> Result<Lock, AllocError> {
-    Ok(Lock {
-        caller: Caller::copy_of(alloc, b"b", 8, b"B")?,
-        fh: ShortBytes::copy_of(alloc, &[1, 2, 3, 4])?,
-        l_offset: 0,
-        l_len: 10,
-    })
-}
-
-fn to_host(alloc: Global, message: Message) -> Result<Letter, AllocError> {
-    let host = ShortBytes::copy_of(alloc, b"b")?;
-    Ok(Letter::new(Destination::Host(host), message))
-}
+use crate::messages::{Memory, granted_line};
+use letters::{Destination, Letter, Lock, Message};
+use std::alloc::Global;
 
 // Whether it is a grant, whether it is one to the host `b`, a GRANTED_MSG, and done when it is sent.
 fn told(letter: &Letter) -> (bool, bool, bool, bool) {
@@ -31,71 +14,78 @@ fn told(letter: &Letter) -> (bool, bool, bool, bool) {
     )
 }
 
-// The owner handle of the lock that it grants.
-fn granted_handle(letter: &Letter) -> Option<&[u8]> {
-    let lock = letter.message().granted_lock()?;
-    Some(lock.caller.oh())
+// Whether the copy of a letter tells this, and names this host and the owner handle of the lock that it grants.
+fn tells(
+    alloc: Global,
+    letter: Letter,
+    want: (bool, bool, bool, bool),
+    host: Option<&[u8]>,
+    handle: Option<&[u8]>,
+) -> bool {
+    match letter.copy(alloc) {
+        Ok(copy) => {
+            let granted = match copy.message().granted_lock() {
+                Some(lock) => Some(lock.caller.oh()),
+                None => None,
+            };
+            told(&copy) == want && copy.to().host() == host && granted == handle
+        }
+        Err(_) => false,
+    }
 }
 
 #[test]
-fn a_granted_msg(rt: HostRuntime) -> Result<(), Fail> {
-    let message = Message::GrantedMsg {
-        version: Version::V4,
-        exclusive: true,
-        lock: lock(rt.alloc())?,
-    };
-    let letter = to_host(rt.alloc(), message)?.copy(rt.alloc())?;
-    assert_eq!(rt; told(&letter), (true, true, true, false));
-    assert_eq!(rt; letter.to().host(), Some(b"b".as_slice()));
-    assert_eq!(rt; granted_handle(&letter), Some(b"B".as_slice()));
-    Ok(())
+fn a_granted_msg(rt: HostRuntime) {
+    let memory = Memory::new(&rt, rt.alloc());
+    let letter = Letter::new(Destination::Host(memory.short(b"b")), memory.granted_msg());
+    let want = (true, true, true, false);
+    assert!(rt; tells(rt.alloc(), letter, want, Some(b"b"), Some(b"B")));
 }
 
-#[test]
-fn a_lock(rt: HostRuntime) -> Result<(), Fail> {
-    let some = lock(rt.alloc())?;
-    assert_eq!(rt; some.caller.name(), b"b".as_slice());
-    assert_eq!(rt; some.caller.svid(), 8);
-    assert!(rt; some.caller.owner().is_of_host(b"b"));
-    assert_eq!(rt; some.file().as_bytes(), [1, 2, 3, 4].as_slice());
-    assert_eq!(rt; some.last(), 9);
+// The last byte of the same lock from byte 5 on, to the end of the file.
+fn last_of_all(some: Lock) -> u64 {
     let all = Lock {
         caller: some.caller,
         fh: some.fh,
         l_offset: 5,
         l_len: 0,
     };
-    assert_eq!(rt; all.last(), 0x7fff_ffff_ffff_ffff);
-    Ok(())
+    all.last()
+}
+
+fn is_of_b(some: &Lock) -> bool {
+    some.caller.name() == b"b".as_slice()
+        && some.caller.svid() == 8
+        && some.caller.owner().is_of_host(b"b")
+        && some.file().as_bytes() == [1, 2, 3, 4].as_slice()
+        && some.last() == 9
 }
 
 #[test]
-fn a_result(rt: HostRuntime) -> Result<(), Fail> {
-    let res = Res {
-        cookie: ShortBytes::copy_of(rt.alloc(), &[7])?,
-        stat: Stat::Granted,
-    };
-    let version = Version::V4;
-    let letter = to_host(rt.alloc(), Message::LockResult { version, res })?;
-    assert_eq!(rt; told(&letter), (false, false, false, false));
-    Ok(())
+fn a_lock(rt: HostRuntime) {
+    let memory = Memory::new(&rt, rt.alloc());
+    let some = memory.lock();
+    assert!(rt; is_of_b(&some));
+    assert!(rt; last_of_all(some) == 0x7fff_ffff_ffff_ffff);
 }
 
 #[test]
-fn a_line(rt: HostRuntime) -> Result<(), Fail> {
-    let lock = LocalLock {
-        owner: Owner::Process(42),
-        file: FileId::new(&[10]),
-        offset: 0,
-        len: 1,
-    };
-    let mode = Mode::Exclusive;
-    let letter = Letter::new(
-        Destination::Connection(3),
-        Message::GrantedLine { mode, lock },
-    )
-    .copy(rt.alloc())?;
-    assert_eq!(rt; told(&letter), (false, false, false, true));
-    assert!(rt; letter.to().host().is_none() && letter.message().granted_lock().is_none());
-    Ok(())
+fn a_result(rt: HostRuntime) {
+    let memory = Memory::new(&rt, rt.alloc());
+    let letter = Letter::new(Destination::Host(memory.short(b"b")), memory.lock_result());
+    assert!(rt;
+        tells(
+            rt.alloc(),
+            letter,
+            (false, false, false, false),
+            Some(b"b"),
+            None
+        )
+    );
+}
+
+#[test]
+fn a_line(rt: HostRuntime) {
+    let letter = Letter::new(Destination::Connection(3), granted_line());
+    assert!(rt; tells(rt.alloc(), letter, (false, false, false, true), None, None));
 }

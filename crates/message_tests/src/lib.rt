@@ -7,6 +7,8 @@ mod letter;
 #[cfg(test)]
 mod lines;
 #[cfg(test)]
+mod messages;
+#[cfg(test)]
 mod outcomes;
 #[cfg(test)]
 mod readings;

@@ -1,156 +1,172 @@
 //! Lines of local programs, read and written, and the text of each answer.
+//!
+//! A row is `LINE = WHAT`: what the line asks, but for its lock, or the line that grants what it asks. With no answer the line
+//! is bad.
+ghost use Rattle.std.specs.Prelude.{◌≤◌, length};
+
 use local_ops::{BadLine, LocalAnswer, LocalCall, WriteFault, put_granted};
 use owner_ids::Owner;
 use range_table::Mode;
 use std::alloc::{AllocError, Global};
-use std::test::*;
+use std::process::Abort;
 use xdr_core::Frame;
 
 /// What a line asks, but for its lock.
 fn kind_of(line: &[u8]) -> &'static str {
     match LocalCall::read(line) {
-        Ok(call) => kind(&call),
+        Ok(LocalCall::GetLock { .. }) => "getlk",
+        Ok(LocalCall::SetLock { .. }) => "setlk",
+        Ok(LocalCall::SetLockWait { .. }) => "setlkw",
+        Ok(LocalCall::Close { .. }) => "close",
+        Ok(LocalCall::Quota(_)) => "quota",
+        Ok(LocalCall::Table) => "table",
+        Ok(LocalCall::Hosts) => "hosts",
+        Ok(LocalCall::Stop) => "stop",
         Err(BadLine) => "bad",
     }
 }
 
-fn kind(call: &LocalCall) -> &'static str {
-    match call {
-        LocalCall::GetLock { .. } => "getlk",
-        LocalCall::SetLock { .. } => "setlk",
-        LocalCall::SetLockWait { .. } => "setlkw",
-        LocalCall::Close { .. } => "close",
-        LocalCall::Quota(_) => "quota",
-        LocalCall::Table => "table",
-        LocalCall::Hosts => "hosts",
-        LocalCall::Stop => "stop",
+/// Whether the line grants what `setlk` asks, or there is none where it asks no lock.
+fn is_granted(line: &[u8], want: &str) -> bool {
+    let mut f = Frame::new();
+    if let Ok(
+        LocalCall::SetLock {
+            mode: Some(mode),
+            lock,
+        },
+    ) = LocalCall::read(line)
+    {
+        let _ = put_granted(mode, &lock, &mut f);
+    }
+    match f.as_slice() {
+        [granted @ .., b'\n'] => granted == want.as_bytes(),
+        [] => want == "granted nothing",
+        _ => false,
     }
 }
 
-/// The line that grants what `setlk` asks, or nothing where it asks no lock.
-fn granted(line: &[u8]) -> Frame {
-    let mut f = Frame::new();
-    if let Ok(LocalCall::SetLock { mode, lock }) = LocalCall::read(line) {
-        if let Some(mode) = mode {
-            let _ = put_granted(mode, &lock, &mut f);
+fn first_wrong<'s>(script: &'s str) -> Option<&'s str> {
+    for row in script.split('\n') {
+        let (line, want) = row.split_once(" = ").unwrap_or((row, "bad"));
+        let holds = if want.starts_with("granted") {
+            is_granted(line.as_bytes(), want)
+        } else {
+            kind_of(line.as_bytes()) == want
+        };
+        if !holds {
+            return Some(row);
         }
     }
-    f
+    None
+}
+
+fn check(rt: &impl Abort, script: &str) {
+    let wrong = first_wrong(script);
+    assert!(rt; wrong.is_none(), "{wrong:?}");
+}
+
+const EACH_KIND: &str = "getlk d1 AA r 0 0 = getlk
+setlk p1 aa w 5 0 = setlk
+setlk p1 aa u 6 1 = setlk
+setlkw p9 01020304 w 0 1 = setlkw
+setlkw d0 01020304 u 0 1 = setlkw
+close d1 aa = close
+table = table
+hosts = hosts
+stop = stop
+stop  = bad
+quota 61 65536 = quota
+quota 61 65537 = bad
+quota 61 01 = bad
+quota 6 1 = bad";
+
+#[test]
+fn each_kind(rt: HostRuntime) {
+    check(&rt, EACH_KIND);
+}
+
+const LOCKS: &str = "setlk p1 aa w 5 0 = granted p1 aa w 5 0
+setlk p1 aa w 5 1 = granted p1 aa w 5 1
+setlk p2147483647 00fF r 0 18446744073709551615 = granted p2147483647 00ff r 0 18446744073709551615
+setlk d18446744073709551615 AbCdEf w 9223372036854775807 2 = granted d18446744073709551615 abcdef w 9223372036854775807 2
+setlk d0 0A r 10 0 = granted d0 0a r 10 0
+setlk p1 aa u 6 1 = granted nothing";
+
+#[test]
+fn locks_read_and_granted(rt: HostRuntime) {
+    check(&rt, LOCKS);
+}
+
+// Of the first two the one is empty, and the other a space.
+const BAD_LINES: &str = "
+ \nlock p1 aa w 0 1
+SETLK p1 aa w 0 1
+setlk p01 aa w 0 1
+setlk p aa w 0 1
+setlk q1 aa w 0 1
+setlk 1 aa w 0 1
+setlk p2147483648 aa w 0 1
+setlk p+1 aa w 0 1
+setlk d18446744073709551616 aa w 0 1
+setlk h61/7/41 aa w 0 1
+setlk p1 a w 0 1
+setlk p1 aaa w 0 1
+setlk p1 ag w 0 1
+setlk p1  w 0 1
+setlk p1 aa x 0 1
+setlk p1 aa rw 0 1
+getlk p1 aa u 0 1
+setlk p1 aa w 00 1
+setlk p1 aa w 0 01
+setlk p1 aa w -1 1
+setlk p1 aa w 0 18446744073709551616
+setlk p1 aa w  0 1
+setlk p1 aa w 0 1 \n setlk p1 aa w 0 1
+setlk p1 aa w 0 1\r
+setlk p1 aa w 0
+setlk p1 aa w 0 1 2
+close p1 aa 0";
+
+fn reads(text: Result<String, AllocError>, want: &str) -> bool {
+    match text {
+        Ok(text) => text.as_str() == want,
+        Err(AllocError) => false,
+    }
 }
 
 #[test]
-fn each_kind(rt: HostRuntime) -> Result<(), Fail> {
-    let lines: [(&[u8], &str); 14] = [
-        (b"getlk d1 AA r 0 0", "getlk"),
-        (b"setlk p1 aa w 5 0", "setlk"),
-        (b"setlk p1 aa u 6 1", "setlk"),
-        (b"setlkw p9 01020304 w 0 1", "setlkw"),
-        (b"setlkw d0 01020304 u 0 1", "setlkw"),
-        (b"close d1 aa", "close"),
-        (b"table", "table"),
-        (b"hosts", "hosts"),
-        (b"stop", "stop"),
-        (b"stop ", "bad"),
-        (b"quota 61 65536", "quota"),
-        (b"quota 61 65537", "bad"),
-        (b"quota 61 01", "bad"),
-        (b"quota 6 1", "bad"),
-    ];
-    for (line, kind) in lines {
-        assert_eq!(rt; kind_of(line), kind);
-    }
-    Ok(())
+fn bad_lines(rt: HostRuntime) {
+    check(&rt, BAD_LINES);
+    assert!(rt; reads(BadLine.to_string(rt.alloc()), "20 BadLine"));
 }
 
-#[test]
-fn locks_read_and_granted(rt: HostRuntime) -> Result<(), Fail> {
-    let lines: [(&[u8], &[u8]); 6] = [
-        (b"setlk p1 aa w 5 0", b"granted p1 aa w 5 0\n"),
-        (b"setlk p1 aa w 5 1", b"granted p1 aa w 5 1\n"),
-        (
-            b"setlk p2147483647 00fF r 0 18446744073709551615",
-            b"granted p2147483647 00ff r 0 18446744073709551615\n",
-        ),
-        (
-            b"setlk d18446744073709551615 AbCdEf w 9223372036854775807 2",
-            b"granted d18446744073709551615 abcdef w 9223372036854775807 2\n",
-        ),
-        (b"setlk d0 0A r 10 0", b"granted d0 0a r 10 0\n"),
-        (b"setlk p1 aa u 6 1", b""),
-    ];
-    for (line, want) in lines {
-        assert_eq!(rt; granted(line).as_slice(), want);
-    }
-    Ok(())
-}
-
-#[test]
-fn bad_lines(rt: HostRuntime) -> Result<(), Fail> {
-    let lines: [&[u8]; 30] = [
-        b"",
-        b" ",
-        b"lock p1 aa w 0 1",
-        b"SETLK p1 aa w 0 1",
-        b"setlk p01 aa w 0 1",
-        b"setlk p aa w 0 1",
-        b"setlk q1 aa w 0 1",
-        b"setlk 1 aa w 0 1",
-        b"setlk p2147483648 aa w 0 1",
-        b"setlk p+1 aa w 0 1",
-        b"setlk d18446744073709551616 aa w 0 1",
-        b"setlk h61/7/41 aa w 0 1",
-        b"setlk p1 a w 0 1",
-        b"setlk p1 aaa w 0 1",
-        b"setlk p1 ag w 0 1",
-        b"setlk p1  w 0 1",
-        b"setlk p1 aa x 0 1",
-        b"setlk p1 aa rw 0 1",
-        b"getlk p1 aa u 0 1",
-        b"setlk p1 aa w 00 1",
-        b"setlk p1 aa w 0 01",
-        b"setlk p1 aa w -1 1",
-        b"setlk p1 aa w 0 18446744073709551616",
-        b"setlk p1 aa w  0 1",
-        b"setlk p1 aa w 0 1 ",
-        b" setlk p1 aa w 0 1",
-        b"setlk p1 aa w 0 1\r",
-        b"setlk p1 aa w 0",
-        b"setlk p1 aa w 0 1 2",
-        b"close p1 aa 0",
-    ];
-    for line in lines {
-        assert_eq!(rt; kind_of(line), "bad");
-    }
-    assert_eq!(rt; BadLine.to_string(rt.alloc())?.as_str(), "20 BadLine");
-    Ok(())
-}
-
-/// `close p1` and so many digits.
-fn close_line(alloc: Global, digits: usize) -> Result<Vec<u8>, AllocError> {
-    let mut line = Vec::from_slice(alloc, b"close p1 ")?;
+/// The kind of the line `close p1` and so many digits.
+fn kind_of_long(alloc: Global, digits: usize) -> &'static str {
+    let mut line = String::new(alloc);
+    let _ = line.push_str("close p1 ");
     for _ in 0..digits {
-        line.push(b'a')?;
+        let _ = line.push('a');
     }
-    Ok(line)
+    kind_of(line.as_bytes())
 }
 
+const LONG_LINES: [(usize, &str); 9] = [
+    (0, "bad"),
+    (1, "bad"),
+    (2, "close"),
+    (127, "bad"),
+    (128, "close"),
+    (129, "bad"),
+    (130, "bad"),
+    (504, "bad"),
+    (5000, "bad"),
+];
+
 #[test]
-fn long_lines(rt: HostRuntime) -> Result<(), Fail> {
-    for (digits, kind) in [
-        (0, "bad"),
-        (1, "bad"),
-        (2, "close"),
-        (127, "bad"),
-        (128, "close"),
-        (129, "bad"),
-        (130, "bad"),
-        (504, "bad"),
-        (5000, "bad"),
-    ] {
-        let line = close_line(rt.alloc(), digits)?;
-        assert_eq!(rt; kind_of(&line), kind, "{digits} digits");
+fn long_lines(rt: HostRuntime) {
+    for (digits, kind) in LONG_LINES {
+        assert!(rt; kind_of_long(rt.alloc(), digits) == kind, "{digits} digits");
     }
-    Ok(())
 }
 
 fn held(owner: Owner) -> LocalAnswer {
@@ -162,65 +178,103 @@ fn held(owner: Owner) -> LocalAnswer {
     }
 }
 
-/// A client's owner.
-fn remote(alloc: Global, name: &[u8], svid: i32, oh: &[u8]) -> Result<Owner, AllocError> {
-    Ok(Owner::Remote {
-        name: Vec::from_slice(alloc, name)?,
+/// A client's owner holds it.
+fn held_by(rt: &impl Abort, alloc: Global, name: &[u8], svid: i32, oh: &[u8]) -> LocalAnswer {
+    held(Owner::Remote {
+        name: Vec::from_slice(alloc, name).expect(rt, "memory"),
         svid,
-        oh: Vec::from_slice(alloc, oh)?,
+        oh: Vec::from_slice(alloc, oh).expect(rt, "memory"),
     })
 }
 
-#[test]
-fn answers(rt: HostRuntime) -> Result<(), Fail> {
-    let alloc = rt.alloc();
+fn is_written(alloc: Global, answer: LocalAnswer, want: &str) -> bool {
     let mut text = Vec::new(alloc);
-    for answer in [
-        LocalAnswer::Done,
-        LocalAnswer::Again,
-        LocalAnswer::Wait,
-        LocalAnswer::Deadlock,
-        LocalAnswer::NoLocks,
-        LocalAnswer::TooFar,
-        LocalAnswer::Grace,
-        LocalAnswer::Free,
-        LocalAnswer::Bad,
-        LocalAnswer::Starved,
-        held(Owner::Process(1)),
-        held(Owner::Description(7)),
-        held(remote(alloc, b"a", 7, b"A")?),
-        held(remote(alloc, b"", -2147483648, b"")?),
-    ] {
-        answer.write(&mut text)?;
+    answer.write(&mut text).is_ok() && text.as_slice() == want.as_bytes()
+}
+
+// Those that are one word.
+fn word_is(alloc: Global, want: &str) -> bool {
+    let answer = match want {
+        "ok\n" => LocalAnswer::Done,
+        "again\n" => LocalAnswer::Again,
+        "wait\n" => LocalAnswer::Wait,
+        "deadlk\n" => LocalAnswer::Deadlock,
+        "nolck\n" => LocalAnswer::NoLocks,
+        "fbig\n" => LocalAnswer::TooFar,
+        "grace\n" => LocalAnswer::Grace,
+        "free\n" => LocalAnswer::Free,
+        "bad\n" => LocalAnswer::Bad,
+        _ => LocalAnswer::Starved,
+    };
+    is_written(alloc, answer, want)
+}
+
+const WORDS: [&str; 10] = [
+    "ok\n",
+    "again\n",
+    "wait\n",
+    "deadlk\n",
+    "nolck\n",
+    "fbig\n",
+    "grace\n",
+    "free\n",
+    "bad\n",
+    "starved\n",
+];
+
+#[test]
+fn answers(rt: HostRuntime) {
+    let alloc = rt.alloc();
+    for word in WORDS {
+        assert!(rt; word_is(alloc, word), "{word}");
     }
-    let want =
-        b"ok\nagain\nwait\ndeadlk\nnolck\nfbig\ngrace\nfree\nbad\nstarved\nheld w 8 0 p1\nheld w 8 0 d7\nheld w 8 0 h61/7/41\nheld w 8 0 h/-2147483648/\n";
-    assert_eq!(rt; text.as_slice(), want.as_slice());
-    Ok(())
+    assert!(rt; is_written(alloc, held(Owner::Process(1)), "held w 8 0 p1\n"));
+    assert!(rt; is_written(alloc, held(Owner::Description(7)), "held w 8 0 d7\n"));
+    let client = held_by(&rt, alloc, b"a", 7, b"A");
+    assert!(rt; is_written(alloc, client, "held w 8 0 h61/7/41\n"));
+    let nameless = held_by(&rt, alloc, b"", -2147483648, b"");
+    assert!(rt; is_written(alloc, nameless, "held w 8 0 h/-2147483648/\n"));
 }
 
-#[test]
-fn a_long_name(rt: HostRuntime) -> Result<(), Fail> {
-    let alloc = rt.alloc();
-    let name = [255; 1024];
+fn length_of(alloc: Global, answer: LocalAnswer) -> usize {
     let mut text = Vec::new(alloc);
-    held(remote(alloc, &name, 7, &name)?).write(&mut text)?;
-    assert_eq!(rt; text.len(), 12 + 2048 + 3 + 2048 + 1);
-    Ok(())
+    match answer.write(&mut text) {
+        Ok(()) => text.len(),
+        Err(WriteFault) => 0,
+    }
 }
 
 #[test]
-fn a_writer_that_fails(rt: HostRuntime) -> Result<(), Fail> {
-    let alloc = rt.alloc();
-    let answer = held(remote(alloc, b"ab", 7, b"A")?);
-    let want = b"held w 8 0 h6162/7/41\n";
+fn a_long_name(rt: HostRuntime) {
+    let answer = held_by(&rt, rt.alloc(), &[255; 1024], 7, &[255; 1024]);
+    assert!(rt; length_of(rt.alloc(), answer) == 12 + 2048 + 3 + 2048 + 1);
+}
+
+// Whether a writer of so much room gets as much of the line, and a fault is told where that isn't all.
+fn fills(answer: &LocalAnswer, want: &[u8], room: usize) -> bool
+    requires { room ≤ length want.now }
+{
+    let mut bytes = [0; 100];
+    if room > 100 {
+        return false;
+    }
+    let mut rest = &mut bytes[..room];
+    let is_whole = answer.write(&mut rest).is_ok();
+    is_whole == (room == want.len()) && &bytes[..room] == &want[..room]
+}
+
+fn is_cut(answer: LocalAnswer, want: &[u8]) -> bool {
     for room in 0..want.len() + 1 {
-        let mut bytes = [0; 22];
-        let mut rest = &mut bytes[..room];
-        let wrote = answer.write(&mut rest);
-        assert_eq!(rt; wrote.is_ok(), room == want.len(), "{room} bytes of room");
-        assert_eq!(rt; &bytes[..room], &want[..room]);
+        if !fills(&answer, want, room) {
+            return false;
+        }
     }
-    assert_eq!(rt; WriteFault.to_string(alloc)?.as_str(), "24 WriteFault");
-    Ok(())
+    true
+}
+
+#[test]
+fn a_writer_that_fails(rt: HostRuntime) {
+    let answer = held_by(&rt, rt.alloc(), b"ab", 7, b"A");
+    assert!(rt; is_cut(answer, b"held w 8 0 h6162/7/41\n"));
+    assert!(rt; reads(WriteFault.to_string(rt.alloc()), "24 WriteFault"));
 }

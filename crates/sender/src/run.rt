@@ -6,7 +6,7 @@ use crate::locals::Locals;
 use crate::office::Office;
 use crate::settings::Settings;
 use crate::turn::Untaken;
-use book::{Dest, Segment};
+use book::Dest;
 use history::History;
 use mio::Waker;
 use peers::Peers;
@@ -22,14 +22,12 @@ use xdr_core::Frame;
 /// calls that it was handed.
 #[derive(Drop)]
 pub struct Sender<'a, R, D> {
-    pub(crate) alloc: Global,
     pub(crate) rt: &'a R,
     locals: &'a D,
     pub(crate) settings: Settings,
     peers: Peers,
     pub(crate) office: Office,
     pub(crate) awaited: Awaited,
-    pub(crate) spare: Option<Segment>,
     pub(crate) kept: Option<Untaken>,
     pub(crate) now: Instant,
     all: History<Parcel>,
@@ -57,14 +55,12 @@ impl<'a, R: Net + Clock, D: Locals> Sender<'a, R, D> {
         ensures { IfOk result (λ s. s ≡ []) }
     {
         Ok(Sender {
-            alloc,
             rt,
             locals,
             settings,
             peers,
             office: Office::new(rt, alloc)?,
             awaited: Awaited::new(alloc)?,
-            spare: None,
             kept: None,
             now: Instant::now(rt)?,
             all: History::new(),

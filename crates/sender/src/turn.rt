@@ -7,7 +7,7 @@ ghost use Rattle.workers.specs.Holds.{is_take};
 use crate::locals::Locals;
 use crate::run::Sender;
 use crate::watch::Watch;
-use book::{BookEvent, Segment};
+use book::BookEvent;
 use hosts_db::HostStore;
 use range_table::RangeTable;
 use serve_loops::{Due, MOST_CALLS, Signals, send_due};
@@ -16,7 +16,7 @@ use std::sync::ledger::Ledger;
 use std::sync::{Mutex, Wait};
 use std::thread;
 use std::time::{Clock, Duration, Instant};
-use workers::{Shared, prepare_spare};
+use workers::Shared;
 
 /// How long it waits where there was no memory, or nothing can be waited for, in milliseconds.
 const PAUSE_MILLIS: u64 = 10;
@@ -43,12 +43,11 @@ enum Ended {
 fn end_grace<T: RangeTable, S: HostStore, L: Ledger>(
     held: &mut Shared<T, S, L>,
     own_state: u32,
-    spare: &mut Option<Segment>,
 ) -> Ended {
     if held.own_state() != own_state {
         return Ended::Anew;
     }
-    match held.apply(BookEvent::GraceOver, spare) {
+    match held.apply(BookEvent::GraceOver) {
         Ok(_) => Ended::Told,
         Err(_) => Ended::NoRoom,
     }
@@ -94,8 +93,7 @@ impl<'a, R: Net + Clock + Wait, D: Locals> Sender<'a, R, D> {
     ) -> bool
         ensures { self.new ≡ self.old }
     {
-        prepare_spare(self.alloc, &mut self.spare);
-        let applied = shared.lock(self.rt).apply(untaken.event, &mut self.spare);
+        let applied = shared.lock(self.rt).apply(untaken.event);
         match applied {
             Ok(_) => true,
             Err(event) => {
@@ -140,8 +138,7 @@ impl<'a, R: Net + Clock + Wait, D: Locals> Sender<'a, R, D> {
         if !watch.is_over(self.now) {
             return true;
         }
-        prepare_spare(self.alloc, &mut self.spare);
-        let ended = end_grace(&mut shared.lock(self.rt), own_state, &mut self.spare);
+        let ended = end_grace(&mut shared.lock(self.rt), own_state);
         match ended {
             Ended::Told => {
                 watch.end();
@@ -159,10 +156,7 @@ impl<'a, R: Net + Clock + Wait, D: Locals> Sender<'a, R, D> {
     ) -> Due
         ensures { HandsOn self.old self.new }
     {
-        let mut spare = self.spare.take();
-        let due = send_due(self.alloc, self.rt, shared, &mut spare, self);
-        self.spare = spare;
-        due
+        send_due(self.rt, shared, self)
     }
 
     // The same, where there was room and there are connections for it.

@@ -6,13 +6,12 @@ ghost use Rattle.workers.specs.Holds.{is_take, Notes};
 ghost use Rattle.serve_loops.specs.Lines.{IsAnswered, TellsOf};
 
 use crate::signals::Signals;
-use book::{BookEvent, Reply, Segment, Upshot};
+use book::{BookEvent, Reply, Upshot};
 use hosts_db::HostStore;
 use range_table::RangeTable;
-use std::alloc::Global;
 use std::sync::ledger::Ledger;
 use std::sync::{Mutex, Wait};
-use workers::{Shared, prepare_spare};
+use workers::Shared;
 
 /// Answers the lines of local programs, and hears of the end.
 pub(crate) trait Answers {
@@ -30,26 +29,17 @@ pub(crate) trait Answers {
 /// Answers each line in a hold of the book's lock.
 #[derive(Drop)]
 pub(crate) struct Clerk<'a, R: RangeTable, S: HostStore, L: Ledger, G, W> {
-    alloc: Global,
     rt: &'a W,
     shared: &'a Mutex<Shared<R, S, L>>,
     signals: &'a G,
-    spare: Option<Segment>,
 }
 
 impl<'a, R: RangeTable, S: HostStore, L: Ledger, G, W> Clerk<'a, R, S, L, G, W> {
-    pub(crate) fn new(
-        alloc: Global,
-        rt: &'a W,
-        shared: &'a Mutex<Shared<R, S, L>>,
-        signals: &'a G,
-    ) -> Self {
+    pub(crate) fn new(rt: &'a W, shared: &'a Mutex<Shared<R, S, L>>, signals: &'a G) -> Self {
         Clerk {
-            alloc,
             rt,
             shared,
             signals,
-            spare: None,
         }
     }
 }
@@ -65,13 +55,12 @@ struct Done {
 fn apply<R: RangeTable, S: HostStore, L: Ledger>(
     held: &mut Shared<R, S, L>,
     event: BookEvent,
-    spare: &mut Option<Segment>,
 ) -> Done
     requires { is_take (happening_of event) ≡ false }
     ensures noted { IfOk result.upshot (λ upshot. Notes held.old (happening_of event) upshot held.new) }
     ensures none { IfErr result.upshot (λ back. back ≡ event) }
 {
-    let upshot = held.apply(event, spare);
+    let upshot = held.apply(event);
     let is_due = held.has_due();
     Done { upshot, is_due }
 }
@@ -96,10 +85,9 @@ fn told(upshot: Result<Upshot, BookEvent>) -> Reply
 impl<'a, R: RangeTable, S: HostStore, L: Ledger, G: Signals, W: Wait> Answers
     for Clerk<'a, R, S, L, G, W> {
     fn ask(&mut self, connection: u64, line: Vec<u8>) -> Reply {
-        prepare_spare(self.alloc, &mut self.spare);
         let event = BookEvent::Local { connection, line };
         // The book's lock is free again behind this line.
-        let done = apply(&mut self.shared.lock(self.rt), event, &mut self.spare);
+        let done = apply(&mut self.shared.lock(self.rt), event);
         if done.is_due {
             self.signals.call_is_due();
         }

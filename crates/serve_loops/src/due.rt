@@ -4,13 +4,11 @@ ghost use Rattle.serve_loops.specs.Calls.{Hands};
 ghost use Rattle.serve_loops.specs.declared.due.TheConstants.{MOST_CALLS as most_calls};
 
 use crate::courier::Courier;
-use book::Segment;
 use hosts_db::HostStore;
 use range_table::RangeTable;
-use std::alloc::Global;
 use std::sync::ledger::Ledger;
 use std::sync::{Mutex, Wait};
-use workers::{Next, Shared, prepare_spare};
+use workers::{Next, Shared};
 
 /// The most calls of a turn.
 pub const MOST_CALLS: usize = 64;
@@ -30,13 +28,12 @@ pub enum Due {
 fn send_next<R: RangeTable, S: HostStore, L: Ledger, C: Courier, W: Wait>(
     rt: &W,
     shared: &Mutex<Shared<R, S, L>>,
-    spare: &mut Option<Segment>,
     courier: &mut C,
 ) -> Option<Due>
     ensures { Hands 1 (C.handed courier.old) (C.handed courier.new) }
 {
     // The book's lock is free again behind this line.
-    let next = shared.lock(rt).next_call(spare);
+    let next = shared.lock(rt).next_call();
     match next {
         Next::Call { number, to, record } => {
             courier.hand(number, to, record);
@@ -49,17 +46,14 @@ fn send_next<R: RangeTable, S: HostStore, L: Ledger, C: Courier, W: Wait>(
 
 /// Sends what is due, each call in a hold of its own, at most `MOST_CALLS`, and hands just these over, in order.
 pub fn send_due<R: RangeTable, S: HostStore, L: Ledger, C: Courier, W: Wait>(
-    alloc: Global,
     rt: &W,
     shared: &Mutex<Shared<R, S, L>>,
-    spare: &mut Option<Segment>,
     courier: &mut C,
 ) -> Due
     ensures { Hands most_calls (C.handed courier.old) (C.handed courier.new) }
 {
     for _ in 0..MOST_CALLS {
-        prepare_spare(alloc, spare);
-        if let Some(left) = send_next(rt, shared, spare, courier) {
+        if let Some(left) = send_next(rt, shared, courier) {
             return left;
         }
     }

@@ -258,6 +258,6 @@ where
     let Ok(part) = Part::new(alloc) else {
         return Ending::Starved;
     };
-    let mut clerk = Clerk::new(alloc, rt, shared, signals);
+    let mut clerk = Clerk::new(rt, shared, signals);
     serve(alloc, rt, &mut clerk, connection, input, output, part)
 }

@@ -64,7 +64,7 @@ where
 fn restart<T: RangeTable, S: HostStore, L: Ledger>(
     shared: &mut Shared<T, S, L>,
 ) -> Result<(), Fault> {
-    match shared.apply(BookEvent::Restart, &mut None) {
+    match shared.apply(BookEvent::Restart) {
         Ok(upshot) => match upshot.reply {
             Reply::Starved => Err(Fault::Starved),
             Reply::StoreRefused => Err(Fault::StoreRefused),

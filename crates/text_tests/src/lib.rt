@@ -1,5 +1,9 @@
-//! Tests of what is printed and of what is read at the start: texts of locks and hosts. There is nothing in it but tests.
+//! Tests of what is printed: texts of locks and hosts, also into writers that fail. There is nothing in it but tests.
 #![tactic(auto)]
 
 #[cfg(test)]
+mod lines;
+#[cfg(test)]
 mod printed;
+#[cfg(test)]
+mod rows;

@@ -9,7 +9,7 @@ ghost use Rattle.workers.specs.Places.{HasPlace};
 use crate::archive::Archive;
 use crate::outbox::{Outbox, post};
 use crate::shared::{Entered, Shared};
-use book::{Receipt, Segment, Starved, Taken};
+use book::{Receipt, Starved, Taken};
 use bytes::Bytes;
 use hosts_db::HostStore;
 use range_table::RangeTable;
@@ -17,12 +17,11 @@ use std::alloc::Global;
 use std::sync::ledger::{Ledger, Share};
 use std::sync::{Mutex, Wait};
 
-/// One part of the ledger, a segment for when the open one is full, and the receipts of the calls that were taken.
+/// One part of the ledger, and the receipts of the calls that were taken.
 #[derive(Drop)]
 pub(crate) struct Desk<L: Ledger> {
     pub(crate) alloc: Global,
     pub(crate) share: Share<L>,
-    spare: Option<Segment>,
     pub(crate) receipts: Archive<Receipt>,
     ghost part: { share.parts ≡ 1 },
     ghost counted: { share.amount ≡ length receipts.all.items },
@@ -36,7 +35,6 @@ impl<L: Ledger> Desk<L> {
         Desk {
             alloc,
             share,
-            spare: None,
             receipts: Archive::new(alloc, is_kept),
         }
     }
@@ -54,15 +52,12 @@ impl<L: Ledger> Desk<L> {
         (share, receipts)
     }
 
-    // What there has to be before the hold: a segment, a place for the receipt, and a second handle on the record.
+    // What there has to be before the hold: a place for the receipt, and a second handle on the record.
     fn prepare(&mut self, asked: &Bytes) -> Result<Bytes, Starved>
         ensures same { IfOk result (λ same. same ≡ asked.now) }
         ensures place { IfOk result (λ _. HasPlace self.new.receipts.kept) }
         ensures all { self.new.receipts.all.items ≡ self.old.receipts.all.items }
     {
-        if self.spare.is_none() {
-            self.spare = Some(Segment::new(self.alloc)?);
-        }
         self.receipts.reserve()?;
         Ok(asked.clone()?)
     }
@@ -86,9 +81,7 @@ impl<L: Ledger> Desk<L> {
             return Err(taken);
         };
         // The book's lock is free again behind this line.
-        let got = shared
-            .lock(rt)
-            .take(taken, same, &mut self.spare, &mut self.share);
+        let got = shared.lock(rt).take(taken, same, &mut self.share);
         let Entered { receipt, is_due } = got?;
         post(outbox, connection, receipt.reply());
         self.receipts.add(receipt);

@@ -13,5 +13,5 @@ mod worker;
 pub use audits::{AuditMismatch, audit};
 pub use outbox::{Gate, MemoryOutbox, Outbox, Parcel};
 pub use reading::{Ending, Origin, Source};
-pub use shared::{Ends, Entered, Next, Shared, prepare_spare};
+pub use shared::{Ends, Entered, Next, Shared};
 pub use worker::{Leaves, Worker};

@@ -25,6 +25,7 @@ use xdr_core::Frame;
 /// states join, and the total is that of their entries that took a record.
 #[derive(Drop)]
 pub struct Shared<R: RangeTable, S: HostStore, L: Ledger> {
+    alloc: Global,
     book: Book<R, S>,
     archive: Archive<Closed<R, S>>,
     total: Total<L>,
@@ -71,14 +72,6 @@ pub enum Next {
     NoRoom,
 }
 
-/// Gets a segment where there is none. Where there is no memory for one there is none behind it either, and a hold that meets a
-/// full segment makes no entry.
-pub fn prepare_spare(alloc: Global, spare: &mut Option<Segment>) {
-    if spare.is_none() {
-        *spare = Segment::new(alloc).ok();
-    }
-}
-
 impl<R: RangeTable, S: HostStore, L: Ledger> Shared<R, S, L> {
     /// Over a new book. `is_kept` keeps closed segments for an audit.
     pub fn new(alloc: Global, book: Book<R, S>, total: Total<L>, is_kept: bool) -> Shared<R, S, L>
@@ -87,24 +80,26 @@ impl<R: RangeTable, S: HostStore, L: Ledger> Shared<R, S, L> {
         ensures { result ≡ record { closed = []; book = book } }
     {
         Shared {
+            alloc,
             book,
             archive: Archive::new(alloc, is_kept),
             total,
         }
     }
 
-    /// Closes the segment where it is full, if there is a place for it and a fresh one. Whether there is room for an entry then.
-    pub fn make_room(&mut self, spare: &mut Option<Segment>) -> bool
+    /// Closes the segment where it is full, if there is memory for a fresh one and a place for the one that is closed. Whether there
+    /// is room for an entry then. A fresh one is got here, once in `SEGMENT` entries, and none is kept in reserve.
+    pub fn make_room(&mut self) -> bool
         ensures room { result ≡ true → 0 < room_of self.new.book.journal }
         ensures rests { Rests self.old self.new }
     {
         if self.book.room() > 0 {
             return true;
         }
-        if spare.is_none() || self.archive.reserve().is_err() {
+        if self.archive.reserve().is_err() {
             return false;
         }
-        let Some(fresh) = spare.take() else {
+        let Ok(fresh) = Segment::new(self.alloc) else {
             return false;
         };
         let closed = self.book.rotate(fresh);
@@ -118,7 +113,6 @@ impl<R: RangeTable, S: HostStore, L: Ledger> Shared<R, S, L> {
         &mut self,
         taken: Taken,
         same: Bytes,
-        spare: &mut Option<Segment>,
         share: &mut Share<L>,
     ) -> Result<Entered, Taken>
         requires same { same ≡ taken.«record» }
@@ -129,7 +123,7 @@ impl<R: RangeTable, S: HostStore, L: Ledger> Shared<R, S, L> {
         ensures none { IfErr result (λ back. (back ≡ taken) × Rests self.old self.new × (share.new.amount ≡ share.old.amount)) }
         ensures parts { share.new.parts ≡ share.old.parts }
     {
-        if !self.make_room(spare) {
+        if !self.make_room() {
             return Err(taken);
         }
         let peer = taken.peer;
@@ -143,29 +137,25 @@ impl<R: RangeTable, S: HostStore, L: Ledger> Shared<R, S, L> {
 
     /// One hold of an event that is no record: a line, an answer, a silence, the end of grace, or a restart. It is one entry. The
     /// event comes back where there was no room for its entry, and then none was made.
-    pub fn apply(
-        &mut self,
-        event: BookEvent,
-        spare: &mut Option<Segment>,
-    ) -> Result<Upshot, BookEvent>
+    pub fn apply(&mut self, event: BookEvent) -> Result<Upshot, BookEvent>
         requires untaken { is_take (happening_of event) ≡ false }
         ensures noted { IfOk result (λ upshot. Notes self.old (happening_of event) upshot self.new) }
         ensures none { IfErr result (λ back. (back ≡ event) × Rests self.old self.new) }
     {
-        if !self.make_room(spare) {
+        if !self.make_room() {
             return Err(event);
         }
         Ok(self.book.apply(event))
     }
 
     /// One hold that sends the call of the server's own that is due first, which is one entry.
-    pub fn next_call(&mut self, spare: &mut Option<Segment>) -> Next
+    pub fn next_call(&mut self) -> Next
         ensures { IsNextOf self.old result self.new }
     {
         if !self.book.has_due() {
             return Next::NothingDue;
         }
-        if !self.make_room(spare) {
+        if !self.make_room() {
             return Next::NoRoom;
         }
         match self.book.next_call() {
@@ -214,6 +204,7 @@ impl<R: RangeTable + Drop, S: HostStore + Drop, L: Ledger> Shared<R, S, L> {
             book,
             mut archive,
             mut total,
+            ..
         } = self;
         total.audit(all);
         archive.reserve()?;
