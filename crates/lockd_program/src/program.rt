@@ -1,4 +1,5 @@
 //! The program: its words, and how it ends.
+ghost use Rattle.std.specs.Prelude.{◌≡◌, ◌≤◌, IfOk, IfErr};
 
 use crate::serving::serve_config;
 use crate::streams::{Told, serve_stream};
@@ -30,7 +31,9 @@ fn arguments(rt: &HostRuntime) -> io::Result<Vec<String>> {
 }
 
 /// Prints why the words ask for nothing, or the help or the version that they ask for.
-fn refuse(rt: &HostRuntime, fault: &ConfigFault) -> ExitCode {
+fn refuse(rt: &HostRuntime, fault: &ConfigFault) -> ExitCode
+    ensures { result.status ≤ 2 }
+{
     match fault {
         ConfigFault::Starved => end(rt, Err(Fault::Starved)),
         ConfigFault::Refused(text) if text.use_stderr() => {
@@ -45,13 +48,18 @@ fn refuse(rt: &HostRuntime, fault: &ConfigFault) -> ExitCode {
 }
 
 /// The command line is refused for another cause than its grammar.
-fn refuse_for(rt: &HostRuntime, cause: &str) -> ExitCode {
+fn refuse_for(rt: &HostRuntime, cause: &str) -> ExitCode
+    ensures { result.status ≡ 2 }
+{
     let _ = eprintln!(rt; "error: {cause}");
     ExitCode::from(REFUSED)
 }
 
 /// The status, and the fault on standard error.
-fn end<F: Display + Drop>(rt: &HostRuntime, ended: Result<(), F>) -> ExitCode {
+fn end<F: Display + Drop>(rt: &HostRuntime, ended: Result<(), F>) -> ExitCode
+    ensures ok { IfOk ended (λ _. result.status ≡ 0) }
+    ensures err { IfErr ended (λ _. result.status ≡ 1) }
+{
     match ended {
         Ok(()) => ExitCode::SUCCESS,
         Err(fault) => {
@@ -66,7 +74,10 @@ fn end_server<F: Display + Drop>(
     rt: &HostRuntime,
     asked: &ServeConfig,
     ended: Result<u64, F>,
-) -> ExitCode {
+) -> ExitCode
+    ensures ok { IfOk ended (λ _. result.status ≤ 1) }
+    ensures err { IfErr ended (λ _. result.status ≡ 1) }
+{
     match ended {
         Ok(calls) if asked.audit => match println!(rt; "audit yes {calls}") {
             Ok(()) => ExitCode::SUCCESS,
@@ -90,6 +101,7 @@ where
         + Print
         + Log
         + Sync,
+    ensures { result.status ≤ 2 }
 {
     let Ok(words) = arguments(host) else {
         return refuse_for(host, "the words can't be read");

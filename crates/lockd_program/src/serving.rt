@@ -2,6 +2,7 @@
 
 use crate::stores::stored_hosts;
 use config::ServeConfig;
+use hosts_lasting::Lasting;
 use hosts_sql::SqlHosts;
 use jobs::Job;
 use letters::ShortBytes;
@@ -103,7 +104,7 @@ where
         return Err(ServeFault::Starved);
     };
     let backing = Backing {
-        store,
+        store: Lasting::new(store),
         peers,
         own_name,
     };

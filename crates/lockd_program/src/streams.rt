@@ -3,6 +3,7 @@
 use crate::stores::{no_hosts, stored_hosts};
 use config::{Name, StreamConfig};
 use hosts_db::HostStore;
+use hosts_lasting::Lasting;
 use hosts_sql::SqlHosts;
 use letters::ShortBytes;
 use pipe_loops::{Fault, Server, pipe_loop, table_loop};
@@ -60,7 +61,7 @@ fn serve_database<S: Alter + Drop>(
     asked: &StreamConfig,
     store: SqlHosts<S>,
 ) -> Result<(), Fault> {
-    serve_over(rt, told, asked, store)
+    serve_over(rt, told, asked, Lasting::new(store))
 }
 
 /// Serves the stream on standard input, with the hosts of the file or none.
