@@ -8,6 +8,7 @@ use std::sync::Wait;
 use std::sync::atomic::{AtomicU64, Ordering};
 use std::thread;
 use std::thread::Threads;
+use std::time::{Clock, Instant};
 
 /// What is asked, where, and how often.
 #[derive(Clone, Copy, Debug)]
@@ -85,40 +86,69 @@ impl Asker {
     }
 }
 
+/// What all connections heard.
+#[derive(Drop)]
+pub(crate) struct Heard {
+    /// How many calls were answered.
+    pub(crate) answered: AtomicU64,
+    /// How long a call, or the oldest of those that were out at once, was waited for at most, in microseconds.
+    pub(crate) longest: AtomicU64,
+}
+
+// One call, and what is waited for behind it.
+fn ask_next<R: Wait + Clock>(
+    rt: &R,
+    plan: &Plan,
+    asker: &mut Asker,
+    call: u32,
+    heard: &Heard,
+) -> io::Result<()> {
+    let begun = Instant::now(rt)?;
+    asker.ask(call)?;
+    asker.wait(rt, plan.depth)?;
+    let micros = u64::try_from(begun.elapsed(rt)?.as_micros()).unwrap_or(u64::MAX);
+    heard.longest.fetch_max(micros, Ordering::SeqCst);
+    Ok(())
+}
+
 // All calls of a connection.
-fn ask_one<R: Wait>(rt: &R, plan: &Plan, asker: Asker) -> io::Result<()> {
+fn ask_one<R: Wait + Clock>(rt: &R, plan: &Plan, asker: Asker, heard: &Heard) -> io::Result<()> {
     let mut asker = asker;
     for call in 0..plan.calls {
-        asker.ask(call)?;
-        asker.wait(rt, plan.depth)?;
+        ask_next(rt, plan, &mut asker, call, heard)?;
     }
     asker.wait(rt, 1)
 }
 
-/// Connects, and asks on all connections at once: how many calls were answered.
-pub(crate) fn ask_all<R>(rt: &R, alloc: Global, plan: &Plan) -> io::Result<u64>
+/// Connects, and asks on all connections at once.
+pub(crate) fn ask_all<R>(rt: &R, alloc: Global, plan: &Plan) -> io::Result<Heard>
 where
-    R: Net<Stream = TcpStream> + Threads + Wait + Sync,
+    R: Net<Stream = TcpStream> + Threads + Wait + Clock + Sync,
 {
     let mut askers = Vec::new(alloc);
     for number in 0..plan.connections {
         askers.push(Asker::new(rt, alloc, plan, number)?)?;
     }
-    let answered = AtomicU64::new(0);
-    ask_beside(rt, plan, askers, &answered);
-    Ok(answered.load(Ordering::SeqCst))
+    let heard = Heard {
+        answered: AtomicU64::new(0),
+        longest: AtomicU64::new(0),
+    };
+    ask_beside(rt, plan, askers, &heard);
+    Ok(heard)
 }
 
 // A thread for each connection.
-fn ask_beside<R>(rt: &R, plan: &Plan, askers: Vec<Asker>, answered: &AtomicU64)
+fn ask_beside<R>(rt: &R, plan: &Plan, askers: Vec<Asker>, heard: &Heard)
 where
-    R: Threads + Wait + Sync,
+    R: Threads + Wait + Clock + Sync,
 {
     thread::scope(thread::scope_env(), rt, |scope| {
         for asker in askers {
             let _ = scope.spawn(move || {
-                if ask_one(rt, plan, asker).is_ok() {
-                    answered.fetch_add(u64::from(plan.calls), Ordering::SeqCst);
+                if ask_one(rt, plan, asker, heard).is_ok() {
+                    heard
+                        .answered
+                        .fetch_add(u64::from(plan.calls), Ordering::SeqCst);
                 }
             });
         }

@@ -2,13 +2,16 @@
 //!
 //! - `load null PORT CONNECTIONS DEPTH CALLS` makes so many NULL calls on each of so many connections, DEPTH of them at once,
 //!   and prints how long they took; `load test` makes TESTs, and `load lock` a LOCK and an UNLOCK by turns, of a byte of each
-//!   connection's own;
+//!   connection's own; then how long a call was waited for at most;
+//! - `load mute PORT CONNECTIONS` has so many connections make calls and read no reply, and begins anew once all are cut off, until
+//!   it is killed: what is measured beside it shows whether such a client holds up others;
 //! - `load floor PORT` answers each record with one fixed reply, a thread for each connection, until it is killed.
 #![tactic(auto)]
 
 mod asking;
 mod calls;
 mod floor;
+mod mute;
 
 use anyhow::{Result, bail};
 use asking::{Plan, ask_all};
@@ -18,6 +21,7 @@ use std::env;
 use std::io::Print;
 use std::net::{Net, TcpListener, TcpStream};
 use std::sync::Wait;
+use std::sync::atomic::Ordering;
 use std::thread::Threads;
 use std::time::{Clock, Instant};
 
@@ -26,9 +30,11 @@ where
     R: Net<Stream = TcpStream> + Threads + Wait + Clock + Print + Sync,
 {
     let begun = Instant::now(rt)?;
-    let answered = ask_all(rt, alloc, plan)?;
+    let heard = ask_all(rt, alloc, plan)?;
     let micros = begun.elapsed(rt)?.as_micros();
-    println!(rt; "{answered} answered in {micros} us")?;
+    let answered = heard.answered.load(Ordering::SeqCst);
+    let longest = heard.longest.load(Ordering::SeqCst);
+    println!(rt; "{answered} answered in {micros} us, the longest wait {longest} us")?;
     Ok(())
 }
 
@@ -38,6 +44,9 @@ where
 {
     match words {
         ["floor", port] => Ok(floor::serve(rt, alloc, port.parse()?)?),
+        ["mute", port, connections] => {
+            Ok(mute::ask(rt, alloc, port.parse()?, connections.parse()?)?)
+        }
         [what, port, connections, depth, calls] => {
             let Some(cell) = Cell::named(what) else {
                 bail!("no cell is named {what}");
