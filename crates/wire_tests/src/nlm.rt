@@ -1,12 +1,10 @@
 //! The lock manager's calls, results and messages, versions 1, 3 and 4 (RFC 1813, appendix II; XNFS).
-use crate::words::words;
+use crate::words::{round, words};
 use nlm4_types::{
     CallError, CancelArgs, LockArgs, NARROW, NlmCall, Notify, Res, ShareArgs, ShareRes, TestArgs,
     TestRes, UnlockArgs, Version, WIDE, is_known, one_call,
 };
-use std::process::Abort;
-use std::test::*;
-use xdr_core::{Cursor, Frame, Wire, one_front, read, written_is_read};
+use xdr_core::{Cursor, Frame, one_front, written_is_read};
 
 mod sent;
 
@@ -34,30 +32,45 @@ const LOCAL_HOLDER_REPLY: &str = "4 31 1 1 2a 0 0 3 0 3";
 
 const GRANTED_CALL: &str = "8 1 1 1 1 62000000 4 01020304 1 42000000 8 0 0 0 a";
 
-// Whether the words spell a value, which is written as they are.
-fn is_spelled<'r, T: Wire<'r> + Drop>(words: &'r Frame) -> bool {
-    let mut c = Cursor::new(words.as_slice());
-    let Ok(value) = read::<T>(&mut c) else {
-        return false;
-    };
-    let mut f = Frame::new();
-    value.put(&mut f).is_ok() && c.len() == 0 && f.as_slice() == words.as_slice()
+// Whether the words spell a value of this type, which is written as they are.
+fn are_spelled(kind: &str, text: &str) -> bool {
+    let f = words(text);
+    let bytes = f.as_slice();
+    match kind {
+        "lock" => round::<LockArgs<WIDE>>(bytes).is_some(),
+        "narrow lock" => round::<LockArgs<NARROW>>(bytes).is_some(),
+        "test" => round::<TestArgs<WIDE>>(bytes).is_some(),
+        "cancel" => round::<CancelArgs<WIDE>>(bytes).is_some(),
+        "unlock" => round::<UnlockArgs<WIDE>>(bytes).is_some(),
+        "share" => round::<ShareArgs>(bytes).is_some(),
+        "notify" => round::<Notify>(bytes).is_some(),
+        "res" => round::<Res>(bytes).is_some(),
+        "share res" => round::<ShareRes>(bytes).is_some(),
+        "test res" => round::<TestRes<WIDE>>(bytes).is_some(),
+        _ => false,
+    }
 }
+
+const VECTORS: [(&str, &str); 12] = [
+    ("lock", LOCK_CALL),
+    ("narrow lock", VERSION_3_LOCK),
+    ("test", TEST_CALL),
+    ("cancel", CANCEL_CALL),
+    ("unlock", UNLOCK_CALL),
+    ("share", SHARE_CALL),
+    ("notify", FREE_ALL_CALL),
+    ("res", LOCK_REPLY),
+    ("share res", SHARE_REPLY),
+    ("test res", TEST_REPLY),
+    ("test res", LOCAL_HOLDER_REPLY),
+    ("test", GRANTED_CALL),
+];
 
 #[test]
 fn vectors_are_read_and_written(rt: HostRuntime) {
-    assert!(rt; is_spelled::<LockArgs<WIDE>>(&words(&rt, LOCK_CALL)));
-    assert!(rt; is_spelled::<LockArgs<NARROW>>(&words(&rt, VERSION_3_LOCK)));
-    assert!(rt; is_spelled::<TestArgs<WIDE>>(&words(&rt, TEST_CALL)));
-    assert!(rt; is_spelled::<CancelArgs<WIDE>>(&words(&rt, CANCEL_CALL)));
-    assert!(rt; is_spelled::<UnlockArgs<WIDE>>(&words(&rt, UNLOCK_CALL)));
-    assert!(rt; is_spelled::<ShareArgs>(&words(&rt, SHARE_CALL)));
-    assert!(rt; is_spelled::<Notify>(&words(&rt, FREE_ALL_CALL)));
-    assert!(rt; is_spelled::<Res>(&words(&rt, LOCK_REPLY)));
-    assert!(rt; is_spelled::<ShareRes>(&words(&rt, SHARE_REPLY)));
-    assert!(rt; is_spelled::<TestRes<WIDE>>(&words(&rt, TEST_REPLY)));
-    assert!(rt; is_spelled::<TestRes<WIDE>>(&words(&rt, LOCAL_HOLDER_REPLY)));
-    assert!(rt; is_spelled::<TestArgs<WIDE>>(&words(&rt, GRANTED_CALL)));
+    for (kind, text) in VECTORS {
+        assert!(rt; are_spelled(kind, text), "{kind}");
+    }
     one_call();
     one_front::<LockArgs<WIDE>>();
     written_is_read::<TestRes<NARROW>>();
@@ -73,114 +86,115 @@ fn refusal(version: Version, procedure: u32, bytes: &[u8]) -> Option<CallError> 
     }
 }
 
-fn lock_args<'r>(version: Version, procedure: u32, bytes: &'r [u8]) -> Option<LockArgs<'r, WIDE>> {
-    let mut c = Cursor::new(bytes);
-    match NlmCall::read(version, procedure, &mut c) {
-        Ok(NlmCall::Lock(args)) => Some(args),
-        Ok(NlmCall::LockMsg(args)) => Some(args),
-        _ => None,
-    }
+// Whether the words ask for a lock of svid 7 at `a` on the bytes 0 to 9, in state 3.
+fn is_lock(version: Version, procedure: u32, text: &str) -> bool {
+    let f = words(text);
+    let mut c = Cursor::new(f.as_slice());
+    let args = match NlmCall::read(version, procedure, &mut c) {
+        Ok(NlmCall::Lock(args) | NlmCall::LockMsg(args)) => args,
+        _ => return false,
+    };
+    let alock = &args.alock;
+    alock.caller_name.bytes == b"a".as_slice()
+        && alock.fh.bytes == [1, 2, 3, 4].as_slice()
+        && alock.oh.bytes == b"A".as_slice()
+        && (alock.svid, alock.l_offset, alock.l_len, args.state) == (7, 0, 10, 3)
+        && args.exclusive
+        && !args.block
+        && !args.reclaim
 }
 
 #[test]
-fn calls_are_read(rt: HostRuntime) -> Result<(), Fail> {
-    let f = words(&rt, LOCK_CALL);
-    let args = lock_args(Version::V4, 2, f.as_slice()).ok_or("a LOCK")?;
-    assert_eq!(rt; args.alock.caller_name.bytes, b"a".as_slice());
-    assert_eq!(rt; args.alock.fh.bytes, [1, 2, 3, 4].as_slice());
-    assert_eq!(rt; args.alock.oh.bytes, b"A".as_slice());
-    assert_eq!(rt;
-        (
-            args.alock.svid,
-            args.alock.l_offset,
-            args.alock.l_len,
-            args.state
-        ),
-        (7, 0, 10, 3)
-    );
-    assert!(rt; args.exclusive && !args.block && !args.reclaim);
-    let f = words(&rt, VERSION_3_LOCK);
-    let args = lock_args(Version::V3, 7, f.as_slice()).ok_or("a LOCK_MSG of version 3")?;
-    assert_eq!(rt;
-        (args.alock.l_offset, args.alock.l_len, args.state),
-        (0, 10, 3)
-    );
-    Ok(())
+fn calls_are_read(rt: HostRuntime) {
+    assert!(rt; is_lock(Version::V4, 2, LOCK_CALL));
+    assert!(rt; is_lock(Version::V3, 7, VERSION_3_LOCK));
 }
+
+// Whether the words are the arguments of the procedure in version 3, whole, and which versions have it.
+fn are_arguments(procedure: u32, text: &str) -> bool {
+    let f = words(text);
+    let mut c = Cursor::new(f.as_slice());
+    NlmCall::read(Version::V3, procedure, &mut c).is_ok()
+        && c.len() == 0
+        && is_known(Version::V4, procedure)
+        && is_known(Version::V1, procedure) == (procedure <= 15)
+}
+
+const VERSION_3: [(u32, &str); 14] = [
+    (0, ""),
+    (1, "0 0 0 0 0 0 0 0"),
+    (2, "0 0 0 0 0 0 0 0 0 0 0"),
+    (3, "0 0 0 0 0 0 0 0 0"),
+    (4, "0 0 0 0 0 0 0"),
+    (6, "0 0 0 0 0 0 0 0"),
+    (7, "0 0 0 0 0 0 0 0 0 0 0"),
+    (8, "0 0 0 0 0 0 0 0 0"),
+    (9, "0 0 0 0 0 0 0"),
+    (15, "0 9"),
+    (20, "0 0 0 0 3 3 0"),
+    (21, "0 0 0 0 3 3 0"),
+    (22, "0 0 0 0 0 0 0 0 0 0 0"),
+    (23, "0 0"),
+];
 
 #[test]
 fn each_procedure_has_its_arguments(rt: HostRuntime) {
-    let version_3 = [
-        (0, ""),
-        (1, "0 0 0 0 0 0 0 0"),
-        (2, "0 0 0 0 0 0 0 0 0 0 0"),
-        (3, "0 0 0 0 0 0 0 0 0"),
-        (4, "0 0 0 0 0 0 0"),
-        (6, "0 0 0 0 0 0 0 0"),
-        (7, "0 0 0 0 0 0 0 0 0 0 0"),
-        (8, "0 0 0 0 0 0 0 0 0"),
-        (9, "0 0 0 0 0 0 0"),
-        (15, "0 9"),
-        (20, "0 0 0 0 3 3 0"),
-        (21, "0 0 0 0 3 3 0"),
-        (22, "0 0 0 0 0 0 0 0 0 0 0"),
-        (23, "0 0"),
-    ];
-    for (procedure, text) in version_3 {
-        let f = words(&rt, text);
-        let mut c = Cursor::new(f.as_slice());
-        assert!(rt;
-            NlmCall::read(Version::V3, procedure, &mut c).is_ok(),
-            "procedure {procedure}"
-        );
-        assert_eq!(rt; c.len(), 0, "procedure {procedure}");
-        assert!(rt; is_known(Version::V4, procedure));
-        assert_eq!(rt; is_known(Version::V1, procedure), procedure <= 15);
+    for (procedure, text) in VERSION_3 {
+        assert!(rt; are_arguments(procedure, text), "procedure {procedure}");
     }
     for procedure in [5, 10, 11, 12, 13, 14, 16, 19, 24] {
-        assert_eq!(rt;
-            refusal(Version::V4, procedure, &[]),
-            Some(CallError::NoSuchProc)
+        let refused = refusal(Version::V4, procedure, &[]);
+        assert!(rt;
+            refused == Some(CallError::NoSuchProc),
+            "procedure {procedure}"
         );
     }
-    assert_eq!(rt; refusal(Version::V1, 20, &[]), Some(CallError::NoSuchProc));
+    assert!(rt; refusal(Version::V1, 20, &[]) == Some(CallError::NoSuchProc));
 }
 
-// So many bytes of a name, between words.
-fn around_a_name(rt: &impl Abort, before: &str, name: &[u8], behind: &str) -> Frame {
-    let mut f = words(rt, before);
-    f.append(name).expect(rt, "a name");
-    f.append(words(rt, behind).as_slice())
-        .expect(rt, "what stands behind it");
+fn is_garbage(bytes: &[u8]) -> bool {
+    refusal(Version::V4, 2, bytes) == Some(CallError::GarbageArgs)
+}
+
+fn fronts_are_garbage(text: &str) -> bool {
+    let f = words(text);
+    let bytes = f.as_slice();
+    for n in 0..bytes.len() {
+        if !is_garbage(&bytes[..n]) {
+            return false;
+        }
+    }
+    true
+}
+
+// A name of 1,025 bytes, filled up to words, between words.
+fn around_a_name(before: &str, behind: &str) -> Frame {
+    let mut f = words(before);
+    let _ = f.append(&[0x61; 1028]);
+    let _ = f.append(words(behind).as_slice());
     f
 }
 
+// Whether the name of FREE_ALL may have 1,025 bytes, and a word behind whole arguments is left.
+fn long_name_is_taken() -> bool {
+    let whole = around_a_name("401", "3 9");
+    let mut c = Cursor::new(whole.as_slice());
+    NlmCall::read(Version::V4, 23, &mut c).is_ok() && c.len() == 4
+}
+
+// A bool of 2, and a name's length of ffffffff.
+const GARBAGE: [&str; 2] = [
+    "4 2 2 1 1 61000000 4 01020304 1 41000000 7 0 0 0 a 0 3",
+    "4 2 0 1 ffffffff 61000000 4 01020304 1 41000000 7 0 0 0 a 0 3",
+];
+
 #[test]
 fn garbage_is_refused(rt: HostRuntime) {
-    let garbage = Some(CallError::GarbageArgs);
-    let f = words(&rt, LOCK_CALL);
-    let bytes = f.as_slice();
-    for n in 0..bytes.len() {
-        assert_eq!(rt; refusal(Version::V4, 2, &bytes[..n]), garbage, "{n} bytes");
+    assert!(rt; fronts_are_garbage(LOCK_CALL));
+    for text in GARBAGE {
+        assert!(rt; is_garbage(words(text).as_slice()), "{text}");
     }
-    // A bool of 2, a name's length of ffffffff, and a name of 1,025 bytes.
-    let two = words(
-        &rt,
-        "4 2 2 1 1 61000000 4 01020304 1 41000000 7 0 0 0 a 0 3",
-    );
-    assert_eq!(rt; refusal(Version::V4, 2, two.as_slice()), garbage);
-    let endless = words(
-        &rt,
-        "4 2 0 1 ffffffff 61000000 4 01020304 1 41000000 7 0 0 0 a 0 3",
-    );
-    assert_eq!(rt; refusal(Version::V4, 2, endless.as_slice()), garbage);
-    let name = [0x61; 1028];
-    let behind = "4 01020304 1 41000000 7 0 0 0 a 0 3";
-    let long = around_a_name(&rt, "4 2 0 1 401", &name, behind);
-    assert_eq!(rt; refusal(Version::V4, 2, long.as_slice()), garbage);
-    // The name of FREE_ALL may have 1,025 bytes, and a word behind whole arguments is left.
-    let whole = around_a_name(&rt, "401", &name, "3 9");
-    let mut c = Cursor::new(whole.as_slice());
-    assert!(rt; NlmCall::read(Version::V4, 23, &mut c).is_ok());
-    assert_eq!(rt; c.len(), 4);
+    let long = around_a_name("4 2 0 1 401", "4 01020304 1 41000000 7 0 0 0 a 0 3");
+    assert!(rt; is_garbage(long.as_slice()));
+    assert!(rt; long_name_is_taken());
 }

@@ -1,38 +1,41 @@
 //! Record marking (RFC 5531, section 11).
+use crate::words::reads;
 use record_mark::{Assembler, MarkError, Records, last_mark, one_reading, sent_is_one_record};
 use std::alloc::Global;
-use std::test::*;
 
 /// The records 61 62 in two fragments and an empty one between them, and 63.
 const STREAM: &[u8] = b"\0\0\0\x01a\0\0\0\0\x80\0\0\x01b\x80\0\0\x01c";
 
-// The records of the stream cut there, each with a zero byte behind it.
-fn all(alloc: Global, stream: &[u8], at: usize) -> Result<Vec<u8>, Fail> {
+// Appends the records, each with a zero byte behind it. Whether there was no fault, and memory.
+fn append(text: &mut Vec<u8>, fed: Result<Records, MarkError>) -> bool {
+    let Ok(records) = fed else {
+        return false;
+    };
+    let mut fits = true;
+    for record in records {
+        fits = fits && text.extend_from_slice(record.as_slice()).is_ok() && text.push(0).is_ok();
+    }
+    fits
+}
+
+// Whether the stream cut there is these records.
+fn is_cut(alloc: Global, stream: &[u8], at: usize, want: &[u8]) -> bool {
     let mut assembler = Assembler::new(alloc);
     let mut text = Vec::new(alloc);
     let (front, rest) = stream.split_at(at.min(stream.len()));
-    for piece in [front, rest] {
-        for record in assembler.feed(piece)? {
-            text.extend_from_slice(record.as_slice())?;
-            text.push(0)?;
-        }
-    }
-    Ok(text)
+    append(&mut text, assembler.feed(front))
+        && append(&mut text, assembler.feed(rest))
+        && text.as_slice() == want
 }
 
 #[test]
-fn pieces(rt: HostRuntime) -> Result<(), Fail> {
+fn pieces(rt: HostRuntime) {
     for at in 0..STREAM.len() + 1 {
-        assert_eq!(rt;
-            all(rt.alloc(), STREAM, at)?.as_slice(),
-            b"ab\0c\0".as_slice(),
-            "at {at}"
-        );
+        assert!(rt; is_cut(rt.alloc(), STREAM, at, b"ab\0c\0"), "at {at}");
     }
     one_reading();
     sent_is_one_record();
-    assert_eq!(rt; last_mark(24), [0x80, 0, 0, 24]);
-    Ok(())
+    assert!(rt; last_mark(24) == [0x80, 0, 0, 24]);
 }
 
 /// How many records there are, and whether a fault is told with them.
@@ -44,24 +47,28 @@ fn told(fed: Result<Records, MarkError>) -> Option<(usize, bool)> {
     }
 }
 
+// The longest record is no fault.
+fn longest_is_taken(alloc: Global) -> bool {
+    let mut assembler = Assembler::new(alloc);
+    told(assembler.feed(&[0x80, 0, 0x20, 0])) == Some((0, false))
+}
+
+// The records before the fault are given with it, and none after it.
+fn longer_is_refused(alloc: Global) -> bool {
+    let mut assembler = Assembler::new(alloc);
+    told(assembler.feed(&[0x80, 0, 0, 1, 0x61, 0x80, 0, 0x20, 1])) == Some((1, true))
+        && told(assembler.feed(&[0x80, 0, 0, 1, 0x61])) == Some((0, true))
+}
+
+fn faults_read(alloc: Global) -> bool {
+    let too_long = MarkError::RecordTooLong(Records::new(alloc));
+    reads(too_long.to_string(alloc), "10 RecordTooLong")
+        && reads(MarkError::Starved.to_string(alloc), "1 Starved")
+}
+
 #[test]
-fn record_too_long(rt: HostRuntime) -> Result<(), Fail> {
-    // The longest record is no fault.
-    let mut assembler = Assembler::new(rt.alloc());
-    assert_eq!(rt; told(assembler.feed(&[0x80, 0, 0x20, 0])), Some((0, false)));
-    // The records before the fault are given with it, and none after it.
-    let mut assembler = Assembler::new(rt.alloc());
-    let first = assembler.feed(&[0x80, 0, 0, 1, 0x61, 0x80, 0, 0x20, 1]);
-    assert_eq!(rt; told(first), Some((1, true)));
-    assert_eq!(rt;
-        told(assembler.feed(&[0x80, 0, 0, 1, 0x61])),
-        Some((0, true))
-    );
-    let text = MarkError::RecordTooLong(Records::new(rt.alloc())).to_string(rt.alloc())?;
-    assert_eq!(rt; text.as_str(), "10 RecordTooLong");
-    assert_eq!(rt;
-        MarkError::Starved.to_string(rt.alloc())?.as_str(),
-        "1 Starved"
-    );
-    Ok(())
+fn record_too_long(rt: HostRuntime) {
+    assert!(rt; longest_is_taken(rt.alloc()));
+    assert!(rt; longer_is_refused(rt.alloc()));
+    assert!(rt; faults_read(rt.alloc()));
 }

@@ -1,11 +1,11 @@
 //! What versions show of holders and statuses, and what is sent and answered.
 use super::{GRANTED_CALL, TEST_REPLY};
-use crate::words::words;
+use crate::words::{is_words, reads};
 use nlm4_types::{
     CallError, Grant, Holder, Lock, NARROW, NlmMessage, Res, ShareRes, Stat, TestRes, Version,
     WIDE, shown_holder_is_spelled,
 };
-use std::test::*;
+use std::alloc::Global;
 use xdr_core::{Frame, Opaque};
 
 /// The last byte that a file may have.
@@ -25,48 +25,61 @@ const fn holder<'r>(l_offset: u64, l_len: u64) -> Holder<'r, WIDE> {
     }
 }
 
+const WHOLE: u64 = 0xffff_ffff;
+
+/// What one sees of a range: its offset and its length.
+type Shown = (u64, u64);
+
+// First byte, last byte; what version 4 shows; what version 3 shows.
+const CLAMPED: [(u64, u64, Shown, Shown); 6] = [
+    (1 << 32, 1 << 32, (1 << 32, 1), (WHOLE, 0)),
+    (0, WHOLE, (0, 1 << 32), (0, 0)),
+    (0, WHOLE - 1, (0, WHOLE), (0, WHOLE)),
+    (10, 19, (10, 10), (10, 10)),
+    (3, TOP, (3, 0), (3, 0)),
+    (TOP, TOP, (TOP, 0), (WHOLE, 0)),
+];
+
+fn shows(version: Version, first: u64, last: u64, shown: Shown) -> bool {
+    first <= last
+        && last <= TOP
+        && (version.offset_shown(first), version.len_shown(first, last)) == shown
+}
+
 #[test]
 fn holders_are_clamped(rt: HostRuntime) {
-    let whole = 0xffff_ffff;
-    // First byte, last byte; what version 4 shows; what version 3 shows.
-    let cases = [
-        (1 << 32, 1 << 32, (1 << 32, 1), (whole, 0)),
-        (0, whole, (0, 1 << 32), (0, 0)),
-        (0, whole - 1, (0, whole), (0, whole)),
-        (10, 19, (10, 10), (10, 10)),
-        (3, TOP, (3, 0), (3, 0)),
-        (TOP, TOP, (TOP, 0), (whole, 0)),
-    ];
-    for (first, last, wide, narrow) in cases {
-        assert!(rt; last <= TOP);
-        for (version, shown) in [(Version::V4, wide), (Version::V3, narrow)] {
-            let is = (version.offset_shown(first), version.len_shown(first, last));
-            assert_eq!(rt; is, shown);
-        }
+    for (first, last, wide, narrow) in CLAMPED {
+        assert!(rt; shows(Version::V4, first, last, wide), "{first} {last}");
+        assert!(rt; shows(Version::V3, first, last, narrow), "{first} {last}");
     }
     shown_holder_is_spelled();
 }
 
+const MAPPED: [(Stat, Stat); 7] = [
+    (Stat::Granted, Stat::Granted),
+    (Stat::Denied, Stat::Denied),
+    (Stat::DeniedNolocks, Stat::DeniedNolocks),
+    (Stat::Blocked, Stat::Blocked),
+    (Stat::DeniedGracePeriod, Stat::DeniedGracePeriod),
+    (Stat::Deadlck, Stat::Denied),
+    (Stat::StaleFh, Stat::Denied),
+];
+
+fn is_mapped(stat: Stat, old: Stat) -> bool {
+    stat.shown_in(Version::V1) == old
+        && stat.shown_in(Version::V3) == stat.narrowed()
+        && stat.shown_in(Version::V4) == stat
+}
+
 #[test]
 fn statuses_are_mapped(rt: HostRuntime) {
-    let mapped = [
-        (Stat::Granted, Stat::Granted),
-        (Stat::Denied, Stat::Denied),
-        (Stat::DeniedNolocks, Stat::DeniedNolocks),
-        (Stat::Blocked, Stat::Blocked),
-        (Stat::DeniedGracePeriod, Stat::DeniedGracePeriod),
-        (Stat::Deadlck, Stat::Denied),
-        (Stat::StaleFh, Stat::Denied),
-    ];
-    for (stat, old) in mapped {
-        assert_eq!(rt; stat.shown_in(Version::V1), old);
-        assert_eq!(rt; stat.shown_in(Version::V3), stat.narrowed());
-        assert_eq!(rt; stat.shown_in(Version::V4), stat);
+    for (stat, old) in MAPPED {
+        assert!(rt; is_mapped(stat, old), "{stat:?}");
     }
     for number in [1, 3, 4] {
-        assert_eq!(rt;
-            Version::from_number(number).map(Version::number),
-            Some(number)
+        assert!(rt;
+            Version::from_number(number).map(Version::number) == Some(number),
+            "{number}"
         );
     }
     assert!(rt; Version::from_number(2).is_none());
@@ -78,6 +91,17 @@ fn held() -> TestRes<'static, WIDE> {
         stat: Stat::Denied,
         holder: Some(holder(0, 10)),
     }
+}
+
+const NARROW_GRANT: &str = "8 1 1 1 1 62000000 4 01020304 1 42000000 8 0 a";
+
+const NARROW_TEST: &str = "4 3 1 1 7 1 41000000 0 a";
+
+fn is_sent(message: &NlmMessage<'_>, version: Version, procedure: u32, text: &str) -> bool {
+    let mut f = Frame::new();
+    message.put_in(version, &mut f).is_ok()
+        && is_words(&f, text)
+        && message.procedure() == procedure
 }
 
 #[test]
@@ -101,59 +125,60 @@ fn what_is_sent(rt: HostRuntime) {
         cookie: COOKIE,
         stat: Stat::Deadlck,
     };
-    let narrow_grant = "8 1 1 1 1 62000000 4 01020304 1 42000000 8 0 a";
-    let narrow_test = "4 3 1 1 7 1 41000000 0 a";
-    let sent = [
+    for (message, version, procedure, text) in [
         (NlmMessage::Granted(granted), Version::V4, 5, GRANTED_CALL),
         (
             NlmMessage::GrantedMsg(granted),
             Version::V1,
             10,
-            narrow_grant,
+            NARROW_GRANT,
         ),
         (NlmMessage::TestRes(held()), Version::V4, 11, TEST_REPLY),
-        (NlmMessage::TestRes(held()), Version::V3, 11, narrow_test),
+        (NlmMessage::TestRes(held()), Version::V3, 11, NARROW_TEST),
         (NlmMessage::LockRes(res), Version::V4, 12, "4 3 5"),
         (NlmMessage::CancelRes(res), Version::V1, 13, "4 3 5"),
         (NlmMessage::UnlockRes(res), Version::V4, 14, "4 3 5"),
-    ];
-    for (message, version, procedure, text) in sent {
-        let mut f = Frame::new();
-        assert!(rt; message.put_in(version, &mut f).is_ok());
-        assert_eq!(rt;
-            f.as_slice(),
-            words(&rt, text).as_slice(),
+    ] {
+        assert!(rt;
+            is_sent(&message, version, procedure, text),
             "procedure {procedure}"
         );
-        assert_eq!(rt; message.procedure(), procedure);
     }
-    assert_eq!(rt; alock.with_offsets::<NARROW>().l_len, 10);
+    assert!(rt; alock.with_offsets::<NARROW>().l_len == 10);
 }
 
-#[test]
-fn what_is_answered(rt: HostRuntime) -> Result<(), Fail> {
+fn stale_is_answered(text: &str) -> bool {
     let res = Res {
         cookie: COOKIE,
         stat: Stat::StaleFh,
     };
     let mut f = Frame::new();
-    assert!(rt; res.put_result(&mut f).is_ok());
-    assert_eq!(rt; f.as_slice(), words(&rt, "4 3 7").as_slice());
+    res.put_result(&mut f).is_ok() && is_words(&f, text)
+}
+
+fn stale_share_is_answered(text: &str) -> bool {
     let share = ShareRes {
         cookie: COOKIE,
         stat: Stat::StaleFh,
         sequence: 0,
     };
     let mut f = Frame::new();
-    assert!(rt; share.put_result(&mut f).is_ok());
-    assert_eq!(rt; f.as_slice(), words(&rt, "4 3 7 0").as_slice());
-    let texts = [
+    share.put_result(&mut f).is_ok() && is_words(&f, text)
+}
+
+fn fault_reads(alloc: Global, fault: CallError, text: &str) -> bool {
+    reads(fault.to_string(alloc), text)
+}
+
+#[test]
+fn what_is_answered(rt: HostRuntime) {
+    assert!(rt; stale_is_answered("4 3 7"));
+    assert!(rt; stale_share_is_answered("4 3 7 0"));
+    for (fault, text) in [
         (CallError::Starved, "1 Starved"),
         (CallError::NoSuchProc, "11 NoSuchProc"),
         (CallError::GarbageArgs, "12 GarbageArgs"),
-    ];
-    for (fault, text) in texts {
-        assert_eq!(rt; fault.to_string(rt.alloc())?.as_str(), text);
+    ] {
+        assert!(rt; fault_reads(rt.alloc(), fault, text), "{text}");
     }
-    Ok(())
 }
