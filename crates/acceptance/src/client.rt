@@ -1,200 +1,159 @@
 //! A stock Linux 6.1 kernel client, as it was seen on the wire: each of its calls is read as what it asks, and answered by
 //! the rules.
-use crate::calls::{Asks, Told};
-use crate::client_calls::{ClientCall, FILE_HANDLE};
-use crate::plays::plays;
-use crate::server::{BEGINS, Line, Part, RESTARTS};
-use crate::status::notice;
+use crate::messages::put_message;
+use crate::page::read_xid;
+use crate::servers::wrong;
+use crate::words::Terms;
 use nlm4_types::{Lock, Netobj, NlmCall, Version, WIDE};
 use record_reading::{Call, Reading};
 use std::alloc::Global;
 use std::test::*;
 
-/// Each call: xid, procedure, cookie, whether it is the guest's, svid, block, exclusive, offset, length, reclaim, state; and the
-/// status that the rules answer.
-const CALLS: [&str; 14] = [
-    "50468e7a 2 50468e7a 0 4d 0 1 64 1 0 3 0",
-    "c7445d8c 2 35120000 1 0 0 1 0 a 0 3 0",
-    "c8445d8c 4 36120000 1 0 0 0 0 0 0 0 0",
-    "c9445d8c 2 37120000 1 1 0 0 14 5 0 3 0",
-    "ca445d8c 4 38120000 1 1 0 0 0 0 0 0 0",
-    "cb445d8c 1 39120000 1 2 0 1 0 0 0 0 1",
-    "cc445d8c 2 3a120000 1 3 0 1 0 a 0 3 0",
-    "cd445d8c 4 3f120000 1 3 0 0 0 0 0 0 0",
-    "ce445d8c 2 3e120000 1 7 1 1 5 1 0 3 0",
-    "cf445d8c 4 40120000 1 7 0 0 0 0 0 0 0",
-    "d0445d8c 1 41120000 1 8 0 1 64 1 0 0 1",
-    "d1445d8c 2 42120000 1 9 0 1 64 1 0 3 1",
-    "d2445d8c 2 43120000 1 a 1 1 64 1 0 3 3",
-    "50468e7b 4 50468e7b 0 4d 0 0 64 1 0 0 0",
+/// Its calls with its own credentials, cookies and file handle, and what the rules answer; and what the server calls. It takes
+/// back the lock that it waited for before it answers the grant. Then the server begins anew, and then the client.
+const SCRIPT: &[&str] = &[
+    "begins",
+    "0x50468e7a host-lock 0x50468e7a 0 1 8 0x00000000 0x0000004d 77 100 1 0 3 = to-client 0x50468e7a 0",
+    "0xc7445d8c guest-lock 0x35120000 0 1 7 0x30406775 0x65737400 0 0 10 0 3 = to-client 0x35120000 0",
+    "0xc8445d8c guest-unlock 0x36120000 0 0 7 0x30406775 0x65737400 0 0 0 0 0 = to-client 0x36120000 0",
+    "0xc9445d8c guest-lock 0x37120000 0 0 7 0x31406775 0x65737400 1 20 5 0 3 = to-client 0x37120000 0",
+    "0xca445d8c guest-unlock 0x38120000 0 0 7 0x31406775 0x65737400 1 0 0 0 0 = to-client 0x38120000 0",
+    "0xcb445d8c guest-test 0x39120000 0 1 7 0x32406775 0x65737400 2 0 0 0 0 = held-on-server 0x39120000",
+    "0xcc445d8c guest-lock 0x3a120000 0 1 7 0x33406775 0x65737400 3 0 10 0 3 = to-client 0x3a120000 0",
+    "0xcd445d8c guest-unlock 0x3f120000 0 0 7 0x33406775 0x65737400 3 0 0 0 0 = to-client 0x3f120000 0",
+    "0xce445d8c guest-lock 0x3e120000 1 1 7 0x37406775 0x65737400 7 5 1 0 3 = to-client 0x3e120000 0",
+    "0xcf445d8c guest-unlock 0x40120000 0 0 7 0x37406775 0x65737400 7 0 0 0 0 = to-client 0x40120000 0",
+    "0xd0445d8c guest-test 0x41120000 0 1 7 0x38406775 0x65737400 8 100 1 0 0 = held-on-server 0x41120000",
+    "0xd1445d8c guest-lock 0x42120000 0 1 7 0x39406775 0x65737400 9 100 1 0 3 = to-client 0x42120000 1",
+    "0xd2445d8c guest-lock 0x43120000 1 1 8 0x31304067 0x75657374 10 100 1 0 3 = to-client 0x43120000 3",
+    "0x50468e7b host-unlock 0x50468e7b 0 0 8 0x00000000 0x0000004d 77 100 1 0 0 = to-client 0x50468e7b 0",
+    "sends guest 1 grant-to-guest",
+    "0xd3445d8c guest-unlock 0x44120000 0 0 8 0x31304067 0x75657374 10 0 0 0 0 = to-client 0x44120000 0",
+    "0xd4445d8c guest-lock 0x45120000 0 1 8 0x31314067 0x75657374 11 300 1 0 3 = to-client 0x45120000 0",
+    "0xd5445d8c guest-unlock 0x49120000 0 0 8 0x31314067 0x75657374 11 0 0 0 0 = to-client 0x49120000 0",
+    "0xd6445d8c guest-lock 0x4a120000 0 1 8 0x31354067 0x75657374 15 400 4 0 3 = to-client 0x4a120000 0",
+    "answer 1 said 0",
+    "quiet",
+    "restarts",
+    "sends guest 1 notice 3",
+    "sends hosthold 2 notice 3",
+    "0xd7445d8c guest-lock 0x4b120000 0 1 8 0x31354067 0x75657374 15 400 4 1 0 = to-client 0x4b120000 0",
+    "grace-over",
+    "1 notify-guest 5 = done",
+    "0xd8445d8c guest-unlock 0x4c120000 0 0 8 0x31354067 0x75657374 15 0 0 0 0 = to-client 0x4c120000 0",
+    "quiet",
 ];
 
-/// Behind the grant of the lock that it waited for, which it takes back before it answers the grant.
-const MORE_CALLS: [&str; 4] = [
-    "d3445d8c 4 44120000 1 a 0 0 0 0 0 0 0",
-    "d4445d8c 2 45120000 1 b 0 1 12c 1 0 3 0",
-    "d5445d8c 4 49120000 1 b 0 0 0 0 0 0 0",
-    "d6445d8c 2 4a120000 1 f 0 1 190 4 0 3 0",
-];
-
-/// In the grace period of the server's restart: a reclaim carries the state 0.
-const RECLAIM: [&str; 1] = ["d7445d8c 2 4b120000 1 f 0 1 190 4 1 0 0"];
-
-/// Behind the notice of its own restart.
-const LAST_CALL: [&str; 1] = ["d8445d8c 4 4c120000 1 f 0 0 0 0 0 0 0"];
-
-/// GRANTED to it, with its own lock, mark first.
-const GRANT: &str =
-    "800000a8 1 0 2 186b5 4 5 0 0 0 0 8 1 1 1 5 67756573 74000000 40 4300004d 3ac94e5e ae65d296 8909006c 6f636b66 696c6530 0 0 0 0 0 0 0 0 0 0 8 31304067 75657374 a 0 64 0 1";
+#[test]
+fn client_calls_are_answered(rt: HostRuntime) {
+    assert_eq!(rt; wrong(rt.alloc(), SCRIPT), None);
+}
 
 /// The FNV-1a hash of the 20 records as they came, one behind the other.
 const HASH: u64 = 0x0571_80f9_413a_149a;
 
-fn is_cookie(call: &ClientCall, cookie: &Netobj<'_>) -> bool {
-    cookie.bytes == call.cookie.to_be_bytes().as_slice()
+/// The front of its file handle, of 64 bytes.
+const FILE: [u8; 4] = [0x43, 0, 0, 0x4d];
+
+fn is_cookie(asked: &Terms, cookie: &Netobj<'_>) -> bool {
+    let [number, ..] = asked.numbers;
+    cookie.bytes.len() == 4
+        && cookie.bytes == number.to_be_bytes().as_slice().get(4..).unwrap_or(&[])
 }
 
-fn is_lock(call: &ClientCall, alock: &Lock<'_, WIDE>) -> bool {
-    let [first, ..] = FILE_HANDLE;
-    alock.caller_name.bytes == call.host().as_bytes()
+fn is_lock(host: &str, asked: &Terms, alock: &Lock<'_, WIDE>) -> bool {
+    let [_, _, _, _, _, _, svid, offset, len, ..] = asked.numbers;
+    alock.caller_name.bytes == host.as_bytes()
         && alock.fh.bytes.len() == 64
-        && alock.fh.bytes.starts_with(first.to_be_bytes().as_slice())
-        && alock.svid.cast_unsigned() == call.svid
-        && alock.l_offset == call.offset
-        && alock.l_len == call.len
+        && alock.fh.bytes.starts_with(FILE.as_slice())
+        && alock.svid.cast_unsigned() as u64 == svid
+        && alock.l_offset == offset
+        && alock.l_len == len
 }
 
-// Whether it is read as what it asks.
-fn is_read(call: &ClientCall, record: &[u8]) -> bool {
-    let Reading::Asks {
-        xid,
-        call: Call::Nlm(Version::V4, asked),
-    } = Reading::read(record)
-    else {
-        return false;
-    };
-    let is_asked = match asked {
+// Whether it is read as what it asks of this host.
+fn is_asked(host: &str, procedure: &str, asked: &Terms, call: &NlmCall<'_>) -> bool {
+    let [_, block, exclusive, _, _, _, _, _, _, reclaim, state, ..] = asked.numbers;
+    match call {
         NlmCall::Test(args) => {
-            call.procedure == 1
-                && is_cookie(call, &args.cookie)
-                && args.exclusive == (call.exclusive == 1)
-                && is_lock(call, &args.alock)
+            procedure == "test"
+                && is_cookie(asked, &args.cookie)
+                && args.exclusive == (exclusive == 1)
+                && is_lock(host, asked, &args.alock)
         }
         NlmCall::Lock(args) => {
-            call.procedure == 2
-                && is_cookie(call, &args.cookie)
-                && args.block == (call.block == 1)
-                && args.exclusive == (call.exclusive == 1)
-                && is_lock(call, &args.alock)
-                && args.reclaim == (call.reclaim == 1)
-                && args.state.cast_unsigned() == call.state
+            procedure == "lock"
+                && is_cookie(asked, &args.cookie)
+                && args.block == (block == 1)
+                && args.exclusive == (exclusive == 1)
+                && is_lock(host, asked, &args.alock)
+                && args.reclaim == (reclaim == 1)
+                && args.state.cast_unsigned() as u64 == state
         }
         NlmCall::Unlock(args) => {
-            call.procedure == 4 && is_cookie(call, &args.cookie) && is_lock(call, &args.alock)
+            procedure == "unlock"
+                && is_cookie(asked, &args.cookie)
+                && is_lock(host, asked, &args.alock)
         }
         _ => false,
-    };
-    xid == call.xid && is_asked
+    }
 }
 
-// The hash once these calls came, too, each of which is to be read as what it asks.
-fn hashed(alloc: Global, before: u64, calls: &[&str]) -> Result<Option<u64>, Fail> {
-    let mut hash = before;
-    for line in calls {
-        let call = ClientCall::of(line)?;
-        let record = Asks::OfClient(call).record(alloc, call.xid)?;
-        if !is_read(&call, &record) {
-            return Ok(None);
+fn is_read(xid: u32, text: &str, record: &[u8]) -> bool {
+    let Some((host, rest)) = text.split_once("-") else {
+        return false;
+    };
+    let (procedure, terms) = rest.split_once(" ").unwrap_or((rest, ""));
+    let host = if host == "guest" { host } else { "hosthold" };
+    match Reading::read(record) {
+        Reading::Asks {
+            xid: read,
+            call: Call::Nlm(Version::V4, call),
+        } => read == xid && is_asked(host, procedure, &Terms::read(xid, terms), &call),
+        _ => false,
+    }
+}
+
+// The hash once this call came, too, which is to be read as what it asks; and how many came.
+fn hashed(
+    (hash, count): (u64, u32),
+    record: &mut Vec<u8>,
+    xid: u32,
+    text: &str,
+) -> Option<(u64, u32)> {
+    record.clear();
+    put_message(record, xid, text)?;
+    let record = record.get(4..)?;
+    if !is_read(xid, text, record) {
+        return None;
+    }
+    let hash = record.iter().fold(hash, |hash, byte| {
+        (hash ^ *byte as u64).wrapping_mul(0x100_0000_01b3)
+    });
+    Some((hash, count.wrapping_add(1)))
+}
+
+// The calls are the lines that begin with an xid in hexadecimal.
+fn hash_of_calls(record: &mut Vec<u8>) -> Option<(u64, u32)> {
+    let mut all = (0xcbf2_9ce4_8422_2325, 0);
+    for line in SCRIPT {
+        if line.starts_with("0x") {
+            let (xid, rest) = line.split_once(" ")?;
+            let (text, _) = rest.split_once(" = ")?;
+            all = hashed(all, record, read_xid(xid)?, text)?;
         }
-        hash = record.iter().fold(hash, |hash, byte| {
-            (hash ^ *byte as u64).wrapping_mul(0x100_0000_01b3)
-        });
     }
-    Ok(Some(hash))
+    Some(all)
+}
+
+fn hash_of_records(alloc: Global) -> Option<(u64, u32)> {
+    let mut record = Vec::new(alloc);
+    let hash = hash_of_calls(&mut record);
+    drop(record);
+    hash
 }
 
 #[test]
-fn client_calls_are_read(rt: HostRuntime) -> Result<(), Fail> {
-    let alloc = rt.alloc();
-    let mut hash = 0xcbf2_9ce4_8422_2325;
-    for calls in [CALLS.as_slice(), &MORE_CALLS, &RECLAIM, &LAST_CALL] {
-        hash = hashed(alloc, hash, calls)?.ok_or("calls that are read")?;
-    }
-    assert_eq!(rt; hash, HASH);
-    Ok(())
-}
-
-fn lines(alloc: Global, calls: &[&str]) -> Result<Vec<Line>, Fail> {
-    let mut lines = Vec::new(alloc);
-    for line in calls {
-        let call = ClientCall::of(line)?;
-        lines.push((call.xid, Asks::OfClient(call), call.told()))?;
-    }
-    Ok(lines)
-}
-
-fn words(alloc: Global, text: &str) -> Result<Vec<u32>, Fail> {
-    let mut words = Vec::new(alloc);
-    for word in text.split_whitespace() {
-        words.push(u32::from_str_radix(word, 16)?)?;
-    }
-    Ok(words)
-}
-
-// What it asks, in turn, and what the server calls.
-#[derive(Clone, Copy)]
-struct Script<'a> {
-    /// Before it is granted the lock that it waits for, and behind that.
-    before: &'a [Line],
-    behind: &'a [Line],
-    grant: &'a [u32],
-    /// The server's restart, told to it and to the holder on the server's own host.
-    notice: &'a [u32],
-    holders_notice: &'a [u32],
-    reclaim: &'a [Line],
-    /// Its own restart, and its last call.
-    restarted: &'a [Line],
-    last: &'a [Line],
-}
-
-fn is_served(alloc: Global, script: Script<'_>) -> Result<bool, Fail> {
-    let parts = [
-        BEGINS,
-        Part::Calls(script.before, 64),
-        Part::Sends("guest", script.grant),
-        Part::Calls(script.behind, 64),
-        Part::Answered(1, 0),
-        Part::NothingDue,
-        RESTARTS,
-        Part::Sends("guest", script.notice),
-        Part::Sends("hosthold", script.holders_notice),
-        Part::Calls(script.reclaim, 64),
-        Part::GraceEnds,
-        Part::Calls(script.restarted, 64),
-        Part::Calls(script.last, 64),
-        Part::NothingDue,
-    ];
-    plays(alloc, Vec::new(alloc), &parts)
-}
-
-#[test]
-fn client_calls_are_answered(rt: HostRuntime) -> Result<(), Fail> {
-    let alloc = rt.alloc();
-    let before = lines(alloc, &CALLS)?;
-    let behind = lines(alloc, &MORE_CALLS)?;
-    let reclaim = lines(alloc, &RECLAIM)?;
-    let last = lines(alloc, &LAST_CALL)?;
-    let grant = words(alloc, GRANT)?;
-    let script = Script {
-        before: &before,
-        behind: &behind,
-        grant: &grant,
-        notice: &notice(1, 3),
-        holders_notice: &notice(2, 3),
-        reclaim: &reclaim,
-        restarted: &[(1, Asks::NotifiesOfClient(5), Told::Done)],
-        last: &last,
-    };
-    assert!(rt; is_served(alloc, script)?);
-    Ok(())
+fn client_calls_are_read(rt: HostRuntime) {
+    assert_eq!(rt; hash_of_records(rt.alloc()), Some((HASH, 20)));
 }

@@ -1,16 +1,18 @@
-//! The worked rows, from bytes to bytes: what a client sends, what it is sent, and what the server calls.
-//! Each runs through `Daemon::run`, which cuts streams into records, reads them, does them in the book and writes what each
-//! is answered.
+//! The worked rows, from bytes to bytes: what a client sends, what it is sent, and what the server calls. Each is a script,
+//! which `script` plays through `Daemon::run`: that cuts streams into records, reads them, does them in the book and writes
+//! what each is answered.
 #![tactic(auto)]
 
 #[cfg(test)]
-mod calls;
+mod by_message;
 #[cfg(test)]
 mod client;
 #[cfg(test)]
-mod client_calls;
+mod events;
 #[cfg(test)]
-mod hostile;
+mod growths;
+#[cfg(test)]
+mod lent;
 #[cfg(test)]
 mod limits;
 #[cfg(test)]
@@ -20,11 +22,9 @@ mod messages;
 #[cfg(test)]
 mod monitor;
 #[cfg(test)]
-mod narrow;
-#[cfg(test)]
 mod notices;
 #[cfg(test)]
-mod plays;
+mod page;
 #[cfg(test)]
 mod quotas;
 #[cfg(test)]
@@ -34,9 +34,11 @@ mod repeats;
 #[cfg(test)]
 mod rows;
 #[cfg(test)]
-mod server;
+mod script;
 #[cfg(test)]
-mod status;
+mod servers;
+#[cfg(test)]
+mod state;
 #[cfg(test)]
 mod stores;
 #[cfg(test)]
@@ -45,3 +47,5 @@ mod streams;
 mod versions;
 #[cfg(test)]
 mod waits;
+#[cfg(test)]
+mod words;

@@ -1,94 +1,85 @@
-//! A table that is full, a store that is full, and streams that are cut at random.
-use crate::calls::{Asks, Told, Who};
-use crate::plays::{all_hosts, plays, sent_by, sent_by_flat};
-use crate::server::{Line, Part};
+//! Calls at random, cut at random places, and over both tables.
+ghost use Rattle.std.specs.Prelude.{◌≡◌, []};
+
+use crate::messages::put_terms;
+use crate::page::Page;
+use crate::script::{happens, streams};
+use crate::servers::{memory, opened};
+use crate::words::Terms;
+use daemon_core::Daemon;
+use hosts_db::HostStore;
+use range_arena::ArenaTable;
+use range_table::{FlatTable, RangeTable};
 use std::alloc::Global;
 use std::test::*;
 
-const GRANTED: Told = Told::Stat(0);
-
-const NO_LOCKS: Told = Told::Stat(2);
-
-/// The bytes 0 to 2 of the file 01020304, and each second byte behind them, so that there are 63 runs.
-fn first_file(alloc: Global) -> Result<Vec<Line>, Fail> {
-    let mut lines = Vec::new(alloc);
-    lines.push((40, Asks::Locks(Who::A, 0, 3), GRANTED))?;
-    for number in 2..64u32 {
-        let asks = Asks::Locks(Who::A, number as u64 * 2, 1);
-        lines.push((1_000 + number, asks, GRANTED))?;
-    }
-    Ok(lines)
-}
-
-#[test]
-fn table_full(rt: HostRuntime) -> Result<(), Fail> {
-    let first = first_file(rt.alloc())?;
-    let row = [
-        (41, Asks::Locks(Who::A, 200_000, 1), NO_LOCKS),
-        (42, Asks::Unlocks(Who::A, 1, 1), NO_LOCKS),
-        (43, Asks::Tests(Who::B, 1, 1), Told::Held(Who::A, 0, 3)),
-        (44, Asks::Unlocks(Who::A, 4, 1), GRANTED),
-        (45, Asks::Unlocks(Who::A, 1, 1), GRANTED),
-        (46, Asks::Tests(Who::B, 0, 2), Told::Held(Who::A, 0, 1)),
-    ];
-    let parts = [
-        Part::Begins { is_over: true },
-        Part::Calls(&first, 8_192),
-        Part::Fills(1_023),
-        Part::Calls(&row, 64),
-    ];
-    assert!(rt; plays(rt.alloc(), Vec::new(rt.alloc()), &parts)?);
-    Ok(())
-}
-
-#[test]
-fn refused_host(rt: HostRuntime) -> Result<(), Fail> {
-    let row = [
-        (48, Asks::Locks(Who::B, 0, 1), NO_LOCKS),
-        (49, Asks::Tests(Who::A, 0, 0), GRANTED),
-        (50, Asks::NmLocks(Who::B, 0, 1), GRANTED),
-    ];
-    let parts = [Part::Begins { is_over: true }, Part::Calls(&row, 64)];
-    assert!(rt; plays(rt.alloc(), all_hosts(rt.alloc())?, &parts)?);
-    Ok(())
-}
+const CALLS: u32 = 300;
 
 fn next_random(random: &mut u32) -> u32 {
     *random = random.wrapping_mul(1_664_525).wrapping_add(1_013_904_223);
     *random >> 16
 }
 
-/// So many calls of two owners on one file, which are as random as their replies.
-fn random_calls(alloc: Global, count: u32) -> Result<Vec<Line>, Fail> {
+// A call of one of two owners on one file.
+fn put_random(come: &mut Vec<u8>, xid: u32, random: &mut u32) -> Option<()> {
+    let is_a = next_random(random) % 2 == 0;
+    let mut terms = Terms::new(xid, if is_a { b'a' } else { b'b' });
+    terms.set(0, next_random(random) as u64 % 32);
+    terms.set(1, next_random(random) as u64 % 8);
+    let name = match next_random(random) % 4 {
+        0 => "unlock",
+        1 => "test",
+        2 => "nm-lock",
+        _ => "lock",
+    };
+    put_terms(come, name, &terms)
+}
+
+fn put_calls(come: &mut Vec<u8>) -> Option<()> {
     let mut random = 7;
-    let mut lines = Vec::new(alloc);
-    for xid in 0..count {
-        let who = if next_random(&mut random) % 2 == 0 {
-            Who::A
-        } else {
-            Who::B
-        };
-        let offset = (next_random(&mut random) % 32) as u64;
-        let len = (next_random(&mut random) % 8) as u64;
-        let asks = match next_random(&mut random) % 4 {
-            0 => Asks::Unlocks(who, offset, len),
-            1 => Asks::Tests(who, offset, len),
-            2 => Asks::NmLocks(who, offset, len),
-            _ => Asks::Locks(who, offset, len),
-        };
-        lines.push((xid, asks, GRANTED))?;
+    for xid in 0..CALLS {
+        put_random(come, xid, &mut random)?;
     }
-    Ok(lines)
+    Some(())
+}
+
+fn is_sent<T: RangeTable, S: HostStore>(
+    daemon: &mut Daemon<T, S>,
+    page: &mut Page<'_>,
+) -> Option<bool> {
+    let begins = page.events("begins", "")?;
+    happens(daemon, page, begins)?;
+    put_calls(&mut page.come)?;
+    streams(daemon, page)
+}
+
+/// All that a server over this table sends for the calls, which come by so many bytes.
+fn sent_over<T: RangeTable + Drop>(alloc: Global, table: T, most: usize) -> Option<Vec<u8>>
+    requires { T.settings table ≡ [] }
+{
+    let store = memory(alloc, 0, Vec::new(alloc))?;
+    let mut daemon = opened(alloc, table, store)?;
+    let mut page = Page::new(alloc, most);
+    let is_sent = is_sent(&mut daemon, &mut page);
+    drop(daemon);
+    if is_sent == Some(true) {
+        Some(page.sent)
+    } else {
+        None
+    }
+}
+
+fn sent_by(alloc: Global, most: usize) -> Result<Vec<u8>, Fail> {
+    Ok(sent_over(alloc, ArenaTable::new(alloc)?, most).ok_or("what is sent")?)
 }
 
 #[test]
 fn random_calls_in_pieces(rt: HostRuntime) -> Result<(), Fail> {
     let alloc = rt.alloc();
-    let lines = random_calls(alloc, 300)?;
-    let whole = sent_by(alloc, &lines, 1_000_000)?;
+    let whole = sent_by(alloc, 1_000_000)?;
     assert!(rt; whole.len() > 300 * 40);
     for most in [1, 3, 4, 113, 8_192] {
-        let cut = sent_by(alloc, &lines, most)?;
+        let cut = sent_by(alloc, most)?;
         assert!(rt; cut.as_slice() == whole.as_slice(), "by {most}");
     }
     Ok(())
@@ -97,8 +88,8 @@ fn random_calls_in_pieces(rt: HostRuntime) -> Result<(), Fail> {
 #[test]
 fn both_tables(rt: HostRuntime) -> Result<(), Fail> {
     let alloc = rt.alloc();
-    let lines = random_calls(alloc, 300)?;
-    let sent = sent_by(alloc, &lines, 8_192)?;
-    assert!(rt; sent.as_slice() == sent_by_flat(alloc, &lines)?.as_slice());
+    let sent = sent_by(alloc, 8_192)?;
+    let flat = sent_over(alloc, FlatTable::new(alloc)?, 8_192).ok_or("what is sent")?;
+    assert!(rt; sent.as_slice() == flat.as_slice());
     Ok(())
 }

@@ -1,150 +1,186 @@
 //! The status monitor: what hosts tell, who is called then, and how the server begins anew (XNFS, NSM).
-use crate::calls::{Asks, Told, Who};
-use crate::plays::plays_from;
-use crate::server::{BEGINS, Part, RESTARTS};
-use crate::status::{Status, notice};
-use crate::stores::{plays_both, plays_from_the_highest, plays_to};
-use crate::waits::grant;
-use std::alloc::Global;
+use crate::servers::{wrong, wrong_in_both, wrong_in_sql, wrong_of_hosts};
 use std::test::*;
 
-// Who was called first acknowledges it.
-const ACKNOWLEDGED: Part<'static> = Part::Acknowledged(1);
-
-/// The call to the watcher of `a`, which has told the state 5, under the xid 1, mark first.
-const STATUS: [u32; 18] = [
-    0x8000_0044,
-    1,
-    0,
-    2,
-    200_000,
-    1,
-    1,
-    0,
-    0,
-    0,
-    0,
-    1,
-    0x6100_0000,
-    5,
-    0x0001_0203,
-    0x0405_0607,
-    0x0809_0a0b,
-    0x0c0d_0e0f,
+/// A state that was seen changes nothing; another drops the host, once.
+const NOTIFY: &[&str] = &[
+    "begins",
+    "34 lock a 0 10 = granted",
+    "35 block b 0 10 = blocked",
+    "200 notify a 3 = done",
+    "201 test c 0 0 = held a 0 10",
+    "quiet",
+    "202 notify a 5 = done",
+    "sends b 1 grant b 1 0 10",
+    "203 notify a 5 = done",
+    "204 test c 0 0 = held b 0 10",
+    "quiet",
+    "rows a 1 5 b 1 3",
 ];
 
-const fn tells(state: u32) -> Asks {
-    Asks::OfStatus(Status::Notifies(Who::A, state))
+#[test]
+fn notify(rt: HostRuntime) {
+    assert_eq!(rt; wrong_in_both(rt.alloc(), NOTIFY), None);
 }
 
-// A state that was seen changes nothing; another drops the host, once.
-fn drops_host(alloc: Global) -> Result<bool, Fail> {
-    let seen = [
-        (34, Asks::Locks(Who::A, 0, 10), Told::Stat(0)),
-        (35, Asks::Blocks(Who::B, 0, 10), Told::Stat(3)),
-        (200, tells(3), Told::Done),
-        (201, Asks::Tests(Who::C, 0, 0), Told::Held(Who::A, 0, 10)),
-    ];
-    let new = [(202, tells(5), Told::Done)];
-    let again = [
-        (203, tells(5), Told::Done),
-        (204, Asks::Tests(Who::C, 0, 0), Told::Held(Who::B, 0, 10)),
-    ];
-    let after = [(Who::A, 1, 5), (Who::B, 1, 3)];
-    let parts = [
-        BEGINS,
-        Part::Calls(&seen, 64),
-        Part::NothingDue,
-        Part::Calls(&new, 64),
-        Part::Grants(grant(1, Who::B, 1, 10)),
-        Part::Calls(&again, 64),
-    ];
-    plays_to(alloc, &parts, &after)
-}
+/// Only a local peer may have a host watched and the server begin anew, which keeps the connections.
+const MONITOR_AND_SIMULATED_CRASH: &[&str] = &[
+    "begins",
+    "disconnect",
+    "connect afar",
+    "130 mon a 1 = not-monitored 1",
+    "rows",
+    "disconnect",
+    "connect pipe",
+    "131 mon a 1 = monitored 1",
+    "205 notify a 5 = done",
+    "rows a 1 5",
+    "sends server 1 status a 1 5",
+    "206 unmon a 1 = state 1",
+    "207 notify a 7 = done",
+    "quiet",
+    "disconnect",
+    "connect afar",
+    "210 crash = done",
+    "211 stat a = monitored 1",
+    "disconnect",
+    "connect pipe",
+    "208 crash = done",
+    "209 stat a = monitored 3",
+    "sends a 1 notice 3",
+    "quiet",
+    "132 lock a 0 1 = in-grace",
+];
 
 #[test]
-fn notify(rt: HostRuntime) -> Result<(), Fail> {
-    assert!(rt; drops_host(rt.alloc())?);
-    Ok(())
+fn monitor_and_simulated_crash(rt: HostRuntime) {
+    assert_eq!(rt;
+        wrong_in_both(rt.alloc(), MONITOR_AND_SIMULATED_CRASH),
+        None
+    );
 }
 
-// Only a local peer may have a host watched and the server begin anew, which keeps the connections.
-fn monitors_and_crashes(alloc: Global) -> Result<bool, Fail> {
-    let monitors = Asks::OfStatus(Status::Monitors(Who::A));
-    let from_afar = [(130, monitors, Told::Monitored(1, 1))];
-    let watched = [
-        (131, monitors, Told::Monitored(0, 1)),
-        (205, tells(5), Told::Done),
-    ];
-    let unwatched = [
-        (
-            206,
-            Asks::OfStatus(Status::Unmonitors(Who::A)),
-            Told::State(1),
-        ),
-        (207, tells(7), Told::Done),
-    ];
-    let crashes = [
-        (208, Asks::OfStatus(Status::Crashes), Told::Done),
-        (209, Asks::OfStatus(Status::State), Told::Monitored(0, 3)),
-    ];
-    let in_grace = [(132, Asks::Locks(Who::A, 0, 1), Told::Stat(4))];
-    let none = [];
-    let stored = [(Who::A, 1, 5)];
-    let parts = [
-        BEGINS,
-        Part::OtherPeer,
-        Part::Calls(&from_afar, 64),
-        Part::Rows(&none),
-        Part::PipeAgain,
-        Part::Calls(&watched, 64),
-        Part::Rows(&stored),
-        Part::Sends("server", &STATUS),
-        Part::Calls(&unwatched, 64),
-        Part::NothingDue,
-        Part::Calls(&crashes, 64),
-        Part::Sends("a", &notice(1, 3)),
-        Part::Calls(&in_grace, 64),
-    ];
-    plays_both(alloc, &parts)
-}
+const STATE_WRAPS: &[&str] = &["begins", "12 stat a = monitored 1"];
+
+/// A row of `a`, the watch of it, and the highest own state.
+const HIGHEST: &str =
+    "INSERT INTO hosts2 VALUES (x'61', 1, 3, 65536); INSERT INTO watches VALUES (x'61', x'736572766572', 200000, 1, 1, x'07070707070707070707070707070707'); UPDATE own SET state = 2147483647";
+
+/// Who acknowledges a notice has the own state that it told as its epoch.
+const EPOCH_NOTED: &[&str] = &[
+    "begins",
+    "2 lock a 0 10 = granted",
+    "3 lock b 20 1 = granted",
+    "restarts",
+    "sends a 1 notice 3",
+    "answer 1 done",
+    "stored yes",
+    "sends b 2 notice 3",
+    "quiet",
+    "rows a 3 3 b 1 3",
+];
 
 #[test]
-fn monitor_and_simulated_crash(rt: HostRuntime) -> Result<(), Fail> {
-    assert!(rt; monitors_and_crashes(rt.alloc())?);
-    Ok(())
+fn state_wraps(rt: HostRuntime) {
+    let alloc = rt.alloc();
+    assert_eq!(rt;
+        wrong_of_hosts(alloc, 2_147_483_647, b"", STATE_WRAPS),
+        None
+    );
+    assert_eq!(rt; wrong_in_sql(alloc, Some(HIGHEST), STATE_WRAPS), None);
+    assert_eq!(rt; wrong_in_both(alloc, EPOCH_NOTED), None);
 }
 
-fn wraps(alloc: Global) -> Result<bool, Fail> {
-    let state = [(12, Asks::OfStatus(Status::State), Told::Monitored(0, 1))];
-    let parts = [BEGINS, Part::Calls(&state, 64)];
-    Ok(
-        plays_from(alloc, 0x7fff_ffff, Vec::new(alloc), &parts)?
-            && plays_from_the_highest(alloc, &parts)?,
-    )
-}
-
-// Who acknowledges a notice has the own state that it told as its epoch.
-fn notes_epoch(alloc: Global) -> Result<bool, Fail> {
-    let locks = [
-        (2, Asks::Locks(Who::A, 0, 10), Told::Stat(0)),
-        (3, Asks::Locks(Who::B, 20, 1), Told::Stat(0)),
-    ];
-    let rows = [(Who::A, 3, 3), (Who::B, 1, 3)];
-    let parts = [
-        BEGINS,
-        Part::Calls(&locks, 64),
-        RESTARTS,
-        Part::Sends("a", &notice(1, 3)),
-        ACKNOWLEDGED,
-        Part::Sends("b", &notice(2, 3)),
-    ];
-    plays_to(alloc, &parts, &rows)
-}
+const STAT_CALL: &[&str] = &["begins", "1 sm-null = done", "2 stat a = monitored 1"];
 
 #[test]
-fn state_wraps(rt: HostRuntime) -> Result<(), Fail> {
-    assert!(rt; wraps(rt.alloc())?);
-    assert!(rt; notes_epoch(rt.alloc())?);
-    Ok(())
+fn stat_call(rt: HostRuntime) {
+    assert_eq!(rt; wrong(rt.alloc(), STAT_CALL), None);
+}
+
+/// Each watcher of the host is told, in order of its procedure, with the bytes that it gave last.
+const WATCHERS_TOLD: &[&str] = &[
+    "begins",
+    "1 mon a 2 = monitored 1",
+    "2 mon b 2 = monitored 1",
+    "3 mon a 1 = monitored 1",
+    "4 mon-anew a 2 = monitored 1",
+    "5 notify a 0 = done",
+    "quiet",
+    "6 notify a 5 = done",
+    "rows a 1 5 b 1 0",
+    "sends server 1 status a 1 5",
+    "sends server 2 status-anew a 2 5",
+    "7 notify a 5 = done",
+    "quiet",
+];
+
+#[test]
+fn watchers_told(rt: HostRuntime) {
+    assert_eq!(rt; wrong(rt.alloc(), WATCHERS_TOLD), None);
+}
+
+const WATCHES_DROPPED: &[&str] = &[
+    "begins",
+    "1 mon a 1 = monitored 1",
+    "2 mon a 2 = monitored 1",
+    "3 mon b 1 = monitored 1",
+    "disconnect",
+    "connect afar",
+    "4 unmon a 1 = state 1",
+    "5 unmon-all 1 = state 1",
+    "disconnect",
+    "connect pipe",
+    "6 unmon-all 1 = state 1",
+    "7 notify b 5 = done",
+    "quiet",
+    "8 notify a 5 = done",
+    "sends server 1 status a 2 5",
+    "quiet",
+];
+
+#[test]
+fn watches_dropped(rt: HostRuntime) {
+    assert_eq!(rt; wrong(rt.alloc(), WATCHES_DROPPED), None);
+}
+
+/// Each TEST by message takes a place until its result is sent and answered. With one place too few the state that was seen
+/// stays; the watcher fewer then makes it enough, and no call has one more.
+const NO_PLACE_FOR_A_WATCHER: &[&str] = &[
+    "begins",
+    "1 mon a 1 = monitored 1",
+    "2 mon a 2 = monitored 1",
+    "times 8191 10 test-msg b 0 0 = done",
+    "3 notify a 5 = system-err",
+    "rows a 1 0",
+    "4 unmon a 2 = state 1",
+    "5 notify a 5 = done",
+    "rows a 1 5",
+    "6 test-msg b 0 0 = system-err",
+    "7 crash = done",
+    "sends a 1 notice 3",
+    "quiet",
+];
+
+#[test]
+fn no_place_for_a_watcher(rt: HostRuntime) {
+    assert_eq!(rt; wrong(rt.alloc(), NO_PLACE_FOR_A_WATCHER), None);
+}
+
+/// As many watches as a store has, and none more.
+const WATCHES_FULL: &[&str] = &[
+    "begins",
+    "watches 1023",
+    "1 mon a 1 = monitored 1",
+    "2 mon-anew a 1 = monitored 1",
+    "3 mon a 2 = not-monitored 1",
+    "4 mon b 1 = not-monitored 1",
+    "rows a 1 0 w 1 0",
+    "5 unmon a 1 = state 1",
+    "6 mon b 1 = monitored 1",
+];
+
+#[test]
+fn watches_full(rt: HostRuntime) {
+    assert_eq!(rt; wrong(rt.alloc(), WATCHES_FULL), None);
 }

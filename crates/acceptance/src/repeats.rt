@@ -1,107 +1,91 @@
 //! Calls that come again, and a server that begins anew.
-use crate::calls::{Asks, Told, Who};
-use crate::plays::{is_row, plays};
-use crate::server::{Line, Part};
-use std::alloc::Global;
+use crate::servers::{wrong, wrong_in_row};
 use std::test::*;
 
-const GRANTED: Told = Told::Stat(0);
-
-const LOCKED: Line = (20, Asks::Locks(Who::A, 0, 10), GRANTED);
-
-const UNLOCKED: Line = (21, Asks::Unlocks(Who::A, 0, 10), GRANTED);
-
-#[test]
-fn kept_reply(rt: HostRuntime) -> Result<(), Fail> {
-    let again = [
-        LOCKED,
-        UNLOCKED,
-        LOCKED,
-        (22, Asks::Tests(Who::B, 0, 0), GRANTED),
-    ];
-    let elsewhere = [
-        LOCKED,
-        (23, Asks::Tests(Who::B, 0, 0), Told::Held(Who::A, 0, 10)),
-    ];
-    let parts = [
-        Part::Begins { is_over: true },
-        Part::Calls(&again, 64),
-        Part::OtherPeer,
-        Part::Calls(&elsewhere, 64),
-    ];
-    assert!(rt; plays(rt.alloc(), Vec::new(rt.alloc()), &parts)?);
-    Ok(())
-}
+/// A repeat gets the kept reply and does nothing. One from elsewhere is no repeat.
+const KEPT_REPLY: &[&str] = &[
+    "begins",
+    "20 lock a 0 10 = granted",
+    "21 unlock a 0 10 = granted",
+    "20 lock a 0 10 = granted",
+    "22 test b 0 0 = granted",
+    "disconnect",
+    "connect afar",
+    "20 lock a 0 10 = granted",
+    "23 test b 0 0 = held a 0 10",
+];
 
 #[test]
-fn same_xid_other_bytes(rt: HostRuntime) -> Result<(), Fail> {
-    let longer = [
-        (140, Asks::Locks(Who::A, 0, 1), GRANTED),
-        (140, Asks::Locks(Who::A, 0, 2), GRANTED),
-        (141, Asks::Tests(Who::B, 1, 1), Told::Held(Who::A, 0, 2)),
-    ];
-    assert!(rt; is_row(rt.alloc(), &longer)?);
-    let elsewhere = [
-        LOCKED,
-        UNLOCKED,
-        (20, Asks::Locks(Who::A, 20, 1), GRANTED),
-        (24, Asks::Tests(Who::B, 0, 0), Told::Held(Who::A, 20, 1)),
-    ];
-    assert!(rt; is_row(rt.alloc(), &elsewhere)?);
-    Ok(())
+fn kept_reply(rt: HostRuntime) {
+    assert_eq!(rt; wrong(rt.alloc(), KEPT_REPLY), None);
 }
 
-/// A lock and its unlock, so many unlocks more, the lock again, and a test that is told this.
-fn lines(alloc: Global, unlocks: u32, told: Told) -> Result<Vec<Line>, Fail> {
-    let mut lines = Vec::new(alloc);
-    lines.push(LOCKED)?;
-    lines.push(UNLOCKED)?;
-    for number in 0..unlocks {
-        let xid = 100 + number % 5_000;
-        lines.push((xid, Asks::Unlocks(Who::A, 0, 10), GRANTED))?;
-    }
-    lines.push(LOCKED)?;
-    lines.push((25, Asks::Tests(Who::B, 0, 0), told))?;
-    Ok(lines)
-}
+const SAME_XID_LONGER: &[&str] = &[
+    "begins",
+    "140 lock a 0 1 = granted",
+    "140 lock a 0 2 = granted",
+    "141 test b 1 1 = held a 0 2",
+];
+
+const SAME_XID_ELSEWHERE: &[&str] = &[
+    "begins",
+    "20 lock a 0 10 = granted",
+    "21 unlock a 0 10 = granted",
+    "20 lock a 20 1 = granted",
+    "24 test b 0 0 = held a 20 1",
+];
 
 #[test]
-fn kept_limit(rt: HostRuntime) -> Result<(), Fail> {
-    let alloc = rt.alloc();
-    let kept = lines(alloc, 1_022, GRANTED)?;
-    assert!(rt; is_row(alloc, &kept)?);
-    let dropped = lines(alloc, 1_023, Told::Held(Who::A, 0, 10))?;
-    assert!(rt; is_row(alloc, &dropped)?);
-    Ok(())
+fn same_xid_other_bytes(rt: HostRuntime) {
+    assert_eq!(rt; wrong_in_row(rt.alloc(), SAME_XID_LONGER), None);
+    assert_eq!(rt; wrong_in_row(rt.alloc(), SAME_XID_ELSEWHERE), None);
 }
 
+/// As many replies are kept as there are calls from the lock to its repeat.
+const STILL_KEPT: &[&str] = &[
+    "begins",
+    "20 lock a 0 10 = granted",
+    "21 unlock a 0 10 = granted",
+    "times 1022 100 unlock a 0 10 = granted",
+    "20 lock a 0 10 = granted",
+    "25 test b 0 0 = granted",
+];
+
+/// With one call more the lock's reply is dropped.
+const KEPT_NO_MORE: &[&str] = &[
+    "begins",
+    "20 lock a 0 10 = granted",
+    "21 unlock a 0 10 = granted",
+    "times 1023 100 unlock a 0 10 = granted",
+    "20 lock a 0 10 = granted",
+    "25 test b 0 0 = held a 0 10",
+];
+
 #[test]
-fn restart(rt: HostRuntime) -> Result<(), Fail> {
-    // The lock and its kept reply are gone.
-    let after = [
-        (24, Asks::Tests(Who::B, 0, 0), GRANTED),
-        LOCKED,
-        (25, Asks::Tests(Who::B, 0, 0), Told::Held(Who::A, 0, 10)),
-    ];
-    let begins = Part::Begins { is_over: true };
-    let parts = [
-        begins,
-        Part::Calls(&[LOCKED], 64),
-        begins,
-        Part::Calls(&after, 64),
-    ];
-    assert!(rt; plays(rt.alloc(), Vec::new(rt.alloc()), &parts)?);
-    Ok(())
+fn kept_limit(rt: HostRuntime) {
+    assert_eq!(rt; wrong_in_row(rt.alloc(), STILL_KEPT), None);
+    assert_eq!(rt; wrong_in_row(rt.alloc(), KEPT_NO_MORE), None);
 }
 
-// One call more than a segment of the journal has entries, with no event before them.
+/// The lock and its kept reply are gone.
+const RESTART: &[&str] = &[
+    "begins",
+    "20 lock a 0 10 = granted",
+    "begins",
+    "24 test b 0 0 = granted",
+    "20 lock a 0 10 = granted",
+    "25 test b 0 0 = held a 0 10",
+];
+
 #[test]
-fn journal_rotation(rt: HostRuntime) -> Result<(), Fail> {
-    let mut nulls = Vec::new(rt.alloc());
-    for xid in 1..=1_025 {
-        nulls.push((xid, Asks::Null, Told::Done))?;
-    }
-    let parts = [Part::Connects, Part::Calls(&nulls, 8_192)];
-    assert!(rt; plays(rt.alloc(), Vec::new(rt.alloc()), &parts)?);
-    Ok(())
+fn restart(rt: HostRuntime) {
+    assert_eq!(rt; wrong(rt.alloc(), RESTART), None);
+}
+
+/// One call more than a segment of the journal has entries, with no event before them.
+const JOURNAL_ROTATION: &[&str] = &["connect pipe", "times 1025 1 null = done"];
+
+#[test]
+fn journal_rotation(rt: HostRuntime) {
+    assert_eq!(rt; wrong(rt.alloc(), JOURNAL_ROTATION), None);
 }

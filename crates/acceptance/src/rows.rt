@@ -1,131 +1,196 @@
-//! The rows, under their own names.
-use crate::calls::{Asks, Told, Who};
-use crate::plays::{all_hosts, is_row, plays};
-use crate::server::{BEGINS, Part};
-use crate::stores::plays_both;
+//! The rows of the lock manager, under their own names.
+use crate::servers::{wrong, wrong_in_both, wrong_in_row, wrong_of_all_hosts};
 use std::test::*;
 
-const GRANTED: Told = Told::Stat(0);
-
-const DENIED: Told = Told::Stat(1);
-
-const NO_LOCKS: Told = Told::Stat(2);
-
-const IN_GRACE: Told = Told::Stat(4);
-
-const STALE_FH: Told = Told::Stat(7);
-
-const FBIG: Told = Told::Stat(8);
-
-const END: u64 = 0x7fff_ffff_ffff_ffff;
+const NULL: &[&str] = &["begins", "1 null = done"];
 
 #[test]
-fn null(rt: HostRuntime) -> Result<(), Fail> {
-    assert!(rt; is_row(rt.alloc(), &[(1, Asks::Null, Told::Done)])?);
-    Ok(())
+fn null(rt: HostRuntime) {
+    assert_eq!(rt; wrong_in_row(rt.alloc(), NULL), None);
 }
 
-#[test]
-fn test_after_lock(rt: HostRuntime) -> Result<(), Fail> {
-    let row = [
-        (2, Asks::Locks(Who::A, 0, 10), GRANTED),
-        (3, Asks::Tests(Who::B, 0, 0), Told::Held(Who::A, 0, 10)),
-        (4, Asks::Unlocks(Who::A, 3, 3), GRANTED),
-        (5, Asks::Tests(Who::B, 0, 0), Told::Held(Who::A, 0, 3)),
-    ];
-    assert!(rt; is_row(rt.alloc(), &row)?);
-    Ok(())
-}
+const TEST_AFTER_LOCK: &[&str] = &[
+    "begins",
+    "2 lock a 0 10 = granted",
+    "3 test b 0 0 = held a 0 10",
+    "4 unlock a 3 3 = granted",
+    "5 test b 0 0 = held a 0 3",
+];
 
 #[test]
-fn ends_of_file(rt: HostRuntime) -> Result<(), Fail> {
-    let row = [
-        (6, Asks::Locks(Who::A, END, 1), GRANTED),
-        (7, Asks::Locks(Who::A, END, 2), FBIG),
-        (8, Asks::Locks(Who::A, END, 0), GRANTED),
-        (9, Asks::Tests(Who::B, 0, 0), Told::Held(Who::A, END, 0)),
-        (10, Asks::LocksLongHandle(Who::A), STALE_FH),
-    ];
-    assert!(rt; is_row(rt.alloc(), &row)?);
-    Ok(())
+fn test_after_lock(rt: HostRuntime) {
+    assert_eq!(rt; wrong_in_row(rt.alloc(), TEST_AFTER_LOCK), None);
 }
 
-#[test]
-fn free_all(rt: HostRuntime) -> Result<(), Fail> {
-    let row = [
-        (10, Asks::Locks(Who::A, 0, 10), GRANTED),
-        (11, Asks::Shares(Who::A, 1, 1), Told::ShareStat(0)),
-        (12, Asks::FreesAll(Who::A), Told::Done),
-        (13, Asks::Tests(Who::B, 0, 0), GRANTED),
-        (14, Asks::Shares(Who::B, 3, 3), Told::ShareStat(0)),
-    ];
-    assert!(rt; is_row(rt.alloc(), &row)?);
-    Ok(())
-}
+const ENDS_OF_FILE: &[&str] = &[
+    "begins",
+    "6 lock a 9223372036854775807 1 = granted",
+    "7 lock a 9223372036854775807 2 = fbig",
+    "8 lock a 9223372036854775807 0 = granted",
+    "9 test b 0 0 = held a 9223372036854775807 0",
+    "10 lock-long a = stale-fh",
+];
 
 #[test]
-fn grace(rt: HostRuntime) -> Result<(), Fail> {
-    let row = [
-        (30, Asks::Locks(Who::A, 0, 10), IN_GRACE),
-        (31, Asks::Reclaims(Who::A, 0, 10), GRANTED),
-        (32, Asks::Tests(Who::B, 0, 0), IN_GRACE),
-    ];
-    let after = [(33, Asks::Reclaims(Who::A, 0, 10), IN_GRACE)];
-    let parts = [
-        Part::Begins { is_over: false },
-        Part::Calls(&row, 64),
-        Part::GraceEnds,
-        Part::Calls(&after, 64),
-    ];
-    assert!(rt; plays_both(rt.alloc(), &parts)?);
-    Ok(())
+fn ends_of_file(rt: HostRuntime) {
+    assert_eq!(rt; wrong_in_row(rt.alloc(), ENDS_OF_FILE), None);
 }
 
-#[test]
-fn absent_unlock(rt: HostRuntime) -> Result<(), Fail> {
-    let row = [
-        (15, Asks::Unshares(Who::A), Told::ShareStat(0)),
-        (16, Asks::Unlocks(Who::A, 0, 0), GRANTED),
-    ];
-    assert!(rt; is_row(rt.alloc(), &row)?);
-    Ok(())
-}
+const FREE_ALL: &[&str] = &[
+    "begins",
+    "10 lock a 0 10 = granted",
+    "11 share a 1 1 = shared",
+    "12 free-all a = done",
+    "13 test b 0 0 = granted",
+    "14 share b 3 3 = shared",
+    "known 0",
+];
 
 #[test]
-fn nm_lock(rt: HostRuntime) -> Result<(), Fail> {
-    let row = [
-        (17, Asks::NmLocks(Who::A, 0, 1), GRANTED),
-        (18, Asks::NmLocks(Who::B, 0, 1), DENIED),
-    ];
-    assert!(rt; is_row(rt.alloc(), &row)?);
-    Ok(())
+fn free_all(rt: HostRuntime) {
+    assert_eq!(rt; wrong_in_row(rt.alloc(), FREE_ALL), None);
 }
 
+const GRACE: &[&str] = &[
+    "restarts",
+    "30 lock a 0 10 = in-grace",
+    "31 reclaim a 0 10 = granted",
+    "32 test b 0 0 = in-grace",
+    "grace-over",
+    "33 reclaim a 0 10 = in-grace",
+];
+
 #[test]
-fn share_replaced(rt: HostRuntime) -> Result<(), Fail> {
-    let row = [
-        (19, Asks::Shares(Who::A, 0, 1), Told::ShareStat(0)),
-        (20, Asks::Shares(Who::A, 2, 1), Told::ShareStat(0)),
-        (21, Asks::Shares(Who::B, 0, 2), Told::ShareStat(1)),
-    ];
-    assert!(rt; is_row(rt.alloc(), &row)?);
-    Ok(())
+fn grace(rt: HostRuntime) {
+    assert_eq!(rt; wrong_in_both(rt.alloc(), GRACE), None);
 }
 
-// A store that has all its hosts refuses the row of one more.
+const ABSENT_UNLOCK: &[&str] = &[
+    "begins",
+    "15 unshare a = shared",
+    "16 unlock a 0 0 = granted",
+    "known 0",
+];
+
 #[test]
-fn share_conflict(rt: HostRuntime) -> Result<(), Fail> {
-    let row = [
-        (46, Asks::Shares(Who::A, 2, 1), Told::ShareStat(0)),
-        (47, Asks::Shares(Who::B, 0, 2), Told::ShareStat(1)),
-    ];
-    let shares = [BEGINS, Part::Calls(&row, 64)];
-    assert!(rt; plays_both(rt.alloc(), &shares)?);
-    let refused = [
-        (48, Asks::Locks(Who::B, 0, 1), NO_LOCKS),
-        (49, Asks::Tests(Who::A, 0, 0), GRANTED),
-    ];
-    let parts = [BEGINS, Part::Calls(&refused, 64)];
-    assert!(rt; plays(rt.alloc(), all_hosts(rt.alloc())?, &parts)?);
-    Ok(())
+fn absent_unlock(rt: HostRuntime) {
+    assert_eq!(rt; wrong_in_row(rt.alloc(), ABSENT_UNLOCK), None);
+}
+
+const NM_LOCK: &[&str] = &[
+    "begins",
+    "17 nm-lock a 0 1 = granted",
+    "18 nm-lock b 0 1 = denied",
+    "rows",
+    "19 lock a 0 1 = granted",
+    "rows a 1 3",
+];
+
+#[test]
+fn nm_lock(rt: HostRuntime) {
+    assert_eq!(rt; wrong_in_row(rt.alloc(), NM_LOCK), None);
+}
+
+const SHARE_REPLACED: &[&str] = &[
+    "begins",
+    "19 share a 0 1 = shared",
+    "20 share a 2 1 = shared",
+    "21 share b 0 2 = not-shared",
+];
+
+#[test]
+fn share_replaced(rt: HostRuntime) {
+    assert_eq!(rt; wrong_in_row(rt.alloc(), SHARE_REPLACED), None);
+}
+
+pub(crate) const SHARE_CONFLICT: &[&str] = &[
+    "begins",
+    "46 share a 2 1 = shared",
+    "stored not-asked",
+    "47 share b 0 2 = not-shared",
+    "stored not-asked",
+];
+
+#[test]
+fn share_conflict(rt: HostRuntime) {
+    assert_eq!(rt; wrong_in_both(rt.alloc(), SHARE_CONFLICT), None);
+}
+
+/// A store that has all its hosts refuses the row of one more: its LOCK changes nothing; an NM_LOCK asks for no row.
+pub(crate) const REFUSED_HOST: &[&str] = &[
+    "begins",
+    "48 lock b 0 1 = no-locks",
+    "stored refused",
+    "known 0",
+    "49 test a 0 0 = granted",
+    "stored not-asked",
+    "50 nm-lock b 0 1 = granted",
+    "stored not-asked",
+    "51 lock a 0 1 = denied",
+    "stored not-asked",
+];
+
+#[test]
+fn refused_host(rt: HostRuntime) {
+    assert_eq!(rt; wrong_of_all_hosts(rt.alloc(), REFUSED_HOST), None);
+}
+
+/// Nor may a host without a row wait.
+const REFUSED_WAITER: &[&str] = &[
+    "grace-over",
+    "connect pipe",
+    "52 nm-lock a 0 1 = granted",
+    "53 block b 0 1 = no-locks",
+    "stored refused",
+    "known 1",
+    "54 unlock a 0 1 = granted",
+    "known 0",
+    "quiet",
+];
+
+#[test]
+fn refused_waiter(rt: HostRuntime) {
+    assert_eq!(rt; wrong_of_all_hosts(rt.alloc(), REFUSED_WAITER), None);
+}
+
+/// The bytes 0 to 2 of the file 01020304 and each second byte behind them are 63 runs; 64 in each of 1,023 files more fill
+/// the table but for one. Only what adds no run is done then.
+const TABLE_FULL: &[&str] = &[
+    "begins",
+    "40 lock a 0 3 = granted",
+    "locks 0x01020304 2 64",
+    "fills 1023",
+    "41 lock a 200000 1 = no-locks",
+    "42 unlock a 1 1 = no-locks",
+    "43 test b 1 1 = held a 0 3",
+    "44 unlock a 4 1 = granted",
+    "45 unlock a 1 1 = granted",
+    "46 test b 0 2 = held a 0 1",
+];
+
+#[test]
+fn table_full(rt: HostRuntime) {
+    assert_eq!(rt; wrong(rt.alloc(), TABLE_FULL), None);
+}
+
+/// The same where the locks of others leave room for one run more.
+const TABLE_FULL_OF_OTHERS: &[&str] = &[
+    "begins",
+    "locks 2000 0 62",
+    "fills 1023",
+    "50 lock a 0 10 = granted",
+    "51 lock a 20 1 = no-locks",
+    "52 nm-lock b 20 1 = no-locks",
+    "53 unlock a 3 3 = no-locks",
+    "54 test b 0 0 = held a 0 10",
+    "55 unlock a 0 3 = granted",
+    "56 test b 0 0 = held a 3 7",
+    "57 unlock b 0 0 = granted",
+    "58 unlock a 0 0 = granted",
+    "59 lock b 20 1 = granted",
+];
+
+#[test]
+fn table_full_of_others(rt: HostRuntime) {
+    assert_eq!(rt; wrong(rt.alloc(), TABLE_FULL_OF_OTHERS), None);
 }

@@ -1,126 +1,184 @@
-//! Rows over hosts in memory and over a database in memory, and stores that refuse.
-use crate::calls::{Asks, Told, Who};
-use crate::plays::{Rows, no_hosts, plays_over, plays_over_to};
-use crate::server::Part;
-use crate::status::Status;
+//! Stores that refuse, and stores that are lent: which rows they hold, and how often they are asked.
+use crate::lent::Lent;
+use crate::rows::{REFUSED_HOST, SHARE_CONFLICT};
+use crate::servers::{PIECE, all_hosts, database, memory, wrong_in_sql, wrong_over};
+use crate::state::are_rows;
 use hosts_db::HostStore;
-use hosts_sql::SqlHosts;
-use sqlite::{Alter, Connection, MemStore};
 use std::alloc::Global;
 use std::test::*;
 
-type Database = SqlHosts<MemStore>;
-
-/// The row of `a`, and the watch of it.
+/// A row of `a`, and the watch of it.
 const WATCHED: &str =
     "INSERT INTO hosts2 VALUES (x'61', 1, 3, 65536); INSERT INTO watches VALUES (x'61', x'736572766572', 200000, 1, 1, x'07070707070707070707070707070707')";
 
-const REFUSED: &str = "the database refuses";
+/// A database that was not started since refuses each row, and nothing changes but what asks for none.
+const ROWS_REFUSED: &[&str] = &[
+    "grace-over",
+    "connect pipe",
+    "48 lock b 0 1 = no-locks",
+    "49 test c 0 0 = granted",
+    "50 notify a 5 = system-err",
+    "51 unmon a 1 = system-err",
+    "52 mon b 1 = not-monitored 1",
+    "53 lock a 0 1 = granted",
+    "quiet",
+    "rows a 1 3",
+];
 
-const NO_LOCKS: Told = Told::Stat(2);
+const QUOTA_REFUSED: &[&str] = &[
+    "grace-over",
+    "local |quota 61 5| refused",
+    "local |quota 62 5| absent",
+    "quota a 65536",
+];
 
-const SYSTEM_ERR: Told = Told::Refused(5);
-
-// It is generic, so that the proof of a call sees no more of a database than its trait.
-fn plays_in<S: Alter + Drop>(
-    alloc: Global,
-    store: SqlHosts<S>,
-    parts: &[Part<'_>],
-) -> Result<bool, Fail> {
-    plays_over(alloc, store, parts)
+#[test]
+fn rows_refused(rt: HostRuntime) {
+    assert_eq!(rt; wrong_in_sql(rt.alloc(), Some(WATCHED), ROWS_REFUSED), None);
+    assert_eq!(rt;
+        wrong_in_sql(rt.alloc(), Some(WATCHED), QUOTA_REFUSED),
+        None
+    );
 }
 
-fn plays_in_to<S: Alter + Drop>(
-    alloc: Global,
-    store: SqlHosts<S>,
-    parts: &[Part<'_>],
-    rows: Rows<'_>,
-) -> Result<bool, Fail> {
-    plays_over_to(alloc, store, parts, rows)
+/// Where the row of a new host is refused, its LOCK changes nothing; an NM_LOCK asks for no row.
+const HOST_REFUSED: &[&str] = &[
+    "grace-over",
+    "connect pipe",
+    "48 lock b 0 1 = no-locks",
+    "stored refused",
+    "49 test a 0 0 = granted",
+    "stored not-asked",
+    "50 nm-lock b 0 1 = granted",
+    "stored not-asked",
+    "51 lock a 0 1 = denied",
+    "stored not-asked",
+];
+
+/// The first LOCK of a host stores its row, and no other call does.
+const FIRST_HOST: &[&str] = &[
+    "restart",
+    "stored yes",
+    "grace-over",
+    "stored not-asked",
+    "connect pipe",
+    "2 lock a 0 10 = granted",
+    "stored yes",
+    "3 lock a 20 1 = granted",
+    "stored not-asked",
+    "4 nm-lock b 30 1 = granted",
+    "stored not-asked",
+    "5 lock b 0 1 = denied",
+    "stored not-asked",
+];
+
+/// After a restart the first host is still known, and the locks are gone.
+const SECOND_HOST: &[&str] = &[
+    "restart",
+    "stored yes",
+    "grace-over",
+    "stored not-asked",
+    "connect pipe",
+    "6 test b 0 0 = granted",
+    "stored not-asked",
+    "7 lock a 0 10 = granted",
+    "stored not-asked",
+    "8 lock b 10 1 = granted",
+    "stored yes",
+];
+
+/// Both, of one server that begins anew.
+const BOTH_HOSTS: &[&str] = &[
+    "restart",
+    "stored yes",
+    "grace-over",
+    "connect pipe",
+    "2 lock a 0 10 = granted",
+    "stored yes",
+    "3 lock a 20 1 = granted",
+    "stored not-asked",
+    "4 nm-lock b 30 1 = granted",
+    "stored not-asked",
+    "5 lock b 0 1 = denied",
+    "stored not-asked",
+    "restart",
+    "stored yes",
+    "grace-over",
+    "connect pipe",
+    "6 test b 0 0 = granted",
+    "stored not-asked",
+    "7 lock a 0 10 = granted",
+    "stored not-asked",
+    "8 lock b 10 1 = granted",
+    "stored yes",
+];
+
+// What a server over the store that is lent to it plays wrong, and how often it asks the store.
+fn played<S: HostStore>(alloc: Global, store: &mut S, lines: &[&str]) -> (Option<usize>, usize) {
+    let mut writes = 0;
+    let writer = &mut writes;
+    let lent = Lent {
+        store,
+        writes: writer,
+    };
+    let wrong = wrong_over(alloc, lent, PIECE, lines);
+    (wrong, writes)
 }
 
-/// Whether a server of no hosts sends just the replies of these parts, byte for byte, over memory and over a database.
-pub(crate) fn plays_both(alloc: Global, parts: &[Part<'_>]) -> Result<bool, Fail> {
-    Ok(plays_over(alloc, no_hosts(alloc)?, parts)? && plays_in(alloc, database(alloc)?, parts)?)
+fn holds<S: HostStore>(store: &S, own: u32, rows: &str) -> bool {
+    store.own() == own && are_rows(store, rows)
 }
 
-/// The same, and whether in the end nothing is due and the stored hosts are these.
-pub(crate) fn plays_to(alloc: Global, parts: &[Part<'_>], rows: Rows<'_>) -> Result<bool, Fail> {
-    Ok(
-        plays_over_to(alloc, no_hosts(alloc)?, parts, rows)?
-            && plays_in_to(alloc, database(alloc)?, parts, rows)?,
-    )
+// The rows of a store that begins without any are those of the hosts that had a LOCK granted, and a restart keeps them.
+fn stores_hosts<S: HostStore>(alloc: Global, store: &mut S) -> bool {
+    played(alloc, store, FIRST_HOST) == (None, 2)
+        && holds(store, 1, "a 1 3")
+        && played(alloc, store, SECOND_HOST) == (None, 2)
+        && holds(store, 3, "a 1 3 b 3 3")
 }
 
-/// The same over a database whose own state is the highest.
-pub(crate) fn plays_from_the_highest(alloc: Global, parts: &[Part<'_>]) -> Result<bool, Fail> {
-    let conn = changed(started(alloc)?, "UPDATE own SET state = 2147483647")?;
-    plays_in(alloc, adopted(alloc, conn)?, parts)
-}
-
-fn adopted(alloc: Global, conn: Connection<MemStore>) -> Result<Database, Fail> {
-    match SqlHosts::adopt(alloc, conn) {
-        Ok(store) => Ok(store),
-        Err(_) => Err(REFUSED)?,
-    }
-}
-
-// A fresh one.
-fn database(alloc: Global) -> Result<Database, Fail> {
-    adopted(alloc, Connection::open_in_memory(alloc)?)
-}
-
-// What the database is once these statements have changed it.
-fn changed(mut conn: Connection<MemStore>, statements: &str) -> Result<Connection<MemStore>, Fail> {
-    if conn.execute_batch(statements).is_err() {
-        return Err(REFUSED)?;
-    }
-    Ok(conn)
-}
-
-// In the own state 1, with a row of `a`, which is watched.
-fn started(alloc: Global) -> Result<Connection<MemStore>, Fail> {
-    let mut store = database(alloc)?;
-    if store.start().is_err() {
-        return Err(REFUSED)?;
-    }
-    changed(store.into_connection(), WATCHED)
-}
-
-// A database that was not started refuses each row, and nothing changes but what asks for none.
-fn refuses_rows(alloc: Global) -> Result<bool, Fail> {
-    let calls = [
-        (48, Asks::Locks(Who::B, 0, 1), NO_LOCKS),
-        (49, Asks::Tests(Who::C, 0, 0), Told::Stat(0)),
-        (50, Asks::OfStatus(Status::Notifies(Who::A, 5)), SYSTEM_ERR),
-        (51, Asks::OfStatus(Status::Unmonitors(Who::A)), SYSTEM_ERR),
-        (
-            52,
-            Asks::OfStatus(Status::Monitors(Who::B)),
-            Told::Monitored(1, 1),
-        ),
-        (53, Asks::Locks(Who::A, 0, 1), Told::Stat(0)),
-    ];
-    let rows = [(Who::A, 1, 3)];
-    let conn = started(alloc)?;
-    let parts = [Part::GraceEnds, Part::Connects, Part::Calls(&calls, 64)];
-    plays_in_to(alloc, adopted(alloc, conn)?, &parts, &rows)
-}
-
-fn refuses_quota(alloc: Global) -> Result<bool, Fail> {
-    let lines = [("quota 61 5", "refused"), ("quota 62 5", "absent")];
-    let conn = started(alloc)?;
-    let parts = [
-        Part::GraceEnds,
-        Part::Lines(&lines),
-        Part::Quota(Who::A, 65_536),
-    ];
-    plays_in(alloc, adopted(alloc, conn)?, &parts)
+fn keeps_hosts<S: HostStore>(alloc: Global, store: &mut S) -> bool {
+    played(alloc, store, BOTH_HOSTS) == (None, 4) && holds(store, 3, "a 1 3 b 3 3")
 }
 
 #[test]
-fn rows_refused(rt: HostRuntime) -> Result<(), Fail> {
-    assert!(rt; refuses_rows(rt.alloc())?);
-    assert!(rt; refuses_quota(rt.alloc())?);
+fn hosts_of_locks(rt: HostRuntime) -> Result<(), Fail> {
+    let alloc = rt.alloc();
+    let mut in_memory = memory(alloc, 0, Vec::new(alloc)).ok_or("no store")?;
+    assert!(rt; stores_hosts(alloc, &mut in_memory));
+    let mut in_sql = database(alloc, None).ok_or("no store")?;
+    assert!(rt; stores_hosts(alloc, &mut in_sql));
+    Ok(())
+}
+
+#[test]
+fn hosts_after_a_restart(rt: HostRuntime) -> Result<(), Fail> {
+    let alloc = rt.alloc();
+    let mut in_memory = memory(alloc, 0, Vec::new(alloc)).ok_or("no store")?;
+    assert!(rt; keeps_hosts(alloc, &mut in_memory));
+    let mut in_sql = database(alloc, None).ok_or("no store")?;
+    assert!(rt; keeps_hosts(alloc, &mut in_sql));
+    Ok(())
+}
+
+// A database that was never started refuses each row.
+#[test]
+fn refused_host(rt: HostRuntime) -> Result<(), Fail> {
+    let alloc = rt.alloc();
+    let mut in_sql = database(alloc, None).ok_or("no store")?;
+    assert_eq!(rt; played(alloc, &mut in_sql, HOST_REFUSED), (None, 1));
+    assert!(rt; holds(&in_sql, 0, ""));
+    Ok(())
+}
+
+// A restart is all that a server asks for where no host locks; and a full store is asked for one row, and stays.
+#[test]
+fn share_conflict(rt: HostRuntime) -> Result<(), Fail> {
+    let alloc = rt.alloc();
+    let mut fresh = memory(alloc, 0, Vec::new(alloc)).ok_or("no store")?;
+    assert_eq!(rt; played(alloc, &mut fresh, SHARE_CONFLICT), (None, 1));
+    let mut full = memory(alloc, 0, all_hosts(alloc).ok_or("hosts")?).ok_or("no store")?;
+    assert_eq!(rt; played(alloc, &mut full, REFUSED_HOST), (None, 2));
+    assert_eq!(rt; full.hosts().len(), 4_096);
     Ok(())
 }

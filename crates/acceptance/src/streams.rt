@@ -1,190 +1,212 @@
-//! Streams in their words, and what is sent for them (RFC 5531; RFC 1813, appendix II), written by hand.
-use crate::plays::is_stream;
-use crate::server::Heard;
-use daemon_core::Refusal;
-use std::alloc::Global;
+//! Streams in their words, and what is sent for them (RFC 5531; RFC 1813, appendix II), each whole and byte by byte.
+use crate::servers::wrong_in_streams;
 use std::test::*;
 
-const NULL: &str =
-    "80000028 00000001 00000000 00000002 000186b5 00000004 00000000 00000000 00000000 00000000 00000000";
-
-const NULL_REPLY: &str = "80000018 00000001 00000001 00000000 00000000 00000000 00000000";
-
-/// An exclusive lock of the bytes 0 to 9, by the process 7 of host `a`.
-const LOCK: &str =
-    "8000006c 00000002 00000000 00000002 000186b5 00000004 00000002 00000000 00000000 00000000 00000000 00000004 00000002 00000000 00000001 00000001 61000000 00000004 01020304 00000001 41000000 00000007 00000000 00000000 00000000 0000000a 00000000 00000003";
-
-const LOCK_REPLY: &str =
-    "80000024 00000002 00000001 00000000 00000000 00000000 00000000 00000004 00000002 00000000";
-
-/// Whether the process 8 of host `b` could lock the whole file.
-const TEST: &str =
-    "80000060 00000003 00000000 00000002 000186b5 00000004 00000001 00000000 00000000 00000000 00000000 00000004 00000003 00000001 00000001 62000000 00000004 01020304 00000001 42000000 00000008 00000000 00000000 00000000 00000000";
-
-const TEST_REPLY: &str =
-    "80000044 00000003 00000001 00000000 00000000 00000000 00000000 00000004 00000003 00000001 00000001 00000007 00000001 41000000 00000000 00000000 00000000 0000000a";
-
-const GARBAGE_ARGS: &str = "80000018 00000002 00000001 00000000 00000000 00000000 00000004";
-
-/// AUTH_ERROR, with AUTH_BADCRED.
-const AUTH_ERROR: &str = "80000014 00000001 00000001 00000001 00000001 00000001";
-
-// Appends words in hexadecimal, which single spaces part.
-fn put(bytes: &mut Vec<u8>, text: &str) -> Result<(), Fail> {
-    for word in text.split_whitespace() {
-        let word = u32::from_str_radix(word, 16)?;
-        bytes.extend_from_slice(word.to_be_bytes().as_slice())?;
-    }
-    Ok(())
-}
-
-fn joined(alloc: Global, texts: &[&str]) -> Result<Vec<u8>, Fail> {
-    let mut bytes = Vec::new(alloc);
-    for text in texts {
-        put(&mut bytes, text)?;
-    }
-    Ok(bytes)
-}
-
-// Whether these are sent for a stream, which has this fault.
-fn is_sent(
-    alloc: Global,
-    stream: &[&str],
-    sent: &[&str],
-    refusal: Option<Refusal>,
-) -> Result<bool, Fail> {
-    let sent = joined(alloc, sent)?;
-    let heard = Heard {
-        sent: &sent,
-        refusal,
-    };
-    is_stream(alloc, &joined(alloc, stream)?, heard)
-}
-
-// Whether these are sent for a stream with another word at this place.
-fn is_sent_with(
-    alloc: Global,
-    stream: &str,
-    (at, word): (usize, &str),
-    sent: &str,
-) -> Result<bool, Fail> {
-    let mut changed = Vec::new(alloc);
-    for (place, was) in stream.split_whitespace().enumerate() {
-        let now = if place == at { word } else { was };
-        put(&mut changed, now)?;
-    }
-    let sent = joined(alloc, &[sent])?;
-    let heard = Heard {
-        sent: &sent,
-        refusal: None,
-    };
-    is_stream(alloc, &changed, heard)
-}
+/// An exclusive lock of the bytes 0 to 9, by the process 7 of host `a`; and whether the process 8 of host `b` could lock the
+/// whole file.
+const LOCK_AND_TEST: [&[&str]; 1] = [&[
+    "begins",
+    "in 8000006c 2 0 2 186b5 4 2 0 0 0 0 4 2 0 1 1 61000000 4 1020304 1 41000000 7 0 0 0 a 0 3",
+    "in 80000060 3 0 2 186b5 4 1 0 0 0 0 4 3 1 1 62000000 4 1020304 1 42000000 8 0 0 0 0",
+    "out 80000024 2 1 0 0 0 0 4 2 0",
+    "out 80000044 3 1 0 0 0 0 4 3 1 1 7 1 41000000 0 0 0 a",
+]];
 
 #[test]
-fn lock_and_test(rt: HostRuntime) -> Result<(), Fail> {
-    assert!(rt; is_sent(rt.alloc(), &[LOCK, TEST], &[LOCK_REPLY, TEST_REPLY], None)?);
-    Ok(())
+fn lock_and_test(rt: HostRuntime) {
+    assert_eq!(rt; wrong_in_streams(rt.alloc(), &LOCK_AND_TEST), None);
 }
 
-// The record byte by byte, and in three fragments, one of which is empty.
+/// A NULL in one fragment, and in three, one of which is empty.
+const PIECES: [&[&str]; 2] = [
+    &[
+        "begins",
+        "in 80000028 1 0 2 186b5 4 0 0 0 0 0",
+        "out 80000018 1 1 0 0 0 0",
+    ],
+    &[
+        "begins",
+        "in 10 1 0 2 186b5 0 80000018 4 0 0 0 0 0",
+        "out 80000018 1 1 0 0 0 0",
+    ],
+];
+
 #[test]
-fn pieces(rt: HostRuntime) -> Result<(), Fail> {
-    let fragments = [
-        "00000010 00000001 00000000 00000002 000186b5",
-        "00000000",
-        "80000018 00000004 00000000 00000000 00000000 00000000 00000000",
-    ];
-    assert!(rt; is_sent(rt.alloc(), &[NULL], &[NULL_REPLY], None)?);
-    assert!(rt; is_sent(rt.alloc(), &fragments, &[NULL_REPLY], None)?);
-    Ok(())
+fn pieces(rt: HostRuntime) {
+    assert_eq!(rt; wrong_in_streams(rt.alloc(), &PIECES), None);
 }
 
+const EMPTY_INPUT: [&[&str]; 2] = [&["begins", "in"], &["begins", "in 80*1 00*1"]];
+
 #[test]
-fn empty_input(rt: HostRuntime) -> Result<(), Fail> {
-    let heard = Heard {
-        sent: &[],
-        refusal: None,
-    };
-    assert!(rt; is_stream(rt.alloc(), &[], heard)?);
-    assert!(rt; is_stream(rt.alloc(), &[0x80, 0], heard)?);
-    Ok(())
+fn empty_input(rt: HostRuntime) {
+    assert_eq!(rt; wrong_in_streams(rt.alloc(), &EMPTY_INPUT), None);
 }
 
+/// A mark of one byte too many ends the stream, whatever stands behind it; what stood before it is answered.
+const RECORD_TOO_LONG: [&[&str]; 3] = [
+    &["begins", "in 80002001", "too-long"],
+    &[
+        "begins",
+        "in 80002001 80000028 1 0 2 186b5 4 0 0 0 0 0",
+        "too-long",
+    ],
+    &[
+        "begins",
+        "in 80000028 1 0 2 186b5 4 0 0 0 0 0 80002001",
+        "out 80000018 1 1 0 0 0 0",
+        "too-long",
+    ],
+];
+
 #[test]
-fn record_too_long(rt: HostRuntime) -> Result<(), Fail> {
-    let too_long = Some(Refusal::RecordTooLong);
-    assert!(rt; is_sent(rt.alloc(), &["80002001"], &[], too_long)?);
-    assert!(rt; is_sent(rt.alloc(), &["80002001", NULL], &[], too_long)?);
-    assert!(rt; is_sent(rt.alloc(), &[NULL, "80002001"], &[NULL_REPLY], too_long)?);
-    Ok(())
+fn record_too_long(rt: HostRuntime) {
+    assert_eq!(rt; wrong_in_streams(rt.alloc(), &RECORD_TOO_LONG), None);
 }
 
-// RPC version, program, version, procedure and credential, each another one.
+/// Another RPC version, program, version, procedure and credential.
+const REFUSED_HEADERS: [&[&str]; 5] = [
+    &[
+        "begins",
+        "in 80000028 1 0 3 186b5 4 0 0 0 0 0",
+        "out 80000018 1 1 1 0 2 2",
+    ],
+    &[
+        "begins",
+        "in 80000028 1 0 2 186a3 4 0 0 0 0 0",
+        "out 80000018 1 1 0 0 0 1",
+    ],
+    &[
+        "begins",
+        "in 80000028 1 0 2 186b5 2 0 0 0 0 0",
+        "out 80000020 1 1 0 0 0 2 1 4",
+    ],
+    &[
+        "begins",
+        "in 80000028 1 0 2 186b5 4 10 0 0 0 0",
+        "out 80000018 1 1 0 0 0 3",
+    ],
+    &[
+        "begins",
+        "in 80000028 1 0 2 186b5 4 0 6 0 0 0",
+        "out 80000014 1 1 1 1 1",
+    ],
+];
+
 #[test]
-fn refused_headers(rt: HostRuntime) -> Result<(), Fail> {
-    let cases = [
-        (
-            3,
-            "00000003",
-            "80000018 00000001 00000001 00000001 00000000 00000002 00000002",
-        ),
-        (
-            4,
-            "000186a3",
-            "80000018 00000001 00000001 00000000 00000000 00000000 00000001",
-        ),
-        (
-            5,
-            "00000002",
-            "80000020 00000001 00000001 00000000 00000000 00000000 00000002 00000001 00000004",
-        ),
-        (
-            6,
-            "00000010",
-            "80000018 00000001 00000001 00000000 00000000 00000000 00000003",
-        ),
-        (7, "00000006", AUTH_ERROR),
-    ];
-    for (at, word, reply) in cases {
-        assert!(rt; is_sent_with(rt.alloc(), NULL, (at, word), reply)?, "{at}");
-    }
-    Ok(())
+fn refused_headers(rt: HostRuntime) {
+    assert_eq!(rt; wrong_in_streams(rt.alloc(), &REFUSED_HEADERS), None);
 }
 
-// Arguments without their last word, those whose `block` is 2, and those with a word behind them.
+/// Arguments whose `block` is 2, and those with a word behind them.
+const GARBAGE_ARGS: [&[&str]; 2] = [
+    &[
+        "begins",
+        "in 8000006c 2 0 2 186b5 4 2 0 0 0 0 4 2 2 1 1 61000000 4 1020304 1 41000000 7 0 0 0 a 0 3",
+        "out 80000018 2 1 0 0 0 4",
+    ],
+    &[
+        "begins",
+        "in 80000070 2 0 2 186b5 4 2 0 0 0 0 4 2 0 1 1 61000000 4 1020304 1 41000000 7 0 0 0 a 0 3 0",
+        "out 80000024 2 1 0 0 0 0 4 2 0",
+    ],
+];
+
 #[test]
-fn garbage_args(rt: HostRuntime) -> Result<(), Fail> {
-    let (shorter, _) = LOCK.split_at_checked(LOCK.len() - 9).ok_or("a word")?;
-    assert!(rt; is_sent_with(rt.alloc(), shorter, (0, "80000068"), GARBAGE_ARGS)?);
-    assert!(rt; is_sent_with(rt.alloc(), LOCK, (13, "00000002"), GARBAGE_ARGS)?);
-    let mut longer = String::from_str(rt.alloc(), LOCK)?;
-    longer.push_str(" 00000000")?;
-    assert!(rt; is_sent_with(rt.alloc(), &longer, (0, "80000070"), LOCK_REPLY)?);
-    Ok(())
+fn garbage_args(rt: HostRuntime) {
+    assert_eq!(rt; wrong_in_streams(rt.alloc(), &GARBAGE_ARGS), None);
 }
 
-/// NULL with AUTH_SYS: stamp 0, machine `a`, uid 0, gid 0, no other groups.
-const NULL_AUTH_SYS: &str =
-    "80000040 00000001 00000000 00000002 000186b5 00000004 00000000 00000001 00000018 00000000 00000001 61000000 00000000 00000000 00000000 00000000 00000000";
+/// Arguments without their last word.
+const RECORD_CUT_SHORT: [&[&str]; 1] = [&[
+    "begins",
+    "in 80000068 2 0 2 186b5 4 2 0 0 0 0 4 2 0 1 1 61000000 4 1020304 1 41000000 7 0 0 0 a 0",
+    "out 80000018 2 1 0 0 0 4",
+]];
 
-// Seventeen groups are one too many.
 #[test]
-fn null_auth_sys(rt: HostRuntime) -> Result<(), Fail> {
-    assert!(rt; is_sent(rt.alloc(), &[NULL_AUTH_SYS], &[NULL_REPLY], None)?);
-    assert!(rt; is_sent_with(rt.alloc(), NULL_AUTH_SYS, (14, "00000011"), AUTH_ERROR)?);
-    Ok(())
+fn record_cut_short(rt: HostRuntime) {
+    assert_eq!(rt; wrong_in_streams(rt.alloc(), &RECORD_CUT_SHORT), None);
+}
+
+/// A NULL with AUTH_SYS: stamp 0, machine `a`, uid 0, gid 0, no other groups. Seventeen groups are one too many.
+const NULL_AUTH_SYS: [&[&str]; 2] = [
+    &[
+        "begins",
+        "in 80000040 1 0 2 186b5 4 0 1 18 0 1 61000000 0 0 0 0 0",
+        "out 80000018 1 1 0 0 0 0",
+    ],
+    &[
+        "begins",
+        "in 80000040 1 0 2 186b5 4 0 1 18 0 1 61000000 0 0 11 0 0",
+        "out 80000014 1 1 1 1 1",
+    ],
+];
+
+#[test]
+fn null_auth_sys(rt: HostRuntime) {
+    assert_eq!(rt; wrong_in_streams(rt.alloc(), &NULL_AUTH_SYS), None);
 }
 
 /// SM_STAT of `a`.
-const STAT: &str =
-    "80000030 0000000c 00000000 00000002 000186b8 00000001 00000001 00000000 00000000 00000000 00000000 00000001 61000000";
-
-const STAT_REPLY: &str =
-    "80000020 0000000c 00000001 00000000 00000000 00000000 00000000 00000000 00000001";
+const STAT_CALL: [&[&str]; 1] = [&[
+    "begins",
+    "in 80000030 c 0 2 186b8 1 1 0 0 0 0 1 61000000",
+    "out 80000020 c 1 0 0 0 0 0 1",
+]];
 
 #[test]
-fn stat_call(rt: HostRuntime) -> Result<(), Fail> {
-    assert!(rt; is_sent(rt.alloc(), &[STAT], &[STAT_REPLY], None)?);
-    Ok(())
+fn stat_call(rt: HostRuntime) {
+    assert_eq!(rt; wrong_in_streams(rt.alloc(), &STAT_CALL), None);
+}
+
+/// LOCKs by a caller whose name has 2^32 - 1 bytes, 1,025 and 1,024.
+const NAME_TOO_LONG: [&[&str]; 3] = [
+    &[
+        "begins",
+        "in 8000006c 2 0 2 186b5 4 2 0 0 0 0 4 2 0 1 ffffffff 61*4 4 1020304 1 41000000 7 0 0 0 a 0 3",
+        "out 80000018 2 1 0 0 0 4",
+    ],
+    &[
+        "begins",
+        "in 8000046c 2 0 2 186b5 4 2 0 0 0 0 4 2 0 1 401 61*1028 4 1020304 1 41000000 7 0 0 0 a 0 3",
+        "out 80000018 2 1 0 0 0 4",
+    ],
+    &[
+        "begins",
+        "in 80000468 2 0 2 186b5 4 2 0 0 0 0 4 2 0 1 400 61*1024 4 1020304 1 41000000 7 0 0 0 a 0 3",
+        "out 80000024 2 1 0 0 0 0 4 2 0",
+    ],
+];
+
+#[test]
+fn name_too_long(rt: HostRuntime) {
+    assert_eq!(rt; wrong_in_streams(rt.alloc(), &NAME_TOO_LONG), None);
+}
+
+/// A NULL whose credential is of no kind and has 400 bytes, and one that has 401, which is no call.
+const CREDENTIAL_TOO_LONG: [&[&str]; 2] = [
+    &[
+        "begins",
+        "in 800001b8 2 0 2 186b5 4 0 0 190 00*400 0 0",
+        "out 80000018 2 1 0 0 0 0",
+    ],
+    &["begins", "in 800001bc 2 0 2 186b5 4 0 0 191 00*404 0 0"],
+];
+
+#[test]
+fn credential_too_long(rt: HostRuntime) {
+    assert_eq!(rt; wrong_in_streams(rt.alloc(), &CREDENTIAL_TOO_LONG), None);
+}
+
+/// The longest record is answered: the bytes behind the arguments are not looked at.
+const TRAILING_BYTES: [&[&str]; 1] = [&[
+    "begins",
+    "in 80002000 2 0 2 186b5 4 0 0 0 0 0 00*8152",
+    "out 80000018 2 1 0 0 0 0",
+]];
+
+#[test]
+fn trailing_bytes(rt: HostRuntime) {
+    assert_eq!(rt; wrong_in_streams(rt.alloc(), &TRAILING_BYTES), None);
 }

@@ -1,148 +1,91 @@
 //! Calls of versions 1 and 3: what they are answered, and in which version the server calls back (XNFS, NLM).
-use crate::calls::{Asks, Told, Who};
-use crate::narrow::Narrow;
-use crate::plays::plays;
-use crate::server::{BEGINS, Part};
-use std::alloc::Global;
+use crate::servers::wrong;
 use std::test::*;
 
-const GRANTED: Told = Told::Stat(0);
-
-const DENIED: Told = Told::Stat(1);
-
-const BLOCKED: Told = Told::Stat(3);
-
-fn in_version(version: u32, asks: Narrow) -> Asks {
-    Asks::InVersion(version, asks)
-}
-
-#[test]
-fn version_3_lock(rt: HostRuntime) -> Result<(), Fail> {
-    let calls = [
-        (2, in_version(3, Narrow::Locks(Who::A, 0, 10)), GRANTED),
-        (3, Asks::Tests(Who::B, 0, 0), Told::Held(Who::A, 0, 10)),
-    ];
-    let parts = [BEGINS, Part::Calls(&calls, 64)];
-    assert!(rt; plays(rt.alloc(), Vec::new(rt.alloc()), &parts)?);
-    Ok(())
-}
-
-// Whether a TEST of version 3 shows a lock of version 4 on these bytes so.
-fn shows(alloc: Global, (offset, len): (u64, u64), shown: (u32, u32)) -> Result<bool, Fail> {
-    let told = Told::HeldNarrow(Who::A, shown.0, shown.1);
-    let calls = [
-        (170, Asks::Locks(Who::A, offset, len), GRANTED),
-        (171, in_version(3, Narrow::Tests(Who::B, 0, 0)), told),
-    ];
-    let parts = [BEGINS, Part::Calls(&calls, 64)];
-    plays(alloc, Vec::new(alloc), &parts)
-}
-
-#[test]
-fn clamped_holder(rt: HostRuntime) -> Result<(), Fail> {
-    let alloc = rt.alloc();
-    assert!(rt; shows(alloc, (1 << 32, 1), (0xffff_ffff, 0))?);
-    assert!(rt; shows(alloc, (0, 1 << 32), (0, 0))?);
-    assert!(rt; shows(alloc, (10, 10), (10, 10))?);
-    Ok(())
-}
-
-// DEADLCK and STALE_FH are DENIED, a TEST with nobody as holder; version 1 has no SHARE.
-#[test]
-fn mapped_statuses(rt: HostRuntime) -> Result<(), Fail> {
-    let calls = [
-        (15, Asks::Locks(Who::A, 1, 1), GRANTED),
-        (16, Asks::Locks(Who::B, 2, 1), GRANTED),
-        (17, Asks::Blocks(Who::A, 2, 1), BLOCKED),
-        (18, in_version(3, Narrow::Blocks(Who::B, 1, 1)), DENIED),
-        (19, in_version(3, Narrow::LocksLongHandle(Who::A)), DENIED),
-        (
-            20,
-            in_version(3, Narrow::TestsLongHandle(Who::A)),
-            Told::HeldByNobody,
-        ),
-        (21, in_version(1, Narrow::Shares(Who::A)), Told::Refused(3)),
-        (
-            22,
-            in_version(3, Narrow::Shares(Who::A)),
-            Told::ShareStat(0),
-        ),
-        (
-            23,
-            in_version(3, Narrow::LocksCutShort(Who::A)),
-            Told::Refused(4),
-        ),
-    ];
-    let parts = [BEGINS, Part::Calls(&calls, 64), Part::NothingDue];
-    assert!(rt; plays(rt.alloc(), Vec::new(rt.alloc()), &parts)?);
-    Ok(())
-}
-
-/// GRANTED of version 1 for the bytes 0 to 9 to `b`, under the xid 1, mark first: 92 bytes.
-const GRANTED_IN_1: [u32; 24] = [
-    0x8000_005c,
-    1,
-    0,
-    2,
-    100_021,
-    1,
-    5,
-    0,
-    0,
-    0,
-    0,
-    8,
-    1,
-    1,
-    1,
-    1,
-    0x6200_0000,
-    4,
-    0x0102_0304,
-    1,
-    0x4200_0000,
-    8,
-    0,
-    10,
+const VERSION_3_LOCK: &[&str] = &[
+    "begins",
+    "2 v3-lock a 0 10 = granted",
+    "3 test b 0 0 = held a 0 10",
 ];
 
-// The first of two that wait is told in its own version; who asks again in another is the same waiter.
 #[test]
-fn version_1_granted(rt: HostRuntime) -> Result<(), Fail> {
-    let calls = [
-        (36, Asks::Locks(Who::A, 0, 10), GRANTED),
-        (37, in_version(1, Narrow::Blocks(Who::B, 0, 10)), BLOCKED),
-        (38, Asks::Blocks(Who::C, 0, 10), BLOCKED),
-        (39, Asks::Blocks(Who::B, 0, 10), BLOCKED),
-        (40, Asks::Unlocks(Who::A, 0, 10), GRANTED),
-    ];
-    let parts = [
-        BEGINS,
-        Part::Calls(&calls, 64),
-        Part::Sends("b", &GRANTED_IN_1),
-        Part::NothingDue,
-    ];
-    assert!(rt; plays(rt.alloc(), Vec::new(rt.alloc()), &parts)?);
-    Ok(())
+fn version_3_lock(rt: HostRuntime) {
+    assert_eq!(rt; wrong(rt.alloc(), VERSION_3_LOCK), None);
 }
 
-/// LOCK_RES of version 3 under the xid 1, mark first: BLOCKED, with the cookie 42.
-const BLOCKED_IN_3: [u32; 14] = [0x8000_0034, 1, 0, 2, 100_021, 3, 12, 0, 0, 0, 0, 4, 42, 3];
+/// How a TEST of version 3 shows a lock of version 4: of a byte behind 2^32, of 2^32 bytes, and of few.
+const CLAMPED_HOLDER: [&[&str]; 3] = [
+    &[
+        "begins",
+        "170 lock a 4294967296 1 = granted",
+        "171 v3-test b 0 0 = held-narrow a 4294967295 0",
+    ],
+    &[
+        "begins",
+        "170 lock a 0 4294967296 = granted",
+        "171 v3-test b 0 0 = held-narrow a 0 0",
+    ],
+    &[
+        "begins",
+        "170 lock a 10 10 = granted",
+        "171 v3-test b 0 0 = held-narrow a 10 10",
+    ],
+];
 
-// A message form is told in its call's version.
 #[test]
-fn version_3_result(rt: HostRuntime) -> Result<(), Fail> {
-    let waits = in_version(3, Narrow::BlocksByMessage(Who::B, 0, 10));
-    let calls = [
-        (41, Asks::Locks(Who::A, 0, 10), GRANTED),
-        (42, waits, Told::Done),
-    ];
-    let parts = [
-        BEGINS,
-        Part::Calls(&calls, 64),
-        Part::Sends("b", &BLOCKED_IN_3),
-        Part::NothingDue,
-    ];
-    assert!(rt; plays(rt.alloc(), Vec::new(rt.alloc()), &parts)?);
-    Ok(())
+fn clamped_holder(rt: HostRuntime) {
+    for lines in CLAMPED_HOLDER {
+        assert_eq!(rt; wrong(rt.alloc(), lines), None);
+    }
+}
+
+/// DEADLCK and STALE_FH are DENIED, a TEST with nobody as holder; version 1 has no SHARE.
+const MAPPED_STATUSES: &[&str] = &[
+    "begins",
+    "15 lock a 1 1 = granted",
+    "16 lock b 2 1 = granted",
+    "17 block a 2 1 = blocked",
+    "18 v3-block b 1 1 = denied",
+    "19 v3-lock-long a = denied",
+    "20 v3-test-long a = held-by-nobody",
+    "21 v1-share a = refused 3",
+    "22 v3-share a = shared",
+    "23 v3-lock-cut a 0 1 = garbage-args",
+    "quiet",
+];
+
+#[test]
+fn mapped_statuses(rt: HostRuntime) {
+    assert_eq!(rt; wrong(rt.alloc(), MAPPED_STATUSES), None);
+}
+
+/// The first of two that wait is told in its own version; who asks again in another is the same waiter.
+const VERSION_1_GRANTED: &[&str] = &[
+    "begins",
+    "36 lock a 0 10 = granted",
+    "37 v1-block b 0 10 = blocked",
+    "38 block c 0 10 = blocked",
+    "39 block b 0 10 = blocked",
+    "40 unlock a 0 10 = granted",
+    "sends b 1 grant-v1 b 1 0 10",
+    "quiet",
+];
+
+#[test]
+fn version_1_granted(rt: HostRuntime) {
+    assert_eq!(rt; wrong(rt.alloc(), VERSION_1_GRANTED), None);
+}
+
+/// A message form is told in its call's version.
+const VERSION_3_RESULT: &[&str] = &[
+    "begins",
+    "41 lock a 0 10 = granted",
+    "42 v3-block-msg b 0 10 = done",
+    "sends b 1 lock-res-v3 42 3",
+    "quiet",
+];
+
+#[test]
+fn version_3_result(rt: HostRuntime) {
+    assert_eq!(rt; wrong(rt.alloc(), VERSION_3_RESULT), None);
 }

@@ -1,197 +1,324 @@
 //! Locks that are waited for, from bytes to bytes: who waits, who is granted, and what the server calls then (XNFS, NLM_LOCK,
 //! NLM_CANCEL and NLM_GRANTED).
-use crate::calls::{Asks, Grant, Told, Who};
-use crate::plays::plays;
-use crate::server::{BEGINS, Line, Part};
-use crate::stores::plays_both;
-use std::alloc::Global;
+use crate::servers::{wrong, wrong_in_both};
 use std::test::*;
 
-/// A grant of the file's first bytes.
-pub(crate) const fn grant(number: u32, who: Who, exclusive: u32, len: u64) -> Grant {
-    Grant {
-        number,
-        who,
-        exclusive,
-        offset: 0,
-        len,
-    }
-}
-
-// A grant that narrows its own lock frees whoever stood before it.
-fn settles_twice(alloc: Global) -> Result<bool, Fail> {
-    let calls = [
-        (10, Asks::Locks(Who::A, 0, 10), Told::Stat(0)),
-        (11, Asks::Locks(Who::D, 20, 1), Told::Stat(0)),
-        (12, Asks::BlocksShared(Who::B, 0, 1), Told::Stat(3)),
-        (13, Asks::BlocksShared(Who::A, 0, 21), Told::Stat(3)),
-        (14, Asks::Unlocks(Who::D, 20, 1), Told::Stat(0)),
-    ];
-    let parts = [
-        BEGINS,
-        Part::NothingDue,
-        Part::Calls(&calls, 64),
-        Part::Grants(grant(1, Who::A, 0, 21)),
-        Part::Grants(grant(2, Who::B, 0, 1)),
-        Part::NothingDue,
-    ];
-    plays(alloc, Vec::new(alloc), &parts)
-}
+/// A grant that narrows its own lock frees whoever stood before it.
+const SETTLE_TWICE: &[&str] = &[
+    "begins",
+    "quiet",
+    "10 lock a 0 10 = granted",
+    "11 lock d 20 1 = granted",
+    "12 block-shared b 0 1 = blocked",
+    "13 block-shared a 0 21 = blocked",
+    "14 unlock d 20 1 = granted",
+    "sends a 1 grant a 0 0 21",
+    "sends b 2 grant b 0 0 1",
+    "quiet",
+];
 
 #[test]
-fn settle_twice(rt: HostRuntime) -> Result<(), Fail> {
-    assert!(rt; settles_twice(rt.alloc())?);
-    Ok(())
+fn settle_twice(rt: HostRuntime) {
+    assert_eq!(rt; wrong(rt.alloc(), SETTLE_TWICE), None);
 }
 
-fn tells_deadlock(alloc: Global) -> Result<bool, Fail> {
-    let calls = [
-        (15, Asks::Locks(Who::A, 1, 1), Told::Stat(0)),
-        (16, Asks::Locks(Who::B, 2, 1), Told::Stat(0)),
-        (17, Asks::Blocks(Who::A, 2, 1), Told::Stat(3)),
-        (18, Asks::Blocks(Who::B, 1, 1), Told::Stat(5)),
-    ];
-    let parts = [BEGINS, Part::Calls(&calls, 64), Part::NothingDue];
-    plays(alloc, Vec::new(alloc), &parts)
-}
+/// Who closes a cycle does not wait. Who holds nothing closes none.
+const DEADLOCK: &[&str] = &[
+    "begins",
+    "15 lock a 1 1 = granted",
+    "16 lock b 2 1 = granted",
+    "17 block a 2 1 = blocked",
+    "18 block b 1 1 = deadlock",
+    "quiet",
+    "19 block d 1 1 = blocked",
+    "quiet",
+    "20 unlock a 1 1 = granted",
+    "sends d 1 grant d 1 1 1",
+    "21 unlock b 2 1 = granted",
+    "sends a 2 grant a 1 2 1",
+    "quiet",
+];
 
-// What an open file description holds, what is asked of the other bytes, and how it waits for them.
-#[derive(Clone, Copy)]
-struct Description<'a> {
-    holds: &'a [(&'a str, &'a str)],
-    calls: &'a [Line],
-    waits: &'a [(&'a str, &'a str)],
-}
-
-fn is_let_wait(alloc: Global, row: Description<'_>) -> Result<bool, Fail> {
-    let parts = [
-        BEGINS,
-        Part::Lines(row.holds),
-        Part::Calls(row.calls, 64),
-        Part::Lines(row.waits),
-        Part::NothingDue,
-    ];
-    plays(alloc, Vec::new(alloc), &parts)
-}
-
-// An open file description is no step of a cycle, and waits.
-fn description_waits(alloc: Global) -> Result<bool, Fail> {
-    let calls = [
-        (15, Asks::Locks(Who::A, 1, 1), Told::Stat(0)),
-        (17, Asks::Blocks(Who::A, 2, 1), Told::Stat(3)),
-    ];
-    let row = Description {
-        holds: &[("setlk d7 01020304 w 2 1", "ok")],
-        calls: &calls,
-        waits: &[("setlkw d7 01020304 w 1 1", "wait")],
-    };
-    is_let_wait(alloc, row)
-}
+/// An open file description is no step of a cycle, and waits.
+const DESCRIPTION_WAITS: &[&str] = &[
+    "begins",
+    "local |setlk d7 01020304 w 2 1| ok",
+    "15 lock a 1 1 = granted",
+    "17 block a 2 1 = blocked",
+    "local |setlkw d7 01020304 w 1 1| wait",
+    "quiet",
+];
 
 #[test]
-fn deadlock(rt: HostRuntime) -> Result<(), Fail> {
-    assert!(rt; tells_deadlock(rt.alloc())?);
-    assert!(rt; description_waits(rt.alloc())?);
-    Ok(())
+fn deadlock(rt: HostRuntime) {
+    assert_eq!(rt; wrong(rt.alloc(), DEADLOCK), None);
+    assert_eq!(rt; wrong(rt.alloc(), DESCRIPTION_WAITS), None);
 }
 
-// Who asks again has one place, and who cancels gets nothing later.
-fn cancels(alloc: Global) -> Result<bool, Fail> {
-    let calls = [
-        (120, Asks::Locks(Who::A, 0, 10), Told::Stat(0)),
-        (121, Asks::Blocks(Who::B, 0, 10), Told::Stat(3)),
-        (122, Asks::Blocks(Who::B, 0, 10), Told::Stat(3)),
-        (123, Asks::Cancels(Who::B, 0, 10), Told::Stat(0)),
-        (124, Asks::Cancels(Who::B, 0, 10), Told::Stat(1)),
-        (125, Asks::Unlocks(Who::A, 0, 10), Told::Stat(0)),
-    ];
-    let parts = [BEGINS, Part::Calls(&calls, 64), Part::NothingDue];
-    plays(alloc, Vec::new(alloc), &parts)
-}
-
-#[test]
-fn cancel(rt: HostRuntime) -> Result<(), Fail> {
-    assert!(rt; cancels(rt.alloc())?);
-    Ok(())
-}
-
-// A grant that is turned down goes to the next, whose call falls silent three times; the lock stays his.
-fn refuses_grant(alloc: Global) -> Result<bool, Fail> {
-    let calls = [
-        (36, Asks::Locks(Who::A, 0, 10), Told::Stat(0)),
-        (37, Asks::Blocks(Who::B, 0, 10), Told::Stat(3)),
-        (38, Asks::Blocks(Who::C, 0, 10), Told::Stat(3)),
-        (39, Asks::Unlocks(Who::A, 0, 10), Told::Stat(0)),
-    ];
-    let last = [(40, Asks::Tests(Who::B, 0, 0), Told::Held(Who::C, 0, 10))];
-    let to_c = Part::Grants(grant(2, Who::C, 1, 10));
-    let parts = [
-        BEGINS,
-        Part::Calls(&calls, 64),
-        Part::Grants(grant(1, Who::B, 1, 10)),
-        Part::Answered(1, 1),
-        to_c,
-        Part::Silent(2),
-        to_c,
-        Part::Silent(2),
-        to_c,
-        Part::Silent(2),
-        Part::NothingDue,
-        Part::Calls(&last, 64),
-    ];
-    plays(alloc, Vec::new(alloc), &parts)
-}
+/// Who asks again has one place, and who cancels gets nothing later.
+const CANCEL: &[&str] = &[
+    "begins",
+    "120 lock a 0 10 = granted",
+    "121 block b 0 10 = blocked",
+    "122 block b 0 10 = blocked",
+    "known 2",
+    "123 cancel b 0 10 = granted",
+    "known 1",
+    "124 cancel b 0 10 = denied",
+    "125 unlock a 0 10 = granted",
+    "quiet",
+];
 
 #[test]
-fn grant_refused(rt: HostRuntime) -> Result<(), Fail> {
-    assert!(rt; refuses_grant(rt.alloc())?);
-    Ok(())
+fn cancel(rt: HostRuntime) {
+    assert_eq!(rt; wrong(rt.alloc(), CANCEL), None);
 }
 
-// The bytes of a local program come free, and it is told so on its own connection.
-fn grants_a_line(alloc: Global) -> Result<bool, Fail> {
-    let lock = [(126, Asks::Locks(Who::A, 0, 1), Told::Stat(0))];
-    let line = [("setlkw p9 01020304 w 0 1", "wait")];
-    let unlock = [(127, Asks::Unlocks(Who::A, 0, 1), Told::Stat(0))];
-    let parts = [
-        BEGINS,
-        Part::Calls(&lock, 64),
-        Part::Lines(&line),
-        Part::NothingDue,
-        Part::Calls(&unlock, 64),
-        Part::SendsLine("granted p9 01020304 w 0 1"),
-        Part::NothingDue,
-    ];
-    plays(alloc, Vec::new(alloc), &parts)
-}
+/// Neither the owner's other wait nor another owner's is cancelled.
+const CANCEL_IS_OF_JUST_ONE: &[&str] = &[
+    "begins",
+    "120 lock a 0 10 = granted",
+    "121 block-shared b 0 10 = blocked",
+    "122 block b 0 9 = blocked",
+    "123 cancel b 0 10 = denied",
+    "124 cancel d 0 9 = denied",
+    "125 cancel b 0 9 = granted",
+    "126 unlock a 0 10 = granted",
+    "sends b 1 grant b 0 0 10",
+    "quiet",
+];
 
 #[test]
-fn setlkw_granted(rt: HostRuntime) -> Result<(), Fail> {
-    assert!(rt; grants_a_line(rt.alloc())?);
-    Ok(())
+fn cancel_is_of_just_one(rt: HostRuntime) {
+    assert_eq!(rt; wrong(rt.alloc(), CANCEL_IS_OF_JUST_ONE), None);
 }
 
-// Only who asks by a blocking LOCK gets a row, and he has one place.
-fn stores_waiters(alloc: Global) -> Result<bool, Fail> {
-    let first = [
-        (133, Asks::Locks(Who::A, 0, 1), Told::Stat(0)),
-        (134, Asks::NmBlocks(Who::B, 0, 1), Told::Stat(3)),
-    ];
-    let last = [(135, Asks::Blocks(Who::B, 0, 1), Told::Stat(3))];
-    let before = [(Who::A, 1, 3)];
-    let after = [(Who::A, 1, 3), (Who::B, 1, 3)];
-    let parts = [
-        BEGINS,
-        Part::Calls(&first, 64),
-        Part::Rows(&before),
-        Part::Calls(&last, 64),
-        Part::Rows(&after),
-    ];
-    plays_both(alloc, &parts)
-}
+/// A grant that is turned down goes to the next, whose call falls silent three times; the lock stays his.
+const GRANT_REFUSED: &[&str] = &[
+    "begins",
+    "36 lock a 0 10 = granted",
+    "37 block b 0 10 = blocked",
+    "38 block c 0 10 = blocked",
+    "quiet",
+    "39 unlock a 0 10 = granted",
+    "sends b 1 grant b 1 0 10",
+    "answer 1 said 1",
+    "stored not-asked",
+    "sends c 2 grant c 1 0 10",
+    "silent 1 2",
+    "sends c 2 grant c 1 0 10",
+    "silent 1 2",
+    "sends c 2 grant c 1 0 10",
+    "silent 1 2",
+    "quiet",
+    "40 test b 0 0 = held c 0 10",
+];
 
 #[test]
-fn rows_of_waiters(rt: HostRuntime) -> Result<(), Fail> {
-    assert!(rt; stores_waiters(rt.alloc())?);
-    Ok(())
+fn grant_refused(rt: HostRuntime) {
+    assert_eq!(rt; wrong(rt.alloc(), GRANT_REFUSED), None);
+}
+
+/// A grant that is turned down goes to the next, who takes it; his call is over then.
+const GRANTED_THEN: &[&str] = &[
+    "begins",
+    "36 lock a 0 10 = granted",
+    "37 block b 0 10 = blocked",
+    "38 block d 0 10 = blocked",
+    "quiet",
+    "39 unlock a 0 10 = granted",
+    "sends b 1 grant b 1 0 10",
+    "answer 1 said 1",
+    "stored not-asked",
+    "sends d 2 grant d 1 0 10",
+    "answer 2 said 0",
+    "stored not-asked",
+    "quiet",
+    "silent 1 2",
+    "quiet",
+    "40 test b 0 0 = held d 0 10",
+];
+
+#[test]
+fn granted_then(rt: HostRuntime) {
+    assert_eq!(rt; wrong(rt.alloc(), GRANTED_THEN), None);
+}
+
+/// The bytes of a local program come free, and it is told so on its own connection.
+const SETLKW_GRANTED: &[&str] = &[
+    "begins",
+    "126 lock a 0 1 = granted",
+    "local |setlkw p9 01020304 w 0 1| wait",
+    "quiet",
+    "127 unlock a 0 1 = granted",
+    "sends-line granted p9 01020304 w 0 1",
+    "quiet",
+];
+
+#[test]
+fn setlkw_granted(rt: HostRuntime) {
+    assert_eq!(rt; wrong(rt.alloc(), SETLKW_GRANTED), None);
+}
+
+/// Only who asks by a blocking LOCK gets a row, and he has one place. Who is freed waits no longer.
+const ROWS_OF_WAITERS: &[&str] = &[
+    "begins",
+    "133 lock a 0 1 = granted",
+    "134 nm-block b 0 1 = blocked",
+    "rows a 1 3",
+    "135 block b 0 1 = blocked",
+    "rows a 1 3 b 1 3",
+    "136 free-all b = done",
+    "137 test b 0 0 = held a 0 1",
+    "138 unlock a 0 1 = granted",
+    "quiet",
+];
+
+#[test]
+fn rows_of_waiters(rt: HostRuntime) {
+    assert_eq!(rt; wrong_in_both(rt.alloc(), ROWS_OF_WAITERS), None);
+}
+
+/// A GRANTED isn't answered by a GRANTED_RES.
+const GRANT_SAYS_NOTHING: &[&str] = &[
+    "begins",
+    "160 lock b 0 10 = granted",
+    "161 block a 0 10 = blocked",
+    "162 unlock b 0 10 = granted",
+    "sends a 1 grant a 1 0 10",
+    "163 granted-res 1 1 1 = done",
+    "164 test b 0 0 = held a 0 10",
+    "silent 1 1",
+    "sends a 1 grant a 1 0 10",
+    "quiet",
+];
+
+#[test]
+fn grant_says_nothing(rt: HostRuntime) {
+    assert_eq!(rt; wrong(rt.alloc(), GRANT_SAYS_NOTHING), None);
+}
+
+/// Whoever is told that the grace period isn't over calls again; once the grant is taken its call is over.
+const GRANT_TAKEN: &[&str] = &[
+    "begins",
+    "170 nm-lock b 0 10 = granted",
+    "171 nm-block a 0 10 = blocked",
+    "172 unlock b 0 10 = granted",
+    "sends a 1 grant a 1 0 10",
+    "answer 1 said 4",
+    "stored not-asked",
+    "sends a 1 grant a 1 0 10",
+    "answer 1 said 0",
+    "stored not-asked",
+    "quiet",
+    "silent 1 1",
+    "quiet",
+    "173 test b 0 0 = held a 0 10",
+];
+
+#[test]
+fn grant_taken(rt: HostRuntime) {
+    assert_eq!(rt; wrong(rt.alloc(), GRANT_TAKEN), None);
+}
+
+/// Once a grant is turned down its owner holds nothing, and is forgotten.
+const GRANT_TURNED: &[&str] = &[
+    "begins",
+    "174 nm-lock b 0 10 = granted",
+    "175 nm-block a 0 10 = blocked",
+    "176 unlock b 0 10 = granted",
+    "177 nm-lock b 0 10 = denied",
+    "sends a 1 grant a 1 0 10",
+    "known 1",
+    "answer 1 said 1",
+    "stored not-asked",
+    "quiet",
+    "silent 1 1",
+    "quiet",
+    "known 0",
+    "178 test b 0 0 = granted",
+];
+
+#[test]
+fn grant_turned(rt: HostRuntime) {
+    assert_eq!(rt; wrong(rt.alloc(), GRANT_TURNED), None);
+}
+
+/// A GRANTED_MSG is answered by its GRANTED_RES alone.
+const MESSAGE_TURNED: &[&str] = &[
+    "begins",
+    "180 lock b 0 10 = granted",
+    "181 block-msg a 0 10 = done",
+    "sends a 1 lock-res 181 3",
+    "answer 1 done",
+    "182 unlock b 0 10 = granted",
+    "sends a 2 grant-msg a 1 0 10",
+    "answer 2 done",
+    "stored not-asked",
+    "183 granted-res 1 1 1 = done",
+    "184 test b 0 0 = held a 0 10",
+    "185 granted-res 1 2 1 = done",
+    "186 test b 0 0 = granted",
+    "silent 1 2",
+    "quiet",
+];
+
+#[test]
+fn message_turned(rt: HostRuntime) {
+    assert_eq!(rt; wrong(rt.alloc(), MESSAGE_TURNED), None);
+}
+
+/// How many owners have a number after each procedure.
+const KNOWN_BY_HOLDING: &[&str] = &[
+    "begins",
+    "190 null = done",
+    "191 test a 0 0 = granted",
+    "192 share a 1 0 = shared",
+    "193 unshare a = shared",
+    "194 cancel a 0 10 = denied",
+    "known 0",
+    "195 lock a 0 10 = granted",
+    "known 1",
+    "196 lock b 0 10 = denied",
+    "197 nm-lock b 5 1 = denied",
+    "known 1",
+    "198 nm-lock b 20 2 = granted",
+    "known 2",
+    "199 unlock b 20 1 = granted",
+    "known 2",
+    "200 unlock b 0 0 = granted",
+    "known 1",
+    "201 free-all a = done",
+    "known 0",
+];
+
+#[test]
+fn known_by_holding(rt: HostRuntime) {
+    assert_eq!(rt; wrong(rt.alloc(), KNOWN_BY_HOLDING), None);
+}
+
+/// The same of those who wait. In the end `b` doesn't want it any more, and `d` has it.
+const KNOWN_BY_WAITING: &[&str] = &[
+    "begins",
+    "210 lock a 0 10 = granted",
+    "211 block b 0 10 = blocked",
+    "known 2",
+    "212 cancel b 0 10 = granted",
+    "known 1",
+    "213 block b 0 10 = blocked",
+    "214 nm-block d 0 10 = blocked",
+    "known 3",
+    "215 unlock a 0 10 = granted",
+    "known 2",
+    "sends b 1 grant b 1 0 10",
+    "answer 1 said 1",
+    "stored not-asked",
+    "known 1",
+    "216 unlock d 0 10 = granted",
+    "known 0",
+];
+
+#[test]
+fn known_by_waiting(rt: HostRuntime) {
+    assert_eq!(rt; wrong(rt.alloc(), KNOWN_BY_WAITING), None);
 }

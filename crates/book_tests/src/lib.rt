@@ -1,16 +1,8 @@
-//! Tests of the book apart from it: its segments, the stores of hosts under it, and each growth refused in turn. There is
-//! nothing in it but tests.
+//! A full segment of the journal, and a store that is begun, apart from the daemon above them. There is nothing in it but tests;
+//! the book's other rows are played from bytes to bytes in `acceptance`.
 #![tactic(auto)]
 
 #[cfg(test)]
-mod books;
-#[cfg(test)]
-mod calls;
-#[cfg(test)]
-mod growths;
-#[cfg(test)]
-mod lent;
+mod lasting;
 #[cfg(test)]
 mod rotation;
-#[cfg(test)]
-mod stores;

@@ -1,4 +1,4 @@
-//! A store that is lent to a book, so that its rows can be read when the book is gone, and how often it was asked to write.
+//! A store that is lent to a server, so that its rows can be read when the server is gone, and how often it was asked to write.
 use hosts_db::{HostRow, HostStore, MyId, StoreError, Watch};
 
 #[derive(Drop)]

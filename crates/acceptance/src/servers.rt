@@ -1,0 +1,198 @@
+//! Servers over a table of ranges and a store of hosts, and the scripts that they are to play. The functions are generic, and
+//! so cheap to prove.
+ghost use Rattle.std.specs.Prelude.{◌≡◌, ◌<◌, []};
+
+use crate::page::Page;
+use crate::script::wrong_line;
+use daemon_core::Daemon;
+use hosts_db::{FULL_QUOTA, HostRow, HostStore, MemHosts};
+use hosts_sql::SqlHosts;
+use letters::ShortBytes;
+use range_arena::ArenaTable;
+use range_table::RangeTable;
+use sqlite::{Alter, Connection, MemStore};
+use std::alloc::Global;
+
+/// Where a server can't begin at all.
+pub(crate) const NO_SERVER: Option<usize> = Some(usize::MAX);
+
+/// The bytes of a stream that come at once, where the test doesn't care.
+pub(crate) const PIECE: usize = 64;
+
+/// The daemon of a server named `server`, over a table without runs.
+pub(crate) fn opened<T: RangeTable + Drop, S: HostStore + Drop>(
+    alloc: Global,
+    table: T,
+    store: S,
+) -> Option<Daemon<T, S>>
+    requires { T.settings table ≡ [] }
+{
+    let name = ShortBytes::copy_of(alloc, b"server").ok()?;
+    Daemon::new(alloc, table, store, name).ok()
+}
+
+/// The place of the first line that a server over this store plays wrong.
+pub(crate) fn wrong_over<'a, S: HostStore + Drop>(
+    alloc: Global,
+    store: S,
+    most: usize,
+    lines: &[&'a str],
+) -> Option<usize> {
+    let Ok(table) = ArenaTable::new(alloc) else {
+        return NO_SERVER;
+    };
+    let Some(mut daemon) = opened(alloc, table, store) else {
+        return NO_SERVER;
+    };
+    let mut page = Page::new(alloc, most);
+    let wrong = wrong_line(&mut daemon, &mut page, lines);
+    drop(page);
+    drop(daemon);
+    wrong
+}
+
+/// A store in memory whose own state is this, with these rows.
+pub(crate) fn memory(alloc: Global, own: u32, hosts: Vec<HostRow>) -> Option<MemHosts>
+    requires { own < 2147483648 }
+{
+    MemHosts::new(alloc, own, hosts, Vec::new(alloc)).ok()
+}
+
+fn wrong_in_memory(
+    alloc: Global,
+    own: u32,
+    hosts: Option<Vec<HostRow>>,
+    most: usize,
+    lines: &[&str],
+) -> Option<usize>
+    requires { own < 2147483648 }
+{
+    let Some(hosts) = hosts else {
+        return NO_SERVER;
+    };
+    match memory(alloc, own, hosts) {
+        Some(store) => wrong_over(alloc, store, most, lines),
+        None => NO_SERVER,
+    }
+}
+
+/// Of a server of no hosts, in memory.
+pub(crate) fn wrong(alloc: Global, lines: &[&str]) -> Option<usize> {
+    wrong_by(alloc, PIECE, lines)
+}
+
+/// The same where the stream comes by so many bytes.
+pub(crate) fn wrong_by(alloc: Global, most: usize, lines: &[&str]) -> Option<usize> {
+    wrong_in_memory(alloc, 0, Some(Vec::new(alloc)), most, lines)
+}
+
+/// The same of a stream that comes whole, and of one that comes by five bytes.
+pub(crate) fn wrong_in_row(alloc: Global, lines: &[&str]) -> Option<usize> {
+    let whole = wrong_by(alloc, 8_192, lines);
+    if whole.is_some() {
+        return whole;
+    }
+    wrong_by(alloc, 5, lines)
+}
+
+/// The same of each stream, after the grace period: whole, and byte by byte.
+pub(crate) fn wrong_in_streams(alloc: Global, streams: &[&[&str]]) -> Option<usize> {
+    for (place, lines) in streams.iter().enumerate() {
+        let whole = wrong_by(alloc, 8_192, lines);
+        if whole.is_some() || wrong_by(alloc, 1, lines).is_some() {
+            return Some(place);
+        }
+    }
+    None
+}
+
+/// Of a server in this own state that knows these hosts, each of one byte of name, with the epoch 1 and the state 3.
+pub(crate) fn wrong_of_hosts(alloc: Global, own: u32, names: &[u8], lines: &[&str]) -> Option<usize>
+    requires { own < 2147483648 }
+{
+    wrong_in_memory(alloc, own, hosts_of(alloc, names), PIECE, lines)
+}
+
+fn hosts_of(alloc: Global, names: &[u8]) -> Option<Vec<HostRow>> {
+    let mut hosts = Vec::new(alloc);
+    if put_hosts(alloc, &mut hosts, names).is_none() {
+        return None;
+    }
+    Some(hosts)
+}
+
+fn put_hosts(alloc: Global, hosts: &mut Vec<HostRow>, names: &[u8]) -> Option<()> {
+    for letter in names {
+        let name = Vec::from_slice(alloc, [*letter].as_slice()).ok()?;
+        hosts.push(HostRow::new(name, 1, 3, FULL_QUOTA)).ok()?;
+    }
+    Some(())
+}
+
+/// Of a server that knows as many hosts as a store has.
+pub(crate) fn wrong_of_all_hosts(alloc: Global, lines: &[&str]) -> Option<usize> {
+    wrong_in_memory(alloc, 0, all_hosts(alloc), PIECE, lines)
+}
+
+/// As many hosts as a store has.
+pub(crate) fn all_hosts(alloc: Global) -> Option<Vec<HostRow>> {
+    let mut hosts = Vec::new(alloc);
+    if put_all_hosts(alloc, &mut hosts).is_none() {
+        return None;
+    }
+    Some(hosts)
+}
+
+fn put_all_hosts(alloc: Global, hosts: &mut Vec<HostRow>) -> Option<()> {
+    for number in 0..4_096u32 {
+        let name = Vec::from_slice(alloc, number.to_be_bytes().as_slice()).ok()?;
+        hosts.push(HostRow::new(name, 1, 0, FULL_QUOTA)).ok()?;
+    }
+    Some(())
+}
+
+// It is generic, so that the proof of a call sees no more of a database than its trait.
+fn wrong_in<S: Alter + Drop>(alloc: Global, store: SqlHosts<S>, lines: &[&str]) -> Option<usize> {
+    wrong_over(alloc, store, PIECE, lines)
+}
+
+/// Of a server over a database in memory that these statements have changed, once it was started, if it was.
+pub(crate) fn wrong_in_sql(alloc: Global, changes: Option<&str>, lines: &[&str]) -> Option<usize> {
+    match database(alloc, changes) {
+        Some(store) => wrong_in(alloc, store, lines),
+        None => NO_SERVER,
+    }
+}
+
+/// Of a server of no hosts, over memory and over a database.
+pub(crate) fn wrong_in_both(alloc: Global, lines: &[&str]) -> Option<usize> {
+    let in_memory = wrong(alloc, lines);
+    if in_memory.is_some() {
+        return in_memory;
+    }
+    wrong_in_sql(alloc, None, lines)
+}
+
+fn adopted(alloc: Global, conn: Connection<MemStore>) -> Option<SqlHosts<MemStore>> {
+    SqlHosts::adopt(alloc, conn).ok()
+}
+
+/// A fresh database; or one that was started, and then changed by these statements.
+pub(crate) fn database(alloc: Global, changes: Option<&str>) -> Option<SqlHosts<MemStore>> {
+    let store = adopted(alloc, Connection::open_in_memory(alloc).ok()?)?;
+    match changes {
+        Some(statements) => adopted(alloc, changed(store, statements)?),
+        None => Some(store),
+    }
+}
+
+fn changed(mut store: SqlHosts<MemStore>, statements: &str) -> Option<Connection<MemStore>> {
+    if store.start().is_err() {
+        return None;
+    }
+    let mut conn = store.into_connection();
+    match conn.execute_batch(statements) {
+        Ok(_) => Some(conn),
+        Err(_) => None,
+    }
+}
