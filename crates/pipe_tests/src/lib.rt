@@ -2,6 +2,8 @@
 #![tactic(auto)]
 
 #[cfg(test)]
-mod streams;
+mod ends;
 #[cfg(test)]
-mod tables;
+mod loops;
+#[cfg(test)]
+mod rows;
