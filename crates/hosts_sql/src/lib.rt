@@ -3,9 +3,5 @@
 
 mod calls;
 mod store;
-#[cfg(test)]
-mod tests;
-#[cfg(test)]
-mod upgraded;
 
 pub use store::SqlHosts;

@@ -1,60 +1,80 @@
 //! What a refused growth leaves: run this test with each allocation failing in turn.
-use crate::calls::{Call, is_same, model_after, run};
-use hosts_db::{HostStore, MemHosts, StoreError};
-use hosts_sql::SqlHosts;
-use sqlite::{Connection, MemStore};
+use crate::calls::call;
+use crate::shown::{are_same, model};
+use crate::visits::{Came, Work, visit};
+use hosts_db::{HostStore, MemHosts};
+use sqlite::Connection;
 use std::alloc::Global;
 use std::test::*;
 
-const SCRIPT: [Call; 11] = [
-    Call::Start,
-    Call::Monitor(2, -5),
-    Call::Start,
-    Call::Seen(2, 8),
-    Call::Acked(2, 3),
-    Call::Quota(2, 5),
-    Call::Watch(2, 6, 7),
-    Call::Watch(3, 6, 7),
-    Call::Watch(2, 6, 9),
-    Call::Unwatch(Some(3), 6),
-    Call::Unwatch(None, 6),
-];
+const SCRIPT: &str = "\
+start
+monitor b -5
+start
+seen b 8
+acked b 3
+quota b 5
+watch b f 7
+watch c f 7
+watch b f 9
+unwatch c f
+unwatch * f
+";
 
-fn fresh(alloc: Global) -> Option<SqlHosts<MemStore>> {
-    match Connection::open_in_memory(alloc) {
-        Ok(conn) => SqlHosts::adopt(alloc, conn).ok(),
-        Err(_) => None,
-    }
+/// Makes the calls of the script on a store and on one in memory, and again where a growth was refused.
+#[derive(Drop)]
+struct Growths {
+    alloc: Global,
+    model: MemHosts,
+    wrong: Option<&'static str>,
 }
 
-// Whether a call may answer so: want of memory of the store's own comes where it keeps copies, and never in `acked`.
-fn may_be(call: Call, error: StoreError) -> bool {
-    match (call, error) {
-        (_, StoreError::StoreRefused) => true,
-        (Call::Monitor(..) | Call::Watch(..), StoreError::Starved) => true,
-        (_, StoreError::Starved) => false,
-    }
+// Whether a call may be answered so: want of memory of the store's own comes where it keeps copies, and never in
+// `acked`.
+fn may_be(line: &str, answer: &str) -> bool {
+    let keeps_copies = line.starts_with("monitor") || line.starts_with("watch");
+    answer == "refused" || (answer == "starved" && keeps_copies)
 }
 
 // Makes the call, and again where a growth was refused, which leaves the rows as the model has them.
-fn is_made<S: HostStore>(store: &mut S, model: &MemHosts, call: Call) -> bool {
-    match run(store, call) {
-        Ok(()) => true,
-        Err(error) => may_be(call, error) && is_same(store, model) && run(store, call).is_ok(),
+fn is_made<S: HostStore>(alloc: Global, store: &mut S, model: &MemHosts, line: &str) -> bool {
+    let answer = call(store, line);
+    if answer == "ok" {
+        return true;
+    }
+    may_be(line, answer) && are_same(alloc, store, model) && call(store, line) == "ok"
+}
+
+impl Work for Growths {
+    fn work<S: HostStore>(&mut self, store: &mut S) {
+        for line in SCRIPT.lines() {
+            let is_made = is_made(self.alloc, store, &self.model, line);
+            let is_modelled = call(&mut self.model, line) == "ok"
+                || call(&mut self.model, line) == "ok";
+            if !is_made || !is_modelled || !are_same(self.alloc, store, &self.model) {
+                self.wrong = Some(line);
+                return;
+            }
+        }
+    }
+}
+
+// The line at which it goes wrong. Where a growth is refused before there is a store, nothing does.
+fn wrong(alloc: Global) -> Option<&'static str> {
+    let mut growths = Growths {
+        alloc,
+        model: model(alloc)?,
+        wrong: None,
+    };
+    let conn = Connection::open_in_memory(alloc).ok()?;
+    let (came, _conn) = visit(alloc, conn, ["", ""], &mut growths);
+    match came {
+        Came::Unopened | Came::Unfilled => Some("no database"),
+        _ => growths.wrong,
     }
 }
 
 #[test]
 fn growths_refused(rt: HostRuntime) {
-    let Some(mut store) = fresh(rt.alloc()) else {
-        return;
-    };
-    let Ok(mut model) = model_after(rt.alloc(), &[], 0) else {
-        return;
-    };
-    for call in SCRIPT {
-        assert!(rt; is_made(&mut store, &model, call), "{call:?}");
-        assert!(rt; run(&mut model, call).is_ok() || run(&mut model, call).is_ok());
-        assert!(rt; is_same(&store, &model), "{call:?}");
-    }
+    assert_eq!(rt; wrong(rt.alloc()), None);
 }

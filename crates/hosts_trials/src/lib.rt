@@ -1,18 +1,20 @@
 //! Trials of the store of hosts over a database: stops of its disk, refused growths, its limits, and files that it
-//! refuses. There is nothing in it but tests.
+//! takes and refuses. There is nothing in it but tests.
 #![tactic(auto)]
 
 #[cfg(test)]
-mod calls;
+mod adopting;
 #[cfg(test)]
-mod files;
+mod calls;
 #[cfg(test)]
 mod growths;
 #[cfg(test)]
-mod limits;
+mod pairs;
 #[cfg(test)]
-mod refused;
+mod shown;
 #[cfg(test)]
 mod stops;
 #[cfg(test)]
-mod upgrades;
+mod tables;
+#[cfg(test)]
+mod visits;

@@ -1,208 +1,190 @@
-//! A stop of the disk at each of its calls, while each writing call runs.
-use crate::calls::{Call, is_same, model_after, run_all};
-use crate::files::opened;
-use hosts_db::MemHosts;
-use hosts_sql::SqlHosts;
-use sqlite::{Alter, Connection, Files};
-use sqlite_disk::{Crash, Disk, Fuse, Memory};
+//! A stop of the disk at each of its calls, while each writing call runs, and while a file of schema 1 is upgraded.
+use crate::calls::run;
+use crate::shown::{shown, shown_after};
+use crate::tables::FIRST;
+use crate::visits::{Came, Work, fresh, visit_files};
+use hosts_db::HostStore;
+use sqlite::Files;
+use sqlite_disk::{Crash, Fuse, Memory};
 use std::alloc::Global;
 use std::test::*;
 
 // More than a file has in any run.
-pub(crate) const MOST_CALLS: u64 = 500;
+const MOST_CALLS: u64 = 500;
 
 /// Which file stops.
 #[derive(Clone, Copy)]
-pub(crate) enum Stop {
+enum Stop {
     Log,
     Database,
 }
 
-impl Stop {
-    // Fresh files, one of which answers so many calls and then none.
-    fn files(self, alloc: Global, calls: u64) -> Files<Fuse<Memory>> {
-        let (log, db) = match self {
-            Stop::Log => (calls, u64::MAX),
-            Stop::Database => (u64::MAX, calls),
-        };
-        Files {
-            log: Fuse::new(Memory::new(alloc), log),
-            db: Fuse::new(Memory::new(alloc), db),
-        }
+/// What is stopped: what the files hold, in SQL, the calls after which a store in memory holds the same, and the calls
+/// that are made then. The last of them is to be met by stops.
+#[derive(Clone, Copy)]
+struct Trial<'a> {
+    sql: [&'a str; 2],
+    past: &'a str,
+    script: &'a str,
+}
+
+/// Makes the calls up to the first that isn't answered by Ok.
+#[derive(Drop)]
+struct Calls<'a> {
+    script: &'a str,
+    done: usize,
+}
+
+impl Work for Calls<'_> {
+    fn work<S: HostStore>(&mut self, store: &mut S) {
+        self.done = run(store, self.script, usize::MAX);
     }
 }
 
-// Makes the calls over a database up to the first that isn't answered by Ok. How many were.
-fn run_over<S: Alter + Drop>(alloc: Global, conn: Connection<S>, script: &[Call]) -> (usize, S) {
-    match SqlHosts::adopt(alloc, conn) {
-        Ok(mut store) => {
-            let done = run_all(&mut store, script);
-            (done, store.into_connection().into_store())
-        }
-        Err((_, conn)) => (0, conn.into_store()),
-    }
-}
-
-// Whether a database holds what one of the models holds.
-fn holds_either<S: Alter + Drop>(
+/// Notes what a store shows.
+#[derive(Drop)]
+struct Look {
     alloc: Global,
-    conn: Connection<S>,
-    before: &MemHosts,
-    after: &MemHosts,
-) -> (bool, S) {
-    match SqlHosts::adopt(alloc, conn) {
-        Ok(store) => {
-            let is_either = is_same(&store, before) || is_same(&store, after);
-            (is_either, store.into_connection().into_store())
-        }
-        Err((_, conn)) => (false, conn.into_store()),
+    text: Option<String>,
+}
+
+impl Work for Look {
+    fn work<S: HostStore>(&mut self, store: &mut S) {
+        self.text = shown(self.alloc, store);
     }
 }
 
-// Makes the calls up to the stop. How many were answered by Ok, and the files after a crash, which takes what no sync
-// has kept.
-pub(crate) fn stopped<D: Crash + Drop>(
-    alloc: Global,
-    files: Files<D>,
-    script: &[Call],
-) -> (usize, Files<D>) {
-    let (done, mut files) = match opened(alloc, files) {
-        Ok(conn) => {
-            let (done, store) = run_over(alloc, conn, script);
-            (done, store.close())
-        }
-        Err(files) => (0, files),
+// Files that hold the tables and rows of the trial, of which one answers so many calls more.
+fn stopping(alloc: Global, sql: [&str; 2], stop: Stop, calls: u64) -> Files<Fuse<Memory>> {
+    let mut files = fresh(alloc);
+    if !sql[0].is_empty() {
+        let mut look = Look { alloc, text: None };
+        files = visit_files(alloc, files, sql, &mut look).1;
+    }
+    let (log, db) = match stop {
+        Stop::Log => (calls, u64::MAX),
+        Stop::Database => (u64::MAX, calls),
     };
+    Files {
+        log: Fuse::new(files.log, log),
+        db: Fuse::new(files.db, db),
+    }
+}
+
+// What a store over these files shows after a crash, which takes what no sync has kept.
+fn found(alloc: Global, mut files: Files<Fuse<Memory>>) -> Option<String> {
     files.log.crash();
     files.db.crash();
-    (done, files)
-}
-
-// Whether the files open again, and hold what one of the models holds.
-pub(crate) fn leaves_either<D: Disk + Drop>(
-    alloc: Global,
-    files: Files<D>,
-    before: &MemHosts,
-    after: &MemHosts,
-) -> bool {
-    match opened(alloc, files) {
-        Ok(conn) => {
-            let (is_either, store) = holds_either(alloc, conn, before, after);
-            drop(store.close());
-            is_either
-        }
-        Err(_) => false,
-    }
+    let mut look = Look { alloc, text: None };
+    visit_files(alloc, files, ["", ""], &mut look);
+    look.text
 }
 
 // Makes the calls up to the stop. How many were answered by Ok: what is found after a crash is what these left, or the
-// next one too.
-fn run_once<D: Crash + Drop>(
-    alloc: Global,
-    files: Files<D>,
-    script: &[Call],
-) -> Result<usize, Fail> {
-    let (done, files) = stopped(alloc, files, script);
-    let before = model_after(alloc, script, done)?;
-    let after = model_after(alloc, script, done.saturating_add(1))?;
-    if !leaves_either(alloc, files, &before, &after) {
-        Err("half a call, or a call lost")?;
-    }
-    Ok(done)
+// next one too. None where it is half a call, or a call is lost.
+fn run_once(alloc: Global, trial: Trial<'_>, stop: Stop, calls: u64) -> Option<usize> {
+    let mut made = Calls {
+        script: trial.script,
+        done: 0,
+    };
+    let files = stopping(alloc, trial.sql, stop, calls);
+    let (_, left) = visit_files(alloc, files, ["", ""], &mut made);
+    let text = found(alloc, left)?;
+    let next = made.done.saturating_add(1);
+    let is_either = text == shown_after(alloc, trial.past, trial.script, made.done)?
+        || text == shown_after(alloc, trial.past, trial.script, next)?;
+    is_either.then_some(made.done)
 }
 
-// Stops a file after each number of calls, until all calls are answered by Ok. Whether a stop met the last one.
-fn stops(alloc: Global, script: &[Call], stop: Stop) -> Result<bool, Fail> {
-    let mut is_met = false;
+// Stops a file after each number of calls, until all calls are answered by Ok. How many stops met the last one.
+fn stops(alloc: Global, trial: Trial<'_>, stop: Stop) -> Option<u64> {
+    let count = trial.script.lines().count();
+    let mut met = 0u64;
     for calls in 0..MOST_CALLS {
-        let done = run_once(alloc, stop.files(alloc, calls), script)?;
-        if done >= script.len() {
-            return Ok(is_met);
+        let done = run_once(alloc, trial, stop, calls)?;
+        if done >= count {
+            return Some(met);
         }
-        is_met = is_met || done.saturating_add(1) >= script.len();
+        if done.saturating_add(1) >= count {
+            met = met.saturating_add(1);
+        }
     }
-    Err("no end")?
+    None
 }
 
 // Whether stops of either file have met the last call.
-fn are_met(alloc: Global, script: &[Call]) -> Result<bool, Fail> {
-    Ok(stops(alloc, script, Stop::Log)? && stops(alloc, script, Stop::Database)?)
+fn are_met(alloc: Global, trial: Trial<'_>) -> bool {
+    let log = stops(alloc, trial, Stop::Log).unwrap_or(0);
+    let database = stops(alloc, trial, Stop::Database).unwrap_or(0);
+    log > 1 && database > 1
+}
+
+// The same of calls from fresh files on.
+fn are_met_by(alloc: Global, script: &str) -> bool {
+    let trial = Trial {
+        sql: ["", ""],
+        past: "",
+        script,
+    };
+    are_met(alloc, trial)
 }
 
 #[test]
-fn stop_at_each_write_of_start(rt: HostRuntime) -> Result<(), Fail> {
-    assert!(rt; are_met(rt.alloc(), &[Call::Start, Call::Start])?);
-    Ok(())
+fn stop_at_each_write_of_start(rt: HostRuntime) {
+    assert!(rt; are_met_by(rt.alloc(), "start\nstart"));
 }
 
 #[test]
-fn stop_at_each_write_of_monitor(rt: HostRuntime) -> Result<(), Fail> {
-    assert!(rt; are_met(rt.alloc(), &[Call::Start, Call::Monitor(2, -5)])?);
-    Ok(())
+fn stop_at_each_write_of_monitor(rt: HostRuntime) {
+    assert!(rt; are_met_by(rt.alloc(), "start\nmonitor b -5"));
 }
 
 #[test]
-fn stop_at_each_write_of_seen(rt: HostRuntime) -> Result<(), Fail> {
-    assert!(rt;
-        are_met(
-            rt.alloc(),
-            &[Call::Start, Call::Monitor(2, -5), Call::Seen(2, 8)]
-        )?
-    );
-    Ok(())
+fn stop_at_each_write_of_seen(rt: HostRuntime) {
+    assert!(rt; are_met_by(rt.alloc(), "start\nmonitor b -5\nseen b 8"));
 }
 
 #[test]
-fn stop_at_each_write_of_acked(rt: HostRuntime) -> Result<(), Fail> {
-    assert!(rt;
-        are_met(
-            rt.alloc(),
-            &[
-                Call::Start,
-                Call::Monitor(2, -5),
-                Call::Start,
-                Call::Acked(2, 3),
-            ]
-        )?
-    );
-    Ok(())
+fn stop_at_each_write_of_acked(rt: HostRuntime) {
+    assert!(rt; are_met_by(rt.alloc(), "start\nmonitor b -5\nstart\nacked b 3"));
 }
 
 #[test]
-fn stop_at_each_write_of_quota(rt: HostRuntime) -> Result<(), Fail> {
-    assert!(rt;
-        are_met(
-            rt.alloc(),
-            &[Call::Start, Call::Monitor(2, -5), Call::Quota(2, 5)]
-        )?
-    );
-    Ok(())
+fn stop_at_each_write_of_quota(rt: HostRuntime) {
+    assert!(rt; are_met_by(rt.alloc(), "start\nmonitor b -5\nquota b 5"));
 }
 
 // A watch of a new host, the same with other bytes, and one of a stored host.
 #[test]
-fn stop_at_each_write_of_watch(rt: HostRuntime) -> Result<(), Fail> {
-    let script = [
-        Call::Start,
-        Call::Watch(2, 6, 7),
-        Call::Watch(2, 6, 9),
-        Call::Watch(2, 5, 8),
-    ];
-    assert!(rt; are_met(rt.alloc(), &script)?);
-    Ok(())
+fn stop_at_each_write_of_watch(rt: HostRuntime) {
+    assert!(rt; are_met_by(rt.alloc(), "start\nwatch b f 7\nwatch b f 9\nwatch b e 8"));
 }
 
-// Of one host, and of all.
+/// Of one host, and of all.
+const UNWATCHED: &str = "\
+start
+watch b f 7
+watch c f 8
+watch d f 9
+unwatch b f
+unwatch * f
+";
+
 #[test]
-fn stop_at_each_write_of_unwatch(rt: HostRuntime) -> Result<(), Fail> {
-    let script = [
-        Call::Start,
-        Call::Watch(2, 6, 7),
-        Call::Watch(3, 6, 8),
-        Call::Watch(4, 6, 9),
-        Call::Unwatch(Some(2), 6),
-        Call::Unwatch(None, 6),
-    ];
-    assert!(rt; are_met(rt.alloc(), &script)?);
-    Ok(())
+fn stop_at_each_write_of_unwatch(rt: HostRuntime) {
+    assert!(rt; are_met_by(rt.alloc(), UNWATCHED));
+}
+
+/// The own state 3, and two hosts of schema 1.
+const ROWS: &str =
+    "INSERT INTO own VALUES (1, 1, 3); INSERT INTO hosts VALUES (x'62', 3, 0), (x'61', 1, 3)";
+
+#[test]
+fn stop_at_each_write_of_the_upgrade(rt: HostRuntime) {
+    let trial = Trial {
+        sql: [FIRST, ROWS],
+        past: "start\nmonitor a 3\nstart\nmonitor b 0",
+        script: "start",
+    };
+    assert!(rt; are_met(rt.alloc(), trial));
 }

@@ -1,0 +1,277 @@
+//! Files that the store refuses, beside the nearest ones that it takes.
+use crate::tables::{FIRST, SECOND};
+use crate::visits::{Came, Work, fresh, visit_files};
+use hosts_db::HostStore;
+use sqlite::Files;
+use sqlite_disk::Memory;
+use std::alloc::{AllocError, Global};
+use std::test::*;
+
+/// What a store shows: the own state, how many hosts, and how many watches.
+type Shown = (u32, usize, usize);
+
+/// What the tables hold, and what a store over them shows. None: it refuses them. `<5>` stands for five zero bytes.
+type Row = (&'static str, Option<Shown>);
+
+/// Notes what a store shows.
+#[derive(Clone, Copy)]
+struct Look(Shown);
+
+impl Work for Look {
+    fn work<S: HostStore>(&mut self, store: &mut S) {
+        self.0 = (store.own(), store.hosts().len(), store.watches().len());
+    }
+}
+
+/// Notes whether a store starts.
+#[derive(Clone, Copy)]
+struct Start(bool);
+
+impl Work for Start {
+    fn work<S: HostStore>(&mut self, store: &mut S) {
+        self.0 = store.start().is_ok();
+    }
+}
+
+// Files with these tables and rows, where the SQL ran. They are opened once more, since that begins the log anew.
+fn made(alloc: Global, sql: [&str; 2]) -> Option<Files<Memory>> {
+    let mut look = Look((0, 0, 0));
+    let (came, files) = visit_files(alloc, fresh(alloc), sql, &mut look);
+    let (_, files) = visit_files(alloc, files, ["", ""], &mut look);
+    match came {
+        Came::Worked | Came::Refused => Some(files),
+        _ => None,
+    }
+}
+
+// Makes a store, and then starts one: whether the files are refused, or show this and start.
+fn shows(alloc: Global, files: Files<Memory>, want: Option<Shown>) -> (bool, Files<Memory>) {
+    let mut look = Look((0, 0, 0));
+    let (came, files) = visit_files(alloc, files, ["", ""], &mut look);
+    let is_so = match want {
+        Some(shown) => came == Came::Worked && look.0 == shown,
+        None => came == Came::Refused,
+    };
+    (is_so, files)
+}
+
+fn starts(alloc: Global, files: Files<Memory>) -> bool {
+    let mut start = Start(false);
+    visit_files(alloc, files, ["", ""], &mut start);
+    start.0
+}
+
+// Whether the store takes these tables and rows as is wanted, and leaves each byte of the files.
+fn adopts(alloc: Global, sql: [&str; 2], want: Option<Shown>) -> Option<bool> {
+    let files = made(alloc, sql)?;
+    let log = Vec::from_slice(alloc, files.log.bytes()).ok()?;
+    let db = Vec::from_slice(alloc, files.db.bytes()).ok()?;
+    let (is_so, files) = shows(alloc, files, want);
+    let is_left = files.log.bytes() == log.as_slice() && files.db.bytes() == db.as_slice();
+    Some(is_so && is_left && starts(alloc, files) == want.is_some())
+}
+
+// A literal of so many zero bytes.
+fn push_zeros(to: &mut String, count: usize) -> Result<(), AllocError> {
+    to.push_str("x'")?;
+    for _ in 0..count {
+        to.push_str("00")?;
+    }
+    to.push_str("'")
+}
+
+// The text, with the literals that it stands for.
+fn spelled(alloc: Global, text: &str) -> Result<String, AllocError> {
+    let mut sql = String::new(alloc);
+    for part in text.split('<') {
+        match part.split_once('>') {
+            Some((count, rest)) => {
+                push_zeros(&mut sql, count.parse().unwrap_or(0))?;
+                sql.push_str(rest)?;
+            }
+            None => sql.push_str(part)?,
+        }
+    }
+    Ok(sql)
+}
+
+fn is_so(alloc: Global, tables: &str, row: Row) -> bool {
+    match spelled(alloc, row.0) {
+        Ok(sql) => adopts(alloc, [tables, &sql], row.1) == Some(true),
+        Err(_) => false,
+    }
+}
+
+// The first row that isn't so.
+fn wrong(alloc: Global, tables: &str, rows: &[Row]) -> Option<&'static str> {
+    for row in rows {
+        if !is_so(alloc, tables, *row) {
+            return Some(row.0);
+        }
+    }
+    None
+}
+
+/// All tables or none, and no other.
+const TABLES: [Row; 11] = [
+    ("", Some((5, 0, 0))),
+    ("DROP TABLE own", None),
+    ("DROP TABLE hosts2", None),
+    ("DROP TABLE watches", None),
+    ("DROP TABLE own; DROP TABLE hosts2", None),
+    ("DROP TABLE own; DROP TABLE watches", None),
+    ("DROP TABLE hosts2; DROP TABLE watches", None),
+    (
+        "DROP TABLE own; DROP TABLE hosts2; DROP TABLE watches",
+        Some((0, 0, 0)),
+    ),
+    ("CREATE TABLE more (id INTEGER)", None),
+    ("CREATE INDEX of_epoch ON hosts2 (epoch)", None),
+    (
+        "DROP TABLE hosts2; CREATE TABLE hosts2 (name BLOB NOT NULL PRIMARY KEY, epoch INTEGER NOT NULL, seen INTEGER NOT NULL) STRICT",
+        None,
+    ),
+];
+
+#[test]
+fn some_but_not_all_tables(rt: HostRuntime) {
+    assert_eq!(rt; wrong(rt.alloc(), SECOND, &TABLES), None);
+}
+
+/// No row of its own, another version, and numbers that are no state.
+const OWN: [Row; 9] = [
+    ("DELETE FROM own", None),
+    ("UPDATE own SET version = 0", None),
+    ("UPDATE own SET version = 3", None),
+    ("UPDATE own SET version = 4294967298", None),
+    ("UPDATE own SET state = -1", None),
+    ("UPDATE own SET state = 0", Some((0, 0, 0))),
+    (
+        "UPDATE own SET state = 2147483647",
+        Some((2_147_483_647, 0, 0)),
+    ),
+    ("UPDATE own SET state = 2147483648", None),
+    ("UPDATE own SET state = 4294967301", None),
+];
+
+#[test]
+fn own_out_of_range(rt: HostRuntime) {
+    assert_eq!(rt; wrong(rt.alloc(), SECOND, &OWN), None);
+}
+
+/// A name, and the epoch, the state seen and the quota.
+const HOSTS: [Row; 12] = [
+    (
+        "INSERT INTO hosts2 VALUES (<0>, 0, -2147483648, 0)",
+        Some((5, 1, 0)),
+    ),
+    (
+        "INSERT INTO hosts2 VALUES (<1024>, 2147483647, 2147483647, 65536)",
+        Some((5, 1, 0)),
+    ),
+    ("INSERT INTO hosts2 VALUES (<1025>, 0, 0, 0)", None),
+    ("INSERT INTO hosts2 VALUES (<1>, -1, 0, 0)", None),
+    ("INSERT INTO hosts2 VALUES (<1>, 2147483648, 0, 0)", None),
+    ("INSERT INTO hosts2 VALUES (<1>, 4294967297, 0, 0)", None),
+    ("INSERT INTO hosts2 VALUES (<1>, 0, -2147483649, 0)", None),
+    ("INSERT INTO hosts2 VALUES (<1>, 0, 2147483648, 0)", None),
+    ("INSERT INTO hosts2 VALUES (<1>, 0, 4294967296, 0)", None),
+    ("INSERT INTO hosts2 VALUES (<1>, 0, 0, -1)", None),
+    ("INSERT INTO hosts2 VALUES (<1>, 0, 0, 65537)", None),
+    ("INSERT INTO hosts2 VALUES (<1>, 0, 0, 4294967296)", None),
+];
+
+#[test]
+fn host_out_of_range(rt: HostRuntime) {
+    assert_eq!(rt; wrong(rt.alloc(), SECOND, &HOSTS), None);
+}
+
+/// Two names, the program, version and procedure, and the private bytes.
+const WATCHES: [Row; 9] = [
+    (
+        "INSERT INTO watches VALUES (<0>, <0>, -2147483648, 2147483647, 0, <16>)",
+        Some((5, 0, 1)),
+    ),
+    (
+        "INSERT INTO watches VALUES (<1024>, <1024>, 0, 0, 0, <16>)",
+        Some((5, 0, 1)),
+    ),
+    (
+        "INSERT INTO watches VALUES (<1025>, <1>, 0, 0, 0, <16>)",
+        None,
+    ),
+    (
+        "INSERT INTO watches VALUES (<1>, <1025>, 0, 0, 0, <16>)",
+        None,
+    ),
+    (
+        "INSERT INTO watches VALUES (<1>, <1>, 2147483648, 0, 0, <16>)",
+        None,
+    ),
+    (
+        "INSERT INTO watches VALUES (<1>, <1>, 0, -2147483649, 0, <16>)",
+        None,
+    ),
+    (
+        "INSERT INTO watches VALUES (<1>, <1>, 0, 0, 4294967296, <16>)",
+        None,
+    ),
+    ("INSERT INTO watches VALUES (<1>, <1>, 0, 0, 0, <15>)", None),
+    ("INSERT INTO watches VALUES (<1>, <1>, 0, 0, 0, <17>)", None),
+];
+
+#[test]
+fn watch_out_of_range(rt: HostRuntime) {
+    assert_eq!(rt; wrong(rt.alloc(), SECOND, &WATCHES), None);
+}
+
+/// Rows that fit, and the nearest ones that don't.
+const ROWS: [Row; 11] = [
+    ("", Some((5, 0, 0))),
+    (
+        "INSERT INTO hosts2 VALUES (x'62', 3, -7, 65536), (x'61', 5, 9, 0)",
+        Some((5, 2, 0)),
+    ),
+    (
+        "INSERT INTO watches VALUES (x'62', x'6d', 1, 2, -3, x'000102030405060708090a0b0c0d0e0f')",
+        Some((5, 0, 1)),
+    ),
+    ("INSERT INTO hosts2 VALUES (x'61', 5, 2147483648, 0)", None),
+    ("INSERT INTO hosts2 VALUES (x'61', 5, 0, 65537)", None),
+    ("INSERT INTO hosts2 VALUES (x'61', -1, 0, 0)", None),
+    (
+        "INSERT INTO watches VALUES (x'62', x'6d', 1, 2, 3, x'000102030405060708090a0b0c0d0e')",
+        None,
+    ),
+    ("UPDATE own SET version = 3", None),
+    ("DELETE FROM own", None),
+    ("CREATE TABLE more (id INTEGER)", None),
+    ("DROP TABLE watches", None),
+];
+
+#[test]
+fn adopts_what_fits(rt: HostRuntime) {
+    assert_eq!(rt; wrong(rt.alloc(), SECOND, &ROWS), None);
+}
+
+/// Files of schema 1.
+const FIRST_ROWS: [Row; 7] = [
+    ("INSERT INTO own VALUES (1, 1, 3)", Some((3, 0, 0))),
+    ("INSERT INTO own VALUES (1, 2, 3)", None),
+    ("INSERT INTO own VALUES (1, 3, 3)", None),
+    ("", None),
+    (
+        "INSERT INTO own VALUES (1, 1, 3); INSERT INTO hosts VALUES (x'61', 2147483648, 0)",
+        None,
+    ),
+    (
+        "INSERT INTO own VALUES (1, 1, 3); CREATE TABLE hosts2 (name BLOB)",
+        None,
+    ),
+    ("INSERT INTO own VALUES (1, 1, 3); DROP TABLE hosts", None),
+];
+
+#[test]
+fn refuses_what_does_not_fit(rt: HostRuntime) {
+    assert_eq!(rt; wrong(rt.alloc(), FIRST, &FIRST_ROWS), None);
+}

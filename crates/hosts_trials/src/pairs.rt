@@ -1,0 +1,300 @@
+//! A store over a database and one in memory, which get the same calls: one script of all calls, files of schema 1, and
+//! full stores.
+use crate::calls::{answers, call, run};
+use crate::shown::{are_same, model, shown};
+use crate::tables::FIRST;
+use crate::visits::{Came, Work, visit};
+use hosts_db::{HostStore, MemHosts};
+use sqlite::{Connection, MemStore};
+use std::alloc::{AllocError, Global};
+use std::fmt::Write;
+use std::test::*;
+
+/// What both stores are asked: first some calls, and then a script, a line at a time, with the same rows behind each.
+///
+/// `unready CALL` is refused by the store over the database, and not asked of the other. `shows TEXT` is what both show.
+#[derive(Drop)]
+struct Both<'a> {
+    alloc: Global,
+    model: MemHosts,
+    first: &'a str,
+    script: &'a str,
+    wrong: Option<&'a str>,
+}
+
+// Whether the calls are all answered as they say.
+fn are_made<S: HostStore>(store: &mut S, calls: &str) -> bool {
+    run(store, calls, usize::MAX) == calls.lines().count()
+}
+
+fn does_show<S: HostStore>(alloc: Global, store: &S, want: &str) -> bool {
+    match shown(alloc, store) {
+        Some(text) => text.as_str() == want,
+        None => false,
+    }
+}
+
+fn step<S: HostStore>(alloc: Global, store: &mut S, model: &mut MemHosts, line: &str) -> bool {
+    if let Some(made) = line.strip_prefix("unready ") {
+        return call(store, made) == "refused";
+    }
+    if let Some(text) = line.strip_prefix("shows ") {
+        return does_show(alloc, store, text);
+    }
+    answers(store, line) && answers(model, line)
+}
+
+impl Work for Both<'_> {
+    fn work<S: HostStore>(&mut self, store: &mut S) {
+        if !are_made(store, self.first) || !are_made(&mut self.model, self.first) {
+            self.wrong = Some("the first calls");
+            return;
+        }
+        for line in self.script.lines() {
+            let is_so = step(self.alloc, store, &mut self.model, line);
+            if !is_so || !are_same(self.alloc, store, &self.model) {
+                self.wrong = Some(line);
+                return;
+            }
+        }
+    }
+}
+
+/// Visits of a database in memory.
+#[derive(Clone, Copy)]
+struct Story<'a> {
+    // What it holds, and the calls after which a store in memory holds the same.
+    sql: [&'a str; 2],
+    past: &'a str,
+    // The calls, and the script behind them.
+    first: &'a str,
+    script: &'a str,
+    // What it is found to hold then, and the script of a store that is made again.
+    found: &'a str,
+    again: &'a str,
+    // A change with which it is refused.
+    more: &'a str,
+}
+
+// What goes wrong.
+fn wrong<'a>(alloc: Global, story: Story<'a>) -> Option<&'a str> {
+    match (model(alloc), Connection::open_in_memory(alloc)) {
+        (Some(model), Ok(conn)) => wrong_from(alloc, model, conn, story),
+        _ => Some("no memory"),
+    }
+}
+
+fn wrong_from<'a>(
+    alloc: Global,
+    mut model: MemHosts,
+    conn: Connection<MemStore>,
+    story: Story<'a>,
+) -> Option<&'a str> {
+    run(&mut model, story.past, usize::MAX);
+    let mut both = Both {
+        alloc,
+        model,
+        first: story.first,
+        script: story.script,
+        wrong: None,
+    };
+    let (came, conn) = visit(alloc, conn, story.sql, &mut both);
+    if came != Came::Worked || both.wrong.is_some() {
+        return both.wrong.or(Some("the first visit"));
+    }
+    both.first = "";
+    both.script = story.again;
+    let (came, conn) = visit(alloc, conn, ["", story.found], &mut both);
+    if came != Came::Worked || both.wrong.is_some() {
+        return both.wrong.or(Some("the second visit"));
+    }
+    let (came, _conn) = visit(alloc, conn, ["", story.more], &mut both);
+    if came != Came::Refused {
+        return Some("one row more");
+    }
+    None
+}
+
+/// One call of each kind at least.
+const SCRIPT: &str = "\
+unready seen a 1
+start
+monitor b -5
+start
+monitor a 7
+seen b 8
+seen i 8
+acked b 3
+acked i 3
+quota a 5
+watch b f 7
+watch c f 7
+watch b f 9
+watch b e 8
+unwatch c e
+unwatch c f
+unwatch * f
+shows 3; a 3 7 5; b 3 8 65536; c 3 0 65536; b e 4 2 -3 08080808080808080808080808080808; 
+";
+
+const AGAIN: &str = "\
+shows 3; a 3 7 5; b 3 8 65536; c 3 0 65536; b e 4 2 -3 08080808080808080808080808080808; 
+start
+";
+
+/// A database without its own row is refused.
+const NO_OWN: &str = "DELETE FROM own";
+
+#[test]
+fn one_script_over_both(rt: HostRuntime) {
+    let story = Story {
+        sql: ["", ""],
+        past: "",
+        first: "",
+        script: SCRIPT,
+        found: "SELECT version FROM own -> 2",
+        again: AGAIN,
+        more: NO_OWN,
+    };
+    assert_eq!(rt; wrong(rt.alloc(), story), None);
+}
+
+#[test]
+fn each_call_works_then(rt: HostRuntime) {
+    let story = Story {
+        sql: [FIRST, "INSERT INTO own VALUES (1, 1, 0)"],
+        past: "",
+        first: "",
+        script: SCRIPT,
+        found: "SELECT version FROM own -> 2",
+        again: AGAIN,
+        more: NO_OWN,
+    };
+    assert_eq!(rt; wrong(rt.alloc(), story), None);
+}
+
+/// The own state 3, two hosts, and a watch of one of them.
+const ROWS: &str =
+    "INSERT INTO own VALUES (1, 1, 3); INSERT INTO hosts VALUES (x'62', 3, 0), (x'61', 1, 3); INSERT INTO watches VALUES (x'62', x'6d', 4, 2, -3, x'07070707070707070707070707070707')";
+
+const PAST: &str = "\
+start
+monitor a 3
+start
+monitor b 0
+watch b m 7
+";
+
+const UPGRADED: &str = "\
+unready seen a 1
+start
+shows 5; a 1 3 65536; b 3 0 65536; b m 4 2 -3 07070707070707070707070707070707; 
+";
+
+/// What the own row and the tables of the hosts of either schema hold.
+const AS_FIRST: &str = "\
+SELECT version FROM own -> 1
+SELECT count(*) FROM hosts -> 2
+SELECT count(*) FROM hosts2 -> none
+";
+
+const AS_SECOND: &str = "\
+SELECT version FROM own -> 2
+SELECT count(*) FROM hosts -> 0
+SELECT count(*) FROM hosts2 -> 2
+";
+
+#[test]
+fn shows_full_quotas(rt: HostRuntime) {
+    let text = "shows 3; a 1 3 65536; b 3 0 65536; b m 4 2 -3 07070707070707070707070707070707; ";
+    let story = Story {
+        sql: [FIRST, ROWS],
+        past: PAST,
+        first: "",
+        script: text,
+        found: AS_FIRST,
+        again: text,
+        more: NO_OWN,
+    };
+    assert_eq!(rt; wrong(rt.alloc(), story), None);
+}
+
+#[test]
+fn start_upgrades(rt: HostRuntime) {
+    let story = Story {
+        sql: [FIRST, ROWS],
+        past: PAST,
+        first: "",
+        script: UPGRADED,
+        found: AS_SECOND,
+        again: "shows 5; a 1 3 65536; b 3 0 65536; b m 4 2 -3 07070707070707070707070707070707; ",
+        more: NO_OWN,
+    };
+    assert_eq!(rt; wrong(rt.alloc(), story), None);
+}
+
+// A start, and a call for each number below this.
+fn numbered(alloc: Global, before: &str, count: u32, after: &str) -> Result<String, AllocError> {
+    let mut calls = String::new(alloc);
+    calls.push_str("start\n")?;
+    for number in 0..count {
+        write!(calls, "{before}{number}{after}\n")?;
+    }
+    Ok(calls)
+}
+
+// Whether a store is as this script says once it has got these calls, and keeps that, but takes no more rows.
+fn is_full<'a>(alloc: Global, first: &'a str, script: &'a str, more: &'a str) -> bool {
+    let story = Story {
+        sql: ["", ""],
+        past: "",
+        first,
+        script,
+        found: "",
+        again: "unready seen 1 1",
+        more,
+    };
+    wrong(alloc, story).is_none()
+}
+
+/// A host more is refused and changes nothing, and a stored one is no new row.
+const HOSTS_FULL: &str = "\
+monitor 4096 0 -> refused
+watch 4096 f 7 -> refused
+watch 4095 f 7
+seen 4095 5
+start
+";
+
+const HOST_MORE: &str = "INSERT INTO hosts2 VALUES (x'616161', 1, 0, 65536)";
+
+#[test]
+fn hosts_full(rt: HostRuntime) {
+    let is_so = match numbered(rt.alloc(), "monitor ", 4096, " 0") {
+        Ok(calls) => is_full(rt.alloc(), &calls, HOSTS_FULL, HOST_MORE),
+        Err(_) => false,
+    };
+    assert!(rt; is_so);
+}
+
+/// A watch more is refused and changes nothing, and a stored one with other bytes is no new watch.
+const WATCHES_FULL: &str = "\
+watch 1 1024 7 -> refused
+watch 2 0 7 -> refused
+watch 1 0 9
+monitor 2 0
+unwatch 1 5
+watch 2 1024 7
+";
+
+const WATCH_MORE: &str =
+    "INSERT INTO watches VALUES (x'61', x'6d', 1, 2, 3, x'000102030405060708090a0b0c0d0e0f')";
+
+#[test]
+fn watches_full(rt: HostRuntime) {
+    let is_so = match numbered(rt.alloc(), "watch 1 ", 1024, " 7") {
+        Ok(calls) => is_full(rt.alloc(), &calls, WATCHES_FULL, WATCH_MORE),
+        Err(_) => false,
+    };
+    assert!(rt; is_so);
+}
