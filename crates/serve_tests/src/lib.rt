@@ -8,6 +8,10 @@ mod lines;
 #[cfg(test)]
 mod parts;
 #[cfg(test)]
+mod runs;
+#[cfg(test)]
 mod sending;
+#[cfg(test)]
+mod streams;
 #[cfg(test)]
 mod turns;

@@ -1,106 +1,87 @@
 //! The lines of a local program.
-ghost use Rattle.std.specs.Prelude.{◌≡◌};
-
-use crate::parts::{Bells, opened};
-use serve_loops::{Ending, serve_lines};
+use crate::runs::{run, tells};
+use crate::streams::Asked;
+use serve_loops::Ending;
 use std::alloc::Global;
-use std::marker::Brand;
-use std::sync::atomic::Ordering;
-use std::sync::ledger::{Blank, Ledger};
-use std::sync::{Mutex, Wait};
+use std::sync::Wait;
 use std::test::*;
 
-// What lines were answered, how that ended, and what the bells tell.
-#[derive(Drop)]
-struct Report {
-    text: Vec<u8>,
-    ending: Ending,
-    is_stopping: bool,
-    due: u64,
-}
-
-fn told<L: Ledger, R: Wait>(
-    rt: &R,
-    alloc: Global,
-    blank: Blank,
-    lines: &[u8],
-) -> Result<Report, Fail>
-    requires name { blank.name ≡ L.name }
-    requires parts { blank.parts ≡ L.parts }
-{
-    let (shared, _share) = opened::<L>(alloc, blank)?;
-    let shared = Mutex::new(shared);
-    let bells = Bells::new();
-    let mut input = lines;
-    let mut text = Vec::new(alloc);
-    let ending = serve_lines(alloc, rt, &shared, &bells, 7, &mut input, &mut text);
-    Ok(Report {
-        text,
-        ending,
-        is_stopping: bells.is_stopping.load(Ordering::SeqCst),
-        due: bells.due.load(Ordering::SeqCst),
-    })
-}
-
-#[test]
-fn local_loop(rt: HostRuntime) -> Result<(), Fail> {
-    let lines = b"setlk p1 aa w 0 1\ngetlk d1 aa w 0 1\n";
-    let told = told::<Brand, _>(&rt, rt.alloc(), Blank::new(1), lines)?;
-    assert!(rt; told.text.as_slice() == b"ok\nheld w 0 1 p1\n".as_slice());
-    assert!(rt; told.ending == Ending::Over);
-    assert!(rt; !told.is_stopping);
-    assert_eq!(rt; told.due, 0);
-    Ok(())
-}
-
-#[test]
-fn one_answer_a_line(rt: HostRuntime) -> Result<(), Fail> {
-    let cases: [(&[u8], &[u8]); 7] = [
-        (b"", b""),
-        (b"\n", b"bad\n"),
-        (b"table", b""),
-        (b"table\nhosts\n", b"end\nend\n"),
-        (b"setlk p1 aa w 0 1\ntable\n", b"ok\naa w 0 0 p1\nend\n"),
-        (
-            b"setlk p1 aa w 0 1\nsetlkw d1 aa r 0 1\nclose p1 aa\n",
-            b"ok\nwait\nok\n",
-        ),
-        (b"stop \n", b"bad\n"),
-    ];
-    for (lines, texts) in cases {
-        let told = told::<Brand, _>(&rt, rt.alloc(), Blank::new(1), lines)?;
-        assert!(rt; told.text.as_slice() == texts);
-        assert!(rt; told.ending == Ending::Over);
+// Whether these lines get these answers, it ends so, and so many calls are due.
+fn answers<R: Wait>(rt: &R, alloc: Global, case: (&str, &str), ending: Ending, due: u64) -> bool {
+    let (lines, text) = case;
+    match run(rt, alloc, Asked::plain(lines.as_bytes())) {
+        Some(told) => told.is(text.as_bytes(), ending) && told.has_due(due),
+        None => false,
     }
-    Ok(())
+}
+
+const LOCAL_LOOP: (&str, &str) = (
+    "setlk p1 aa w 0 1\ngetlk d1 aa w 0 1\n",
+    "ok\nheld w 0 1 p1\n",
+);
+
+#[test]
+fn local_loop(rt: HostRuntime) {
+    assert!(rt; answers(&rt, rt.alloc(), LOCAL_LOOP, Ending::Over, 0));
+}
+
+/// Lines and their answers, and how many calls are due then.
+const ONE_EACH: [(&str, &str, u64); 7] = [
+    ("", "", 0),
+    ("\n", "bad\n", 0),
+    ("table", "", 0),
+    ("table\nhosts\n", "end\nend\n", 0),
+    ("setlk p1 aa w 0 1\ntable\n", "ok\naa w 0 0 p1\nend\n", 0),
+    (
+        "setlk p1 aa w 0 1\nsetlkw d1 aa r 0 1\nclose p1 aa\n",
+        "ok\nwait\nok\n",
+        1,
+    ),
+    ("stop \n", "bad\n", 0),
+];
+
+#[test]
+fn one_answer_a_line(rt: HostRuntime) {
+    for (lines, text, due) in ONE_EACH {
+        let case = (lines, text);
+        assert!(rt;
+            answers(&rt, rt.alloc(), case, Ending::Over, due),
+            "{lines}"
+        );
+    }
+}
+
+// Whether a line of so many bytes is bad, and the one behind it is answered.
+fn is_bad<R: Wait>(rt: &R, alloc: Global, count: usize) -> bool {
+    let Ok(mut lines) = vec![in alloc; b'x'; count] else {
+        return false;
+    };
+    if lines.extend_from_slice(b"\nsetlk p1 aa w 0 1\n").is_err() {
+        return false;
+    }
+    tells(rt, alloc, Asked::plain(&lines), b"bad\nok\n", Ending::Over)
 }
 
 #[test]
-fn a_long_line_is_bad(rt: HostRuntime) -> Result<(), Fail> {
+fn a_long_line_is_bad(rt: HostRuntime) {
     for count in [511, 512, 513, 514, 9_000] {
-        let mut lines: Vec<u8> = vec![in rt.alloc(); b'x'; count]?;
-        lines.extend_from_slice(b"\nsetlk p1 aa w 0 1\n")?;
-        let told = told::<Brand, _>(&rt, rt.alloc(), Blank::new(1), &lines)?;
-        assert!(rt; told.text.as_slice() == b"bad\nok\n".as_slice());
+        assert!(rt; is_bad(&rt, rt.alloc(), count), "{count}");
     }
-    Ok(())
 }
 
-#[test]
-fn stop(rt: HostRuntime) -> Result<(), Fail> {
-    let lines = b"setlk p1 aa w 0 1\nstop\ngetlk d1 aa w 0 1\n";
-    let told = told::<Brand, _>(&rt, rt.alloc(), Blank::new(1), lines)?;
-    assert!(rt; told.text.as_slice() == b"ok\nok\n".as_slice());
-    assert!(rt; told.ending == Ending::Stopped);
-    assert!(rt; told.is_stopping);
-    Ok(())
-}
+const STOP: (&str, &str) = ("setlk p1 aa w 0 1\nstop\ngetlk d1 aa w 0 1\n", "ok\nok\n");
 
 #[test]
-fn a_waiter_that_is_granted_is_due(rt: HostRuntime) -> Result<(), Fail> {
-    let lines = b"setlk p1 aa w 0 1\nsetlkw d1 aa w 0 1\nsetlk p1 aa u 0 1\n";
-    let told = told::<Brand, _>(&rt, rt.alloc(), Blank::new(1), lines)?;
-    assert!(rt; told.text.as_slice() == b"ok\nwait\nok\n".as_slice());
-    assert_eq!(rt; told.due, 1);
-    Ok(())
+fn stop(rt: HostRuntime) {
+    assert!(rt; answers(&rt, rt.alloc(), STOP, Ending::Stopped, 0));
+}
+
+const GRANTED: (&str, &str) = (
+    "setlk p1 aa w 0 1\nsetlkw d1 aa w 0 1\nsetlk p1 aa u 0 1\n",
+    "ok\nwait\nok\n",
+);
+
+#[test]
+fn a_waiter_that_is_granted_is_due(rt: HostRuntime) {
+    assert!(rt; answers(&rt, rt.alloc(), GRANTED, Ending::Over, 1));
 }

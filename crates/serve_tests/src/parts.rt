@@ -1,15 +1,15 @@
-//! A book, and what its threads tell one another.
-ghost use Rattle.std.specs.Prelude.{◌≡◌, [], IfOk, IfSome};
+//! A book, what its threads tell one another, and the turns of the sender.
+ghost use Rattle.std.specs.Prelude.{◌≡◌, [], IfSome};
 
-use book::{Book, BookEvent, Segment};
+use book::{Book, BookEvent, Dest};
 use hosts_db::MemHosts;
 use letters::ShortBytes;
 use range_table::FlatTable;
-use serve_loops::Signals;
-use std::alloc::Global;
+use serve_loops::{Due, MemoryCourier, Parcel, Signals, send_due};
+use std::alloc::{AllocError, Global};
 use std::sync::atomic::{AtomicBool, AtomicU64, Ordering};
-use std::sync::ledger::{Blank, Ledger, Share};
-use std::test::*;
+use std::sync::ledger::Ledger;
+use std::sync::{Mutex, Wait};
 use workers::Shared;
 
 /// What the tests' threads are told.
@@ -52,23 +52,56 @@ pub(crate) fn begun(alloc: Global) -> Option<Book<FlatTable, MemHosts>>
     Book::new(alloc, table, store, name).ok()
 }
 
-/// The server has begun, and its grace period is over.
-pub(crate) fn opened<L: Ledger>(
-    alloc: Global,
-    blank: Blank,
-) -> Result<(Shared<FlatTable, MemHosts, L>, Share<L>), Fail>
-    requires name { blank.name ≡ L.name }
-    requires parts { blank.parts ≡ L.parts }
-    ensures { IfOk result (λ opened. (opened.1.parts ≡ L.parts) × (opened.1.amount ≡ 0)) }
-{
-    let book = begun(alloc).ok_or("no book")?;
-    let (total, share) = blank.open::<L>();
-    let mut shared = Shared::new(alloc, book, total, true);
-    let mut spare: Option<Segment> = None;
-    for event in [BookEvent::Restart, BookEvent::GraceOver] {
-        if shared.apply(event, &mut spare).is_err() {
-            return Err("no room")?;
+/// The server begins, and its grace period is over: whether there was room.
+pub(crate) fn opens<L: Ledger>(shared: &mut Shared<FlatTable, MemHosts, L>) -> bool {
+    shared.apply(BookEvent::Restart).is_ok() && shared.apply(BookEvent::GraceOver).is_ok()
+}
+
+// To whom, and the bytes.
+fn put(log: &mut Vec<u8>, parcel: &Parcel) -> Result<(), AllocError> {
+    match &parcel.to {
+        Dest::Connection(7) => log.extend_from_slice(b"7: ")?,
+        Dest::Host(host) => {
+            log.extend_from_slice(host.as_slice())?;
+            log.extend_from_slice(b": ")?;
         }
+        _ => log.extend_from_slice(b"another: ")?,
     }
-    Ok((shared, share))
+    log.extend_from_slice(parcel.bytes.as_slice())
+}
+
+// How many parcels there are, if all are in the log.
+fn put_all(log: &mut Vec<u8>, parcels: &[Parcel]) -> Option<usize> {
+    for parcel in parcels {
+        put(log, parcel).ok()?;
+    }
+    Some(parcels.len())
+}
+
+/// What a turn of the sender leaves, and how many calls and lines it hands over.
+pub(crate) type Turn = (Due, Option<usize>);
+
+fn turn<L: Ledger, R: Wait>(
+    rt: &R,
+    alloc: Global,
+    shared: &Mutex<Shared<FlatTable, MemHosts, L>>,
+    log: &mut Vec<u8>,
+) -> Turn {
+    let mut courier = MemoryCourier::new(alloc);
+    let due = send_due(rt, shared, &mut courier);
+    (due, put_all(log, courier.kept()))
+}
+
+/// Three turns, and in the log all that they hand over.
+pub(crate) fn turns<L: Ledger, R: Wait>(
+    rt: &R,
+    alloc: Global,
+    shared: &Mutex<Shared<FlatTable, MemHosts, L>>,
+    log: &mut Vec<u8>,
+) -> [Turn; 3] {
+    let mut all = [(Due::NoRoom, None); 3];
+    for place in all.iter_mut() {
+        *place = turn(rt, alloc, shared, log);
+    }
+    all
 }

@@ -1,4 +1,6 @@
 //! A server, and who talks to it.
+use crate::hall::Hall;
+use crate::talks::{Talk, Told};
 use hosts_db::MemHosts;
 use letters::ShortBytes;
 use log::Log;
@@ -8,11 +10,9 @@ use std::alloc::Global;
 use std::io::{self, Print};
 use std::net::{Ipv4Addr, Net, SocketAddr, SocketAddrV4, TcpListener, TcpStream};
 use std::sync::Wait;
-use std::test::*;
 use std::thread;
 use std::thread::Threads;
 use std::time::{Clock, Duration};
-use workers::Gate;
 
 /// The ports of a server and of its peer.
 #[derive(Clone, Copy)]
@@ -62,33 +62,29 @@ impl Ports {
     }
 }
 
-fn backing(alloc: Global) -> Result<Backing<MemHosts>, Fail> {
-    let Ok(store) = MemHosts::new(alloc, 0, Vec::new(alloc), Vec::new(alloc)) else {
-        return Err("no store")?;
-    };
-    let Ok(peers) = Peers::read(alloc, b"client 127.0.0.1\n") else {
-        return Err("no peers")?;
-    };
-    Ok(Backing {
+fn backing(alloc: Global) -> Option<Backing<MemHosts>> {
+    let store = MemHosts::new(alloc, 0, Vec::new(alloc), Vec::new(alloc)).ok()?;
+    let peers = Peers::read(alloc, b"client 127.0.0.1\n").ok()?;
+    let own_name = ShortBytes::copy_of(alloc, b"server").ok()?;
+    Some(Backing {
         store,
         peers,
-        own_name: ShortBytes::copy_of(alloc, b"server")?,
+        own_name,
     })
 }
 
-/// How many calls the server took, by its audit, and what came of the talk, which is to stop it.
-pub(crate) fn served<A, G, T, R>(
+/// How many calls the server took, by its audit, what the talk came to, and whether enough jobs were inside at once.
+pub(crate) type Served = (u64, Told, bool);
+
+fn served<R>(
     rt: &R,
     alloc: Global,
-    ports: Ports,
-    workers: u16,
-    gate: &G,
-    talk: T,
-) -> Result<(u64, A), Fail>
+    settings: Settings,
+    backing: Backing<MemHosts>,
+    wanted: u64,
+    talk: (Ports, Talk),
+) -> Option<Served>
 where
-    A: Send + Drop,
-    G: Gate + Sync,
-    T: FnOnce() -> io::Result<A> + Send,
     R: Net<Listener = TcpListener, Stream = TcpStream>
         + Threads
         + Wait
@@ -96,10 +92,44 @@ where
         + Print
         + Log
         + Sync,
-    requires { T.IsAlwaysCallable talk }
 {
-    let settings = ports.settings(workers);
-    let backing = backing(alloc)?;
-    let (calls, told) = thread::join(rt, move || serve(rt, alloc, &settings, backing, gate), talk);
-    Ok((calls?, told?))
+    let hall = Hall::new(rt, wanted);
+    let gate = &hall;
+    let (ports, talk) = talk;
+    let (taken, told) = thread::join(
+        rt,
+        move || serve(rt, alloc, &settings, backing, gate),
+        move || talk.told(rt, alloc, ports, gate),
+    );
+    match (taken, told) {
+        (Ok(taken), Ok(told)) => Some((taken, told, hall.was_full())),
+        _ => None,
+    }
+}
+
+/// Has a server with so many workers, which holds jobs until so many are inside, talked to. None where one of both
+/// fails.
+pub(crate) fn served_to<R>(
+    rt: &R,
+    alloc: Global,
+    workers: u16,
+    wanted: u64,
+    talk: Talk,
+) -> Option<Served>
+where
+    R: Net<Listener = TcpListener, Stream = TcpStream>
+        + Threads
+        + Wait
+        + Clock
+        + Print
+        + Log
+        + Sync,
+{
+    match (Ports::free(rt), backing(alloc)) {
+        (Ok(ports), Some(backing)) => {
+            let settings = ports.settings(workers);
+            served(rt, alloc, settings, backing, wanted, (ports, talk))
+        }
+        _ => None,
+    }
 }

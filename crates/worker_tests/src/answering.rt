@@ -1,108 +1,154 @@
 //! A worker that answers what waits in a closed channel, and the audit of what it did.
-ghost use Rattle.std.specs.Prelude.{◌≡◌};
+ghost use Rattle.std.specs.Prelude.{◌≡◌, []};
 
-use crate::parts::{begun, job};
-use book::{Closed, Receipt};
+use crate::parts::{Open, begun, is_in, job, segments};
+use book::{Book, Closed, Receipt};
 use hosts_db::MemHosts;
-use jobs::{Job, Opened, Place};
+use jobs::{Channel, Opened, Place, Seat};
 use range_table::FlatTable;
 use std::alloc::Global;
 use std::marker::Brand;
 use std::sync::ledger::{Blank, Ledger};
 use std::sync::{Mutex, Wait};
 use std::test::*;
-use workers::{Gate, MemoryOutbox, Shared, Worker, audit};
+use workers::{MemoryOutbox, Shared, Worker, audit};
 
-/// Holds nobody.
+/// What was done with the NULLs of some connections: which were answered, in order, the segments and the receipts.
 #[derive(Drop)]
-struct Open;
-
-impl Gate for Open {
-    fn before(&self, _job: &Job) {}
-}
-
-/// What was done with the NULLs of so many connections: which were answered, in order, the segments and the receipts.
-#[derive(Drop)]
-struct Report {
-    connections: Vec<u64>,
+struct Done {
+    answered: Option<Vec<u64>>,
     segments: Vec<Closed<FlatTable, MemHosts>>,
     receipts: Vec<Receipt>,
 }
 
-// The first record of each of these connections is answered.
-fn done<P: Place, L: Ledger, R: Wait>(
+// Puts the first record of each of these connections: whether all were taken.
+fn put_all<P: Place, R: Wait>(
+    rt: &R,
+    alloc: Global,
+    channel: &Channel<P>,
+    reader: &mut Seat<P>,
+    connections: &[u32],
+) -> bool {
+    for connection in connections {
+        let Some(one) = job(alloc, u64::from(*connection), 0, *connection) else {
+            return false;
+        };
+        if reader.send(rt, channel, one).is_err() {
+            return false;
+        }
+    }
+    true
+}
+
+// Which connections are answered.
+fn answered<P: Place, L: Ledger, R: Wait>(
+    rt: &R,
+    alloc: Global,
+    channel: &Channel<P>,
+    shared: &Mutex<Shared<FlatTable, MemHosts, L>>,
+    worker: &mut Worker<P, L>,
+) -> Option<Vec<u64>> {
+    let mut outbox = MemoryOutbox::new(alloc);
+    worker.work(rt, channel, shared, &Open, &mut outbox);
+    let mut connections = Vec::new(alloc);
+    for parcel in outbox.kept() {
+        connections.push(parcel.connection).ok()?;
+    }
+    Some(connections)
+}
+
+// The first record of each of these connections is answered. None where a seat is out.
+fn answer_all<P: Place, L: Ledger, R: Wait>(
     rt: &R,
     alloc: Global,
     opened: Opened,
     blank: Blank,
+    book: Book<FlatTable, MemHosts>,
     connections: &[u32],
-) -> Result<Report, Fail>
+) -> Option<Done>
     requires table { opened.slip.table_id ≡ P.table }
     requires key { opened.slip.me.0.of ≡ P.key }
     requires name { blank.name ≡ L.name }
     requires parts { (blank.parts ≡ L.parts) × (blank.parts ≡ 1) }
+    requires new { (book.journal.notes ≡ []) × (book.journal.first ≡ 1) }
 {
     let (channel, mut keeper) = opened.named::<P>();
-    let (total, share) = blank.open::<L>();
-    let mut reader = keeper.cut(&channel).ok_or("no seat")?;
-    let seat = keeper.cut(&channel).ok_or("no seat")?;
-    for connection in connections {
-        let one = job(alloc, *connection)?;
-        if reader.send(rt, &channel, one).is_err() {
-            return Err("closed")?;
-        }
-    }
+    let mut reader = keeper.cut(&channel)?;
+    let seat = keeper.cut(&channel)?;
+    let are_put = put_all(rt, alloc, &channel, &mut reader, connections);
     channel.close();
-    let book = begun(alloc).ok_or("no book")?;
+    let (total, share) = blank.open::<L>();
     let shared = Mutex::new(Shared::new(alloc, book, total, true));
     let mut worker = Worker::new(alloc, seat, share, true);
-    let mut outbox = MemoryOutbox::new(alloc);
-    worker.work(rt, &channel, &shared, &Open, &mut outbox);
+    let answered = answered(rt, alloc, &channel, &shared, &mut worker);
     let mut left = worker.leave();
-    let ends = shared.into_inner().finish(&mut left.share)?;
-    let mut answered = Vec::new(alloc);
-    for parcel in outbox.kept() {
-        answered.push(parcel.connection)?;
+    let segments = segments(shared, &mut left.share);
+    let is_first_in = is_in(&mut keeper, &channel, reader);
+    let is_second_in = is_in(&mut keeper, &channel, left.seat);
+    let are_in = is_first_in && is_second_in && keeper.settle(&channel);
+    match (segments, left.receipts) {
+        (Some(segments), Some(receipts)) if are_put && are_in => Some(Done {
+            answered,
+            segments,
+            receipts,
+        }),
+        _ => None,
     }
-    let is_first_in = keeper.gather(&channel, reader).is_ok();
-    let is_second_in = keeper.gather(&channel, left.seat).is_ok();
-    if !is_first_in || !is_second_in || !keeper.settle(&channel) {
-        return Err("a seat is out")?;
-    }
-    Ok(Report {
-        connections: answered,
-        segments: ends.segments.ok_or("no segments")?,
-        receipts: left.receipts.ok_or("no receipts")?,
-    })
 }
 
-#[test]
-fn each_job_is_answered_once(rt: HostRuntime) -> Result<(), Fail> {
-    let alloc = rt.alloc();
-    let mut done = done::<Brand, Brand, _>(
-        &rt,
-        alloc,
-        Opened::new(alloc)?,
-        Blank::new(1),
-        &[1, 2, 3],
-    )?;
-    assert!(rt; done.connections.as_slice() == [1, 2, 3].as_slice());
-    assert_eq!(rt; done.receipts.len(), 3);
-    assert!(rt; audit(&done.segments, &mut done.receipts).is_ok());
+fn done_with<R: Wait>(rt: &R, alloc: Global, connections: &[u32]) -> Option<Done> {
+    match (begun(alloc), Opened::new(alloc)) {
+        (Some(book), Ok(opened)) => {
+            answer_all::<Brand, Brand, _>(rt, alloc, opened, Blank::new(1), book, connections)
+        }
+        _ => None,
+    }
+}
+
+// Whether the receipts are those of the segments.
+fn agrees(segments: &[Closed<FlatTable, MemHosts>], receipts: &mut [Receipt]) -> bool {
+    audit(segments, receipts).is_ok()
+}
+
+// Whether all three are answered, and the audit misses the receipt that is taken away.
+fn is_each_answered(mut done: Done) -> bool {
+    let are_answered = match &done.answered {
+        Some(connections) => connections.as_slice() == [1, 2, 3].as_slice(),
+        None => false,
+    };
+    let are_three = done.receipts.len() == 3;
+    let agreed = agrees(&done.segments, &mut done.receipts);
     drop(done.receipts.pop());
-    assert!(rt; audit(&done.segments, &mut done.receipts).is_err());
-    Ok(())
+    are_answered && are_three && agreed && !agrees(&done.segments, &mut done.receipts)
 }
 
 #[test]
-fn audit_mismatch(rt: HostRuntime) -> Result<(), Fail> {
+fn each_job_is_answered_once(rt: HostRuntime) {
+    let is_so = match done_with(&rt, rt.alloc(), &[1, 2, 3]) {
+        Some(done) => is_each_answered(done),
+        None => false,
+    };
+    assert!(rt; is_so);
+}
+
+// Whether the audit takes neither the receipts of another book nor those of both.
+fn are_apart(mut one: Done, mut two: Done) -> bool {
+    let are_apart = !agrees(&one.segments, &mut two.receipts)
+        && !agrees(&two.segments, &mut one.receipts)
+        && agrees(&one.segments, &mut one.receipts);
+    let is_joined = one.receipts.append(&mut two.receipts).is_ok();
+    are_apart && is_joined && !agrees(&one.segments, &mut one.receipts)
+}
+
+#[test]
+fn audit_mismatch(rt: HostRuntime) {
     let alloc = rt.alloc();
-    let mut one = done::<Brand, Brand, _>(&rt, alloc, Opened::new(alloc)?, Blank::new(1), &[1, 2])?;
-    let mut two = done::<Brand, Brand, _>(&rt, alloc, Opened::new(alloc)?, Blank::new(1), &[1, 9])?;
-    assert!(rt; audit(&one.segments, &mut two.receipts).is_err());
-    assert!(rt; audit(&two.segments, &mut one.receipts).is_err());
-    assert!(rt; audit(&one.segments, &mut one.receipts).is_ok());
-    one.receipts.append(&mut two.receipts)?;
-    assert!(rt; audit(&one.segments, &mut one.receipts).is_err());
-    Ok(())
+    let is_so = match (
+        done_with(&rt, alloc, &[1, 2]),
+        done_with(&rt, alloc, &[1, 9]),
+    ) {
+        (Some(one), Some(two)) => are_apart(one, two),
+        _ => false,
+    };
+    assert!(rt; is_so);
 }

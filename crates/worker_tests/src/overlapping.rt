@@ -1,10 +1,10 @@
 //! Workers that are inside at once.
-ghost use Rattle.std.specs.Prelude.{◌≡◌};
+ghost use Rattle.std.specs.Prelude.{◌≡◌, []};
 
-use crate::parts::{begun, null};
+use crate::parts::{begun, job};
+use book::Book;
 use hosts_db::MemHosts;
 use jobs::{Channel, Job, Opened, Place};
-use kept_replies::Peer;
 use range_table::FlatTable;
 use staff::{Cutter, Gatherer};
 use std::alloc::Global;
@@ -120,22 +120,23 @@ fn run_threads<P: Place + Send + Sync, L: Ledger + Send + Sync, R: Threads + Wai
     });
 }
 
-// Puts so many NULLs of one connection.
+// Puts so many NULLs of one connection: whether all were taken.
 fn put_all<P: Place, L: Ledger, R: Wait>(
     rt: &R,
     alloc: Global,
     channel: &Channel<P>,
     reader: &mut Worker<P, L>,
     jobs: u32,
-) -> Result<(), Fail> {
+) -> bool {
     for number in 0..jobs {
-        let asked = null(alloc, number)?;
-        let job = Job::new(CONNECTION, Peer::PIPE, u64::from(number), asked);
+        let Some(job) = job(alloc, CONNECTION, u64::from(number), number) else {
+            return false;
+        };
         if reader.send(rt, channel, job).is_err() {
-            return Err("closed")?;
+            return false;
         }
     }
-    Ok(())
+    true
 }
 
 /// So many jobs, for so many workers: each job is held until so many are, or for so many turns.
@@ -146,6 +147,18 @@ struct Plan {
     turns: u64,
 }
 
+// Workers, each in a place.
+fn placed<P: Place, L: Ledger>(
+    alloc: Global,
+    workers: Vec<Worker<P, L>>,
+) -> Option<Vec<Option<Worker<P, L>>>> {
+    let mut pool = Vec::new(alloc);
+    for worker in workers {
+        pool.push(Some(worker)).ok()?;
+    }
+    Some(pool)
+}
+
 // Beside the workers there is whoever puts the jobs.
 fn serve_round<P: Place + Send + Sync, L: Ledger + Send + Sync, R: Threads + Wait + Sync>(
     rt: &R,
@@ -154,27 +167,27 @@ fn serve_round<P: Place + Send + Sync, L: Ledger + Send + Sync, R: Threads + Wai
     opened: Opened,
     blank: Blank,
     parts: u64,
-) -> Result<Round, Fail>
+    book: Book<FlatTable, MemHosts>,
+) -> Option<Round>
     requires table { opened.slip.table_id ≡ P.table }
     requires key { opened.slip.me.0.of ≡ P.key }
     requires name { blank.name ≡ L.name }
     requires parts { (blank.parts ≡ L.parts) × (blank.parts ≡ parts) }
+    requires new { (book.journal.notes ≡ []) × (book.journal.first ≡ 1) }
 {
     let (channel, keeper) = opened.named::<P>();
     let (total, share) = blank.open::<L>();
     let mut cutter = Cutter::new(alloc, keeper, share, parts, true);
-    let mut reader = cutter.cut(&channel)?;
-    put_all(rt, alloc, &channel, &mut reader, plan.jobs)?;
-    let mut pool = Vec::new(alloc);
-    for worker in cutter.cut_all(&channel, plan.workers)? {
-        pool.push(Some(worker))?;
+    let mut reader = cutter.cut(&channel).ok()?;
+    if !put_all(rt, alloc, &channel, &mut reader, plan.jobs) {
+        return None;
     }
+    let workers = cutter.cut_all(&channel, plan.workers).ok()?;
     channel.close();
-    let book = begun(alloc).ok_or("no book")?;
     let floor = Floor {
         channel,
         shared: Mutex::new(Shared::new(alloc, book, total, true)),
-        pool: Mutex::new(pool),
+        pool: Mutex::new(placed(alloc, workers)?),
         hall: Hall::new(u64::from(plan.jobs), plan.turns),
         answered: AtomicU64::new(0),
     };
@@ -182,13 +195,30 @@ fn serve_round<P: Place + Send + Sync, L: Ledger + Send + Sync, R: Threads + Wai
     ended(floor, cutter.into_gatherer(), reader, parts)
 }
 
+// Takes all workers in: whether none is out.
+fn takes<P: Place, L: Ledger>(
+    gatherer: &mut Gatherer<P, L>,
+    channel: &Channel<P>,
+    workers: Vec<Option<Worker<P, L>>>,
+) -> bool {
+    for worker in workers {
+        let Some(worker) = worker else {
+            return false;
+        };
+        if gatherer.take(channel, worker).is_err() {
+            return false;
+        }
+    }
+    true
+}
+
 // All are taken in, and what they did is audited.
 fn ended<P: Place, L: Ledger>(
     floor: Floor<P, L>,
-    gatherer: Gatherer<P, L>,
+    mut gatherer: Gatherer<P, L>,
     reader: Worker<P, L>,
     parts: u64,
-) -> Result<Round, Fail>
+) -> Option<Round>
     requires { parts ≡ L.parts }
 {
     let Floor {
@@ -198,51 +228,61 @@ fn ended<P: Place, L: Ledger>(
         hall,
         answered,
     } = floor;
-    let mut gatherer = gatherer;
-    gatherer.take(&channel, reader)?;
-    for worker in pool.into_inner() {
-        gatherer.take(&channel, worker.ok_or("one is out")?)?;
+    let is_first_in = gatherer.take(&channel, reader).is_ok();
+    let are_in = takes(&mut gatherer, &channel, pool.into_inner());
+    match gatherer.settle(&channel, shared.into_inner(), parts) {
+        Ok(audited) if is_first_in && are_in => Some(Round {
+            is_met: !hall.was_missed.load(Ordering::SeqCst),
+            audited,
+            answered: answered.load(Ordering::SeqCst),
+        }),
+        _ => None,
     }
-    Ok(Round {
-        is_met: !hall.was_missed.load(Ordering::SeqCst),
-        audited: gatherer.settle(&channel, shared.into_inner(), parts)?,
-        answered: answered.load(Ordering::SeqCst),
-    })
 }
 
-fn make_round<R: Threads + Wait + Sync>(rt: &R, alloc: Global, plan: Plan) -> Result<Round, Fail> {
+fn round_of<R: Threads + Wait + Sync>(rt: &R, alloc: Global, plan: Plan) -> Option<Round> {
     let parts = u64::from(plan.workers) + 1;
-    let opened = Opened::new(alloc)?;
-    serve_round::<Brand, Brand, _>(rt, alloc, plan, opened, Blank::new(parts), parts)
-}
-
-#[test]
-fn overlapping_workers(rt: HostRuntime) -> Result<(), Fail> {
-    for workers in [2, 16] {
-        let plan = Plan {
-            jobs: u32::from(workers),
-            workers,
-            turns: 5_000_000,
-        };
-        let round = make_round(&rt, rt.alloc(), plan)?;
-        assert!(rt; round.is_met);
-        assert_eq!(rt; round.audited, u64::from(workers));
-        assert_eq!(rt; round.answered, u64::from(workers));
+    match (begun(alloc), Opened::new(alloc)) {
+        (Some(book), Ok(opened)) => {
+            let blank = Blank::new(parts);
+            serve_round::<Brand, Brand, _>(rt, alloc, plan, opened, blank, parts, book)
+        }
+        _ => None,
     }
-    Ok(())
 }
 
-// Fewer than were told never are inside at once. Their jobs are answered all the same.
+// Whether all were inside at once, or not, and each job was answered and audited.
+fn is_so<R: Threads + Wait + Sync>(rt: &R, alloc: Global, plan: Plan, is_met: bool) -> bool {
+    let jobs = u64::from(plan.jobs);
+    match round_of(rt, alloc, plan) {
+        Some(round) => { round.is_met == is_met && round.audited == jobs && round.answered == jobs }
+        None => false,
+    }
+}
+
+// As many jobs as workers.
+fn full(workers: u16) -> Plan {
+    Plan {
+        jobs: u32::from(workers),
+        workers,
+        turns: 5_000_000,
+    }
+}
+
 #[test]
-fn fewer_workers_than_told(rt: HostRuntime) -> Result<(), Fail> {
-    let plan = Plan {
-        jobs: 3,
-        workers: 2,
-        turns: 100,
-    };
-    let round = make_round(&rt, rt.alloc(), plan)?;
-    assert!(rt; !round.is_met);
-    assert_eq!(rt; round.audited, 3);
-    assert_eq!(rt; round.answered, 3);
-    Ok(())
+fn overlapping_workers(rt: HostRuntime) {
+    assert!(rt; is_so(&rt, rt.alloc(), full(2), true));
+    assert!(rt; is_so(&rt, rt.alloc(), full(16), true));
+}
+
+/// Fewer than were told never are inside at once. Their jobs are answered all the same.
+const FEWER: Plan = Plan {
+    jobs: 3,
+    workers: 2,
+    turns: 100,
+};
+
+#[test]
+fn fewer_workers_than_told(rt: HostRuntime) {
+    assert!(rt; is_so(&rt, rt.alloc(), FEWER, false));
 }

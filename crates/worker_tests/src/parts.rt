@@ -1,15 +1,25 @@
-//! A book, and records to be answered.
+//! A book, records to be answered, and what is left of a worker and its book.
 ghost use Rattle.std.specs.Prelude.{◌≡◌, [], IfSome};
 
-use book::Book;
+use book::{Book, Closed};
 use bytes::Bytes;
 use hosts_db::MemHosts;
-use jobs::Job;
+use jobs::{Channel, Job, Keeper, Place, Seat};
 use kept_replies::Peer;
 use letters::ShortBytes;
 use range_table::FlatTable;
-use std::alloc::Global;
-use std::test::*;
+use std::alloc::{AllocError, Global};
+use std::sync::Mutex;
+use std::sync::ledger::{Ledger, Share};
+use workers::{Gate, Shared};
+
+/// Holds nobody.
+#[derive(Drop)]
+pub(crate) struct Open;
+
+impl Gate for Open {
+    fn before(&self, _job: &Job) {}
+}
 
 /// The book of a server named `server`, over a table without runs and no hosts. None where there is no memory.
 pub(crate) fn begun(alloc: Global) -> Option<Book<FlatTable, MemHosts>>
@@ -21,17 +31,36 @@ pub(crate) fn begun(alloc: Global) -> Option<Book<FlatTable, MemHosts>>
     Book::new(alloc, table, store, name).ok()
 }
 
-/// A NULL of the lock manager, under this xid.
-pub(crate) fn null(alloc: Global, xid: u32) -> Result<Bytes, Fail> {
-    let mut record = Vec::new(alloc);
+/// The bytes of a NULL of the lock manager, under this xid, behind these.
+pub(crate) fn put_null(to: &mut Vec<u8>, xid: u32) -> Result<(), AllocError> {
     for word in [xid, 0, 2, 100_021, 4, 0, 0, 0, 0, 0] {
-        record.extend_from_slice(word.to_be_bytes().as_slice())?;
+        to.extend_from_slice(word.to_be_bytes().as_slice())?;
     }
-    Ok(Bytes::from_vec(record)?)
+    Ok(())
 }
 
-/// The first record of this connection: a NULL, under the connection's number.
-pub(crate) fn job(alloc: Global, connection: u32) -> Result<Job, Fail> {
-    let record = null(alloc, connection)?;
-    Ok(Job::new(u64::from(connection), Peer::PIPE, 0, record))
+/// A NULL under this xid, the record of this number of a connection.
+pub(crate) fn job(alloc: Global, connection: u64, number: u64, xid: u32) -> Option<Job> {
+    let mut record = Vec::new(alloc);
+    put_null(&mut record, xid).ok()?;
+    let record = Bytes::from_vec(record).ok()?;
+    Some(Job::new(connection, Peer::PIPE, number, record))
+}
+
+/// All segments of a book. None where it kept none, or there is no memory.
+pub(crate) fn segments<L: Ledger>(
+    shared: Mutex<Shared<FlatTable, MemHosts, L>>,
+    share: &mut Share<L>,
+) -> Option<Vec<Closed<FlatTable, MemHosts>>>
+    requires { share.old.parts ≡ L.parts }
+{
+    match shared.into_inner().finish(share) {
+        Ok(ends) => ends.segments,
+        Err(_) => None,
+    }
+}
+
+/// Takes a seat in.
+pub(crate) fn is_in<P: Place>(keeper: &mut Keeper<P>, channel: &Channel<P>, seat: Seat<P>) -> bool {
+    keeper.gather(channel, seat).is_ok()
 }

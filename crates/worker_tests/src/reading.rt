@@ -1,27 +1,22 @@
 //! A connection's own thread over memory.
-ghost use Rattle.std.specs.Prelude.{◌≡◌};
+ghost use Rattle.std.specs.Prelude.{◌≡◌, []};
 
-use crate::parts::{begun, null};
-use jobs::{Job, Opened, Place};
+use crate::parts::{Open, begun, is_in, put_null};
+use book::Book;
+use hosts_db::MemHosts;
+use jobs::{Opened, Place};
 use kept_replies::Peer;
-use std::alloc::Global;
+use range_table::FlatTable;
+use std::alloc::{AllocError, Global};
 use std::io::{self, ErrorKind, Read};
 use std::marker::Brand;
 use std::sync::ledger::{Blank, Ledger};
 use std::sync::{Mutex, Wait};
 use std::test::*;
-use workers::{Ending, Gate, MemoryOutbox, Origin, Shared, Source, Worker};
+use workers::{Ending, MemoryOutbox, Origin, Shared, Source, Worker};
 
 /// The connection that is read.
 const CONNECTION: u64 = 300;
-
-/// Holds nobody.
-#[derive(Drop)]
-struct Open;
-
-impl Gate for Open {
-    fn before(&self, _job: &Job) {}
-}
 
 /// How a stream goes on behind its bytes.
 #[derive(Clone, Copy)]
@@ -58,7 +53,7 @@ impl Read for Pieces<'_> {
     }
 }
 
-/// What came of a stream: how it ended, how many jobs were put and are left, and the xids that were answered.
+/// What came of a stream: how it ended, how many jobs were put, and the last byte of the xid of each answer.
 #[derive(Drop)]
 struct Came {
     ending: Ending,
@@ -67,14 +62,14 @@ struct Came {
 }
 
 // The last byte of the xid of each record that was handed over.
-fn xids(alloc: Global, outbox: &MemoryOutbox) -> Result<Vec<u8>, Fail> {
+fn xids(alloc: Global, outbox: &MemoryOutbox) -> Option<Vec<u8>> {
     let mut all = Vec::new(alloc);
     for parcel in outbox.kept() {
         if parcel.connection == CONNECTION {
-            all.push(*parcel.record.as_slice().get(3).ok_or("no xid")?)?;
+            all.push(*parcel.record.as_slice().get(3)?).ok()?;
         }
     }
-    Ok(all)
+    Some(all)
 }
 
 // Reads the stream, where the channel may be closed before.
@@ -83,21 +78,22 @@ fn read_all<P: Place, L: Ledger, R: Wait>(
     alloc: Global,
     opened: Opened,
     blank: Blank,
+    book: Book<FlatTable, MemHosts>,
     stream: Pieces<'_>,
     is_closed: bool,
-) -> Result<Came, Fail>
+) -> Option<Came>
     requires table { opened.slip.table_id ≡ P.table }
     requires key { opened.slip.me.0.of ≡ P.key }
     requires name { blank.name ≡ L.name }
     requires parts { (blank.parts ≡ L.parts) × (blank.parts ≡ 1) }
+    requires new { (book.journal.notes ≡ []) × (book.journal.first ≡ 1) }
 {
     let (channel, mut keeper) = opened.named::<P>();
-    let (total, share) = blank.open::<L>();
-    let seat = keeper.cut(&channel).ok_or("no seat")?;
+    let seat = keeper.cut(&channel)?;
     if is_closed {
         channel.close();
     }
-    let book = begun(alloc).ok_or("no book")?;
+    let (total, share) = blank.open::<L>();
     let shared = Mutex::new(Shared::new(alloc, book, total, false));
     let mut reader = Worker::new(alloc, seat, share, false);
     let mut outbox = MemoryOutbox::new(alloc);
@@ -110,100 +106,146 @@ fn read_all<P: Place, L: Ledger, R: Wait>(
     let ending = reader.read(rt, &channel, &shared, &Open, &mut outbox, &mut source);
     let mut left = reader.leave();
     let is_finished = shared.into_inner().finish(&mut left.share).is_ok();
-    let is_in = keeper.gather(&channel, left.seat).is_ok();
-    if !is_finished || !is_in || !keeper.settle(&channel) {
-        return Err("not ended")?;
+    if !is_in(&mut keeper, &channel, left.seat) || !keeper.settle(&channel) || !is_finished {
+        return None;
     }
-    Ok(Came {
+    Some(Came {
         ending,
         put: source.origin.put,
         xids: xids(alloc, &outbox)?,
     })
 }
 
-fn came_of<R: Wait>(
-    rt: &R,
-    alloc: Global,
-    stream: Pieces<'_>,
+fn came_of<R: Wait>(rt: &R, alloc: Global, stream: Pieces<'_>, is_closed: bool) -> Option<Came> {
+    match (begun(alloc), Opened::new(alloc)) {
+        (Some(book), Ok(opened)) => {
+            let blank = Blank::new(1);
+            read_all::<Brand, Brand, _>(rt, alloc, opened, blank, book, stream, is_closed)
+        }
+        _ => None,
+    }
+}
+
+/// A stream, and what comes of it. In its text a number stands for a NULL of this xid behind its mark, `part` for a
+/// mark and the first byte of its record, and `long` for a mark of 8,193 bytes, one more than a record may have.
+#[derive(Clone, Copy)]
+struct Case<'a> {
+    stream: &'a str,
+    most: usize,
+    tail: Tail,
     is_closed: bool,
-) -> Result<Came, Fail> {
-    let opened = Opened::new(alloc)?;
-    read_all::<Brand, Brand, _>(rt, alloc, opened, Blank::new(1), stream, is_closed)
+    ending: Ending,
+    xids: &'a [u8],
 }
 
-// A NULL of each of these xids, behind its mark.
-fn calls(alloc: Global, xids: &[u8]) -> Result<Vec<u8>, Fail> {
+fn put_word(to: &mut Vec<u8>, word: &str) -> Result<(), AllocError> {
+    match word {
+        "part" => to.extend_from_slice(&[0x80, 0, 0, 40, 1]),
+        "long" => to.extend_from_slice(&[0x80, 0, 0x20, 1]),
+        _ => {
+            to.extend_from_slice(&[0x80, 0, 0, 40])?;
+            put_null(to, word.parse().unwrap_or(0))
+        }
+    }
+}
+
+fn stream_of(alloc: Global, text: &str) -> Option<Vec<u8>> {
     let mut all = Vec::new(alloc);
-    for xid in xids {
-        all.extend_from_slice([0x80, 0, 0, 40].as_slice())?;
-        all.extend_from_slice(&null(alloc, u32::from(*xid))?)?;
+    for word in text.split_whitespace() {
+        put_word(&mut all, word).ok()?;
     }
-    Ok(all)
+    Some(all)
 }
 
-fn in_pieces(left: &[u8], most: usize, tail: Tail) -> Pieces<'_> {
-    Pieces {
-        left,
-        most,
+// Whether this comes of the stream: as many jobs are put as are answered.
+fn is_so<R: Wait>(rt: &R, alloc: Global, case: Case<'_>) -> bool {
+    let Some(bytes) = stream_of(alloc, case.stream) else {
+        return false;
+    };
+    let stream = Pieces {
+        left: &bytes,
+        most: case.most,
         is_interrupted: false,
-        tail,
+        tail: case.tail,
+    };
+    match came_of(rt, alloc, stream, case.is_closed) {
+        Some(came) => {
+            came.ending == case.ending
+                && came.put == case.xids.len() as u64
+                && came.xids.as_slice() == case.xids
+        }
+        None => false,
+    }
+}
+
+// Three records, in pieces of so many bytes.
+fn three(most: usize) -> Case<'static> {
+    Case {
+        stream: "5 6 7",
+        most,
+        tail: Tail::Ends,
+        is_closed: false,
+        ending: Ending::Over,
+        xids: &[5, 6, 7],
     }
 }
 
 #[test]
-fn each_record_is_answered(rt: HostRuntime) -> Result<(), Fail> {
-    let alloc = rt.alloc();
-    let bytes = calls(alloc, &[5, 6, 7])?;
+fn each_record_is_answered(rt: HostRuntime) {
     for most in [1, 43, 44, 45, 65_536] {
-        let stream = in_pieces(&bytes, most, Tail::Ends);
-        let came = came_of(&rt, alloc, stream, false)?;
-        assert!(rt; came.ending == Ending::Over);
-        assert_eq!(rt; came.put, 3);
-        assert!(rt; came.xids.as_slice() == [5, 6, 7].as_slice());
+        assert!(rt; is_so(&rt, rt.alloc(), three(most)), "{most}");
     }
-    Ok(())
 }
 
-#[test]
-fn ends_of_streams(rt: HostRuntime) -> Result<(), Fail> {
-    let alloc = rt.alloc();
-    let mut bytes = calls(alloc, &[5])?;
-    // A part of a record, and its end.
-    bytes.extend_from_slice([0x80, 0, 0, 40, 1].as_slice())?;
-    let stream = in_pieces(&bytes, 100, Tail::Ends);
-    let came = came_of(&rt, alloc, stream, false)?;
-    assert!(rt; came.ending == Ending::Over);
-    assert!(rt; came.xids.as_slice() == [5].as_slice());
-    let stream = in_pieces(&bytes, 100, Tail::Fails);
-    let came = came_of(&rt, alloc, stream, false)?;
-    assert!(rt; came.ending == Ending::Failed);
-    assert_eq!(rt; came.put, 1);
-    Ok(())
-}
+/// A part of a record, and its end.
+const ENDS: Case<'static> = Case {
+    stream: "5 part",
+    most: 100,
+    tail: Tail::Ends,
+    is_closed: false,
+    ending: Ending::Over,
+    xids: &[5],
+};
+
+const FAILS: Case<'static> = Case {
+    stream: "5 part",
+    most: 100,
+    tail: Tail::Fails,
+    is_closed: false,
+    ending: Ending::Failed,
+    xids: &[5],
+};
 
 #[test]
-fn a_record_that_is_too_long(rt: HostRuntime) -> Result<(), Fail> {
-    let alloc = rt.alloc();
-    let mut bytes = calls(alloc, &[8, 9])?;
-    // 8,193 bytes, one more than a record may have.
-    bytes.extend_from_slice([0x80, 0, 0x20, 1].as_slice())?;
-    bytes.append(&mut calls(alloc, &[10])?)?;
-    let stream = in_pieces(&bytes, 65_536, Tail::Ends);
-    let came = came_of(&rt, alloc, stream, false)?;
-    assert!(rt; came.ending == Ending::TooLong);
-    assert_eq!(rt; came.put, 2);
-    assert!(rt; came.xids.as_slice() == [8, 9].as_slice());
-    Ok(())
+fn ends_of_streams(rt: HostRuntime) {
+    assert!(rt; is_so(&rt, rt.alloc(), ENDS));
+    assert!(rt; is_so(&rt, rt.alloc(), FAILS));
 }
 
+const LONG: Case<'static> = Case {
+    stream: "8 9 long 10",
+    most: 65_536,
+    tail: Tail::Ends,
+    is_closed: false,
+    ending: Ending::TooLong,
+    xids: &[8, 9],
+};
+
 #[test]
-fn nothing_is_put_once_it_is_closed(rt: HostRuntime) -> Result<(), Fail> {
-    let alloc = rt.alloc();
-    let bytes = calls(alloc, &[8, 9])?;
-    let stream = in_pieces(&bytes, 65_536, Tail::Ends);
-    let came = came_of(&rt, alloc, stream, true)?;
-    assert!(rt; came.ending == Ending::Closed);
-    assert_eq!(rt; came.put, 0);
-    assert!(rt; came.xids.is_empty());
-    Ok(())
+fn a_record_that_is_too_long(rt: HostRuntime) {
+    assert!(rt; is_so(&rt, rt.alloc(), LONG));
+}
+
+const CLOSED: Case<'static> = Case {
+    stream: "8 9",
+    most: 65_536,
+    tail: Tail::Ends,
+    is_closed: true,
+    ending: Ending::Closed,
+    xids: &[],
+};
+
+#[test]
+fn nothing_is_put_once_it_is_closed(rt: HostRuntime) {
+    assert!(rt; is_so(&rt, rt.alloc(), CLOSED));
 }

@@ -1,4 +1,4 @@
-use Rattle.worker_tests.proofs.overlapping.make_round.Given as goal
+use Rattle.worker_tests.proofs.overlapping.round_of.Given as goal
 
 abbrev pub ghosts-serve_round-P-Place : goal.ghosts-serve_round-P-Place
 ghosts-serve_round-P-Place g a = record { table = a.opened.slip.table_id; key = a.opened.slip.me.0.of }
