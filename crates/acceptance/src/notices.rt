@@ -1,5 +1,5 @@
 //! What the server itself calls once it has begun anew.
-use crate::servers::wrong_of_hosts;
+use crate::servers::{wrong_in_both, wrong_of_hosts};
 use std::test::*;
 
 /// Each host is told once, in order of name, and then nothing is due. A notice that nobody answers is sent three times, with
@@ -42,6 +42,23 @@ const ANSWERS: &[&str] = &[
 #[test]
 fn answers(rt: HostRuntime) {
     assert_eq!(rt; wrong_of_hosts(rt.alloc(), 1, b"ab", ANSWERS), None);
+}
+
+/// An answer to no call, one of 3 bytes, and the silence of a call that isn't there: nothing, three times.
+const STRAY_ANSWERS: &[&str] = &[
+    "begins",
+    "answer 9 done",
+    "stored not-asked",
+    "answer-cut 9 done",
+    "stored not-asked",
+    "silent 1 9",
+    "stored not-asked",
+    "quiet",
+];
+
+#[test]
+fn stray_answers(rt: HostRuntime) {
+    assert_eq!(rt; wrong_in_both(rt.alloc(), STRAY_ANSWERS), None);
 }
 
 /// A call that was not sent yet can't be answered. Who answers has the new own state as its epoch, who refuses has not.

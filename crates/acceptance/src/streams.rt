@@ -65,7 +65,7 @@ fn record_too_long(rt: HostRuntime) {
 }
 
 /// Another RPC version, program, version, procedure and credential.
-const REFUSED_HEADERS: [&[&str]; 5] = [
+const REFUSED_HEADERS: [&[&str]; 4] = [
     &[
         "begins",
         "in 80000028 1 0 3 186b5 4 0 0 0 0 0",
@@ -75,11 +75,6 @@ const REFUSED_HEADERS: [&[&str]; 5] = [
         "begins",
         "in 80000028 1 0 2 186a3 4 0 0 0 0 0",
         "out 80000018 1 1 0 0 0 1",
-    ],
-    &[
-        "begins",
-        "in 80000028 1 0 2 186b5 2 0 0 0 0 0",
-        "out 80000020 1 1 0 0 0 2 1 4",
     ],
     &[
         "begins",
@@ -96,6 +91,18 @@ const REFUSED_HEADERS: [&[&str]; 5] = [
 #[test]
 fn refused_headers(rt: HostRuntime) {
     assert_eq!(rt; wrong_in_streams(rt.alloc(), &REFUSED_HEADERS), None);
+}
+
+/// The NULL call in a version that isn't served.
+const VERSION_2: [&[&str]; 1] = [&[
+    "begins",
+    "in 80000028 1 0 2 186b5 2 0 0 0 0 0",
+    "out 80000020 1 1 0 0 0 2 1 4",
+]];
+
+#[test]
+fn version_2(rt: HostRuntime) {
+    assert_eq!(rt; wrong_in_streams(rt.alloc(), &VERSION_2), None);
 }
 
 /// Arguments whose `block` is 2, and those with a word behind them.
