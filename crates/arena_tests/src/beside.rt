@@ -1,5 +1,5 @@
 //! One random script through the arena table and the flat one, which is its definition in code.
-ghost use Rattle.std.specs.Prelude.{◌≤◌, ◌<◌, ◌^◌};
+ghost use Rattle.std.specs.Prelude.{◌≡◌, ◌≤◌, ◌<◌, ◌^◌};
 
 use owner_ids::{HostOf, Owner, OwnerId, Owners};
 use range_arena::ArenaTable;
@@ -87,6 +87,14 @@ fn nth<T: RangeTable>(table: &T, owners: &Owners, i: u32) -> Option<Run> {
     }
 }
 
+// The lock that is asked for, or that would be kept out where it is given up.
+fn wanted(asked: &Setting) -> Run
+    ensures ordered { result.first ≡ asked.now.first }
+    ensures inside { result.last ≡ asked.now.last }
+{
+    asked.run(asked.mode.unwrap_or(Mode::Exclusive))
+}
+
 // Whether both refuse the setting, or both make it.
 fn set_alike<T: RangeTable, U: RangeTable>(table: &mut T, other: &mut U, asked: &Setting) -> bool
     requires ordered { asked.now.first ≤ asked.now.last }
@@ -113,27 +121,22 @@ fn set_alike<T: RangeTable, U: RangeTable>(table: &mut T, other: &mut U, asked: 
     done == also
 }
 
-// Whether both find the same in the way.
+// Whether both find the same in the way, and say so of this owner alike.
 fn find_alike<T: RangeTable, U: RangeTable>(
     table: &T,
     other: &U,
     owners: &Owners,
-    asked: &Setting,
+    owner: OwnerId,
+    wanted: &Run,
 ) -> bool
-    requires ordered { asked.now.first ≤ asked.now.last }
-    requires inside { asked.now.last < 2 ^ 63 }
+    requires ordered { wanted.now.first ≤ wanted.now.last }
+    requires inside { wanted.now.last < 2 ^ 63 }
 {
-    let wanted = Run {
-        file: asked.file,
-        owner: asked.owner,
-        first: asked.first,
-        last: asked.last,
-        mode: asked.mode.unwrap_or(Mode::Exclusive),
-    };
-    is_same(
-        table.first_conflict(owners, &wanted),
-        other.first_conflict(owners, &wanted),
-    )
+    let found = table.first_conflict(owners, wanted);
+    found.is_some() == table.is_blocked(wanted)
+        && found.is_some() == other.is_blocked(wanted)
+        && is_same(found, other.first_conflict(owners, wanted))
+        && table.is_owner_in_way(owner, wanted) == other.is_owner_in_way(owner, wanted)
 }
 
 // Whether both have the same runs, in one order.
@@ -167,7 +170,11 @@ fn step<T: RangeTable, U: RangeTable>(
             other.drop_owner_on_file(&asked.file, asked.owner);
             true
         }
-        _ => { find_alike(table, other, owners, &asked) && set_alike(table, other, &asked) }
+        _ => {
+            let owner = asking[next_random(random, 4) as usize];
+            find_alike(table, other, owners, owner, &wanted(&asked))
+                && set_alike(table, other, &asked)
+        }
     }
 }
 

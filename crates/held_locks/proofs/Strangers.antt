@@ -1,13 +1,15 @@
 -- An asker that has no number meets the locks that it would meet if it had one.
 use Rattle.std.proofs.Common.{◌≡◌, ◌≢◌, ◌≤◌, ℕ, ◌==◌, ◌&&◌, not, nat_le, Bool, true, false, cond, inl, inr, is_gt, refl, sym, ap, ◌∙◌, subst, List, Option, Some, None, IsSome}
 use Rattle.std.proofs.lemmas.Bool.{eqb-true}
+use Rattle.std.specs.Bool.{Decides}
 use Rattle.definitions.specs.Owners.{Owner}
 use Rattle.definitions.specs.Settings.{Setting}
+use Rattle.definitions.specs.Conflict.{conflicts as conflicts_said}
 use Rattle.definitions.specs.Starts.{Run, first_conflict}
 use Rattle.owner_ids.specs.Said.{said}
 use Rattle.owner_ids.specs.Names.{Names, Renames, number_cmp}
 use Rattle.owner_ids.proofs.Orders.{number_agrees}
-use Rattle.range_table.specs.Settings.{Held, IsFirstConflict, IsUpTo, conflicts, excludes}
+use Rattle.range_table.specs.Settings.{Held, IsConflict, IsFirstConflict, IsUpTo, conflicts, excludes}
 use Rattle.range_table.specs.File.{same_file}
 use Rattle.range_table.specs.declared.run.Run.{Run as NumberRun}
 use Rattle.owner_ranges.specs.Same.{mode_of, IsSameRun, IsSameFound}
@@ -15,6 +17,7 @@ use Rattle.owner_ranges.specs.Stands.{Stands}
 use Rattle.owner_ranges.proofs.Words.{some_same, number_same, number_other}
 use Rattle.owner_ranges.proofs.Keeping.{interned}
 use Rattle.owner_ranges.proofs.FirstConflicts.{first_over}
+use Rattle.owner_ranges.proofs.InWay.{conflicts_over}
 use Rattle.held_locks.specs.declared.asked.Request.{Request as HeldRequest}
 use Rattle.held_locks.specs.Asked.{asked, run_by_number}
 use Rattle.held_locks.specs.Stranger.{IsAsker}
@@ -89,6 +92,12 @@ module _ (names : Names) (held : Held) (settings : List Setting) (h : Stands nam
       let stands = interned names too held settings n x h e.0 e.1 (renames_too names n x) in
       found_too found (first_conflict settings (asked r)) f
       (first_over too held settings (number_cmp too) wanted (asked r) found stands (record { agrees = number_agrees too stands.distinct }) (record { file = refl; owner = (renames_too names n x).there; first = refl; last = refl; mode = refl }) ordered (first_too found f))
+
+  pub conflicts_found : (found : Bool) → IsAsker names n x → Decides found (IsConflict held wanted) → found ≡ conflicts_said settings (asked r)
+  conflicts_found found (inl e) d = conflicts_over names held settings wanted (asked r) found h (record { file = refl; owner = e; first = refl; last = refl; mode = refl }) ordered d
+  conflicts_found found (inr e) d =
+      let stands = interned names too held settings n x h e.0 e.1 (renames_too names n x) in
+      conflicts_over too held settings wanted (asked r) found stands (record { file = refl; owner = (renames_too names n x).there; first = refl; last = refl; mode = refl }) ordered d
 
 -- what is shown of a run is the run of its owner
 pub same_shown : (names : Names) (a : NumberRun) (x : Owner) (t : Run) → names a.owner ≡ Some x → IsSameRun names a t → record { file = a.file; owner = x; first = a.first; last = a.last; mode = mode_of a.mode } ≡ t

@@ -131,7 +131,8 @@ impl<R: RangeTable> Locks<R> {
         requires inside { wanted.now.last < 2 ^ 63 }
         ensures { result ≡ conflicts self.now.settings (asked wanted.now) }
     {
-        self.first_conflict(wanted).is_some()
+        let asker = self.asker(wanted.owner);
+        self.table.is_blocked(&wanted.by_number(asker))
     }
 }
 

@@ -26,7 +26,7 @@ use Rattle.range_table.proofs.Counts.{same_mode-refl}
 use Rattle.range_table.proofs.RunFacts.{run_once}
 use Rattle.owner_ids.specs.Names.{Names}
 use Rattle.owner_ranges.specs.Same.{mode_of, held_mode, IsSameRun, IsSameRequest, IsSameFound}
-use Rattle.owner_ranges.specs.Stands.{Stands, OrdersNames, RunsLaw, FirstConflictLaw, ConflictsLaw}
+use Rattle.owner_ranges.specs.Stands.{Stands, OrdersNames, RunsLaw, FirstConflictLaw}
 use Rattle.owner_ranges.proofs.Words.{some_same, some_none, file_same, owner_test}
 use Rattle.owner_ranges.proofs.Counting.{held_once, starts_same}
 
@@ -139,7 +139,7 @@ module _ (names : Names) (held : Held) (settings : List Setting) (wanted : Numbe
   against_back : (t : Run) (n : ℕ) → names n ≡ Some t.owner → stands_against r t ≡ true → conflicts_number wanted (number_run n t) ≡ true
   against_back t n f k = against_same (number_run n t) t.owner f ∙ ap (λ m. stands_against r (record t { mode = m })) (mode_back t.mode) ∙ k
 
-  conflict_back : HasConflict settings r → IsConflict held wanted
+  pub conflict_back : HasConflict settings r → IsConflict held wanted
   conflict_back k =
       let byte : ℕ = k.0 in
       let y : Owner = k.3.0 in
@@ -221,17 +221,6 @@ module _ (names : Names) (held : Held) (settings : List Setting) (wanted : Numbe
 
 pub first_over : FirstConflictLaw
 first_over names held settings order wanted r found h agrees e range f = over names held settings wanted r h e order agrees range found f
-
-both_there : (names : Names) (a : Option NumberRun) (b : Option Run) → IsSameFound names a b → is_some a ≡ is_some b
-both_there names None None h = refl
-both_there names (Some q) (Some d) h = refl
-both_there names None (Some d) h = absurd h
-both_there names (Some q) None h = absurd h
-
-pub conflicts_over : ConflictsLaw
-conflicts_over names held settings order wanted r found h agrees e range f =
-    both_there names found (first_conflict settings r) (first_over names held settings order wanted r found h agrees e range f)
-    ∙ first_conflict_law.there settings r (let a = e.first in let b = e.last in omega arith)
 
 pub runs_over : RunsLaw
 runs_over = record {

@@ -1,13 +1,14 @@
 -- What numbers hold stands for what owners hold.
-use Rattle.std.specs.Prelude.{ℕ, ◌≡◌, ◌≢◌, ◌↔◌, ◌≤◌, Bool, true, not, List, [], ◌∷◌, ◌++◌, Option, Some, None, is_some, slice_get}
+use Rattle.std.specs.Prelude.{ℕ, ◌≡◌, ◌≢◌, ◌↔◌, ◌≤◌, Bool, true, not, List, [], ◌∷◌, ◌++◌, Option, Some, None, slice_get}
 use Rattle.std.specs.List.{filter}
+use Rattle.std.specs.Bool.{Decides}
 use Rattle.std.specs.declared.cmp.Ordering.{Ordering}
 use Rattle.definitions.specs.Bytes.{Bytes, Holds}
 use Rattle.definitions.specs.Owners.{Owner, owner_cmp}
 use Rattle.definitions.specs.Settings.{Setting, Request, mode_at, without_host, without_owner_on}
 use Rattle.definitions.specs.Conflict.{conflicts}
 use Rattle.definitions.specs.Starts.{Run, runs, used, used_of, refuses, first_conflict}
-use Rattle.range_table.specs.Settings.{Held, IsUsed, IsRefused, IsFirstConflict, AreRuns, held_by, held_after, is_by, mode_at as held_at, IsRun as IsNumberRun}
+use Rattle.range_table.specs.Settings.{Held, IsUsed, IsRefused, IsConflict, IsFirstConflict, AreRuns, held_by, held_after, is_by, mode_at as held_at, IsRun as IsNumberRun}
 use Rattle.range_table.specs.declared.run.Run.{Run as NumberRun}
 use Rattle.range_table.specs.declared.run.Setting.{Setting as NumberSetting}
 use Rattle.owner_ids.specs.Names.{Names, AreDistinct, Renames, number_cmp}
@@ -59,7 +60,7 @@ FirstConflictLaw =
 
 abbrev pub ConflictsLaw : Type 0
 ConflictsLaw =
-    (names : Names) (held : Held) (settings : List Setting) (order : ℕ → ℕ → Ordering) (wanted : NumberRun) (r : Request) (found : Option NumberRun) → Stands names held settings → OrdersNames names order → IsSameRequest names wanted r → wanted.first ≤ wanted.last → IsFirstConflict order held wanted found → is_some found ≡ conflicts settings r
+    (names : Names) (held : Held) (settings : List Setting) (wanted : NumberRun) (r : Request) (found : Bool) → Stands names held settings → IsSameRequest names wanted r → wanted.first ≤ wanted.last → Decides found (IsConflict held wanted) → found ≡ conflicts settings r
 
 abbrev pub UsedLaw : Type 0
 UsedLaw =

@@ -10,7 +10,7 @@ ghost use Rattle.owner_ranges.specs.Same.{IsSameSetting, IsSameRun, IsSameReques
 ghost use Rattle.owner_ranges.specs.Stands.{Stands};
 ghost use Rattle.range_table.specs.Settings.{mode_at, IsUsed};
 
-use owner_ids::{HostOf, OneOwner, OwnerId, Owners};
+use owner_ids::{HostOf, OwnerId, Owners};
 use range_table::{FileId, NoRuns, RangeTable, Run, Setting};
 
 /// How many runs the owners have.
@@ -86,7 +86,8 @@ pub fn conflicts<T: RangeTable>(table: &T, owners: &Owners, wanted: &Run) -> boo
     requires inside { wanted.now.last < 2 ^ 63 }
     ensures { (settings : List OwnerSetting) (r : Request) → Stands (named owners.now) (mode_at (T.settings table.now)) settings → IsSameRequest (named owners.now) wanted.now r → result ≡ conflicts settings r }
 {
-    T::first_conflict(table, owners, wanted).is_some()
+    let _owners = owners;
+    table.is_blocked(wanted)
 }
 
 /// Whether a mode of this owner is in the way of another's lock.
@@ -101,7 +102,7 @@ pub fn conflicts_with<T: RangeTable>(
     ensures { (settings : List OwnerSetting) (r : Request) (y : Owner) → Stands (named owners.now) (mode_at (T.settings table.now)) settings → IsSameRequest (named owners.now) wanted.now r → named owners.now owner ≡ Some y → result ≡ conflicts_with settings r y }
 {
     let _owners = owners;
-    table.is_in_way(&OneOwner { owner }, wanted)
+    table.is_owner_in_way(owner, wanted)
 }
 
 /// Whether fewer than 2 of 65,536 runs are free.

@@ -5,3 +5,4 @@ pub mod Seats
 pub mod Firsts
 pub mod OwnersRuns
 pub mod Untouched
+pub mod OwnerInWay

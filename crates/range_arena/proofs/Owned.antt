@@ -124,7 +124,7 @@ starts c byte s h = record {
   first = grind (arith, file_tests);
 }
 
-starts_upto : (c : Setting) (byte : ℕ) (s : Run) → starts_before c (byte + 1) s ≡ true → owned_upto c byte s ≡ true
+pub starts_upto : (c : Setting) (byte : ℕ) (s : Run) → starts_before c (byte + 1) s ≡ true → owned_upto c byte s ≡ true
 starts_upto c byte s h = let k = starts c (byte + 1) s h in rw (k.file, k.owner) (upto_number s.first byte k.first)
 
 of_parts : (r : Run) (f : File) (o : ℕ) → is_of r f o ≡ true → (same_file r.file f ≡ true) × ((r.owner == o) ≡ true)
@@ -139,9 +139,9 @@ of_upto c byte r h k =
     rw (h, t) refl
 
 -- between two runs of the owner there are only runs of the owner
-record Between (c : Setting) (s r : Run) : Type 0 where
-  of : is_of r c.file c.owner ≡ true
-  less : s.first < r.first
+pub record Between (c : Setting) (s r : Run) : Type 0 where
+  pub of : is_of r c.file c.owner ≡ true
+  pub less : s.first < r.first
 
 less_number : (a b : ℕ) → is_lt (nat_cmp a b) ≡ true → a < b
 less_number a b h =
@@ -151,7 +151,7 @@ less_number a b h =
     (λ e. let k = rw (t, e) at h in absurd (cc))
     (λ e. let k = rw (t, e) at h in absurd (cc)))
 
-between : (c : Setting) (byte b : ℕ) (s r : Run) → starts_before c b s ≡ true → is_lt (owned_cmp s r) ≡ true → owned_upto c byte r ≡ true → Between c s r
+pub between : (c : Setting) (byte b : ℕ) (s r : Run) → starts_before c b s ≡ true → is_lt (owned_cmp s r) ≡ true → owned_upto c byte r ≡ true → Between c s r
 between c byte b s r h k u =
     let m = starts c b s h in
     by_file (file_cmp s.file r.file) refl m where

@@ -236,7 +236,7 @@ pub sorted_filter : (cmp : Run → Run → Ordering) (p : Run → Bool) (xs : Li
 sorted_filter cmp p [] h = tt
 sorted_filter cmp p (x ∷ xs) h = by_test (p x) (λ t. rw t (all_filter (λ s. is_lt (cmp x s) ≡ true) p xs h.0, sorted_filter cmp p xs h.1)) (λ t. rw t (sorted_filter cmp p xs h.1))
 
-seat_in : (ys : List Run) (x : Run) → IsIn x ys → (b : ℕ) × (b < length ys) × (x ≡ get_or ys b x)
+pub seat_in : (ys : List Run) (x : Run) → IsIn x ys → (b : ℕ) × (b < length ys) × (x ≡ get_or ys b x)
 seat_in [] x i = absurd i
 seat_in (y ∷ ys) x (inl e) = (0, omega arith, e)
 seat_in (y ∷ ys) x (inr i) = let m = seat_in ys x i in (suc m.0, let l = m.1 in omega arith, m.2)

@@ -86,8 +86,12 @@ impl RangeTable for ArenaTable {
         self.runs.first_conflict(owners, wanted)
     }
 
-    fn is_in_way<H: Host>(&self, host: &H, wanted: &Run) -> bool {
-        sorted::is_in_way(self.runs.list(), host, wanted)
+    fn is_blocked(&self, wanted: &Run) -> bool {
+        self.runs.is_blocked(wanted)
+    }
+
+    fn is_owner_in_way(&self, owner: OwnerId, wanted: &Run) -> bool {
+        self.runs.is_owner_in_way(owner, wanted)
     }
 
     fn drop_owner_on_file(&mut self, file: &FileId, owner: OwnerId) {

@@ -1,14 +1,14 @@
 //! A sorted list of runs, with what makes it fast to search and to set.
-ghost use Rattle.std.specs.Prelude.{◌≡◌, ◌<◌, ◌≤◌, ◌+◌, ◌^◌, not, true, false, None, [], IfOk, IfSome, IfNone, ℕ, length, slice_index_or, slice_set};
-ghost use Rattle.std.specs.List.{remove, filter};
-ghost use Rattle.range_table.specs.Settings.{IsIn};
+ghost use Rattle.std.specs.Prelude.{◌≡◌, ◌<◌, ◌≤◌, ◌+◌, ◌^◌, not, true, false, None, [], IfOk, IfSome, IfNone, ℕ, List, length, slice_index_or, slice_set};
+ghost use Rattle.std.specs.List.{remove, filter, list_any};
+ghost use Rattle.range_table.specs.Settings.{IsIn, conflicts, is_against};
 ghost use Rattle.range_table.specs.Runs.{IsRunList, IsPlace, run_before, insert_run, best_from, is_of};
 ghost use Rattle.range_table.specs.Parts.{last_of};
-ghost use Rattle.range_arena.specs.Indexed.{owned_cmp, owned_before, owned_upto, owned_by, IsSortedBy};
+ghost use Rattle.range_arena.specs.Indexed.{owned_cmp, owned_before, owned_upto, owned_by, IsSortedBy, AreSame};
 ghost use Rattle.range_table.specs.declared.run.Run.{Run};
 
 use crate::stretches::Stretches;
-use owner_ids::{Host, OwnerOrder};
+use owner_ids::{Host, OwnerId, OwnerOrder};
 use range_table::places::{part_of, place_past};
 use range_table::run::{Run, Setting};
 use range_table::run_list::{MOST_RUNS, RunList};
@@ -100,6 +100,30 @@ fn owned_end(runs: &RunList, range: &Setting) -> usize
     ensures within { result ≤ length runs.now }
 {
     runs.partition_point(0, runs.len(), &|run: &Run| is_owned_by(run, range))
+}
+
+// Whether a run of this owner is in the way, in the order of owners. They don't overlap, so from the last one back none reaches
+// the range once one ends before it.
+fn is_owner_in_way(runs: &RunList, owner: OwnerId, wanted: &Run) -> bool
+    requires sorted { IsSortedBy owned_cmp runs.now }
+    requires listed { (list : List Run) × IsRunList list × AreSame list runs.now }
+    ensures { result ≡ list_any (is_against owner wanted.now) runs.now }
+{
+    if owner == wanted.owner {
+        return false;
+    }
+    let range = Setting::new(&wanted.file, owner, wanted.first, wanted.last, None);
+    let place = owned_past(runs, &range, wanted.last);
+    for passed in 0..place {
+        let run = runs.get(place - (passed + 1));
+        if !run.is_of(&range) || run.last < wanted.first {
+            return false;
+        }
+        if run.is_in_way(wanted) {
+            return true;
+        }
+    }
+    false
 }
 
 impl Indexed {
@@ -194,6 +218,29 @@ impl Indexed {
         let start = self.list.get(first).first;
         let tied = place_past(&self.list, part, &wanted.file, start);
         sorted::best_of(&self.list, first, tied, owners, wanted)
+    }
+}
+
+impl Indexed {
+    /// Whether a run is in the way of a lock. No names are compared.
+    pub(crate) fn is_blocked(&self, wanted: &Run) -> bool
+        requires listed { IsRunList self.now }
+        requires inside { wanted.now.first < 2 ^ 63 }
+        ensures { result ≡ list_any (conflicts wanted.now) self.now }
+    {
+        let part = part_of(&self.list, &wanted.file);
+        let past = place_past(&self.list, part, &wanted.file, wanted.last);
+        self.stretches
+            .first_in_way(&self.list, part.begin, past, wanted)
+            < past
+    }
+
+    /// Whether a run of this owner is in the way of a lock.
+    pub(crate) fn is_owner_in_way(&self, owner: OwnerId, wanted: &Run) -> bool
+        requires { IsRunList self.now }
+        ensures { result ≡ list_any (is_against owner wanted.now) self.now }
+    {
+        is_owner_in_way(&self.owned, owner, wanted)
     }
 }
 

@@ -2,7 +2,7 @@
 ghost use Rattle.std.specs.Prelude.{OnOk, OnErr, IsErr, IsTrue, ◌↔◌, ◌≡◌, ◌+◌, ◌-◌, ◌<◌, ◌≤◌, ◌^◌, length, map, not, true, false, take, drop, ◌++◌, ◌&&◌};
 ghost use Rattle.std.specs.List.{filter, list_any, position_or_len, AllByRecursion};
 ghost use Rattle.range_table.specs.Runs.{is_of, starts_in, trim, kept, right, insert_run, cut, low, high, widened, joined, set_runs, is_split, is_full, run_before, before_place, IsPlace, IsRunList, is_better, best_from};
-ghost use Rattle.range_table.specs.Settings.{is_against};
+ghost use Rattle.range_table.specs.Settings.{conflicts, is_against};
 ghost use Rattle.range_table.specs.Parts.{IsPart};
 
 use crate::file::FileId;
@@ -306,28 +306,50 @@ pub fn first_conflict<O: OwnerOrder>(runs: &RunList, owners: &O, wanted: &Run) -
     best_of(runs, part.begin, past, owners, wanted)
 }
 
-// Whether one of the runs from one place to another is.
-fn any_in_way<H: Host>(runs: &RunList, begin: usize, end: usize, host: &H, wanted: &Run) -> bool
+// Whether one of the runs from one place to another is in the way of the wanted one.
+fn any_in_way(runs: &RunList, begin: usize, end: usize, wanted: &Run) -> bool
     requires order { begin ≤ end }
     requires within { end ≤ length runs.now }
-    ensures { result ≡ list_any (is_against (H.has host.now) wanted.now) (take (end - begin) (drop begin runs.now)) }
+    ensures { result ≡ list_any (conflicts wanted.now) (take (end - begin) (drop begin runs.now)) }
 {
     for at in begin..end {
-        let run = runs.get(at);
-        if run.is_in_way(wanted) && host.has(run.owner) {
+        if runs.get(at).is_in_way(wanted) {
             return true;
         }
     }
     false
 }
 
-/// Whether a run of one of the host's owners is in the way of the wanted one.
-pub fn is_in_way<H: Host>(runs: &RunList, host: &H, wanted: &Run) -> bool
+/// Whether a run is in the way of the wanted one.
+pub fn is_blocked(runs: &RunList, wanted: &Run) -> bool
     requires { IsRunList runs.now }
-    ensures { result ≡ list_any (is_against (H.has host.now) wanted.now) runs.now }
+    ensures { result ≡ list_any (conflicts wanted.now) runs.now }
 {
     let part = part_of(runs, &wanted.file);
-    any_in_way(runs, part.begin, part.end, host, wanted)
+    any_in_way(runs, part.begin, part.end, wanted)
+}
+
+// The same of one owner's runs.
+fn any_against(runs: &RunList, begin: usize, end: usize, owner: OwnerId, wanted: &Run) -> bool
+    requires order { begin ≤ end }
+    requires within { end ≤ length runs.now }
+    ensures { result ≡ list_any (is_against owner wanted.now) (take (end - begin) (drop begin runs.now)) }
+{
+    for at in begin..end {
+        if runs.get(at).is_against(owner, wanted) {
+            return true;
+        }
+    }
+    false
+}
+
+/// Whether a run of this owner is in the way of the wanted one.
+pub fn is_owner_in_way(runs: &RunList, owner: OwnerId, wanted: &Run) -> bool
+    requires { IsRunList runs.now }
+    ensures { result ≡ list_any (is_against owner wanted.now) runs.now }
+{
+    let part = part_of(runs, &wanted.file);
+    any_against(runs, part.begin, part.end, owner, wanted)
 }
 
 pub fn drop_owner_on_file(runs: &mut RunList, file: &FileId, owner: OwnerId)

@@ -1,13 +1,19 @@
-use Rattle.std.proofs.Common.{◌≡◌, is_some, refl, sym, ap, ◌∙◌, Option, Some, None}
-use Rattle.definitions.proofs.TableRunLaws.{first_conflict_law}
-use Rattle.held_locks.specs.declared.asked.Holder.{Holder}
-use Rattle.held_locks.specs.Asked.{asked, shown_found}
+use Rattle.std.proofs.Common.{◌≡◌, sym, subst}
+use Rattle.std.specs.Bool.{Decides}
+use Rattle.definitions.specs.Conflict.{conflicts}
+use Rattle.owner_ids.specs.Said.{said}
+use Rattle.owner_ids.specs.Names.{named}
+use Rattle.range_table.specs.Settings.{mode_at, IsConflict}
+use Rattle.held_locks.specs.Asked.{asked}
+use Rattle.held_locks.specs.Stranger.{IsAsker}
+use Rattle.held_locks.proofs.Strangers.{conflicts_found}
 use Rattle.held_locks.proofs.locks.Locks.conflicts.Goals as goal
-
-is_shown : (o : Option Holder) → is_some (shown_found o) ≡ is_some o
-is_shown None = refl
-is_shown (Some h) = refl
 
 pub returns : goal.returns
 returns g c =
-    c.is_some.ensures ∙ (sym (is_shown c.first_conflict.result) ∙ (ap is_some c.first_conflict.ensures ∙ first_conflict_law.there c.args.self.now.settings (asked c.args.wanted.now) c.requires.ordered))
+    let names = named c.self.inside.owners in
+    let held = mode_at (g.R.RangeTable.settings c.self.inside.table) in
+    let asker : IsAsker names c.asker-asker.result (said c.args.wanted.now.owner.now) = subst (λ h. IsAsker (named h.names) c.asker-asker.result (said c.args.wanted.now.owner.now)) (sym c.self.view_is) c.asker-asker.ensures in
+    subst (λ h. c.is_blocked.result ≡ conflicts h.settings (asked c.args.wanted.now)) c.self.view_is
+    (conflicts_found names held c.self.inside.settings.items c.self.invariant.stands c.asker-asker.result c.args.wanted.now c.requires.ordered c.is_blocked.result asker
+    (subst (λ w. Decides c.is_blocked.result (IsConflict held w)) c.by_number.ensures c.is_blocked.ensures))

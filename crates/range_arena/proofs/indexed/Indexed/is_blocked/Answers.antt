@@ -1,0 +1,15 @@
+use Rattle.std.proofs.Common.{ap, ◌∙◌}
+use Rattle.std.specs.List.{list_any}
+use Rattle.range_table.specs.Settings.{conflicts}
+use Rattle.range_arena.proofs.Firsts.{first_blocks}
+use Rattle.range_arena.proofs.indexed.Indexed.is_blocked.Goals as goal
+
+pub returns : goal.returns
+returns c =
+    let i = c.self.inside in
+    let wanted = c.args.wanted.now in
+    let part = c.part_of-part in
+    let past = c.place_past-past in
+    let first = c.first_in_way in
+    first_blocks wanted i.list part.result.begin part.result.end first.result past.result part.ensures first.ensures.from first.ensures.clear first.ensures.upto past.ensures.within past.ensures.place first.ensures.found
+    ∙ ap (list_any (conflicts wanted)) c.self.view_is
