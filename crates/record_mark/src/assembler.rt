@@ -90,6 +90,12 @@ impl Assembler {
             self.received = self.received.and_all(piece);
             return Err(MarkError::RecordTooLong(Vec::new(alloc)));
         }
+        // Most pieces of a long fragment end nothing: what there is of the record stays where it is.
+        if self.progress.lacks_more(piece) {
+            self.progress.rest.extend_from_slice(piece)?;
+            self.received = self.received.and_all(piece);
+            return Ok(Vec::new(alloc));
+        }
         let mut next = self.progress.copy(alloc)?;
         let mut records = Vec::new(alloc);
         let failed = next.take(alloc, piece, &mut records)?;

@@ -1,6 +1,7 @@
 //! How far the parsing of a stream has come.
 ghost use Rattle.std.specs.Prelude.{◌≡◌, ℕ, ◌+◌, ◌<◌, ◌≤◌, true, false, List, [], ◌++◌, length, take, IfOk, OnOk};
-ghost use Rattle.record_mark.specs.Stream.{is_last, size_of, Reads, IsUnfinished, IsEnding, Splits};
+ghost use Rattle.record_mark.specs.Stream.{is_last, size_of, Reads, IsUnfinished, IsEnding};
+ghost use Rattle.record_mark.specs.Taking.{GoesOn, Breaks};
 
 use crate::{MAX_RECORD, Records};
 use bytes::Bytes;
@@ -54,6 +55,29 @@ impl Progress {
         })
     }
 
+    /// How many bytes the fragment lacks, first of all of its mark.
+    fn lacks(&self) -> usize
+        requires unfinished { IsUnfinished self.now.begun.items self.now.rest.items }
+        ensures some { 0 < result }
+        ensures mark { length self.now.rest.items < 4 → length self.now.rest.items + result ≡ 4 }
+        ensures size { 4 ≤ length self.now.rest.items → length self.now.rest.items + result ≡ 4 + size_of self.now.rest.items }
+    {
+        let len = self.rest.len();
+        if len < 4 {
+            4 - len
+        } else {
+            4 + mark_of(&self.rest).size - len
+        }
+    }
+
+    /// Whether a piece ends neither the mark nor the fragment.
+    pub(crate) fn lacks_more(&self, piece: &[u8]) -> bool
+        requires unfinished { IsUnfinished self.now.begun.items self.now.rest.items }
+        ensures { result ≡ true → IsUnfinished self.now.begun.items (self.now.rest.items ++ piece.now) }
+    {
+        piece.len() < self.lacks()
+    }
+
     /// Adds to the fragment what it lacks, first of all its mark. Returns how many bytes that took.
     fn fill(&mut self, piece: &[u8]) -> Result<usize, AllocError>
         requires some { 0 < length piece.now }
@@ -62,13 +86,7 @@ impl Progress {
         ensures fits { OnOk result (length self.new.rest.items ≤ 4 + size_of self.new.rest.items) }
         ensures begun { self.new.begun.items ≡ self.old.begun.items }
     {
-        let len = self.rest.len();
-        let lacks = if len < 4 {
-            4 - len
-        } else {
-            4 + mark_of(&self.rest).size - len
-        };
-        let count = lacks.min(piece.len());
+        let count = self.lacks().min(piece.len());
         self.rest.extend_from_slice(&piece[..count])?;
         Ok(count)
     }
@@ -108,10 +126,8 @@ impl Progress {
     ) -> Result<bool, AllocError>
         requires { IsUnfinished self.old.begun.items self.old.rest.items }
         ensures going { IfOk result (λ fault. fault ≡ false → IsUnfinished self.new.begun.items self.new.rest.items) }
-        ensures reads { (stream : List ℕ) (given : List (List ℕ)) → Reads stream (given ++ records.old.items) self.old.begun.items self.old.rest.items
-            → IfOk result (λ fault. fault ≡ false → Reads (stream ++ piece.now) (given ++ records.new.items) self.new.begun.items self.new.rest.items) }
-        ensures faults { (stream : List ℕ) (given : List (List ℕ)) → Reads stream (given ++ records.old.items) self.old.begun.items self.old.rest.items
-            → IfOk result (λ fault. fault ≡ true → Splits (stream ++ piece.now) (given ++ records.new.items) true) }
+        ensures reads { GoesOn result piece.now self.old self.new records.old.items records.new.items }
+        ensures faults { Breaks result piece.now self.old records.old.items records.new.items }
     {
         let mut left = piece;
         while !left.is_empty() {
