@@ -16,7 +16,7 @@ use Rattle.range_table.specs.declared.run.Run.{Run}
 use Rattle.blocked_list.specs.ByFile.{below, file_at, places_of, moved_up, without_place, IsIndex}
 use Rattle.blocked_list.specs.First.{IsFirstAt}
 use Rattle.blocked_list.specs.Ready.{is_ready_on}
-use Rattle.blocked_list.specs.Waiting.{Waiting, AreNamed, request_by, waiter_by, waiters_by, same_wanted}
+use Rattle.blocked_list.specs.Waiting.{Waiting, AreNamed, waiter_by, waiters_by, same_wanted}
 use Rattle.blocked_list.proofs.Places.{by_test, IsKept, kept_place}
 use Rattle.blocked_list.proofs.Indexed.{index_same, index_less}
 use Rattle.blocked_list.proofs.Ready.{any_more, first_from, here, uses, free_on, out_on}

@@ -14,7 +14,7 @@ use Rattle.blocked_list.specs.Ready.{is_ready_on, is_ready_off}
 use Rattle.owner_ids.specs.Names.{Names}
 use Rattle.std.specs.Prelude.{IsSome}
 use Rattle.std.proofs.lemmas.List.{length-map}
-use Rattle.blocked_list.specs.Waiting.{Waiting, AreNamed, request_by, waiter_by, waiters_by}
+use Rattle.blocked_list.specs.Waiting.{Waiting, AreNamed, waiter_by, waiters_by}
 use Rattle.blocked_list.proofs.Firsts.{any_found}
 use Rattle.blocked_list.proofs.Waits.{map_at, named_at}
 

@@ -1,5 +1,6 @@
 pub mod First
 pub mod Waiting
+pub mod Standing
 pub mod Quotas
 pub mod Ready
 pub mod Reach

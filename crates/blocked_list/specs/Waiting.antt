@@ -1,5 +1,5 @@
 -- Waiters by number, and who they are.
-use Rattle.std.specs.Prelude.{ℕ, Bool, ◌==◌, ◌&&◌, List, [], ◌∷◌, map, unwrap_or, Some, IsSome}
+use Rattle.std.specs.Prelude.{ℕ, ◌+◌, ◌-◌, Bool, ◌==◌, ◌&&◌, List, [], ◌∷◌, length, map, unwrap_or, Some, IsSome}
 use Rattle.definitions.specs.Bytes.{same_bytes}
 use Rattle.definitions.specs.Owners.{Owner, Process}
 use Rattle.definitions.specs.Settings.{Request}
@@ -19,6 +19,10 @@ pub record Waiting : Type 0 where
 pub record Taken : Type 0 where
   pub waiters : List Waiting
   pub calls : ℕ
+
+-- 8,192 places are shared by both
+abbrev pub free_places : Taken → ℕ
+free_places t = 8192 - (length t.waiters + t.calls)
 
 -- the owner of a number in use. What is said of other numbers has no meaning
 abbrev pub owner_at : Names → ℕ → Owner

@@ -1,13 +1,11 @@
 //! Who would wait for whom in a circle.
-ghost use Rattle.std.specs.Prelude.{◌≡◌, ◌<◌, ◌≤◌, ◌+◌, ◌-◌, ◌^◌, ◌||◌, ◌↔◌, ℕ, List, not, true, false, Some, IsSome, IfSome, IfNone, length, slice_get, slice_index_or};
+ghost use Rattle.std.specs.Prelude.{◌≡◌, ◌<◌, ◌≤◌, ◌+◌, ◌-◌, ◌^◌, ◌||◌, ◌↔◌, ℕ, not, true, false, Some, IsSome, IfSome, IfNone, length, slice_get, slice_index_or};
 ghost use Rattle.definitions.specs.Owners.{is_description};
-ghost use Rattle.definitions.specs.Settings.{Setting as OwnerSetting};
 ghost use Rattle.definitions.specs.Waits.{Waiter as OwnerWaiter, closes_cycle};
 ghost use Rattle.owner_ids.specs.Names.{named};
-ghost use Rattle.owner_ranges.specs.Stands.{Stands};
-ghost use Rattle.range_table.specs.Settings.{mode_at};
-ghost use Rattle.blocked_list.specs.Reach.{leads};
-ghost use Rattle.blocked_list.specs.Waiting.{AreKnown, owner_at, request_by, waiters_by};
+ghost use Rattle.blocked_list.specs.Reach.{leads, MarksLed};
+ghost use Rattle.blocked_list.specs.Waiting.{free_places, owner_at};
+ghost use Rattle.blocked_list.specs.Standing.{WhereWants};
 
 use crate::slots::Slots;
 use owner_ids::{OwnerId, Owners};
@@ -37,8 +35,8 @@ impl Slots {
     ) -> Result<(), BlockError>
         requires ordered { wanted.now.first ≤ wanted.now.last }
         requires inside { wanted.now.last < 2 ^ 63 }
-        ensures deadlock { (settings : List OwnerSetting) → Stands (named owners.now) (mode_at (T.settings table.now)) settings → AreKnown (named owners.now) self.now.waiters → IsSome (named owners.now wanted.now.owner) → (result ≡ Err BlockError.Deadlock) ↔ (closes_cycle settings (waiters_by (named owners.now) self.now.waiters) (request_by (named owners.now) wanted.now) ≡ true) }
-        ensures no_slots { (settings : List OwnerSetting) → Stands (named owners.now) (mode_at (T.settings table.now)) settings → AreKnown (named owners.now) self.now.waiters → IsSome (named owners.now wanted.now.owner) → (result ≡ Err BlockError.NoSlots) ↔ ((closes_cycle settings (waiters_by (named owners.now) self.now.waiters) (request_by (named owners.now) wanted.now) ≡ false) × (8192 - (length self.now.waiters + self.now.calls) ≤ spoken_for)) }
+        ensures deadlock { WhereWants (named owners.now) (T.settings table.now) self.now.waiters wanted.now (λ settings waiters r. (result ≡ Err BlockError.Deadlock) ↔ (closes_cycle settings waiters r ≡ true)) }
+        ensures no_slots { WhereWants (named owners.now) (T.settings table.now) self.now.waiters wanted.now (λ settings waiters r. (result ≡ Err BlockError.NoSlots) ↔ ((closes_cycle settings waiters r ≡ false) × (free_places self.now ≤ spoken_for))) }
     {
         if self.closes_cycle(table, owners, wanted) {
             return Err(BlockError::Deadlock);
@@ -54,7 +52,7 @@ impl Slots {
     pub fn closes_cycle<T: RangeTable>(&self, table: &T, owners: &Owners, wanted: &Run) -> bool
         requires ordered { wanted.now.first ≤ wanted.now.last }
         requires inside { wanted.now.last < 2 ^ 63 }
-        ensures { (settings : List OwnerSetting) → Stands (named owners.now) (mode_at (T.settings table.now)) settings → AreKnown (named owners.now) self.now.waiters → IsSome (named owners.now wanted.now.owner) → result ≡ closes_cycle settings (waiters_by (named owners.now) self.now.waiters) (request_by (named owners.now) wanted.now) }
+        ensures { WhereWants (named owners.now) (T.settings table.now) self.now.waiters wanted.now (λ settings waiters r. result ≡ closes_cycle settings waiters r) }
     {
         if !is_step(owners, wanted.owner) {
             return false;
@@ -78,7 +76,7 @@ impl Slots {
         requires inside { wanted.now.last < 2 ^ 63 }
         requires nobody { (k : ℕ) → slice_index_or reached.old k false ≡ false }
         requires nowhere { (k : ℕ) → slice_index_or followed.old k false ≡ false }
-        ensures { (settings : List OwnerSetting) → Stands (named owners.now) (mode_at (T.settings table.now)) settings → AreKnown (named owners.now) self.now.waiters → IsSome (named owners.now wanted.now.owner) → is_description (owner_at (named owners.now) wanted.now.owner) ≡ false → result ≡ closes_cycle settings (waiters_by (named owners.now) self.now.waiters) (request_by (named owners.now) wanted.now) }
+        ensures { WhereWants (named owners.now) (T.settings table.now) self.now.waiters wanted.now (λ settings waiters r. is_description (owner_at (named owners.now) wanted.now.owner) ≡ false → result ≡ closes_cycle settings waiters r) }
     {
         self.reach(table, owners, wanted, reached);
         while let Some(place) = pending(reached, followed, self.waiters.len()) {
@@ -102,7 +100,7 @@ impl Slots {
     )
         requires ordered { wanted.now.first ≤ wanted.now.last }
         requires inside { wanted.now.last < 2 ^ 63 }
-        ensures { (settings : List OwnerSetting) → Stands (named owners.now) (mode_at (T.settings table.now)) settings → AreKnown (named owners.now) self.now.waiters → IsSome (named owners.now wanted.now.owner) → (k : ℕ) (x : OwnerWaiter) → slice_get (waiters_by (named owners.now) self.now.waiters) k ≡ Some x → slice_index_or reached.new k false ≡ (slice_index_or reached.old k false || leads settings (request_by (named owners.now) wanted.now) x) }
+        ensures { WhereWants (named owners.now) (T.settings table.now) self.now.waiters wanted.now (λ settings waiters r. MarksLed reached.old reached.new settings waiters r) }
     {
         for place in 0..self.waiters.len() {
             reached[place] = self.is_reached(table, owners, wanted, place, reached[place]);
@@ -121,7 +119,7 @@ impl Slots {
         requires there { place < length self.now.waiters }
         requires ordered { wanted.now.first ≤ wanted.now.last }
         requires inside { wanted.now.last < 2 ^ 63 }
-        ensures { (settings : List OwnerSetting) → Stands (named owners.now) (mode_at (T.settings table.now)) settings → AreKnown (named owners.now) self.now.waiters → IsSome (named owners.now wanted.now.owner) → (x : OwnerWaiter) → slice_get (waiters_by (named owners.now) self.now.waiters) place ≡ Some x → result ≡ (before || leads settings (request_by (named owners.now) wanted.now) x) }
+        ensures { WhereWants (named owners.now) (T.settings table.now) self.now.waiters wanted.now (λ settings waiters r. (x : OwnerWaiter) → slice_get waiters place ≡ Some x → result ≡ (before || leads settings r x)) }
     {
         before || self.leads_to(table, owners, wanted, place)
     }
@@ -137,7 +135,7 @@ impl Slots {
         requires there { place < length self.now.waiters }
         requires ordered { wanted.now.first ≤ wanted.now.last }
         requires inside { wanted.now.last < 2 ^ 63 }
-        ensures { (settings : List OwnerSetting) → Stands (named owners.now) (mode_at (T.settings table.now)) settings → AreKnown (named owners.now) self.now.waiters → IsSome (named owners.now wanted.now.owner) → (x : OwnerWaiter) → slice_get (waiters_by (named owners.now) self.now.waiters) place ≡ Some x → result ≡ leads settings (request_by (named owners.now) wanted.now) x }
+        ensures { WhereWants (named owners.now) (T.settings table.now) self.now.waiters wanted.now (λ settings waiters r. (x : OwnerWaiter) → slice_get waiters place ≡ Some x → result ≡ leads settings r x) }
     {
         let owner = self.waiters[place].wanted().owner;
         is_step(owners, owner) && owner_ranges::conflicts_with(table, owners, wanted, owner)

@@ -1,15 +1,10 @@
 //! Who is granted next.
-ghost use Rattle.std.specs.Prelude.{◌≡◌, ◌<◌, false, length, List, IfSome};
+ghost use Rattle.std.specs.Prelude.{◌≡◌, ◌<◌, false, length, IfSome};
 ghost use Rattle.definitions.specs.Bytes.{is_any};
-ghost use Rattle.definitions.specs.Settings.{Setting as OwnerSetting};
-ghost use Rattle.definitions.specs.Waits.{Waiter as OwnerWaiter};
-ghost use Rattle.definitions.specs.World.{is_ready, the_limits};
 ghost use Rattle.owner_ids.specs.Names.{named};
-ghost use Rattle.owner_ranges.specs.Stands.{Stands};
-ghost use Rattle.range_table.specs.Settings.{mode_at};
 ghost use Rattle.blocked_list.specs.First.{IsFirstPlace};
-ghost use Rattle.blocked_list.specs.Waiting.{AreKnown, waiters_by};
-ghost use Rattle.blocked_list.specs.Ready.{is_ready_on, is_ready_off};
+ghost use Rattle.blocked_list.specs.Standing.{WhereWaits};
+ghost use Rattle.blocked_list.specs.Ready.{IsFirstReady, is_ready_on, is_ready_off};
 
 use crate::quotas::Quotas;
 use crate::slots::Slots;
@@ -26,7 +21,7 @@ impl Slots {
         quotas: &Q,
     ) -> Option<usize>
         ensures bound { IfSome result (λ place. place < length self.now.waiters) }
-        ensures first { (settings : List OwnerSetting) → Stands (named owners.now) (mode_at (T.settings table.now)) settings → AreKnown (named owners.now) self.now.waiters → IsFirstPlace (is_ready the_limits (Q.by_host quotas.now) settings) (waiters_by (named owners.now) self.now.waiters) result }
+        ensures first { WhereWaits (named owners.now) (T.settings table.now) self.now.waiters (λ settings waiters. IsFirstReady (Q.by_host quotas.now) settings waiters result) }
     {
         if owner_ranges::is_short(table, owners) {
             return None;
@@ -50,7 +45,7 @@ impl Slots {
         file: &FileId,
     ) -> Option<usize>
         ensures bound { IfSome result (λ place. place < length self.now.waiters) }
-        ensures first { (settings : List OwnerSetting) → Stands (named owners.now) (mode_at (T.settings table.now)) settings → AreKnown (named owners.now) self.now.waiters → is_any (is_ready_off file.now (Q.by_host quotas.now) settings) (waiters_by (named owners.now) self.now.waiters) ≡ false → IsFirstPlace (is_ready the_limits (Q.by_host quotas.now) settings) (waiters_by (named owners.now) self.now.waiters) result }
+        ensures first { WhereWaits (named owners.now) (T.settings table.now) self.now.waiters (λ settings waiters. is_any (is_ready_off file.now (Q.by_host quotas.now) settings) waiters ≡ false → IsFirstReady (Q.by_host quotas.now) settings waiters result) }
     {
         self.first_on(table, owners, quotas, file)
     }
@@ -64,7 +59,7 @@ impl Slots {
         file: &FileId,
     ) -> Option<usize>
         ensures bound { IfSome result (λ place. place < length self.now.waiters) }
-        ensures first { (settings : List OwnerSetting) → Stands (named owners.now) (mode_at (T.settings table.now)) settings → AreKnown (named owners.now) self.now.waiters → IsFirstPlace (is_ready_on file.now (Q.by_host quotas.now) settings) (waiters_by (named owners.now) self.now.waiters) result }
+        ensures first { WhereWaits (named owners.now) (T.settings table.now) self.now.waiters (λ settings waiters. IsFirstPlace (is_ready_on file.now (Q.by_host quotas.now) settings) waiters result) }
     {
         if owner_ranges::is_short(table, owners) {
             return None;

@@ -6,7 +6,7 @@ ghost use Rattle.definitions.specs.Waits.{Waiter as OwnerWaiter, is_waiting, wit
 ghost use Rattle.owner_ids.specs.Names.{Names, named};
 ghost use Rattle.std.specs.List.{list_any, remove};
 ghost use Rattle.blocked_list.specs.First.{IsFirstAt, IsFirstPlace};
-ghost use Rattle.blocked_list.specs.Waiting.{Waiting, AreKnown, AreNamed, owner_at, request_by, waiter_by, waiters_by, same_wanted};
+ghost use Rattle.blocked_list.specs.Waiting.{Waiting, AreKnown, AreNamed, free_places, owner_at, request_by, waiter_by, waiters_by, same_wanted};
 
 use crate::by_file::ByFile;
 use crate::by_owner::ByOwner;
@@ -69,7 +69,7 @@ impl Slots {
 
     /// How many places are free.
     pub fn free(&self) -> usize
-        ensures free { result ≡ 8192 - (length self.now.waiters + self.now.calls) }
+        ensures free { result ≡ free_places self.now }
         ensures most { length self.now.waiters + self.now.calls ≤ 8192 }
     {
         MOST_SLOTS - (self.waiters.len() + self.calls)
@@ -84,7 +84,7 @@ impl Slots {
 
     /// Somebody waits, behind the others. `NoSlots` where no place is free; then nothing changes, and the waiter is dropped.
     pub fn block(&mut self, waiter: Waiter) -> Result<(), NoSlots>
-        ensures full { IsErr result ↔ (8192 - (length self.old.waiters + self.old.calls) ≡ 0) }
+        ensures full { IsErr result ↔ (free_places self.old ≡ 0) }
         ensures ok { OnOk result (self.new ≡ record { waiters = self.old.waiters ++ waiter ∷ []; calls = self.old.calls }) }
         ensures err { OnErr result (self.new ≡ self.old) }
         ensures by { OnOk result ((names : Names) → waiters_by names self.new.waiters ≡ waiters_by names self.old.waiters ++ waiter_by names waiter ∷ []) }
@@ -154,7 +154,7 @@ impl Slots {
 
     /// So many places become places of calls. `NoSlots` where fewer are free; then nothing changes.
     pub fn take(&mut self, count: usize) -> Result<(), NoSlots>
-        ensures full { IsErr result ↔ (8192 - (length self.old.waiters + self.old.calls) < count) }
+        ensures full { IsErr result ↔ (free_places self.old < count) }
         ensures ok { OnOk result (self.new ≡ record self.old { calls = self.old.calls + count }) }
         ensures err { OnErr result (self.new ≡ self.old) }
     {

@@ -1,14 +1,12 @@
 //! One who waits.
-ghost use Rattle.std.specs.Prelude.{◌≡◌, ◌<◌, ◌≤◌, ◌^◌, ◌==◌, ◌&&◌, false, List, IsSome};
+ghost use Rattle.std.specs.Prelude.{◌≡◌, ◌<◌, ◌≤◌, ◌^◌, ◌==◌, ◌&&◌};
 ghost use Rattle.definitions.specs.Bytes.{same_bytes};
-ghost use Rattle.definitions.specs.Settings.{Setting as OwnerSetting, setting_of};
+ghost use Rattle.definitions.specs.Settings.{setting_of};
 ghost use Rattle.definitions.specs.Quotas.{exceeds};
-ghost use Rattle.definitions.specs.Starts.{is_short};
 ghost use Rattle.definitions.specs.World.{is_ready, the_limits};
 ghost use Rattle.owner_ids.specs.Names.{named};
-ghost use Rattle.owner_ranges.specs.Stands.{Stands};
-ghost use Rattle.range_table.specs.Settings.{mode_at};
-ghost use Rattle.blocked_list.specs.Waiting.{request_by, same_wanted, setting_wanted, waiter_by};
+ghost use Rattle.blocked_list.specs.Waiting.{same_wanted, setting_wanted};
+ghost use Rattle.blocked_list.specs.Standing.{WhereFree};
 
 use crate::quotas::{Quotas, limit_of};
 use letters::Letter;
@@ -93,7 +91,7 @@ impl Waiter {
         owners: &Owners,
         quotas: &Q,
     ) -> bool
-        ensures { (settings : List OwnerSetting) → Stands (named owners.now) (mode_at (T.settings table.now)) settings → IsSome (named owners.now self.now.wanted.owner) → is_short 65536 settings ≡ false → result ≡ is_ready the_limits (Q.by_host quotas.now) settings (waiter_by (named owners.now) self.now) }
+        ensures { WhereFree (named owners.now) (T.settings table.now) self.now (λ settings waiter. result ≡ is_ready the_limits (Q.by_host quotas.now) settings waiter) }
     {
         !owner_ranges::conflicts(table, owners, &self.wanted)
             && !self.is_held_back(table, owners, quotas)
@@ -101,7 +99,7 @@ impl Waiter {
 
     // Whether its host's quota holds it back, where 2 runs are free.
     fn is_held_back<T: RangeTable, Q: Quotas>(&self, table: &T, owners: &Owners, quotas: &Q) -> bool
-        ensures { (settings : List OwnerSetting) → Stands (named owners.now) (mode_at (T.settings table.now)) settings → IsSome (named owners.now self.now.wanted.owner) → is_short 65536 settings ≡ false → result ≡ exceeds (Q.by_host quotas.now) settings (setting_of (request_by (named owners.now) self.now.wanted)) }
+        ensures { WhereFree (named owners.now) (T.settings table.now) self.now (λ settings waiter. result ≡ exceeds (Q.by_host quotas.now) settings (setting_of waiter.request)) }
     {
         let Some(owner) = owners.find(self.wanted.owner) else {
             return false;

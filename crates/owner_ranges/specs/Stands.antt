@@ -21,6 +21,28 @@ pub record Stands (names : Names) (held : Held) (settings : List Setting) : Type
   pub unused : (n : ℕ) → names n ≡ None → (file : Bytes) (byte : ℕ) → held file n byte ≡ None
   pub numbered : (x : Owner) (file : Bytes) (byte : ℕ) → mode_at settings file x byte ≢ None → (n : ℕ) × (names n ≡ Some x)
 
+-- ---- what is said of whatever settings a table of numbers stands for
+
+abbrev pub WhereStands : Names → List NumberSetting → (List Setting → Type 0) → Type 0
+WhereStands names ns Says = (settings : List Setting) → Stands names (held_at ns) settings → Says settings
+
+-- and of a setting of one of the owners
+abbrev pub WhereSets : Names → List NumberSetting → NumberSetting → (List Setting → Setting → Type 0) → Type 0
+WhereSets names ns s Says = (settings : List Setting) (t : Setting) → Stands names (held_at ns) settings → IsSameSetting names s t → Says settings t
+
+-- and of a lock that one of them asks for
+abbrev pub WhereAsks : Names → List NumberSetting → NumberRun → (List Setting → Request → Type 0) → Type 0
+WhereAsks names ns wanted Says = (settings : List Setting) (r : Request) → Stands names (held_at ns) settings → IsSameRequest names wanted r → Says settings r
+
+-- and of another of them beside it
+abbrev pub WhereMeets : Names → List NumberSetting → NumberRun → ℕ → (List Setting → Request → Owner → Type 0) → Type 0
+WhereMeets names ns wanted n Says =
+    (settings : List Setting) (r : Request) (y : Owner) → Stands names (held_at ns) settings → IsSameRequest names wanted r → names n ≡ Some y → Says settings r y
+
+-- and of one of them alone
+abbrev pub WhereOwns : Names → List NumberSetting → ℕ → (List Setting → Owner → Type 0) → Type 0
+WhereOwns names ns n Says = (settings : List Setting) (x : Owner) → Stands names (held_at ns) settings → names n ≡ Some x → Says settings x
+
 -- ---- what keeps it
 
 abbrev pub SettingLaw : Type 0

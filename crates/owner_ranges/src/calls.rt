@@ -1,13 +1,12 @@
 //! A table's calls, in the words of owners.
 ghost use Rattle.std.specs.Prelude.{◌≡◌, ◌≤◌, ◌<◌, ◌^◌, ◌++◌, ◌∷◌, ℕ, [], List, IsErr, OnOk, OnErr, ◌↔◌, true, Some, slice_get};
-ghost use Rattle.definitions.specs.Settings.{Setting as OwnerSetting, Request, without_host, without_owner_on};
+ghost use Rattle.definitions.specs.Settings.{without_host, without_owner_on};
 ghost use Rattle.definitions.specs.Conflict.{conflicts, conflicts_with};
 ghost use Rattle.definitions.specs.Quotas.{is_past};
 ghost use Rattle.definitions.specs.Starts.{is_short, first_conflict, used, used_of, refuses, runs, Run as OwnerRun};
-ghost use Rattle.definitions.specs.Owners.{Owner};
 ghost use Rattle.owner_ids.specs.Names.{named, is_owned_by};
-ghost use Rattle.owner_ranges.specs.Same.{IsSameSetting, IsSameRun, IsSameRequest, IsSameFound};
-ghost use Rattle.owner_ranges.specs.Stands.{Stands};
+ghost use Rattle.owner_ranges.specs.Same.{IsSameRun, IsSameFound};
+ghost use Rattle.owner_ranges.specs.Stands.{Stands, WhereStands, WhereSets, WhereAsks, WhereMeets, WhereOwns};
 ghost use Rattle.range_table.specs.Settings.{mode_at, IsUsed};
 
 use owner_ids::{HostOf, OwnerId, Owners};
@@ -15,7 +14,7 @@ use range_table::{FileId, NoRuns, RangeTable, Run, Setting};
 
 /// How many runs the owners have.
 pub fn used<T: RangeTable>(table: &T, owners: &Owners) -> u32
-    ensures { (settings : List OwnerSetting) → Stands (named owners.now) (mode_at (T.settings table.now)) settings → result ≡ used settings }
+    ensures { WhereStands (named owners.now) (T.settings table.now) (λ settings. result ≡ used settings) }
 {
     let _owners = owners;
     table.used()
@@ -23,7 +22,7 @@ pub fn used<T: RangeTable>(table: &T, owners: &Owners) -> u32
 
 /// How many runs the owners of a host have.
 pub fn used_of<T: RangeTable>(table: &T, owners: &Owners, host: &[u8]) -> u32
-    ensures { (settings : List OwnerSetting) → Stands (named owners.now) (mode_at (T.settings table.now)) settings → result ≡ used_of host.now settings }
+    ensures { WhereStands (named owners.now) (T.settings table.now) (λ settings. result ≡ used_of host.now settings) }
 {
     table.used_of(&HostOf { owners, name: host })
 }
@@ -33,7 +32,7 @@ pub fn used_after<T: RangeTable>(table: &T, owners: &Owners, host: &[u8], settin
     requires ordered { setting.now.first ≤ setting.now.last }
     requires inside { setting.now.last < 2 ^ 63 }
     requires own { is_owned_by (named owners.now) host.now setting.now.owner ≡ true }
-    ensures { (settings : List OwnerSetting) (t : OwnerSetting) → Stands (named owners.now) (mode_at (T.settings table.now)) settings → IsSameSetting (named owners.now) setting.now t → result ≡ used_of host.now (settings ++ t ∷ []) }
+    ensures { WhereSets (named owners.now) (T.settings table.now) setting.now (λ settings t. result ≡ used_of host.now (settings ++ t ∷ [])) }
 {
     let host = HostOf { owners, name: host };
     table.used_after(
@@ -57,7 +56,7 @@ pub fn is_past<T: RangeTable>(
     requires ordered { setting.now.first ≤ setting.now.last }
     requires inside { setting.now.last < 2 ^ 63 }
     requires own { is_owned_by (named owners.now) host.now setting.now.owner ≡ true }
-    ensures { (settings : List OwnerSetting) (t : OwnerSetting) → Stands (named owners.now) (mode_at (T.settings table.now)) settings → IsSameSetting (named owners.now) setting.now t → result ≡ is_past settings t host.now quota }
+    ensures { WhereSets (named owners.now) (T.settings table.now) setting.now (λ settings t. result ≡ is_past settings t host.now quota) }
 {
     let after = used_after(table, owners, host, setting);
     quota < after && used_of(table, owners, host) < after
@@ -66,7 +65,7 @@ pub fn is_past<T: RangeTable>(
 /// The i-th of all runs, by file, first byte and owner.
 pub fn runs<T: RangeTable>(table: &T, owners: &Owners, i: u32) -> Run
     requires { (count : ℕ) × IsUsed (mode_at (T.settings table.now)) count × (i < count) }
-    ensures { (settings : List OwnerSetting) → Stands (named owners.now) (mode_at (T.settings table.now)) settings → (t : OwnerRun) × (slice_get (runs settings) i ≡ Some t) × IsSameRun (named owners.now) result t }
+    ensures { WhereStands (named owners.now) (T.settings table.now) (λ settings. (t : OwnerRun) × (slice_get (runs settings) i ≡ Some t) × IsSameRun (named owners.now) result t) }
 {
     table.runs(owners, i)
 }
@@ -75,7 +74,7 @@ pub fn runs<T: RangeTable>(table: &T, owners: &Owners, i: u32) -> Run
 pub fn first_conflict<T: RangeTable>(table: &T, owners: &Owners, wanted: &Run) -> Option<Run>
     requires ordered { wanted.now.first ≤ wanted.now.last }
     requires inside { wanted.now.last < 2 ^ 63 }
-    ensures { (settings : List OwnerSetting) (r : Request) → Stands (named owners.now) (mode_at (T.settings table.now)) settings → IsSameRequest (named owners.now) wanted.now r → IsSameFound (named owners.now) result (first_conflict settings r) }
+    ensures { WhereAsks (named owners.now) (T.settings table.now) wanted.now (λ settings r. IsSameFound (named owners.now) result (first_conflict settings r)) }
 {
     table.first_conflict(owners, wanted)
 }
@@ -84,7 +83,7 @@ pub fn first_conflict<T: RangeTable>(table: &T, owners: &Owners, wanted: &Run) -
 pub fn conflicts<T: RangeTable>(table: &T, owners: &Owners, wanted: &Run) -> bool
     requires ordered { wanted.now.first ≤ wanted.now.last }
     requires inside { wanted.now.last < 2 ^ 63 }
-    ensures { (settings : List OwnerSetting) (r : Request) → Stands (named owners.now) (mode_at (T.settings table.now)) settings → IsSameRequest (named owners.now) wanted.now r → result ≡ conflicts settings r }
+    ensures { WhereAsks (named owners.now) (T.settings table.now) wanted.now (λ settings r. result ≡ conflicts settings r) }
 {
     let _owners = owners;
     table.is_blocked(wanted)
@@ -99,7 +98,7 @@ pub fn conflicts_with<T: RangeTable>(
 ) -> bool
     requires ordered { wanted.now.first ≤ wanted.now.last }
     requires inside { wanted.now.last < 2 ^ 63 }
-    ensures { (settings : List OwnerSetting) (r : Request) (y : Owner) → Stands (named owners.now) (mode_at (T.settings table.now)) settings → IsSameRequest (named owners.now) wanted.now r → named owners.now owner ≡ Some y → result ≡ conflicts_with settings r y }
+    ensures { WhereMeets (named owners.now) (T.settings table.now) wanted.now owner (λ settings r y. result ≡ conflicts_with settings r y) }
 {
     let _owners = owners;
     table.is_owner_in_way(owner, wanted)
@@ -107,7 +106,7 @@ pub fn conflicts_with<T: RangeTable>(
 
 /// Whether fewer than 2 of 65,536 runs are free.
 pub fn is_short<T: RangeTable>(table: &T, owners: &Owners) -> bool
-    ensures { (settings : List OwnerSetting) → Stands (named owners.now) (mode_at (T.settings table.now)) settings → result ≡ is_short 65536 settings }
+    ensures { WhereStands (named owners.now) (T.settings table.now) (λ settings. result ≡ is_short 65536 settings) }
 {
     used(table, owners) > 65_534
 }
@@ -116,7 +115,7 @@ pub fn is_short<T: RangeTable>(table: &T, owners: &Owners) -> bool
 pub fn refuses<T: RangeTable>(table: &T, owners: &Owners, setting: &Setting) -> bool
     requires ordered { setting.now.first ≤ setting.now.last }
     requires inside { setting.now.last < 2 ^ 63 }
-    ensures { (settings : List OwnerSetting) (t : OwnerSetting) → Stands (named owners.now) (mode_at (T.settings table.now)) settings → IsSameSetting (named owners.now) setting.now t → result ≡ refuses 65536 settings t }
+    ensures { WhereSets (named owners.now) (T.settings table.now) setting.now (λ settings t. result ≡ refuses 65536 settings t) }
 {
     let _owners = owners;
     table.refuses(
@@ -132,8 +131,8 @@ pub fn refuses<T: RangeTable>(table: &T, owners: &Owners, setting: &Setting) -> 
 pub fn set<T: RangeTable>(table: &mut T, owners: &Owners, setting: &Setting) -> Result<(), NoRuns>
     requires ordered { setting.now.first ≤ setting.now.last }
     requires inside { setting.now.last < 2 ^ 63 }
-    ensures refused { (settings : List OwnerSetting) (t : OwnerSetting) → Stands (named owners.now) (mode_at (T.settings table.old)) settings → IsSameSetting (named owners.now) setting.now t → IsErr result ↔ (refuses 65536 settings t ≡ true) }
-    ensures ok { OnOk result ((settings : List OwnerSetting) (t : OwnerSetting) → Stands (named owners.now) (mode_at (T.settings table.old)) settings → IsSameSetting (named owners.now) setting.now t → Stands (named owners.now) (mode_at (T.settings table.new)) (settings ++ t ∷ [])) }
+    ensures refused { WhereSets (named owners.now) (T.settings table.old) setting.now (λ settings t. IsErr result ↔ (refuses 65536 settings t ≡ true)) }
+    ensures ok { OnOk result (WhereSets (named owners.now) (T.settings table.old) setting.now (λ settings t. Stands (named owners.now) (mode_at (T.settings table.new)) (settings ++ t ∷ []))) }
     ensures err { OnErr result (T.settings table.new ≡ T.settings table.old) }
 {
     let _owners = owners;
@@ -148,7 +147,7 @@ pub fn set<T: RangeTable>(table: &mut T, owners: &Owners, setting: &Setting) -> 
 
 /// Takes the settings of a host's owners out on both sides.
 pub fn drop_host<T: RangeTable>(table: &mut T, owners: &Owners, host: &[u8])
-    ensures { (settings : List OwnerSetting) → Stands (named owners.now) (mode_at (T.settings table.old)) settings → Stands (named owners.now) (mode_at (T.settings table.new)) (without_host host.now settings) }
+    ensures { WhereStands (named owners.now) (T.settings table.old) (λ settings. Stands (named owners.now) (mode_at (T.settings table.new)) (without_host host.now settings)) }
 {
     table.drop_host(&HostOf { owners, name: host });
 }
@@ -160,7 +159,7 @@ pub fn drop_owner_on_file<T: RangeTable>(
     file: &FileId,
     owner: OwnerId,
 )
-    ensures { (settings : List OwnerSetting) (x : Owner) → Stands (named owners.now) (mode_at (T.settings table.old)) settings → named owners.now owner ≡ Some x → Stands (named owners.now) (mode_at (T.settings table.new)) (without_owner_on file.now x settings) }
+    ensures { WhereOwns (named owners.now) (T.settings table.old) owner (λ settings x. Stands (named owners.now) (mode_at (T.settings table.new)) (without_owner_on file.now x settings)) }
 {
     let _owners = owners;
     table.drop_owner_on_file(file, owner);
@@ -168,7 +167,7 @@ pub fn drop_owner_on_file<T: RangeTable>(
 
 /// Leaves no setting on either side.
 pub fn clear<T: RangeTable>(table: &mut T, owners: &Owners)
-    ensures { (settings : List OwnerSetting) → Stands (named owners.now) (mode_at (T.settings table.old)) settings → Stands (named owners.now) (mode_at (T.settings table.new)) [] }
+    ensures { WhereStands (named owners.now) (T.settings table.old) (λ settings. Stands (named owners.now) (mode_at (T.settings table.new)) []) }
 {
     let _owners = owners;
     table.clear();
