@@ -3,9 +3,9 @@ use Rattle.std.specs.Prelude.{ℕ, ℤ, Bool, not, Option, [], map}
 use Rattle.std.specs.declared.cmp.Ordering.{Ordering}
 use Rattle.std.specs.Ordering.{ordering_then}
 use Rattle.std.specs.FinMap.{FinMap, empty, insert, retain_keys, entries}
-use Rattle.definitions.specs.Bytes.{Bytes, bytes_cmp, same_bytes}
+use Rattle.definitions.specs.Bytes.{Bytes, bytes_cmp, put, same_bytes}
 use Rattle.definitions.specs.Nsm.{MyId}
-use Rattle.definitions.specs.Hosts.{HostRow, Watch, Hosts, my_id_cmp, is_watch}
+use Rattle.definitions.specs.Hosts.{HostRow, Watch, Hosts, row_cmp, watch_cmp, my_id_cmp, is_watch}
 
 -- what stands beside a host's name
 pub record Host : Type 0 where
@@ -65,3 +65,11 @@ made_now own seen = record { epoch = own; seen = seen; quota = 65536 }
 
 abbrev pub my_of : Bytes → ℤ → ℤ → ℤ → MyId
 my_of my prog vers proc = record { my_name = my; prog = prog; vers = vers; proc = proc }
+
+-- ---- what is put into the lists: it stands in the place of the one of its key, or is added
+
+abbrev pub with_listed_host : Bytes → Host → Hosts → Hosts
+with_listed_host name host h = record h { rows = put row_cmp (host_row (name, host)) h.rows }
+
+abbrev pub with_listed_watch : WatchKey → Bytes → Hosts → Hosts
+with_listed_watch key private h = record h { watches = put watch_cmp (watch_row (key, private)) h.watches }

@@ -1,5 +1,5 @@
 -- What a statement of this crate leaves of a connection.
-use Rattle.std.specs.Prelude.{◌≡◌, ℕ, pos, true, None, Option, Ok, List, [], ◌∷◌, map, IsTrue}
+use Rattle.std.specs.Prelude.{◌≡◌, ℕ, pos, true, None, Option, Ok, List, [], ◌∷◌, map, IsTrue, Result, OnOk}
 use Rattle.sqlite_value.specs.declared.value.Value.TheVariants.{Null, Int}
 use Rattle.sqlite_value.specs.Order.{Row, column}
 use Rattle.sqlite_value.specs.contracts.row.Row as row
@@ -171,3 +171,7 @@ pub record HasWorked (Work : Database → Database → Type 0) (old new : State)
   pub work : Work old.now new.now
   pub committed : new.committed ≡ old.committed
   pub mode : new.in_transaction ≡ true
+
+-- in a transaction that is open, and on a disk that stayed clean, what didn't fail has done this work
+abbrev pub WorksInside : {X E : Type 0} → Result X E → (Database → Database → Type 0) → State → State → Type 0
+WorksInside result Work old new = HasCleanDisk new → IsTrue old.in_transaction → OnOk result (HasWorked Work old new)

@@ -3,7 +3,7 @@ ghost use Rattle.std.specs.Prelude.{◌≡◌, IsTrue, OnOk, OnErr};
 ghost use Rattle.sqlite.specs.Values.{bound};
 ghost use Rattle.sqlite.specs.State.{HasCleanDisk, KeepsCommit, Survives};
 ghost use Rattle.sqlite.specs.Held.{state};
-ghost use Rattle.hosts_statements.specs.Wrote.{Committed, HasWorked, MayWork, Ran, RanThree, RanTwo};
+ghost use Rattle.hosts_statements.specs.Wrote.{Committed, MayWork, Ran, RanThree, RanTwo, WorksInside};
 
 use sqlite::types::ValueRef;
 use sqlite::{Alter, Connection, Error, ErrorCode, Transaction};
@@ -14,7 +14,7 @@ fn do_one<S: Alter>(
     params: &[ValueRef<'_>],
 ) -> Result<(), Error>
     ensures same_reference { tx.new.conn.ghost_name ≡ tx.old.conn.ghost_name }
-    ensures ok { HasCleanDisk (state S.Store tx.new.conn.now) → IsTrue (state S.Store tx.old.conn.now).in_transaction → OnOk result (HasWorked (Ran sql.now (bound params.now)) (state S.Store tx.old.conn.now) (state S.Store tx.new.conn.now)) }
+    ensures ok { WorksInside result (Ran sql.now (bound params.now)) (state S.Store tx.old.conn.now) (state S.Store tx.new.conn.now) }
     ensures err { HasCleanDisk (state S.Store tx.new.conn.now) → IsTrue (state S.Store tx.old.conn.now).in_transaction → OnErr result (KeepsCommit (state S.Store tx.old.conn.now) (state S.Store tx.new.conn.now)) }
     ensures survives { Survives (state S.Store tx.old.conn.now) (state S.Store tx.new.conn.now) (λ _. ⊥) }
 {
@@ -30,7 +30,7 @@ fn do_two<S: Alter>(
     more: &[ValueRef<'_>],
 ) -> Result<(), Error>
     ensures same_reference { tx.new.conn.ghost_name ≡ tx.old.conn.ghost_name }
-    ensures ok { HasCleanDisk (state S.Store tx.new.conn.now) → IsTrue (state S.Store tx.old.conn.now).in_transaction → OnOk result (HasWorked (RanTwo first.now (bound given.now) second.now (bound more.now)) (state S.Store tx.old.conn.now) (state S.Store tx.new.conn.now)) }
+    ensures ok { WorksInside result (RanTwo first.now (bound given.now) second.now (bound more.now)) (state S.Store tx.old.conn.now) (state S.Store tx.new.conn.now) }
     ensures err { HasCleanDisk (state S.Store tx.new.conn.now) → IsTrue (state S.Store tx.old.conn.now).in_transaction → OnErr result (KeepsCommit (state S.Store tx.old.conn.now) (state S.Store tx.new.conn.now)) }
     ensures survives { Survives (state S.Store tx.old.conn.now) (state S.Store tx.new.conn.now) (λ _. ⊥) }
 {
@@ -49,7 +49,7 @@ pub fn do_three<S: Alter>(
     last: &[ValueRef<'_>],
 ) -> Result<(), Error>
     ensures same_reference { tx.new.conn.ghost_name ≡ tx.old.conn.ghost_name }
-    ensures ok { HasCleanDisk (state S.Store tx.new.conn.now) → IsTrue (state S.Store tx.old.conn.now).in_transaction → OnOk result (HasWorked (RanThree first.now (bound given.now) second.now (bound more.now) third.now (bound last.now)) (state S.Store tx.old.conn.now) (state S.Store tx.new.conn.now)) }
+    ensures ok { WorksInside result (RanThree first.now (bound given.now) second.now (bound more.now) third.now (bound last.now)) (state S.Store tx.old.conn.now) (state S.Store tx.new.conn.now) }
     ensures err { HasCleanDisk (state S.Store tx.new.conn.now) → IsTrue (state S.Store tx.old.conn.now).in_transaction → OnErr result (KeepsCommit (state S.Store tx.old.conn.now) (state S.Store tx.new.conn.now)) }
     ensures survives { Survives (state S.Store tx.old.conn.now) (state S.Store tx.new.conn.now) (λ _. ⊥) }
 {

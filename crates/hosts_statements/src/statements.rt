@@ -2,8 +2,9 @@
 ghost use Rattle.std.specs.Prelude.{◌≡◌, pos, true, false, IsTrue, OnOk, OnErr, Some, None};
 ghost use Rattle.sqlite.specs.State.{HasCleanDisk, KeepsCommit, Survives};
 ghost use Rattle.sqlite.specs.Held.{state};
-ghost use Rattle.definitions.specs.Bytes.{put, same_bytes, without};
-ghost use Rattle.definitions.specs.Hosts.{HostRow, has_row, row_cmp, watch_cmp, after_store, Monitor, Watched, Unwatched};
+ghost use Rattle.definitions.specs.Bytes.{same_bytes, without};
+ghost use Rattle.definitions.specs.Hosts.{HostRow, has_row, after_store, Monitor, Watched, Unwatched};
+ghost use Rattle.hosts_statements.specs.Maps.{with_listed_host, with_listed_watch};
 ghost use Rattle.hosts_statements.specs.Tables.{no_schema};
 ghost use Rattle.hosts_statements.specs.Wrote.{HasMade, HasTables, IsFresh, MayWriteHosts, WroteHosts, hosts_in};
 ghost use Rattle.hosts_statements.specs.declared.tables.Version.TheVariants.{Second};
@@ -42,9 +43,9 @@ pub fn replace_host<S: Alter>(
     quota: u32,
 ) -> Result<(), Error>
     requires tables { HasTables Second (state S.Store conn.old) }
-    ensures ok { HasCleanDisk (state S.Store conn.new) → OnOk result (WroteHosts (λ h. record h { rows = put row_cmp (record { name = name.now; epoch = epoch; seen = seen; quota = quota }) h.rows }) (state S.Store conn.old) (state S.Store conn.new)) }
+    ensures ok { HasCleanDisk (state S.Store conn.new) → OnOk result (WroteHosts (with_listed_host name.now (record { epoch = epoch; seen = seen; quota = quota })) (state S.Store conn.old) (state S.Store conn.new)) }
     ensures err { HasCleanDisk (state S.Store conn.new) → OnErr result (KeepsCommit (state S.Store conn.old) (state S.Store conn.new)) }
-    ensures crash { Survives (state S.Store conn.old) (state S.Store conn.new) (MayWriteHosts (λ h. record h { rows = put row_cmp (record { name = name.now; epoch = epoch; seen = seen; quota = quota }) h.rows }) (state S.Store conn.old)) }
+    ensures crash { Survives (state S.Store conn.old) (state S.Store conn.new) (MayWriteHosts (with_listed_host name.now (record { epoch = epoch; seen = seen; quota = quota })) (state S.Store conn.old)) }
 {
     run_two(
         conn,
@@ -73,9 +74,9 @@ pub fn put_watch<S: Alter>(
     private: &[u8; 16],
 ) -> Result<(), Error>
     requires tables { HasTables Second (state S.Store conn.old) }
-    ensures ok { HasCleanDisk (state S.Store conn.new) → OnOk result (WroteHosts (λ h. record h { watches = put watch_cmp (record { mon_name = mon.now; my_id = my_id.now; private_bytes = private.now }) h.watches }) (state S.Store conn.old) (state S.Store conn.new)) }
+    ensures ok { HasCleanDisk (state S.Store conn.new) → OnOk result (WroteHosts (with_listed_watch (record { mon = mon.now; my = my_id.now }) private.now) (state S.Store conn.old) (state S.Store conn.new)) }
     ensures err { HasCleanDisk (state S.Store conn.new) → OnErr result (KeepsCommit (state S.Store conn.old) (state S.Store conn.new)) }
-    ensures crash { Survives (state S.Store conn.old) (state S.Store conn.new) (MayWriteHosts (λ h. record h { watches = put watch_cmp (record { mon_name = mon.now; my_id = my_id.now; private_bytes = private.now }) h.watches }) (state S.Store conn.old)) }
+    ensures crash { Survives (state S.Store conn.old) (state S.Store conn.new) (MayWriteHosts (with_listed_watch (record { mon = mon.now; my = my_id.now }) private.now) (state S.Store conn.old)) }
 {
     let my = my_id.my_name();
     let (prog, vers, proc) = (my_id.prog(), my_id.vers(), my_id.proc());

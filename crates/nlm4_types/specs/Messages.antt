@@ -18,6 +18,10 @@ clamped_testargs wide a = record a { alock = clamped_lock wide a.alock }
 abbrev pub args_bytes : Bool → List ℕ → Bool → Lock → List ℕ
 args_bytes wide cookie exclusive alock = (testargs wide).written (record { cookie = cookie; exclusive = exclusive; alock = alock })
 
+-- the bytes are a spelling of it
+abbrev pub SpellsArgs : Bool → List ℕ → List ℕ → Bool → Lock → Type 0
+SpellsArgs wide text cookie exclusive alock = (testargs wide).Spells text (record { cookie = cookie; exclusive = exclusive; alock = alock })
+
 -- the arguments of GRANTED and GRANTED_MSG
 abbrev pub shown_grant : Version → ℕ → Bool → Lock → TestArgs
 shown_grant version number exclusive alock = clamped_testargs (is_wide version) (granted_args number exclusive alock)

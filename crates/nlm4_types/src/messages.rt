@@ -3,10 +3,9 @@
 ghost use Rattle.std.specs.Prelude.{◌≡◌, ◌+◌, ◌≤◌, ◌++◌, ◌↔◌, length, IsOk, OnOk, OnErr, ◌==◌};
 ghost use Rattle.nlm4_types.specs.Version.{view_of_version};
 ghost use Rattle.nlm4_types.specs.Lock.{view_of_lock};
-ghost use Rattle.nlm4_types.specs.Arguments.{testargs};
 ghost use Rattle.nlm4_types.specs.Share.{view_of_shareres, shareres};
 ghost use Rattle.nlm4_types.specs.Results.{view_of_res, view_of_testres, res};
-ghost use Rattle.nlm4_types.specs.Messages.{args_bytes, bytes_of_grant, testres_bytes, procedure_of, message_bytes, SpellsGrant, SpellsTestRes, SpellsMessage};
+ghost use Rattle.nlm4_types.specs.Messages.{args_bytes, bytes_of_grant, testres_bytes, procedure_of, message_bytes, SpellsArgs, SpellsGrant, SpellsTestRes, SpellsMessage};
 
 use crate::arguments::TestArgs;
 use crate::lock::{Lock, Netobj};
@@ -147,7 +146,7 @@ fn put_args<'r, const BYTES: u32>(
     ensures room { IsOk result ↔ (length f.old + length (args_bytes (BYTES == 8) cookie.entry.bytes.now exclusive (view_of_lock alock.entry)) ≤ 4096) }
     ensures ok { OnOk result (f.new ≡ f.old ++ args_bytes (BYTES == 8) cookie.entry.bytes.now exclusive (view_of_lock alock.entry)) }
     ensures err { OnErr result (f.new ≡ f.old) }
-    ensures spelled { OnOk result ((testargs (BYTES == 8)).Spells (args_bytes (BYTES == 8) cookie.entry.bytes.now exclusive (view_of_lock alock.entry)) (record { cookie = cookie.entry.bytes.now; exclusive = exclusive; alock = view_of_lock alock.entry })) }
+    ensures spelled { OnOk result (SpellsArgs (BYTES == 8) (args_bytes (BYTES == 8) cookie.entry.bytes.now exclusive (view_of_lock alock.entry)) cookie.entry.bytes.now exclusive (view_of_lock alock.entry)) }
 {
     TestArgs {
         cookie,
