@@ -56,7 +56,8 @@ impl<'a, P: Place, L: Ledger, T: RangeTable + Drop, S: HostStore + Drop, G: Gate
     // Answers the calls of a connection until no more come and each is answered.
     fn read<R: Wait + Log>(&self, rt: &R, guest: &Guest, worker: &mut Worker<P, L>) {
         let number = guest.connection.number();
-        let mut outbox = SocketOutbox::new(self.alloc, rt, &self.rosters.callers, self.bells);
+        let home = Some(&guest.connection);
+        let mut outbox = SocketOutbox::new(self.alloc, rt, &self.rosters.callers, home, self.bells);
         let origin = Origin {
             connection: number,
             peer: peer_at(guest.from),
@@ -146,7 +147,7 @@ impl<
 
     fn work(&self, rt: &R, worker: Worker<P, L>) -> Worker<P, L> {
         let mut worker = worker;
-        let mut outbox = SocketOutbox::new(self.alloc, rt, &self.rosters.callers, self.bells);
+        let mut outbox = SocketOutbox::new(self.alloc, rt, &self.rosters.callers, None, self.bells);
         worker.work(rt, self.channel, self.shared, self.gate, &mut outbox);
         worker
     }

@@ -3,38 +3,40 @@ ghost use Rattle.std.specs.Prelude.{◌≡◌, [], ◌∷◌, ◌++◌};
 
 use crate::wire::Wire;
 use book::Reply;
-use connections::Roster;
+use connections::{Connection, Roster};
 use history::History;
 use serve_loops::Signals;
 use std::alloc::Global;
-use std::sync::{Mutex, Wait};
+use std::sync::{Arc, Mutex, Wait};
 use workers::{Outbox, Parcel};
 use xdr_core::Frame;
 
 /// Joins the replies of one connection, and writes them to its socket.
 #[derive(Drop)]
-pub(crate) struct SocketOutbox<'a, K, Q, R> {
-    wire: Wire<'a, K, R>,
+pub(crate) struct SocketOutbox<'a, 'h, K, Q, R> {
+    wire: Wire<'a, 'h, K, R>,
     signals: &'a Q,
     all: History<Parcel>,
 }
 
-impl<'a, K: Drop, Q: Signals, R: Wait> SocketOutbox<'a, K, Q, R> {
+impl<'a, 'h, K: Drop, Q: Signals, R: Wait> SocketOutbox<'a, 'h, K, Q, R> {
+    /// `home` is the connection of whoever answers, if it has one.
     pub(crate) fn new(
         alloc: Global,
         rt: &'a R,
         callers: &'a Mutex<Roster<K>>,
+        home: Option<&'h Arc<Connection, Global>>,
         signals: &'a Q,
-    ) -> SocketOutbox<'a, K, Q, R> {
+    ) -> SocketOutbox<'a, 'h, K, Q, R> {
         SocketOutbox {
-            wire: Wire::new(alloc, rt, callers),
+            wire: Wire::new(alloc, rt, callers, home),
             signals,
             all: History::new(),
         }
     }
 }
 
-impl<'a, K: Drop, Q: Signals, R: Wait> Outbox for SocketOutbox<'a, K, Q, R> {
+impl<'a, 'h, K: Drop, Q: Signals, R: Wait> Outbox for SocketOutbox<'a, 'h, K, Q, R> {
     ghost use Rattle.std.specs.Prelude.{map};
     ghost use Rattle.workers.specs.Answers.{Sent};
     ghost use Rattle.workers.specs.declared.outbox.Parcel.{Parcel as Packed};

@@ -13,19 +13,27 @@ const LARGEST: usize = 4_100;
 
 /// Replies to one connection that are written together, and how many of its jobs they end.
 #[derive(Drop)]
-pub(crate) struct Wire<'a, K, R> {
+pub(crate) struct Wire<'a, 'h, K, R> {
     rt: &'a R,
     callers: &'a Mutex<Roster<K>>,
+    // The connection of whoever joins them, if it has one.
+    home: Option<&'h Arc<Connection, Global>>,
     to: Option<Arc<Connection, Global>>,
     joined: Vec<u8>,
     done: u64,
 }
 
-impl<'a, K: Drop, R: Wait> Wire<'a, K, R> {
-    pub(crate) fn new(alloc: Global, rt: &'a R, callers: &'a Mutex<Roster<K>>) -> Wire<'a, K, R> {
+impl<'a, 'h, K: Drop, R: Wait> Wire<'a, 'h, K, R> {
+    pub(crate) fn new(
+        alloc: Global,
+        rt: &'a R,
+        callers: &'a Mutex<Roster<K>>,
+        home: Option<&'h Arc<Connection, Global>>,
+    ) -> Wire<'a, 'h, K, R> {
         Wire {
             rt,
             callers,
+            home,
             to: None,
             joined: Vec::new(alloc),
             done: 0,
@@ -39,13 +47,21 @@ impl<'a, K: Drop, R: Wait> Wire<'a, K, R> {
         }
     }
 
+    // The roster's lock is everybody's: who answers its own connection's calls needs no look at it.
+    fn find(&self, number: u64) -> Option<Arc<Connection, Global>> {
+        match self.home {
+            Some(home) if home.number() == number => Arc::try_clone(home).ok(),
+            _ => self.callers.lock(self.rt).find(number),
+        }
+    }
+
     /// What comes next is for the connection of this number.
     pub(crate) fn turn_to(&mut self, number: u64) {
         if self.is_to(number) {
             return;
         }
         self.flush();
-        self.to = self.callers.lock(self.rt).find(number);
+        self.to = self.find(number);
     }
 
     // Writes what is joined.

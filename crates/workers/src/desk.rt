@@ -8,6 +8,7 @@ ghost use Rattle.workers.specs.Places.{HasPlace};
 
 use crate::archive::Archive;
 use crate::outbox::{Outbox, post};
+use crate::patience::hold;
 use crate::shared::{Entered, Shared};
 use book::{Receipt, Starved, Taken};
 use bytes::Bytes;
@@ -81,7 +82,7 @@ impl<L: Ledger> Desk<L> {
             return Err(taken);
         };
         // The book's lock is free again behind this line.
-        let got = shared.lock(rt).take(taken, same, &mut self.share);
+        let got = hold(rt, shared).take(taken, same, &mut self.share);
         let Entered { receipt, is_due } = got?;
         post(outbox, connection, receipt.reply());
         self.receipts.add(receipt);

@@ -6,6 +6,7 @@ mod archive;
 mod audits;
 mod desk;
 mod outbox;
+mod patience;
 mod reading;
 mod shared;
 mod worker;
