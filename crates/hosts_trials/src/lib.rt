@@ -1,5 +1,5 @@
-//! Trials of the store of hosts over a database: stops of its disk, refused growths, its limits, and files that it
-//! takes and refuses. There is nothing in it but tests.
+//! Trials of the store of hosts over a database: stops of its disk, alone and below a daemon, refused growths, its limits, and files
+//! that it takes and refuses. There is nothing in it but tests.
 #![tactic(auto)]
 
 #[cfg(test)]
@@ -7,9 +7,17 @@ mod adopting;
 #[cfg(test)]
 mod calls;
 #[cfg(test)]
+mod daemons;
+#[cfg(test)]
 mod growths;
 #[cfg(test)]
+mod lent;
+#[cfg(test)]
+mod messages;
+#[cfg(test)]
 mod pairs;
+#[cfg(test)]
+mod plays;
 #[cfg(test)]
 mod shown;
 #[cfg(test)]

@@ -14,15 +14,27 @@ const MOST_CALLS: u64 = 500;
 
 /// Which file stops.
 #[derive(Clone, Copy)]
-enum Stop {
+pub(crate) enum Stop {
     Log,
     Database,
 }
 
-/// What is stopped: what the files hold, in SQL, the calls after which a store in memory holds the same, and the calls
-/// that are made then. The last of them is to be met by stops.
+/// What is stopped: so many steps, of which the last is to be met by stops.
+pub(crate) trait Trial {
+    fn count(&self) -> usize;
+
+    /// A number of calls below which no stop is tried.
+    fn first(&self, alloc: Global, stop: Stop) -> u64;
+
+    /// Makes the steps up to the stop, which comes after so many calls of the file. How many went well; none, where a crash leaves
+    /// what it may not.
+    fn run(&self, alloc: Global, stop: Stop, calls: u64) -> Option<usize>;
+}
+
+/// Calls of a store: what the files hold, in SQL, the calls after which a store in memory holds the same, and the calls that
+/// are made then.
 #[derive(Clone, Copy)]
-struct Trial<'a> {
+struct Script<'a> {
     sql: [&'a str; 2],
     past: &'a str,
     script: &'a str,
@@ -54,8 +66,13 @@ impl Work for Look {
     }
 }
 
-// Files that hold the tables and rows of the trial, of which one answers so many calls more.
-fn stopping(alloc: Global, sql: [&str; 2], stop: Stop, calls: u64) -> Files<Fuse<Memory>> {
+/// Files that hold these tables and rows, of which one answers so many calls more.
+pub(crate) fn stopping(
+    alloc: Global,
+    sql: [&str; 2],
+    stop: Stop,
+    calls: u64,
+) -> Files<Fuse<Memory>> {
     let mut files = fresh(alloc);
     if !sql[0].is_empty() {
         let mut look = Look { alloc, text: None };
@@ -71,37 +88,46 @@ fn stopping(alloc: Global, sql: [&str; 2], stop: Stop, calls: u64) -> Files<Fuse
     }
 }
 
-// What a store over these files shows after a crash, which takes what no sync has kept.
-fn found(alloc: Global, mut files: Files<Fuse<Memory>>) -> Option<String> {
+/// Has a store over these files do the work after a crash, which takes what no sync has kept.
+pub(crate) fn after_crash<W: Work>(alloc: Global, mut files: Files<Fuse<Memory>>, work: &mut W) {
     files.log.crash();
     files.db.crash();
-    let mut look = Look { alloc, text: None };
-    visit_files(alloc, files, ["", ""], &mut look);
-    look.text
+    visit_files(alloc, files, ["", ""], work);
 }
 
-// Makes the calls up to the stop. How many were answered by Ok: what is found after a crash is what these left, or the
-// next one too. None where it is half a call, or a call is lost.
-fn run_once(alloc: Global, trial: Trial<'_>, stop: Stop, calls: u64) -> Option<usize> {
-    let mut made = Calls {
-        script: trial.script,
-        done: 0,
-    };
-    let files = stopping(alloc, trial.sql, stop, calls);
-    let (_, left) = visit_files(alloc, files, ["", ""], &mut made);
-    let text = found(alloc, left)?;
-    let next = made.done.saturating_add(1);
-    let is_either = text == shown_after(alloc, trial.past, trial.script, made.done)?
-        || text == shown_after(alloc, trial.past, trial.script, next)?;
-    is_either.then_some(made.done)
+impl Trial for Script<'_> {
+    fn count(&self) -> usize {
+        self.script.lines().count()
+    }
+
+    fn first(&self, _alloc: Global, _stop: Stop) -> u64 {
+        0
+    }
+
+    // What is found after a crash is what the calls that were answered by Ok left, or the next one too.
+    fn run(&self, alloc: Global, stop: Stop, calls: u64) -> Option<usize> {
+        let mut made = Calls {
+            script: self.script,
+            done: 0,
+        };
+        let files = stopping(alloc, self.sql, stop, calls);
+        let (_, left) = visit_files(alloc, files, ["", ""], &mut made);
+        let mut look = Look { alloc, text: None };
+        after_crash(alloc, left, &mut look);
+        let text = look.text?;
+        let next = made.done.saturating_add(1);
+        let is_either = text == shown_after(alloc, self.past, self.script, made.done)?
+            || text == shown_after(alloc, self.past, self.script, next)?;
+        is_either.then_some(made.done)
+    }
 }
 
-// Stops a file after each number of calls, until all calls are answered by Ok. How many stops met the last one.
-fn stops(alloc: Global, trial: Trial<'_>, stop: Stop) -> Option<u64> {
-    let count = trial.script.lines().count();
+// Stops a file after each number of calls from the first on, until all steps go well. How many stops met the last one.
+fn stops<T: Trial>(alloc: Global, trial: &T, stop: Stop) -> Option<u64> {
+    let count = trial.count();
     let mut met = 0u64;
-    for calls in 0..MOST_CALLS {
-        let done = run_once(alloc, trial, stop, calls)?;
+    for calls in trial.first(alloc, stop)..MOST_CALLS {
+        let done = trial.run(alloc, stop, calls)?;
         if done >= count {
             return Some(met);
         }
@@ -112,8 +138,8 @@ fn stops(alloc: Global, trial: Trial<'_>, stop: Stop) -> Option<u64> {
     None
 }
 
-// Whether stops of either file have met the last call.
-fn are_met(alloc: Global, trial: Trial<'_>) -> bool {
+/// Whether stops of either file have met the last step.
+pub(crate) fn are_met<T: Trial>(alloc: Global, trial: &T) -> bool {
     let log = stops(alloc, trial, Stop::Log).unwrap_or(0);
     let database = stops(alloc, trial, Stop::Database).unwrap_or(0);
     log > 1 && database > 1
@@ -121,12 +147,12 @@ fn are_met(alloc: Global, trial: Trial<'_>) -> bool {
 
 // The same of calls from fresh files on.
 fn are_met_by(alloc: Global, script: &str) -> bool {
-    let trial = Trial {
+    let trial = Script {
         sql: ["", ""],
         past: "",
         script,
     };
-    are_met(alloc, trial)
+    are_met(alloc, &trial)
 }
 
 #[test]
@@ -181,10 +207,10 @@ const ROWS: &str =
 
 #[test]
 fn stop_at_each_write_of_the_upgrade(rt: HostRuntime) {
-    let trial = Trial {
+    let trial = Script {
         sql: [FIRST, ROWS],
         past: "start\nmonitor a 3\nstart\nmonitor b 0",
         script: "start",
     };
-    assert!(rt; are_met(rt.alloc(), trial));
+    assert!(rt; are_met(rt.alloc(), &trial));
 }

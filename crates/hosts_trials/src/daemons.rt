@@ -1,0 +1,293 @@
+//! A stop of the disk at each of its calls while a daemon plays a script from bytes to bytes: what the files hold then, and a daemon
+//! that begins anew over them.
+use crate::plays::{Line, goes, notifies, opened, parted, played, rows_after};
+use crate::shown::shown;
+use crate::stops::{Stop, Trial, after_crash, are_met, stopping};
+use crate::visits::{Work, visit_files};
+use daemon_core::Daemon;
+use hosts_db::HostStore;
+use range_table::RangeTable;
+use sqlite::Files;
+use sqlite_disk::{Fuse, Memory};
+use std::alloc::Global;
+use std::test::*;
+
+/// Plays the script up to the first line that the store refuses.
+#[derive(Clone, Copy)]
+struct Play<'a> {
+    alloc: Global,
+    script: &'a str,
+    // How many lines went well; none, where one went otherwise than it says.
+    done: Option<usize>,
+}
+
+impl Work for Play<'_> {
+    fn work<S: HostStore>(&mut self, store: &mut S) {
+        self.done = match opened(self.alloc, store) {
+            Some(mut daemon) => played(self.alloc, &mut daemon, self.script),
+            None => None,
+        };
+    }
+}
+
+/// A daemon over what is found after a crash, behind so many lines that went well.
+#[derive(Clone, Copy)]
+struct Anew<'a> {
+    alloc: Global,
+    script: &'a str,
+    done: usize,
+    is_so: bool,
+}
+
+impl Anew<'_> {
+    // Whether the rows are those of the lines that went well, or of the next one too.
+    fn has_rows<S: HostStore>(&self, store: &S) -> bool {
+        let Some(text) = shown(self.alloc, store) else {
+            return false;
+        };
+        let rows = text.trim();
+        rows == rows_after(self.script, self.done)
+            || rows == rows_after(self.script, self.done.saturating_add(1))
+    }
+
+    // Whether a host whose lock was granted, or waited, has a row, and who had one granted is granted it again.
+    fn stands<T: RangeTable, S: HostStore>(&self, daemon: &mut Daemon<T, S>, line: &str) -> bool {
+        let Line { event, answer, .. } = parted(line);
+        let is_granted = answer.ends_with(" granted");
+        if !is_granted && !answer.ends_with(" blocked") {
+            return true;
+        }
+        let (_, name) = event.split_once("-").unwrap_or((event, ""));
+        daemon.store().host(name.as_bytes()).is_some()
+            && (!is_granted || goes(self.alloc, daemon, "9 reclaim-a = 9 granted") == Some(true))
+    }
+
+    // Whether the daemon begins anew, tells just the stored hosts of it, and leaves whoever had a lock its row and its lock.
+    fn begins<T: RangeTable, S: HostStore>(&self, daemon: &mut Daemon<T, S>) -> bool {
+        if played(self.alloc, daemon, "restart\nconnect") != Some(2)
+            || !notifies(self.alloc, daemon)
+        {
+            return false;
+        }
+        for line in self.script.lines().take(self.done) {
+            if !self.stands(daemon, line) {
+                return false;
+            }
+        }
+        true
+    }
+}
+
+impl Work for Anew<'_> {
+    fn work<S: HostStore>(&mut self, store: &mut S) {
+        if !self.has_rows(store) {
+            return;
+        }
+        if let Some(mut daemon) = opened(self.alloc, store) {
+            self.is_so = self.begins(&mut daemon);
+        }
+    }
+}
+
+/// A script of a daemon over fresh files.
+#[derive(Clone, Copy)]
+struct Script<'a>(&'a str);
+
+impl Script<'_> {
+    // How many lines go well up to a stop, and the files then.
+    fn stopped(
+        &self,
+        alloc: Global,
+        stop: Stop,
+        calls: u64,
+    ) -> (Option<usize>, Files<Fuse<Memory>>) {
+        let mut play = Play {
+            alloc,
+            script: self.0,
+            done: Some(0),
+        };
+        let files = stopping(alloc, ["", ""], stop, calls);
+        let (_, left) = visit_files(alloc, files, ["", ""], &mut play);
+        (play.done, left)
+    }
+
+    fn is_before_last(&self, alloc: Global, stop: Stop, calls: u64) -> bool {
+        let (done, _) = self.stopped(alloc, stop, calls);
+        match done {
+            Some(done) => done.saturating_add(1) < self.count(),
+            None => false,
+        }
+    }
+}
+
+impl Trial for Script<'_> {
+    fn count(&self) -> usize {
+        self.0.lines().count()
+    }
+
+    // Each line that writes is the last one of some script, so the stops of those before it are left out.
+    fn first(&self, alloc: Global, stop: Stop) -> u64 {
+        let mut first = 0u64;
+        for step in [256, 128, 64, 32, 16, 8, 4, 2, 1] {
+            let next = first.saturating_add(step);
+            if self.is_before_last(alloc, stop, next.saturating_sub(1)) {
+                first = next;
+            }
+        }
+        first
+    }
+
+    fn run(&self, alloc: Global, stop: Stop, calls: u64) -> Option<usize> {
+        let (done, left) = self.stopped(alloc, stop, calls);
+        let mut anew = Anew {
+            alloc,
+            script: self.0,
+            done: done?,
+            is_so: false,
+        };
+        after_crash(alloc, left, &mut anew);
+        anew.is_so.then_some(anew.done)
+    }
+}
+
+#[test]
+fn stop_at_each_write_of_the_first_restart(rt: HostRuntime) {
+    assert!(rt; are_met(rt.alloc(), &Script("restart -> 1;")));
+}
+
+#[test]
+fn stop_at_each_write_of_a_restart(rt: HostRuntime) {
+    assert!(rt; are_met(rt.alloc(), &Script("restart -> 1;\nrestart -> 3;")));
+}
+
+const LOCK: &str = "\
+restart -> 1;
+over
+connect
+2 lock-a = 2 granted or 2 no-locks -> 1; a 1 3 65536;
+";
+
+#[test]
+fn stop_at_each_write_of_a_lock(rt: HostRuntime) {
+    assert!(rt; are_met(rt.alloc(), &Script(LOCK)));
+}
+
+const BLOCKED_LOCK: &str = "\
+restart -> 1;
+over
+connect
+2 lock-a = 2 granted or 2 no-locks -> 1; a 1 3 65536;
+3 block-b = 3 blocked or 3 no-locks -> 1; a 1 3 65536; b 1 3 65536;
+";
+
+#[test]
+fn stop_at_each_write_of_a_blocked_lock(rt: HostRuntime) {
+    assert!(rt; are_met(rt.alloc(), &Script(BLOCKED_LOCK)));
+}
+
+const NOTIFY: &str = "\
+restart -> 1;
+over
+connect
+2 lock-a = 2 granted or 2 no-locks -> 1; a 1 3 65536;
+3 notify-a = 3 done or 3 system-err -> 1; a 1 5 65536;
+";
+
+#[test]
+fn stop_at_each_write_of_notify(rt: HostRuntime) {
+    assert!(rt; are_met(rt.alloc(), &Script(NOTIFY)));
+}
+
+/// The host has its lock again when it answers.
+const NOTICE_ANSWERED: &str = "\
+restart -> 1;
+over
+connect
+2 lock-a = 2 granted or 2 no-locks -> 1; a 1 3 65536;
+restart -> 3; a 1 3 65536;
+connect
+3 reclaim-a = 3 granted
+send = 1 notice 3
+answer 1 agreed -> 3; a 3 3 65536;
+";
+
+#[test]
+fn stop_at_each_write_of_an_answer(rt: HostRuntime) {
+    assert!(rt; are_met(rt.alloc(), &Script(NOTICE_ANSWERED)));
+}
+
+const MON: &str = "\
+restart -> 1;
+connect
+2 mon-a = 2 monitored 1 or 2 not-monitored 1 -> 1; a 1 0 65536; a server 200000 1 1 000102030405060708090a0b0c0d0e0f;
+";
+
+#[test]
+fn stop_at_each_write_of_mon(rt: HostRuntime) {
+    assert!(rt; are_met(rt.alloc(), &Script(MON)));
+}
+
+/// Of a host that has a row.
+const MON_OF_STORED: &str = "\
+restart -> 1;
+over
+connect
+2 lock-a = 2 granted or 2 no-locks -> 1; a 1 3 65536;
+3 mon-a = 3 monitored 1 or 3 not-monitored 1 -> 1; a 1 3 65536; a server 200000 1 1 000102030405060708090a0b0c0d0e0f;
+";
+
+#[test]
+fn stop_at_each_write_of_mon_of_a_stored_host(rt: HostRuntime) {
+    assert!(rt; are_met(rt.alloc(), &Script(MON_OF_STORED)));
+}
+
+const UNMON: &str = "\
+restart -> 1;
+connect
+2 mon-a = 2 monitored 1 or 2 not-monitored 1 -> 1; a 1 0 65536; a server 200000 1 1 000102030405060708090a0b0c0d0e0f;
+3 unmon-a = 3 state 1 or 3 system-err -> 1; a 1 0 65536;
+";
+
+#[test]
+fn stop_at_each_write_of_unmon(rt: HostRuntime) {
+    assert!(rt; are_met(rt.alloc(), &Script(UNMON)));
+}
+
+const UNMON_ALL: &str = "\
+restart -> 1;
+connect
+2 mon-a = 2 monitored 1 or 2 not-monitored 1 -> 1; a 1 0 65536; a server 200000 1 1 000102030405060708090a0b0c0d0e0f;
+3 mon-b = 3 monitored 1 or 3 not-monitored 1 -> 1; a 1 0 65536; b 1 0 65536; a server 200000 1 1 000102030405060708090a0b0c0d0e0f; b server 200000 1 1 000102030405060708090a0b0c0d0e0f;
+4 unmon-all = 4 state 1 or 4 system-err -> 1; a 1 0 65536; b 1 0 65536;
+";
+
+#[test]
+fn stop_at_each_write_of_unmon_all(rt: HostRuntime) {
+    assert!(rt; are_met(rt.alloc(), &Script(UNMON_ALL)));
+}
+
+const QUOTA: &str = "\
+restart -> 1;
+over
+connect
+2 lock-a = 2 granted or 2 no-locks -> 1; a 1 3 65536;
+local quota 61 5 = ok or refused -> 1; a 1 3 5;
+";
+
+#[test]
+fn stop_at_each_write_of_a_quota(rt: HostRuntime) {
+    assert!(rt; are_met(rt.alloc(), &Script(QUOTA)));
+}
+
+const CRASH: &str = "\
+restart -> 1;
+over
+connect
+2 lock-a = 2 granted or 2 no-locks -> 1; a 1 3 65536;
+3 crash = 3 done or 3 system-err -> 3; a 1 3 65536;
+";
+
+#[test]
+fn stop_at_each_write_of_a_simulated_crash(rt: HostRuntime) {
+    assert!(rt; are_met(rt.alloc(), &Script(CRASH)));
+}

@@ -1,0 +1,171 @@
+//! Scripts of a daemon, from bytes to bytes. A line is an event, with what is sent for it and what the store holds then:
+//! `3 notify-a = 3 done or 3 system-err -> 1; a 1 5 65536;`. Behind ` or ` stands what is sent where the store refuses. Where nothing
+//! stands behind ` -> ` the rows stay.
+//!
+//! - `restart`, `over`, `connect`: the server begins anew, its grace period ends, the pipe's connection begins.
+//! - `2 lock-a`: this record comes, and is answered (`messages`).
+//! - `send`: the server's own call that is due is sent. `answer 1 agreed`: it is answered.
+//! - `local quota 61 5`: a local program's line.
+use crate::lent::Lent;
+use crate::messages::message;
+use daemon_core::{Addressee, Daemon, Event, Outputs, Peer, StoreAnswer};
+use hosts_db::HostStore;
+use letters::ShortBytes;
+use range_table::{FlatTable, RangeTable};
+use std::alloc::Global;
+use std::fmt::Write;
+
+/// The connection that brings records, and that of a local program.
+const CONNECTION: u64 = 7;
+
+const LOCAL: u64 = 5;
+
+/// A line of a script.
+#[derive(Clone, Copy)]
+pub(crate) struct Line<'a> {
+    pub(crate) event: &'a str,
+    pub(crate) answer: &'a str,
+    pub(crate) refusal: &'a str,
+    pub(crate) rows: &'a str,
+}
+
+pub(crate) fn parted(line: &str) -> Line<'_> {
+    let (told, rows) = line.split_once(" -> ").unwrap_or((line, ""));
+    let (event, answers) = told.split_once(" = ").unwrap_or((told, ""));
+    let (answer, refusal) = answers.split_once(" or ").unwrap_or((answers, answers));
+    Line {
+        event,
+        answer,
+        refusal,
+        rows,
+    }
+}
+
+/// What a store holds after so many lines that went well.
+pub(crate) fn rows_after(script: &str, most: usize) -> &str {
+    let mut rows = "0;";
+    for line in script.lines().take(most) {
+        let Line { rows: new, .. } = parted(line);
+        if !new.is_empty() {
+            rows = new;
+        }
+    }
+    rows
+}
+
+/// A daemon over a store that is lent to it.
+pub(crate) fn opened<S: HostStore>(
+    alloc: Global,
+    store: &mut S,
+) -> Option<Daemon<FlatTable, Lent<'_, S>>> {
+    let name = ShortBytes::copy_of(alloc, b"server").ok()?;
+    let Ok(table) = FlatTable::new(alloc) else {
+        return None;
+    };
+    Daemon::new(alloc, table, Lent { store }, name).ok()
+}
+
+// The event of a line. None where it can't be read.
+fn event_of(alloc: Global, event: &str) -> Option<Event> {
+    let (verb, rest) = event.split_once(" ").unwrap_or((event, ""));
+    match verb {
+        "restart" => Some(Event::Restart),
+        "over" => Some(Event::GraceOver),
+        "connect" => Some(Event::Connect(CONNECTION, Peer::PIPE)),
+        "send" => Some(Event::Send),
+        "answer" => Some(Event::Answer(message(alloc, rest)?)),
+        "local" => Some(Event::Local(LOCAL, Vec::from_slice(alloc, rest.as_bytes()).ok()?)),
+        _ => Some(Event::Piece(CONNECTION, message(alloc, event)?)),
+    }
+}
+
+// What comes of it, or of the record that it brings.
+fn happens<T: RangeTable, S: HostStore>(
+    alloc: Global,
+    daemon: &mut Daemon<T, S>,
+    event: &str,
+) -> Option<Outputs> {
+    let outputs = daemon.step(event_of(alloc, event)?);
+    if daemon.waiting(CONNECTION) == 0 {
+        return Some(outputs);
+    }
+    Some(daemon.step(Event::Take(CONNECTION, 0)))
+}
+
+// Whether just this is sent.
+fn is_sent(alloc: Global, outputs: &Outputs, text: &str) -> Option<bool> {
+    let told = message(alloc, text)?;
+    let mut bytes = Vec::new(alloc);
+    if let Some(sent) = &outputs.sent {
+        sent.write(&mut bytes).ok()?;
+    }
+    Some(bytes.as_slice() == told.as_slice())
+}
+
+/// Whether a line goes well, or the store has refused. None where it goes otherwise than the line says.
+pub(crate) fn goes<T: RangeTable, S: HostStore>(
+    alloc: Global,
+    daemon: &mut Daemon<T, S>,
+    line: &str,
+) -> Option<bool> {
+    let Line {
+        event,
+        answer,
+        refusal,
+        ..
+    } = parted(line);
+    let outputs = happens(alloc, daemon, event)?;
+    let is_refused = outputs.store == StoreAnswer::Refused;
+    let text = if is_refused { refusal } else { answer };
+    is_sent(alloc, &outputs, text)?.then_some(!is_refused)
+}
+
+/// How many lines go well, up to the first that the store refuses. None where one goes otherwise than it says.
+pub(crate) fn played<T: RangeTable, S: HostStore>(
+    alloc: Global,
+    daemon: &mut Daemon<T, S>,
+    script: &str,
+) -> Option<usize> {
+    for (at, line) in script.lines().enumerate() {
+        if !goes(alloc, daemon, line)? {
+            return Some(at);
+        }
+    }
+    Some(script.lines().count())
+}
+
+// Whether the call that is due is the notice to the host at this place.
+fn is_notice<T: RangeTable, S: HostStore>(
+    alloc: Global,
+    daemon: &mut Daemon<T, S>,
+    at: usize,
+) -> Option<bool> {
+    let outputs = daemon.step(Event::Send);
+    let mut text = String::new(alloc);
+    write!(
+        text,
+        "{} notice {}",
+        at.saturating_add(1),
+        daemon.store().own()
+    )
+    .ok()?;
+    let is_notice = is_sent(alloc, &outputs, &text)?;
+    let host = daemon.store().hosts().get(at)?;
+    match outputs.sent.as_ref()?.to() {
+        Addressee::Host(name) => Some(is_notice && name.as_slice() == host.name()),
+        _ => None,
+    }
+}
+
+/// Whether the calls that are due are just a notice to each stored host, in order of name.
+pub(crate) fn notifies<T: RangeTable, S: HostStore>(
+    alloc: Global,
+    daemon: &mut Daemon<T, S>,
+) -> bool {
+    for at in 0..daemon.store().hosts().len() {
+        if is_notice(alloc, daemon, at) != Some(true) {
+            return false;
+        }
+    }
+    daemon.step(Event::Send).sent.is_none()
+}
