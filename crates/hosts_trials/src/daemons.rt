@@ -1,6 +1,6 @@
 //! A stop of the disk at each of its calls while a daemon plays a script from bytes to bytes: what the files hold then, and a daemon
 //! that begins anew over them.
-use crate::plays::{Line, goes, notifies, opened, parted, played, rows_after};
+use crate::plays::{Line, are_rows_after, goes, notifies, opened, parted, played};
 use crate::shown::shown;
 use crate::stops::{Stop, Trial, after_crash, are_met, stopping};
 use crate::visits::{Work, visit_files};
@@ -46,8 +46,8 @@ impl Anew<'_> {
             return false;
         };
         let rows = text.trim();
-        rows == rows_after(self.script, self.done)
-            || rows == rows_after(self.script, self.done.saturating_add(1))
+        are_rows_after(self.script, self.done, rows)
+            || are_rows_after(self.script, self.done.saturating_add(1), rows)
     }
 
     // Whether a host whose lock was granted, or waited, has a row, and who had one granted is granted it again.

@@ -41,16 +41,16 @@ pub(crate) fn parted(line: &str) -> Line<'_> {
     }
 }
 
-/// What a store holds after so many lines that went well.
-pub(crate) fn rows_after(script: &str, most: usize) -> &str {
-    let mut rows = "0;";
+/// Whether a store holds these rows after so many lines that went well.
+pub(crate) fn are_rows_after(script: &str, most: usize, rows: &str) -> bool {
+    let mut is_so = rows == "0;";
     for line in script.lines().take(most) {
-        let Line { rows: new, .. } = parted(line);
-        if !new.is_empty() {
-            rows = new;
+        let Line { rows: told, .. } = parted(line);
+        if !told.is_empty() {
+            is_so = rows == told;
         }
     }
-    rows
+    is_so
 }
 
 /// A daemon over a store that is lent to it.
