@@ -35,6 +35,10 @@ impl<R: RangeTable> Locks<R> {
         requires own { is_of_host host.now (said change.now.owner.now) ≡ true }
         ensures { result ≡ is_past self.now.settings (changed change.now) host.now quota }
     {
+        // A change makes at most two runs more, so where all owners' fit nobody's are counted.
+        if self.used() < quota.saturating_sub(1) {
+            return false;
+        }
         let (table, owners) = self.parts();
         let guest = self.asker(change.owner);
         let host = HostAnd {

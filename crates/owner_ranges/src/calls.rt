@@ -58,6 +58,10 @@ pub fn is_past<T: RangeTable>(
     requires own { is_owned_by (named owners.now) host.now setting.now.owner ≡ true }
     ensures { WhereSets (named owners.now) (T.settings table.now) setting.now (λ settings t. result ≡ is_past settings t host.now quota) }
 {
+    // A setting makes at most two runs more, so where all owners' fit nobody's are counted.
+    if used(table, owners) < quota.saturating_sub(1) {
+        return false;
+    }
     let after = used_after(table, owners, host, setting);
     quota < after && used_of(table, owners, host) < after
 }

@@ -2,7 +2,7 @@
 ghost use Rattle.std.specs.Prelude.{◌≡◌, ◌<◌, ◌≤◌, ◌+◌, ◌^◌, not, true, false, None, [], IfOk, IfSome, IfNone, ℕ, List, length, slice_index_or, slice_set};
 ghost use Rattle.std.specs.List.{remove, filter, list_any};
 ghost use Rattle.range_table.specs.Settings.{IsIn, conflicts, is_against};
-ghost use Rattle.range_table.specs.Runs.{IsRunList, IsPlace, run_before, insert_run, best_from, is_of};
+ghost use Rattle.range_table.specs.Runs.{IsRunList, IsPlace, run_before, insert_run, best_from, is_of, starts_in};
 ghost use Rattle.range_table.specs.Parts.{last_of};
 ghost use Rattle.range_arena.specs.Indexed.{owned_cmp, owned_before, owned_upto, owned_by, IsSortedBy, AreSame};
 ghost use Rattle.range_table.specs.declared.run.Run.{Run};
@@ -266,6 +266,16 @@ impl Indexed {
         while let Some(run) = self.last_owned(range) {
             self.remove(&run);
         }
+    }
+
+    /// Takes the runs of the range's owner that start in it out, in one pass over each list.
+    pub(crate) fn drop_started(&mut self, range: &Setting)
+        requires { IsRunList self.old }
+        ensures { self.new ≡ filter (λ r. not (starts_in range.now r)) self.old }
+    {
+        sorted::drop_started(&mut self.list, range);
+        sorted::drop_started(&mut self.owned, range);
+        self.stretches.rebuild(&self.list);
     }
 
     /// Takes the runs of a host's owners out.

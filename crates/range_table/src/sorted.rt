@@ -112,6 +112,15 @@ fn gather(runs: &mut RunList, range: &Setting, from: usize, past: usize) -> usiz
     kept
 }
 
+/// Takes the runs that start in the range out, in one pass.
+pub fn drop_started(runs: &mut RunList, range: &Setting)
+    ensures { runs.new ≡ filter (λ r. not (starts_in range.now r)) runs.old }
+{
+    let len = runs.len();
+    let kept = gather(runs, range, 0, len);
+    runs.truncate(kept);
+}
+
 // Trims and gathers what is kept of the runs up to the range's end. Where it ends, and where the others begin.
 fn gather_kept(runs: &mut RunList, part: Part, range: &Setting) -> (usize, usize)
     requires listed { IsRunList runs.old }

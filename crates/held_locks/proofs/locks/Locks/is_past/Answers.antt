@@ -1,7 +1,8 @@
-use Rattle.std.proofs.Common.{◌≡◌, List, [], ◌∷◌, ◌++◌, refl, sym, ap, subst, ◌∙◌, ℕ}
+use Rattle.std.proofs.Common.{sym, subst, arith}
 use Rattle.definitions.specs.Starts.{used_of}
 use Rattle.owner_ids.specs.Said.{said}
 use Rattle.owner_ids.specs.Names.{named}
+use Rattle.owner_ranges.proofs.Quotas.{within_quota}
 use Rattle.held_locks.specs.Asked.{changed}
 use Rattle.held_locks.specs.Stranger.{IsAsker}
 use Rattle.held_locks.proofs.Guests.{guests_used, guests_used_after, past_as, not_past_as}
@@ -23,3 +24,10 @@ returns-else-quota-after g c =
     let ns = g.R.RangeTable.settings c.parts.result.0.now in
     let after = guests_used_after names ns c.args.self.now.settings c.args.host.now c.asker-guest.result c.args.change.now c.used_after-after.result c.parts.ensures.stands asker c.requires.own c.used_after-after.ensures in
     not_past_as c.args.quota c.used_after-after.result (used_of c.args.host.now c.args.self.now.settings) _ after c.if-quota-after.false
+
+pub returns-then-used-saturating_sub : goal.returns-then-used-saturating_sub
+returns-then-used-saturating_sub g c =
+    let all = c.used.ensures in
+    let most = c.saturating_sub.ensures in
+    let few = c.if-used-saturating_sub.true in
+    sym (within_quota c.args.self.now.settings (changed c.args.change.now) c.args.host.now c.args.quota (omega (arith, all, most, few)))
