@@ -90,18 +90,6 @@ impl<R: RangeTable, S: HostStore> Daemon<R, S> {
         make_quiet()
     }
 
-    fn receive(&mut self, number: u64, bytes: &[u8]) -> Outputs
-        ensures { Pieces (place_of number self.old.links) bytes.now self.old result self.new }
-    {
-        match find(&self.connections, number) {
-            None => make_quiet(),
-            Some(place) => {
-                let connection = &mut self.connections[place];
-                connection.receive(bytes)
-            }
-        }
-    }
-
     fn take(&mut self, number: u64, index: usize) -> Outputs
         ensures { TakesAt (place_of number self.old.links) index self.old result self.new }
     {
@@ -197,6 +185,19 @@ impl<R: RangeTable, S: HostStore> Daemon<R, S> {
         ensures { result.now.settings ≡ self.now.state.world.settings }
     {
         self.book.locks()
+    }
+
+    /// The step of a `Piece` of these bytes. They stay the caller's.
+    pub fn receive(&mut self, number: u64, bytes: &[u8]) -> Outputs
+        ensures { Pieces (place_of number self.old.links) bytes.now self.old result self.new }
+    {
+        match find(&self.connections, number) {
+            None => make_quiet(),
+            Some(place) => {
+                let connection = &mut self.connections[place];
+                connection.receive(bytes)
+            }
+        }
     }
 
     /// One event, and what comes of it.

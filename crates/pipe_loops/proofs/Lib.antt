@@ -1,4 +1,5 @@
 pub mod ReadLemmas
+pub mod Lent
 pub mod DueCalls
 pub mod PipeLemmas
 pub mod AnsweredLemmas

@@ -210,6 +210,10 @@ joined-more pieces piece = flat_map-append (λ p. p) pieces (piece ∷ []) ∙ a
 pub ends-within : (events : List Event) (start : Hub) (most bound : ℕ) → most ≤ bound → (unread left before after : Option (List ℕ)) (hub : Hub) → EndsAt events start most unread left before after [] hub → EndsAt events start bound unread left before after [] hub
 ends-within events start most bound fits unread left before after hub e = record { pieces = e.pieces; few = omega arith; outs = e.outs; run = e.run; read = e.read; wrote = e.wrote }
 
+-- there was no memory for the place of the pieces
+pub unplaced : (events : List Event) (start : Hub) (bound : ℕ) (unread left before after : Option (List ℕ)) (hub : Hub) → EndsAt events start 0 unread left before after [] hub → (end : Hub) → StreamEnds events start bound (Err Fault.Starved) unread left before after end
+unplaced events start bound unread left before after hub e end = inr (inl (inl (hub, ends-within events start 0 bound (omega arith) unread left before after hub e)))
+
 module _ (events : List Event) (start : Hub) (most next : ℕ) (one_more : most < next) (unread left before after : Option (List ℕ)) (mid : Hub) (so_far : EndsAt events start most unread left before after [] mid) where
   -- a read that failed
   pub read-kept : (later : Option (List ℕ)) → Keeps left later → EndsAt events start next unread later before after [] mid
@@ -265,10 +269,6 @@ module _ (events : List Event) (start : Hub) (most next : ℕ) (one_more : most 
     turn-failed Fault.WriteFault t end = turn-broken Fault.WriteFault t
     turn-failed Fault.ReadFault t end = absurd t
     turn-failed Fault.StoreRefused t end = absurd t
-
-  -- there was no memory for the place of the next piece
-  pub unplaced : (end : Hub) → StreamEnds events start next (Err Fault.Starved) unread left before after end
-  unplaced end = inr (inl (inl (mid, read-kept left (Keeps-same left))))
 
 -- ---- the beginning
 

@@ -192,7 +192,7 @@ pub record Unbegun (events : List Event) (start : Hub) (why : Refusal) (unread l
   pub some : BeginsSome events why start end
   pub untouched : Untouched unread left before after
 
--- memory is wanted for the daemon, by its beginning, for the place of a piece before it is read, by a piece, or for the entry of a sending. No contract can name that there was none for the daemon or for a place
+-- memory is wanted for the daemon, by its beginning, for the place of the pieces before one is read, by a piece, or for the entry of a sending. No contract can name that there was none for the daemon or for the place
 abbrev pub PipeStarves : List Event → Hub → ℕ → Option (List ℕ) → Option (List ℕ) → Option (List ℕ) → Option (List ℕ) → Type 0
 PipeStarves events start bound unread left before after =
     (Untouched unread left before after ⊎ Unbegun events start Refusal.Starved unread left before after)
@@ -207,6 +207,12 @@ StreamEnds events start bound (Err RecordTooLong) unread left before after end =
 StreamEnds events start bound (Err Starved) unread left before after end = PipeStarves events start bound unread left before after
 StreamEnds events start bound (Err StoreRefused) unread left before after end = Unbegun events start Refusal.StoreRefused unread left before after
 StreamEnds events start bound (Err WriteFault) unread left before after end = BrokenPipe WriteFault events start bound unread left before after
+
+-- whatever began it, a stream of which no piece came yet is served to its end
+abbrev pub IsServed : ℕ → Result (Unit {0}) Fault → (left left' after after' : Option (List ℕ)) → Hub → Hub → Type 0
+IsServed bound result left left' after after' old new =
+    (events : List Event) (start : Hub) (unread before : Option (List ℕ)) → EndsAt events start 0 unread left before after [] old
+    → StreamEnds events start bound result unread left' before after' new
 
 abbrev pub PipeEnds : List Event → Hub → ℕ → Result (Unit {0}) Fault → Option (List ℕ) → Option (List ℕ) → Option (List ℕ) → Option (List ℕ) → Type 0
 PipeEnds events start bound result unread left before after = (end : Hub) × StreamEnds events start bound result unread left before after end

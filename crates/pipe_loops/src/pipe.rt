@@ -1,13 +1,12 @@
 //! One stream of records from a reader, and to a writer what it is answered and what is due behind each answer.
 
-ghost use Rattle.std.specs.Prelude.{◌≡◌, ◌<◌, ℕ, List, [], ◌∷◌, Option, IfOk, vec_len};
+ghost use Rattle.std.specs.Prelude.{◌≡◌, ◌<◌, ◌≤◌, [], ◌∷◌, length, IfOk, vec_len};
 ghost use Rattle.kept_replies.specs.declared.key.TheConstants.Peer.{PIPE};
 ghost use Rattle.pipe_loops.specs.Reads.{ReadsPiece};
-ghost use Rattle.daemon_core.specs.Hub.{Hub, opening};
+ghost use Rattle.daemon_core.specs.Hub.{opening};
 ghost use Rattle.pipe_loops.specs.Answered.{SendsNext, SendsDue, AnswersNext};
-ghost use Rattle.daemon_core.specs.declared.event.Event.{Event};
 ghost use Rattle.daemon_core.specs.declared.event.Event.TheVariants.{Connect};
-ghost use Rattle.pipe_loops.specs.Pipe.{beginning, AnswersWaiting, TurnEnds, EndsAt, Passes, Begins, StreamEnds, PipeEnds};
+ghost use Rattle.pipe_loops.specs.Pipe.{beginning, AnswersWaiting, TurnEnds, IsServed, Passes, Begins, StreamEnds, PipeEnds};
 
 use crate::fault::{FailedRead, Fault};
 use crate::output::write_outputs;
@@ -25,23 +24,20 @@ const CONNECTION: u64 = 0;
 /// The most bytes that are read at once.
 const PIECE: usize = 8192;
 
-/// The place of a piece.
+/// The place of the pieces, one after another.
 fn make_place(alloc: Global) -> Result<Vec<u8>, Starved>
     ensures { IfOk result (λ place. vec_len place ≡ PIECE) }
 {
     Ok(vec![in alloc; 0u8; PIECE]?)
 }
 
-/// Reads what there is, up to what the place has room for.
-fn read_piece<R: Read>(reader: &mut R, mut place: Vec<u8>) -> Result<Vec<u8>, FailedRead>
-    requires { 0 < vec_len place }
-    ensures { ReadsPiece (R.remaining reader.old) (R.remaining reader.new) result }
+/// Reads what there is, up to what the place has room for. Returns how many bytes stand at its front.
+fn read_piece<R: Read>(reader: &mut R, place: &mut [u8]) -> Result<usize, FailedRead>
+    requires { 0 < length place.old }
+    ensures { ReadsPiece (R.remaining reader.old) (R.remaining reader.new) result place.new }
 {
-    match reader.read(place.as_mut_slice()) {
-        Ok(count) => {
-            place.truncate(count);
-            Ok(place)
-        }
+    match reader.read(place) {
+        Ok(count) => Ok(count),
         Err(_) => Err(FailedRead),
     }
 }
@@ -106,11 +102,12 @@ fn answer_waiting<T: RangeTable, S: HostStore, W: Write>(
 fn turn<T: RangeTable, S: HostStore, W: Write>(
     daemon: &mut Daemon<T, S>,
     writer: &mut W,
-    piece: Vec<u8>,
+    piece: &[u8],
 ) -> Result<(), Fault>
-    ensures { TurnEnds result daemon.old daemon.new piece.items (W.contents writer.old) (W.contents writer.new) }
+    requires { length piece.now ≤ PIECE }
+    ensures { TurnEnds result daemon.old daemon.new piece.now (W.contents writer.old) (W.contents writer.new) }
 {
-    let heard = daemon.step(Event::Piece(CONNECTION, piece));
+    let heard = daemon.receive(CONNECTION, piece);
     let refused = heard.refusal;
     drop(heard);
     let answered = answer_waiting(daemon, writer);
@@ -134,17 +131,17 @@ fn answer_pieces<T: RangeTable, S: HostStore, R: Read, W: Write>(
     writer: &mut W,
     bound: u64,
 ) -> Result<(), Fault>
-    ensures { (events : List Event) (start : Hub) (unread before : Option (List ℕ)) → EndsAt events start 0 unread (R.remaining reader.old) before (W.contents writer.old) [] daemon.old
-        → StreamEnds events start bound result unread (R.remaining reader.new) before (W.contents writer.new) daemon.new }
+    ensures { IsServed bound result (R.remaining reader.old) (R.remaining reader.new) (W.contents writer.old) (W.contents writer.new) daemon.old daemon.new }
 {
+    // The place is got first, so that no byte is lost.
+    let mut place = make_place(alloc)?;
     for _turn in 0..bound {
-        // The place is got first, so that no byte is lost.
-        let place = make_place(alloc)?;
-        let piece = read_piece(reader, place)?;
-        if piece.is_empty() {
+        let piece = place.as_mut_slice();
+        let count = read_piece(reader, piece)?;
+        if count == 0 {
             return Ok(());
         }
-        turn(daemon, writer, piece)?;
+        turn(daemon, writer, &piece[..count])?;
     }
     Err(Fault::ReadFault)
 }
