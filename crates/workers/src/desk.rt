@@ -1,9 +1,6 @@
 //! What a worker has beside its seat.
-ghost use Rattle.std.specs.Prelude.{◌≡◌, ◌+◌, ◌<◌, [], ◌∷◌, ◌++◌, IfOk, IfErr, length};
-ghost use Rattle.definitions.specs.Step.{Given};
-ghost use Rattle.book.specs.Given.{record_of};
-ghost use Rattle.book.specs.Receipts.{Receipt as Told};
-ghost use Rattle.workers.specs.Answers.{asks_of, posted};
+ghost use Rattle.std.specs.Prelude.{◌≡◌, [], IfOk, IfErr, length};
+ghost use Rattle.workers.specs.Answers.{TakesCall};
 ghost use Rattle.workers.specs.Places.{HasPlace};
 
 use crate::archive::Archive;
@@ -73,9 +70,7 @@ impl<L: Ledger> Desk<L> {
         connection: u64,
         taken: Taken,
     ) -> Result<bool, Taken>
-        ensures taken { IfOk result (λ _. (receipt : Told) × (given : Given) × (receipt.event ≡ asks_of taken) × (record_of given ≡ receipt.reply)
-            × (self.new.receipts.all.items ≡ self.old.receipts.all.items ++ receipt ∷ [])
-            × (O.handed outbox.new ≡ O.handed outbox.old ++ posted connection given)) }
+        ensures taken { IfOk result (λ _. TakesCall taken connection self.old.receipts.all.items self.new.receipts.all.items (O.handed outbox.old) (O.handed outbox.new)) }
         ensures none { IfErr result (λ back. (back ≡ taken) × (self.new.receipts.all.items ≡ self.old.receipts.all.items) × (O.handed outbox.new ≡ O.handed outbox.old)) }
     {
         let Ok(same) = self.prepare(&taken.record) else {
