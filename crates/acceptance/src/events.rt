@@ -17,7 +17,12 @@ impl<'a> Page<'a> {
     fn put_pieces(&self, events: &mut Vec<Event>) -> Option<()> {
         for piece in self.come.chunks(self.most.max(1)) {
             let bytes = Vec::from_slice(self.alloc, piece).ok()?;
-            events.push(Event::Piece(CONNECTION, bytes)).ok()?;
+            events
+                .push(Event::Piece {
+                    connection: CONNECTION,
+                    bytes,
+                })
+                .ok()?;
         }
         Some(())
     }
@@ -26,7 +31,13 @@ impl<'a> Page<'a> {
     pub(crate) fn takes(&self, count: usize) -> Option<Vec<Event>> {
         let mut events = Vec::new(self.alloc);
         for _record in 0..count {
-            if events.push(Event::Take(CONNECTION, 0)).is_err() {
+            if events
+                .push(Event::Take {
+                    connection: CONNECTION,
+                    index: 0,
+                })
+                .is_err()
+            {
                 return None;
             }
         }
@@ -52,7 +63,10 @@ impl<'a> Page<'a> {
             events.push(Event::GraceOver).ok()?;
         }
         let event = if begins {
-            Event::Connect(CONNECTION, Peer::PIPE)
+            Event::Connect {
+                connection: CONNECTION,
+                peer: Peer::PIPE,
+            }
         } else {
             self.event(verb, rest)?
         };
@@ -63,8 +77,13 @@ impl<'a> Page<'a> {
         match verb {
             "restart" => Some(Event::Restart),
             "grace-over" => Some(Event::GraceOver),
-            "connect" => Some(Event::Connect(CONNECTION, peer(rest))),
-            "disconnect" => Some(Event::Disconnect(CONNECTION)),
+            "connect" => Some(Event::Connect {
+                connection: CONNECTION,
+                peer: peer(rest),
+            }),
+            "disconnect" => Some(Event::Disconnect {
+                connection: CONNECTION,
+            }),
             "local" => self.local(rest),
             "sends" => self.sends(rest),
             "sends-line" => self.sends_line(rest),
@@ -82,7 +101,10 @@ impl<'a> Page<'a> {
         let (line, answer) = behind.split_once("| ")?;
         self.put_line(answer)?;
         let bytes = Vec::from_slice(self.alloc, line.as_bytes()).ok()?;
-        Some(Event::Local(LOCAL, bytes))
+        Some(Event::Local {
+            connection: LOCAL,
+            line: bytes,
+        })
     }
 
     fn put_line(&mut self, line: &str) -> Option<()> {
@@ -115,7 +137,9 @@ impl<'a> Page<'a> {
         put_message(&mut self.come, read_xid(xid)?, answer)?;
         let record = self.come.get(4..)?;
         let front = record.get(..most).unwrap_or(record);
-        Some(Event::Answer(Vec::from_slice(self.alloc, front).ok()?))
+        Some(Event::Answer {
+            bytes: Vec::from_slice(self.alloc, front).ok()?,
+        })
     }
 }
 
@@ -131,5 +155,7 @@ fn peer(name: &str) -> Peer {
 fn silent(rest: &str) -> Option<Event> {
     let (own, number) = rest.split_once(" ")?;
     let first = read_xid(own)? as u64 * 0x1_0000_0000;
-    Some(Event::Silent(first.wrapping_add(read_number(number)?)))
+    Some(Event::Silent {
+        number: first.wrapping_add(read_number(number)?),
+    })
 }

@@ -4,10 +4,10 @@ ghost use Rattle.std.specs.Prelude.{◌≡◌, ◌<◌, []};
 
 use crate::page::Page;
 use crate::script::wrong_line;
+use callbacks::ShortBytes;
 use daemon_core::Daemon;
 use hosts_db::{FULL_QUOTA, HostRow, HostStore, MemHosts};
 use hosts_sql::SqlHosts;
-use letters::ShortBytes;
 use range_arena::ArenaTable;
 use range_table::RangeTable;
 use sqlite::{Alter, Connection, MemStore};

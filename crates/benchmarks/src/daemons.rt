@@ -2,9 +2,9 @@
 //! The answer is how many calls were granted.
 use crate::asked::{Asked, Procedure, is_granted};
 use anyhow::{Result, anyhow};
+use callbacks::ShortBytes;
 use daemon_core::{Daemon, Event, Peer};
 use hosts_db::{HostStore, MemHosts};
-use letters::ShortBytes;
 use range_arena::ArenaTable;
 use range_table::RangeTable;
 use std::alloc::Global;
@@ -39,8 +39,14 @@ fn is_answered<T: RangeTable, S: HostStore>(
     daemon: &mut Daemon<T, S>,
     asked: Asked,
 ) -> Result<bool> {
-    daemon.step(Event::Piece(0, asked.fragment(alloc)?));
-    let outputs = daemon.step(Event::Take(0, 0));
+    daemon.step(Event::Piece {
+        connection: 0,
+        bytes: asked.fragment(alloc)?,
+    });
+    let outputs = daemon.step(Event::Take {
+        connection: 0,
+        index: 0,
+    });
     let mut reply = Vec::new(alloc);
     if let Some(sent) = &outputs.sent {
         sent.write(&mut reply)?;
@@ -56,7 +62,10 @@ fn run<T: RangeTable, S: HostStore>(
     calls: u32,
 ) -> Result<u32> {
     daemon.step(Event::GraceOver);
-    daemon.step(Event::Connect(0, Peer::PIPE));
+    daemon.step(Event::Connect {
+        connection: 0,
+        peer: Peer::PIPE,
+    });
     let mut granted = 0u32;
     for round in 0..calls {
         if is_answered(alloc, daemon, call(is_null, round))? {

@@ -5,7 +5,7 @@ ghost use Rattle.std.specs.Prelude.{◌≤◌, ◌<◌, ◌^◌, None};
 use crate::ranges::file_of;
 use anyhow::Result;
 use blocked_list::{Quotas, Slots, Waiter};
-use letters::{Destination, Letter, Message, ShortBytes};
+use callbacks::{Destination, Letter, Message, ShortBytes};
 use owner_ids::{Owner, OwnerId, Owners};
 use range_arena::ArenaTable;
 use range_table::{FileId, Mode, RangeTable, Run};

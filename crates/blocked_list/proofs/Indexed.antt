@@ -15,7 +15,7 @@ use Rattle.std.specs.declared.cmp.Ordering.TheVariants.{Less, Equal, Greater}
 use Rattle.definitions.specs.Bytes.{Bytes, same_bytes}
 use Rattle.range_table.specs.File.{file_cmp}
 use Rattle.range_table.proofs.Files.{file_same_cmp, file_cmp_total, file_cmp_exact}
-use Rattle.owner_ranges.proofs.Words.{file_same}
+use Rattle.range_owners.proofs.Words.{file_same}
 use Rattle.blocked_list.specs.ByFile.{below, places_of, AreByFile, IsIndex, moved_up, without_place}
 use Rattle.blocked_list.proofs.Places.{by_test, all_by, all_both, all_first, all_between, all_filter, all_kept, all_map, all_at, take_each, drop_each, kept_same, kept_all, kept_none, kept_twice, kept_within, kept_map, all_below, one_below, without_below}
 

@@ -3,7 +3,7 @@ use Rattle.std.proofs.Common.{◌≡◌, ◌<◌, ◌≤◌, ◌==◌, ◌%◌, 
 use Rattle.std.proofs.Math.Nat.{mod-lt}
 use Rattle.std.proofs.lemmas.List.{get_or-set_same, get_or-set_other, length-set, take_more}
 use Rattle.std.specs.List.{list_any, remove}
-use Rattle.owner_ranges.proofs.Words.{number_is, number_same, number_other}
+use Rattle.range_owners.proofs.Words.{number_is, number_same, number_other}
 use Rattle.blocked_list.specs.ByOwner.{tally, AreCounted}
 use Rattle.blocked_list.specs.Waiting.{Waiting}
 use Rattle.blocked_list.proofs.Places.{by_test}

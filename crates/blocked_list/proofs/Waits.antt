@@ -7,8 +7,8 @@ use Rattle.definitions.specs.Bytes.{Bytes, same_bytes, is_any, without, without_
 use Rattle.definitions.specs.Owners.{Owner, Process, same_owner, is_of_host}
 use Rattle.definitions.specs.Waits.{Waiter, modes_are_same, same_request}
 use Rattle.owner_ids.specs.Names.{Names, AreDistinct, is_owned_by, is_some_of_host}
-use Rattle.owner_ranges.specs.Same.{mode_of, IsSameRequest}
-use Rattle.owner_ranges.proofs.Words.{owner_test}
+use Rattle.range_owners.specs.Same.{view_of_mode, IsSameRequest}
+use Rattle.range_owners.proofs.Words.{owner_test}
 use Rattle.range_table.specs.Settings.{same_mode}
 use Rattle.range_table.specs.declared.run.Mode.{Mode}
 use Rattle.range_table.specs.declared.run.Mode.TheVariants.{Shared, Exclusive}
@@ -17,7 +17,7 @@ use Rattle.blocked_list.specs.First.{IsFirstAt}
 use Rattle.blocked_list.specs.Waiting.{Waiting, owner_at, request_by, waiter_by, AreNamed, same_wanted}
 use Rattle.blocked_list.proofs.Firsts.{without_first-at}
 
-pub modes_same : (a b : Mode) → modes_are_same (mode_of a) (mode_of b) ≡ same_mode a b
+pub modes_same : (a b : Mode) → modes_are_same (view_of_mode a) (view_of_mode b) ≡ same_mode a b
 modes_same Shared Shared = refl
 modes_same Shared Exclusive = refl
 modes_same Exclusive Shared = refl

@@ -6,7 +6,7 @@ use Rattle.definitions.specs.Settings.{Request}
 use Rattle.definitions.specs.Outgoing.{Letter}
 use Rattle.definitions.specs.Waits.{Waiter, modes_are_same}
 use Rattle.owner_ids.specs.Names.{Names, AreDistinct}
-use Rattle.owner_ranges.specs.Same.{mode_of}
+use Rattle.range_owners.specs.Same.{view_of_mode}
 use Rattle.range_table.specs.declared.run.Run.{Run}
 use Rattle.range_table.specs.declared.run.Setting.{Setting as NumberSetting}
 
@@ -29,7 +29,7 @@ abbrev pub owner_at : Names → ℕ → Owner
 owner_at names n = unwrap_or (names n) (Process 0)
 
 abbrev pub request_by : Names → Run → Request
-request_by names r = record { file = r.file; owner = owner_at names r.owner; first = r.first; last = r.last; mode = mode_of r.mode }
+request_by names r = record { file = r.file; owner = owner_at names r.owner; first = r.first; last = r.last; mode = view_of_mode r.mode }
 
 abbrev pub waiter_by : Names → Waiting → Waiter
 waiter_by names w = record { request = request_by names w.wanted; letter = w.letter }
@@ -54,4 +54,4 @@ pub record AreKnown (names : Names) (ws : List Waiting) : Type 0 where
 -- of one owner, file, range and mode
 abbrev pub same_wanted : Run → Run → Bool
 same_wanted a b =
-    same_bytes a.file b.file && ((a.owner == b.owner) && ((a.first == b.first) && ((a.last == b.last) && modes_are_same (mode_of a.mode) (mode_of b.mode))))
+    same_bytes a.file b.file && ((a.owner == b.owner) && ((a.first == b.first) && ((a.last == b.last) && modes_are_same (view_of_mode a.mode) (view_of_mode b.mode))))

@@ -82,7 +82,7 @@ impl Slots {
         while let Some(place) = pending(reached, followed, self.waiters.len()) {
             followed[place] = true;
             let next = self.waiters[place].wanted();
-            if owner_ranges::conflicts_with(table, owners, next, wanted.owner) {
+            if range_owners::conflicts_with(table, owners, next, wanted.owner) {
                 return true;
             }
             self.reach(table, owners, next, reached);
@@ -138,7 +138,7 @@ impl Slots {
         ensures { WhereWants (named owners.now) (T.settings table.now) self.now.waiters wanted.now (λ settings waiters r. (x : OwnerWaiter) → slice_get waiters place ≡ Some x → result ≡ leads settings r x) }
     {
         let owner = self.waiters[place].wanted().owner;
-        is_step(owners, owner) && owner_ranges::conflicts_with(table, owners, wanted, owner)
+        is_step(owners, owner) && range_owners::conflicts_with(table, owners, wanted, owner)
     }
 }
 

@@ -23,7 +23,7 @@ impl Slots {
         ensures bound { IfSome result (λ place. place < length self.now.waiters) }
         ensures first { WhereWaits (named owners.now) (T.settings table.now) self.now.waiters (λ settings waiters. IsFirstReady (Q.by_host quotas.now) settings waiters result) }
     {
-        if owner_ranges::is_short(table, owners) {
+        if range_owners::is_short(table, owners) {
             return None;
         }
         for place in 0..self.waiters.len() {
@@ -61,7 +61,7 @@ impl Slots {
         ensures bound { IfSome result (λ place. place < length self.now.waiters) }
         ensures first { WhereWaits (named owners.now) (T.settings table.now) self.now.waiters (λ settings waiters. IsFirstPlace (is_ready_on file.now (Q.by_host quotas.now) settings) waiters result) }
     {
-        if owner_ranges::is_short(table, owners) {
+        if range_owners::is_short(table, owners) {
             return None;
         }
         for place in self.by_file.part(&self.waiters, file) {

@@ -1,6 +1,6 @@
 //! What holds an owner back besides the locks of others: its host's quota of runs.
 ghost use Rattle.std.specs.Prelude.{◌≡◌};
-ghost use Rattle.owner_ids.specs.Said.{said};
+ghost use Rattle.owner_ids.specs.Said.{view_of_owner};
 ghost use Rattle.blocked_list.specs.Quotas.{IsLimit};
 
 use owner_ids::Owner;
@@ -29,7 +29,7 @@ pub struct Limit<'a> {
 
 /// The quota that can hold an owner back: its host's, where there is one and it isn't the full one. Local owners have none.
 pub fn limit_of<'a, Q: Quotas>(quotas: &Q, owner: &'a Owner) -> Option<Limit<'a>>
-    ensures { IsLimit (Q.by_host quotas.now) (said owner.now) result }
+    ensures { IsLimit (Q.by_host quotas.now) (view_of_owner owner.now) result }
 {
     let Owner::Remote { name, .. } = owner else {
         return None;

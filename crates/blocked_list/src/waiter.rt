@@ -9,7 +9,7 @@ ghost use Rattle.blocked_list.specs.Waiting.{same_wanted, setting_wanted};
 ghost use Rattle.blocked_list.specs.Standing.{WhereFree};
 
 use crate::quotas::{Quotas, limit_of};
-use letters::Letter;
+use callbacks::Letter;
 use owner_ids::Owners;
 use range_table::{FileId, RangeTable, Run, Setting};
 use std::marker::Model;
@@ -66,7 +66,7 @@ impl Waiter {
     }
 
     // Whether it waits for this lock: of one owner, file, range and mode.
-    #[tactic(auto, using(crate::proofs::Waits::modes_same, owner_ranges::proofs::Words::file_same))]
+    #[tactic(auto, using(crate::proofs::Waits::modes_same, range_owners::proofs::Words::file_same))]
     pub(crate) fn is_for(&self, wanted: &Run) -> bool
         ensures { result ≡ same_wanted self.now.wanted wanted.now }
     {
@@ -77,7 +77,7 @@ impl Waiter {
             && self.wanted.mode.is_same(wanted.mode)
     }
 
-    #[tactic(auto, using(owner_ranges::proofs::Words::file_same))]
+    #[tactic(auto, using(range_owners::proofs::Words::file_same))]
     pub(crate) fn is_on(&self, file: &FileId) -> bool
         ensures { result ≡ same_bytes self.now.wanted.file file.now }
     {
@@ -93,7 +93,7 @@ impl Waiter {
     ) -> bool
         ensures { WhereFree (named owners.now) (T.settings table.now) self.now (λ settings waiter. result ≡ is_ready the_limits (Q.by_host quotas.now) settings waiter) }
     {
-        !owner_ranges::conflicts(table, owners, &self.wanted)
+        !range_owners::conflicts(table, owners, &self.wanted)
             && !self.is_held_back(table, owners, quotas)
     }
 
@@ -107,7 +107,7 @@ impl Waiter {
         let Some(limit) = limit_of(quotas, owner) else {
             return false;
         };
-        owner_ranges::is_past(table, owners, limit.host, &self.setting(), limit.quota)
+        range_owners::is_past(table, owners, limit.host, &self.setting(), limit.quota)
     }
 
     // What it sets once it is granted.

@@ -5,14 +5,14 @@ use Rattle.definitions.specs.Bytes.{Bytes}
 use Rattle.definitions.specs.Hosts.{StoreAnswer, NotAsked}
 use Rattle.definitions.specs.Replay.{fits}
 use Rattle.definitions.specs.Rulings.{ruled}
-use Rattle.call_plans.specs.Planned.{answer_of}
+use Rattle.call_plans.specs.Planned.{view_of_stored}
 use Rattle.call_plans.specs.declared.plans.StoreAnswer.{StoreAnswer as Said}
 use Rattle.definitions.specs.Replies.{Line, LineReply, LineStarved}
 use Rattle.definitions.specs.Lines.{line_answer}
 use Rattle.definitions.specs.World.{World, the_limits, settled}
 use Rattle.definitions.specs.Step.{State, Local, Applied, Starved, Says, with_world}
 use Rattle.local_ops.specs.declared.answer.LocalAnswer.{LocalAnswer}
-use Rattle.local_ops.specs.Answers.{reply_of}
+use Rattle.local_ops.specs.Answers.{view_of_local_answer}
 use Rattle.local_ops.specs.Grammar.{Reads as LineReads}
 use Rattle.book.specs.Given.{Upshot, comes_to}
 use Rattle.book.specs.Notes.{AsksLine, IsStep, Steps}
@@ -32,8 +32,8 @@ read_as s new l bytes whole upshot read step = record { said = Local l whole; re
 
 -- whether it was answered or starved
 module _ {E : Type 0} (s new : State) (l : ℕ) (bytes : Bytes) (whole : Line) (read : LineReads bytes whole) where
-  pub answered : (r : Result (LocalAnswer × Said) E) → IfOk r (λ told. IsStep s (Local l whole) (comes_to Applied (answer_of told.1) (Says (reply_of told.0))) new)
-      → IfOk r (λ told. Steps s (AsksLine l bytes) (comes_to Applied (answer_of told.1) (Says (reply_of told.0))) new)
+  pub answered : (r : Result (LocalAnswer × Said) E) → IfOk r (λ told. IsStep s (Local l whole) (comes_to Applied (view_of_stored told.1) (Says (view_of_local_answer told.0))) new)
+      → IfOk r (λ told. Steps s (AsksLine l bytes) (comes_to Applied (view_of_stored told.1) (Says (view_of_local_answer told.0))) new)
   answered (Ok told) step = read_as s new l bytes whole _ read step
   answered (Err e) step = tt
 

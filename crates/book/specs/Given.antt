@@ -5,10 +5,10 @@ use Rattle.definitions.specs.Hosts.{StoreAnswer}
 use Rattle.definitions.specs.Replies.{Refuses, SystemErr, Reading, Ignored, Turned, Asks}
 use Rattle.definitions.specs.Step.{Doing, Applied, Starved, Given, Nothing, Replies, Says, Sends, IsStarved, IsRefused}
 use Rattle.record_reading.specs.Values.{view_of_refusal}
-use Rattle.call_outcome.specs.Values.{outcome_of}
+use Rattle.call_outcome.specs.Values.{view_of_outcome}
 use Rattle.call_outcome.specs.Replies.{reply_bytes}
 use Rattle.call_records.specs.Records.{call_record}
-use Rattle.local_ops.specs.Answers.{reply_of}
+use Rattle.local_ops.specs.Answers.{view_of_local_answer}
 use Rattle.book.specs.declared.reply.Reply.{Reply}
 use Rattle.book.specs.declared.reply.Reply.TheVariants as reply
 use Rattle.book.specs.declared.upshot.Doing.{Doing as Became}
@@ -23,18 +23,18 @@ pub record Upshot : Type 0 where
 abbrev pub comes_to : Doing → StoreAnswer → Given → Upshot
 comes_to doing store given = record { doing = doing; store = store; given = given }
 
-abbrev pub doing_of : Became → Doing
-doing_of doing.Applied = Applied
-doing_of doing.Starved = Starved
+abbrev pub view_of_doing : Became → Doing
+view_of_doing doing.Applied = Applied
+view_of_doing doing.Starved = Starved
 
-abbrev pub given_of : Reply → Given
-given_of reply.Nothing = Nothing
-given_of (reply.Answers xid outcome) = Replies xid (outcome_of outcome.value)
-given_of (reply.Refuses xid why) = Replies xid (Refuses (view_of_refusal why))
-given_of (reply.SystemErr xid) = Replies xid SystemErr
-given_of (reply.Says answer) = Says (reply_of answer)
-given_of reply.Starved = IsStarved
-given_of reply.StoreRefused = IsRefused
+abbrev pub view_of_reply : Reply → Given
+view_of_reply reply.Nothing = Nothing
+view_of_reply (reply.Answers xid outcome) = Replies xid (view_of_outcome outcome.value)
+view_of_reply (reply.Refuses xid why) = Replies xid (Refuses (view_of_refusal why))
+view_of_reply (reply.SystemErr xid) = Replies xid SystemErr
+view_of_reply (reply.Says answer) = Says (view_of_local_answer answer)
+view_of_reply reply.Starved = IsStarved
+view_of_reply reply.StoreRefused = IsRefused
 
 -- a restart that was not made: the store refused it, or memory was wanting
 abbrev pub unbegun : Doing → Given

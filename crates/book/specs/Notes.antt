@@ -6,15 +6,15 @@ use Rattle.definitions.specs.Replies.{Reading, AnswerReading, Line}
 use Rattle.definitions.specs.World.{the_limits}
 use Rattle.definitions.specs.Step.{Peer, Event, Take, Send, Answer, Local, Silent, GraceOver, Restart, Doing, Given, Says, Sends, State}
 use Rattle.definitions.specs.Replay.{after, fits}
-use Rattle.kept_replies.specs.Pairs.{asker}
-use Rattle.call_plans.specs.Planned.{answer_of}
+use Rattle.kept_replies.specs.Pairs.{view_of_peer}
+use Rattle.call_plans.specs.Planned.{view_of_stored}
 use Rattle.book.specs.declared.event.BookEvent.{BookEvent}
 use Rattle.book.specs.declared.event.BookEvent.TheVariants as event
 use Rattle.book.specs.declared.entry.Act.{Act}
 use Rattle.book.specs.declared.entry.Act.TheVariants as act
 use Rattle.book.specs.declared.entry.Entry.{Entry}
-use Rattle.local_ops.specs.Answers.{reply_of}
-use Rattle.book.specs.Given.{Upshot, comes_to, doing_of, given_of}
+use Rattle.local_ops.specs.Answers.{view_of_local_answer}
+use Rattle.book.specs.Given.{Upshot, comes_to, view_of_doing, view_of_reply}
 use Rattle.record_reading.specs.Answers.{IsAnswerReading}
 use Rattle.record_reading.specs.Readings.{IsReading}
 use Rattle.local_ops.specs.Grammar.{Reads as LineReads}
@@ -33,26 +33,26 @@ pub record Note : Type 0 where
   pub event : Happening
   pub upshot : Upshot
 
-abbrev pub happening_of : BookEvent → Happening
-happening_of (event.Take peer bytes) = Takes (asker peer) bytes
-happening_of (event.Answer bytes) = HearsAnswer bytes.items
-happening_of (event.Local l line) = AsksLine l line.items
-happening_of (event.Silent number) = FallsSilent number
-happening_of event.GraceOver = GraceEnds
-happening_of event.Restart = BeginsAnew
+abbrev pub view_of_event : BookEvent → Happening
+view_of_event (event.Take peer bytes) = Takes (view_of_peer peer) bytes
+view_of_event (event.Answer bytes) = HearsAnswer bytes.items
+view_of_event (event.Local l line) = AsksLine l line.items
+view_of_event (event.Silent number) = FallsSilent number
+view_of_event event.GraceOver = GraceEnds
+view_of_event event.Restart = BeginsAnew
 
 abbrev pub happened : Act → Happening
-happened (act.Event event reply) = happening_of event
+happened (act.Event event reply) = view_of_event event
 happened (act.Line l line answer) = AsksLine l line.items
 happened (act.Sent number letter) = SendsNext
 
 abbrev pub gave : Act → Given
-gave (act.Event event reply) = given_of reply
-gave (act.Line l line answer) = Says (reply_of answer.value)
+gave (act.Event event reply) = view_of_reply reply
+gave (act.Line l line answer) = Says (view_of_local_answer answer.value)
 gave (act.Sent number letter) = Sends number letter.value
 
 abbrev pub note_of : Entry → Note
-note_of e = record { number = e.number; event = happened e.act; upshot = comes_to (doing_of e.doing) (answer_of e.store) (gave e.act) }
+note_of e = record { number = e.number; event = happened e.act; upshot = comes_to (view_of_doing e.doing) (view_of_stored e.store) (gave e.act) }
 
 -- the event of the definitions, whose record, answer or line has its reading
 abbrev pub Reads : Happening → Event → Type 0

@@ -1,10 +1,10 @@
 //! The shared state and the segment of the journal that leads to it.
 ghost use Rattle.std.specs.Prelude.{◌≡◌, ◌+◌, ◌-◌, ◌<◌, ◌^◌, [], ◌∷◌, ◌++◌, vec_len, vec_capacity, Some, IfOk, is_some};
-ghost use Rattle.kept_replies.specs.Pairs.{asker};
+ghost use Rattle.kept_replies.specs.Pairs.{view_of_peer};
 ghost use Rattle.definitions.specs.Outgoing.{next_due};
 ghost use Rattle.definitions.specs.Step.{opening_state};
-ghost use Rattle.book.specs.Notes.{happening_of, Takes};
-ghost use Rattle.book.specs.Given.{given_of};
+ghost use Rattle.book.specs.Notes.{view_of_event, Takes};
+ghost use Rattle.book.specs.Given.{view_of_reply};
 ghost use Rattle.book.specs.Receipts.{newest_event, newest_given, newest_receipt, is_noted};
 ghost use Rattle.book.specs.Journal.{begun, room_of, rotated, Enters, IsLegal, IsNext};
 
@@ -17,9 +17,9 @@ use crate::segment::{Closed, Segment};
 use crate::shared::Shared;
 use crate::upshot::{Doing, Upshot};
 use call_records::Dest;
+use callbacks::ShortBytes;
 use held_locks::Locks;
 use hosts_db::HostStore;
-use letters::ShortBytes;
 use lock_service::StoreAnswer;
 use owner_ids::Starved;
 use range_table::RangeTable;
@@ -118,7 +118,7 @@ impl<R: RangeTable, S: HostStore> Book<R, S> {
     /// and the end of grace take no memory.
     pub fn apply(&mut self, event: BookEvent) -> Upshot
         requires { 0 < room_of self.old.journal }
-        ensures enters { Enters self.old (happening_of event) result self.new }
+        ensures enters { Enters self.old (view_of_event event) result self.new }
         ensures legal { IsLegal self.new.journal }
     {
         let (upshot, act) = self.shared.apply(event);
@@ -171,8 +171,8 @@ impl<R: RangeTable, S: HostStore> Book<R, S> {
 
     /// The receipt of this segment's newest entry, which took this call and gave this reply.
     pub fn receipt(&self, taken: Taken, reply: Reply) -> Receipt
-        requires call { newest_event self.now.journal.notes ≡ Some (Takes (asker taken.peer) taken.record) }
-        requires reply { newest_given self.now.journal.notes ≡ Some (given_of reply) }
+        requires call { newest_event self.now.journal.notes ≡ Some (Takes (view_of_peer taken.peer) taken.record) }
+        requires reply { newest_given self.now.journal.notes ≡ Some (view_of_reply reply) }
         ensures { Some result ≡ newest_receipt self.now.journal.notes }
     {
         let newest = self.entries.len() - 1;

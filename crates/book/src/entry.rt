@@ -3,7 +3,7 @@ use crate::event::BookEvent;
 use crate::reply::Reply;
 use crate::seen::Seen;
 use crate::upshot::Doing;
-use letters::Letter;
+use callbacks::Letter;
 use local_ops::LocalAnswer;
 use lock_service::StoreAnswer;
 

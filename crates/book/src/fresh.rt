@@ -5,11 +5,11 @@ ghost use Rattle.definitions.specs.Nlm as nlm;
 ghost use Rattle.definitions.specs.Replies.{Asks, Nlm};
 ghost use Rattle.nlm4_types.specs.Call.{view_of_call as view_of_nlm_call};
 ghost use Rattle.definitions.specs.Step.{Take, is_success, is_kept_kind, is_restart as restarts, kept_after};
-ghost use Rattle.kept_replies.specs.Pairs.{asker, at_key};
-ghost use Rattle.call_outcome.specs.Values.{outcome_of};
-ghost use Rattle.call_plans.specs.Planned.{answer_of, counted, told_in};
+ghost use Rattle.kept_replies.specs.Pairs.{view_of_peer, at_key};
+ghost use Rattle.call_outcome.specs.Values.{view_of_outcome};
+ghost use Rattle.call_plans.specs.Planned.{view_of_stored, counted, told_in};
 ghost use Rattle.record_reading.specs.Values.{view_of_call};
-ghost use Rattle.book.specs.Given.{given_of};
+ghost use Rattle.book.specs.Given.{view_of_reply};
 ghost use Rattle.book.specs.Notes.{IsStep};
 
 use crate::kept::KeptReply;
@@ -32,8 +32,8 @@ impl<R: RangeTable, S: HostStore> Shared<R, S> {
     /// it is granted.
     pub(crate) fn fresh(&mut self, key: Key, xid: u32, call: &Call<'_>) -> (Upshot, Reply)
         requires { at_key key self.old.state.kept ≡ None }
-        ensures step { IsStep self.old.state (Take (asker key.peer) key.record (Asks xid (view_of_call call.now))) result.0 self.new.state }
-        ensures noted { given_of result.1 ≡ result.0.given }
+        ensures step { IsStep self.old.state (Take (view_of_peer key.peer) key.record (Asks xid (view_of_call call.now))) result.0 self.new.state }
+        ensures noted { view_of_reply result.1 ≡ result.0.given }
         ensures counts { self.new.refusals ≡ counted result.0.store self.old.refusals }
     {
         let peer = key.peer;
@@ -70,7 +70,7 @@ fn keep(
     told: &Told,
 ) -> Result<(), Starved>
     requires { at_key key kept.old ≡ None }
-    ensures ok { OnOk result ((w : SaidWorld) → kept.new ≡ kept_after the_limits (asker key.peer) key.record xid (view_of_call call.now) (told_in told.now w) kept.old) }
+    ensures ok { OnOk result ((w : SaidWorld) → kept.new ≡ kept_after the_limits (view_of_peer key.peer) key.record xid (view_of_call call.now) (told_in told.now w) kept.old) }
     ensures stays { OnErr result (kept.new ≡ kept.old) }
     ensures fed { OnErr result (is_kept_kind (view_of_call call.now) ≡ true) }
 {
@@ -83,13 +83,13 @@ fn keep(
 
 // Whether the reply of such a call is kept: it was done, and it may have changed something.
 fn is_kept(call: &Call<'_>, outcome: &Outcome) -> bool
-    ensures { result ≡ (is_success (outcome_of outcome.now) && is_kept_kind (view_of_call call.now)) }
+    ensures { result ≡ (is_success (view_of_outcome outcome.now) && is_kept_kind (view_of_call call.now)) }
 {
     is_done(outcome) && is_of_kept_kind(call)
 }
 
 fn is_done(outcome: &Outcome) -> bool
-    ensures { result ≡ is_success (outcome_of outcome.now) }
+    ensures { result ≡ is_success (view_of_outcome outcome.now) }
 {
     matches!(outcome, Outcome::Success(_))
 }
@@ -121,7 +121,7 @@ fn clear_at_restart(
     call: &Call<'_>,
     store: StoreAnswer,
 )
-    ensures { kept.new ≡ cond (restarts (asker peer) (view_of_call call.now) (answer_of store)) [] kept.old }
+    ensures { kept.new ≡ cond (restarts (view_of_peer peer) (view_of_call call.now) (view_of_stored store)) [] kept.old }
 {
     if is_restart(peer, call, store) {
         kept.clear();
@@ -130,7 +130,7 @@ fn clear_at_restart(
 
 // Whether the call began the state anew (XNFS, SM_SIMU_CRASH).
 fn is_restart(peer: Peer, call: &Call<'_>, store: StoreAnswer) -> bool
-    ensures { result ≡ restarts (asker peer) (view_of_call call.now) (answer_of store) }
+    ensures { result ≡ restarts (view_of_peer peer) (view_of_call call.now) (view_of_stored store) }
 {
     match call {
         Call::Nsm(NsmCall::SimuCrash) => peer.is_local && store == StoreAnswer::Yes,

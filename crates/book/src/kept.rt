@@ -1,11 +1,11 @@
 //! Replies that are kept.
 ghost use Rattle.std.specs.Prelude.{◌≡◌, IfOk};
-ghost use Rattle.call_outcome.specs.Values.{outcome_of};
+ghost use Rattle.call_outcome.specs.Values.{view_of_outcome};
 
 use call_outcome::Outcome;
 use call_plans::Told;
+use callbacks::Letter;
 use kept_replies::Kept;
-use letters::Letter;
 use owner_ids::Starved;
 use std::alloc::Global;
 use std::sync::Arc;
@@ -19,11 +19,11 @@ pub(crate) struct KeptReply {
 }
 
 impl Kept for KeptReply {
-    ghost use Rattle.call_outcome.specs.Values.{outcome_of};
+    ghost use Rattle.call_outcome.specs.Values.{view_of_outcome};
 
     ghost xid = { λ k. k.xid };
 
-    ghost outcome = { λ k. outcome_of k.outcome.value };
+    ghost outcome = { λ k. view_of_outcome k.outcome.value };
 
     ghost letters = { λ k. k.letters.items };
 }
@@ -32,7 +32,7 @@ impl KeptReply {
     // What is kept of a call to which this is told.
     pub(crate) fn of(alloc: Global, xid: u32, told: &Told) -> Result<KeptReply, Starved>
         ensures xid { IfOk result (λ kept. kept.xid ≡ xid) }
-        ensures outcome { IfOk result (λ kept. outcome_of kept.outcome.value ≡ outcome_of told.now.outcome.told.value) }
+        ensures outcome { IfOk result (λ kept. view_of_outcome kept.outcome.value ≡ view_of_outcome told.now.outcome.told.value) }
         ensures letters { IfOk result (λ kept. kept.letters.items ≡ told.now.due.items) }
     {
         Ok(KeptReply {

@@ -3,8 +3,8 @@ ghost use Rattle.std.specs.Prelude.{◌≡◌, ℕ, IfOk, OnErr};
 ghost use Rattle.definitions.specs.Hosts.{NotAsked};
 ghost use Rattle.definitions.specs.Replies.{LineStarved};
 ghost use Rattle.definitions.specs.Step.{Local, Applied, Starved as IsStarved, Says};
-ghost use Rattle.call_plans.specs.Planned.{answer_of, counted};
-ghost use Rattle.local_ops.specs.Answers.{reply_of};
+ghost use Rattle.call_plans.specs.Planned.{view_of_stored, counted};
+ghost use Rattle.local_ops.specs.Answers.{view_of_local_answer};
 ghost use Rattle.local_ops.specs.Calls.{line_of};
 ghost use Rattle.book.specs.Given.{comes_to};
 ghost use Rattle.book.specs.Notes.{AsksLine, IsStep, Steps};
@@ -27,9 +27,9 @@ impl<R: RangeTable, S: HostStore> Shared<R, S> {
         connection: u64,
         bytes: &[u8],
     ) -> Result<(LocalAnswer, StoreAnswer), Starved>
-        ensures ok { IfOk result (λ told. Steps self.old.state (AsksLine connection bytes.now) (comes_to Applied (answer_of told.1) (Says (reply_of told.0))) self.new.state) }
+        ensures ok { IfOk result (λ told. Steps self.old.state (AsksLine connection bytes.now) (comes_to Applied (view_of_stored told.1) (Says (view_of_local_answer told.0))) self.new.state) }
         ensures err { OnErr result (Steps self.old.state (AsksLine connection bytes.now) (comes_to IsStarved NotAsked (Says LineStarved)) self.new.state) }
-        ensures counts { IfOk result (λ told. self.new.refusals ≡ counted (answer_of told.1) self.old.refusals) }
+        ensures counts { IfOk result (λ told. self.new.refusals ≡ counted (view_of_stored told.1) self.old.refusals) }
         ensures refusals { OnErr result (self.new.refusals ≡ self.old.refusals) }
     {
         match LocalCall::read(bytes) {
@@ -43,9 +43,9 @@ impl<R: RangeTable, S: HostStore> Shared<R, S> {
         connection: u64,
         call: &LocalCall,
     ) -> Result<(LocalAnswer, StoreAnswer), Starved>
-        ensures ok { IfOk result (λ told. IsStep self.old.state (Local connection (line_of call.now)) (comes_to Applied (answer_of told.1) (Says (reply_of told.0))) self.new.state) }
+        ensures ok { IfOk result (λ told. IsStep self.old.state (Local connection (line_of call.now)) (comes_to Applied (view_of_stored told.1) (Says (view_of_local_answer told.0))) self.new.state) }
         ensures err { OnErr result (IsStep self.old.state (Local connection (line_of call.now)) (comes_to IsStarved NotAsked (Says LineStarved)) self.new.state) }
-        ensures counts { IfOk result (λ told. self.new.refusals ≡ counted (answer_of told.1) self.old.refusals) }
+        ensures counts { IfOk result (λ told. self.new.refusals ≡ counted (view_of_stored told.1) self.old.refusals) }
         ensures refusals { OnErr result (self.new.refusals ≡ self.old.refusals) }
     {
         match call {
@@ -96,7 +96,7 @@ impl<R: RangeTable, S: HostStore> Shared<R, S> {
 
     // Of a line that is none of the protocol.
     fn bad(&mut self) -> LocalAnswer
-        ensures step { (l : ℕ) → IsStep self.old.state (Local l IsBad) (comes_to Applied NotAsked (Says (reply_of result))) self.new.state }
+        ensures step { (l : ℕ) → IsStep self.old.state (Local l IsBad) (comes_to Applied NotAsked (Says (view_of_local_answer result))) self.new.state }
         ensures refusals { self.new.refusals ≡ self.old.refusals }
     {
         self.world.settle();

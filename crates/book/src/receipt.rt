@@ -1,7 +1,7 @@
 //! Receipts: what whoever sends a reply holds of its entry.
 ghost use Rattle.std.specs.Prelude.{◌≡◌};
-ghost use Rattle.kept_replies.specs.Pairs.{asker};
-ghost use Rattle.book.specs.Given.{given_of, record_of};
+ghost use Rattle.kept_replies.specs.Pairs.{view_of_peer};
+ghost use Rattle.book.specs.Given.{view_of_reply, record_of};
 ghost use Rattle.book.specs.Notes.{Takes, note_of};
 ghost use Rattle.book.specs.Receipts.{receipt_of, same_receipt};
 
@@ -29,20 +29,20 @@ pub struct Receipt {
 }
 
 impl Model for Receipt {
-    ghost use Rattle.kept_replies.specs.Pairs.{asker};
-    ghost use Rattle.book.specs.Given.{given_of, record_of};
+    ghost use Rattle.kept_replies.specs.Pairs.{view_of_peer};
+    ghost use Rattle.book.specs.Given.{view_of_reply, record_of};
     ghost use Rattle.book.specs.Notes.{Takes};
     ghost use Rattle.book.specs.Receipts.{Receipt};
 
     ghost Value = { Receipt };
 
-    ghost view = { λ r. record { number = r.number; event = Takes (asker r.taken.peer) r.taken.record; reply = record_of (given_of r.reply) } };
+    ghost view = { λ r. record { number = r.number; event = Takes (view_of_peer r.taken.peer) r.taken.record; reply = record_of (view_of_reply r.reply) } };
 }
 
 impl Receipt {
     // Of the entry of this number, which took this call and gave this reply.
     pub(crate) fn of(number: u64, taken: Taken, reply: Reply) -> Receipt
-        ensures { result ≡ record { number = number; event = Takes (asker taken.peer) taken.record; reply = record_of (given_of reply) } }
+        ensures { result ≡ record { number = number; event = Takes (view_of_peer taken.peer) taken.record; reply = record_of (view_of_reply reply) } }
     {
         Receipt {
             number,
@@ -60,14 +60,14 @@ impl Receipt {
 
     /// The call that was taken.
     pub fn taken(&self) -> &Taken
-        ensures { Takes (asker result.now.peer) result.now.record ≡ self.now.event }
+        ensures { Takes (view_of_peer result.now.peer) result.now.record ≡ self.now.event }
     {
         &self.taken
     }
 
     /// What the call got.
     pub fn reply(&self) -> &Reply
-        ensures { record_of (given_of result.now) ≡ self.now.reply }
+        ensures { record_of (view_of_reply result.now) ≡ self.now.reply }
     {
         &self.reply
     }
@@ -94,7 +94,7 @@ impl Receipt {
 
 // The record that a client got.
 fn record_of(reply: &Reply) -> Frame
-    ensures { result ≡ record_of (given_of reply.now) }
+    ensures { result ≡ record_of (view_of_reply reply.now) }
 {
     let mut record = Frame::new();
     // An empty frame has room for each record.

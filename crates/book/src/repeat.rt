@@ -3,8 +3,8 @@ ghost use Rattle.std.specs.Prelude.{◌≡◌, ℕ, None, IfOk, IfSome, IfNone, 
 ghost use Rattle.definitions.specs.Hosts.{NotAsked};
 ghost use Rattle.definitions.specs.Replies.{Call as Asked, Asks};
 ghost use Rattle.definitions.specs.Step.{Take};
-ghost use Rattle.kept_replies.specs.Pairs.{asker, at_key};
-ghost use Rattle.book.specs.Given.{given_of};
+ghost use Rattle.kept_replies.specs.Pairs.{view_of_peer, at_key};
+ghost use Rattle.book.specs.Given.{view_of_reply};
 ghost use Rattle.book.specs.Notes.{IsStep};
 
 use crate::kept::copies_of;
@@ -23,8 +23,8 @@ impl<R: RangeTable, S: HostStore> Shared<R, S> {
     /// whatever the call asks, nothing else changes. Where too few places are free for those calls, nothing changes, and
     /// the reply is SYSTEM_ERR. Starved: nothing has changed.
     pub(crate) fn repeat(&mut self, key: &Key) -> Result<Option<(Upshot, Reply)>, Starved>
-        ensures found { IfOk result (λ found. IfSome found (λ said. (xid : ℕ) (call : Asked) → IsStep self.old.state (Take (asker key.now.peer) key.now.record (Asks xid call)) said.0 self.new.state)) }
-        ensures noted { IfOk result (λ found. IfSome found (λ said. given_of said.1 ≡ said.0.given)) }
+        ensures found { IfOk result (λ found. IfSome found (λ said. (xid : ℕ) (call : Asked) → IsStep self.old.state (Take (view_of_peer key.now.peer) key.now.record (Asks xid call)) said.0 self.new.state)) }
+        ensures noted { IfOk result (λ found. IfSome found (λ said. view_of_reply said.1 ≡ said.0.given)) }
         ensures counts { self.new.refusals ≡ self.old.refusals }
         ensures unasked { IfOk result (λ found. IfSome found (λ said. said.0.store ≡ NotAsked)) }
         ensures none { IfOk result (λ found. IfNone found ((at_key key.now self.old.state.kept ≡ None) × (self.new ≡ self.old))) }

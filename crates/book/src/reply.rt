@@ -1,6 +1,6 @@
 //! What events give.
 ghost use Rattle.std.specs.Prelude.{◌≡◌, ◌+◌, ◌≤◌, ◌++◌, ◌↔◌, length, IsOk, OnOk, OnErr};
-ghost use Rattle.book.specs.Given.{given_of, record_of};
+ghost use Rattle.book.specs.Given.{view_of_reply, record_of};
 
 use call_outcome::Outcome;
 use local_ops::LocalAnswer;
@@ -43,14 +43,14 @@ impl Reply {
     /// an empty frame.
     pub fn put(&self, f: &mut Frame) -> Result<(), FrameFull>
         ensures fits { length f.old ≤ 40 → IsOk result }
-        ensures room { IsOk result ↔ (length f.old + length (record_of (given_of self.now)) ≤ 4096) }
-        ensures ok { OnOk result (f.new ≡ f.old ++ record_of (given_of self.now)) }
+        ensures room { IsOk result ↔ (length f.old + length (record_of (view_of_reply self.now)) ≤ 4096) }
+        ensures ok { OnOk result (f.new ≡ f.old ++ record_of (view_of_reply self.now)) }
         ensures err { OnErr result (f.new ≡ f.old) }
     {
         match self {
-            Reply::Answers { xid, outcome } => outcome.reply(*xid, f),
-            Reply::Refuses { xid, refusal } => Outcome::Refuses(*refusal).reply(*xid, f),
-            Reply::SystemErr { xid } => Outcome::SystemErr.reply(*xid, f),
+            Reply::Answers { xid, outcome } => outcome.put_reply(*xid, f),
+            Reply::Refuses { xid, refusal } => Outcome::Refuses(*refusal).put_reply(*xid, f),
+            Reply::SystemErr { xid } => Outcome::SystemErr.put_reply(*xid, f),
             Reply::Nothing | Reply::Says(_) | Reply::Starved | Reply::StoreRefused => f.append(&[]),
         }
     }

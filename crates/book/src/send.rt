@@ -11,8 +11,8 @@ ghost use Rattle.book.specs.Notes.{IsStep};
 use crate::seen::Seen;
 use crate::shared::Shared;
 use call_records::{Dest, put_record};
+use callbacks::Letter;
 use hosts_db::HostStore;
-use letters::Letter;
 use range_table::RangeTable;
 use xdr_core::Frame;
 

@@ -1,10 +1,10 @@
 //! The shared state: the world and the kept replies.
 ghost use Rattle.std.specs.Prelude.{◌≡◌, [], IfOk};
 ghost use Rattle.definitions.specs.Step.{opening_state, Silent, GraceOver, Restart, Applied, Starved as HasStarved};
-ghost use Rattle.call_plans.specs.Planned.{answer_of, counted};
-ghost use Rattle.book.specs.Given.{comes_to, doing_of, given_of, unbegun};
+ghost use Rattle.call_plans.specs.Planned.{view_of_stored, counted};
+ghost use Rattle.book.specs.Given.{comes_to, view_of_doing, view_of_reply, unbegun};
 ghost use Rattle.book.specs.Journal.{TakesMemory};
-ghost use Rattle.book.specs.Notes.{gave, happened, happening_of, AsksLine, HearsAnswer, IsStep, Steps};
+ghost use Rattle.book.specs.Notes.{gave, happened, view_of_event, AsksLine, HearsAnswer, IsStep, Steps};
 
 use crate::entry::Act;
 use crate::event::BookEvent;
@@ -12,12 +12,12 @@ use crate::kept::KeptReply;
 use crate::reply::Reply;
 use crate::seen::Seen;
 use crate::upshot::{Doing, Upshot, nothing};
+use callbacks::ShortBytes;
 use hosts_db::{HostStore, StoreError};
 use kept_replies::KeptReplies;
-use letters::ShortBytes;
 use local_ops::LocalAnswer;
 use lock_service::{StoreAnswer, answered};
-use lock_world::World;
+use lock_state::World;
 use owner_ids::Starved;
 use range_table::RangeTable;
 use record_reading::AnswerReading;
@@ -60,11 +60,11 @@ impl<R: RangeTable + Drop, S: HostStore + Drop> Shared<R, S> {
 impl<R: RangeTable, S: HostStore> Shared<R, S> {
     /// One event: what it comes to, and what the journal notes of it.
     pub(crate) fn apply(&mut self, event: BookEvent) -> (Upshot, Act)
-        ensures step { Steps self.old.state (happening_of event) result.0 self.new.state }
-        ensures event { happened result.1 ≡ happening_of event }
+        ensures step { Steps self.old.state (view_of_event event) result.0 self.new.state }
+        ensures event { happened result.1 ≡ view_of_event event }
         ensures noted { gave result.1 ≡ result.0.given }
         ensures counts { self.new.refusals ≡ counted result.0.store self.old.refusals }
-        ensures fed { result.0.doing ≡ HasStarved → TakesMemory (happening_of event) }
+        ensures fed { result.0.doing ≡ HasStarved → TakesMemory (view_of_event event) }
     {
         let ((upshot, reply), event) = match event {
             BookEvent::Local { connection, line } => return self.local(connection, line),
@@ -104,7 +104,7 @@ impl<R: RangeTable, S: HostStore> Shared<R, S> {
 
     fn answer(&mut self, bytes: &[u8]) -> (Upshot, Reply)
         ensures step { Steps self.old.state (HearsAnswer bytes.now) result.0 self.new.state }
-        ensures noted { given_of result.1 ≡ result.0.given }
+        ensures noted { view_of_reply result.1 ≡ result.0.given }
         ensures counts { self.new.refusals ≡ counted result.0.store self.old.refusals }
         ensures fed { result.0.doing ≡ Applied }
     {
@@ -114,7 +114,7 @@ impl<R: RangeTable, S: HostStore> Shared<R, S> {
 
     fn silent(&mut self, number: u64) -> (Upshot, Reply)
         ensures step { IsStep self.old.state (Silent number) result.0 self.new.state }
-        ensures noted { given_of result.1 ≡ result.0.given }
+        ensures noted { view_of_reply result.1 ≡ result.0.given }
         ensures counts { self.new.refusals ≡ counted result.0.store self.old.refusals }
         ensures fed { result.0.doing ≡ Applied }
     {
@@ -124,7 +124,7 @@ impl<R: RangeTable, S: HostStore> Shared<R, S> {
 
     fn grace_over(&mut self) -> (Upshot, Reply)
         ensures step { IsStep self.old.state GraceOver result.0 self.new.state }
-        ensures noted { given_of result.1 ≡ result.0.given }
+        ensures noted { view_of_reply result.1 ≡ result.0.given }
         ensures counts { self.new.refusals ≡ counted result.0.store self.old.refusals }
         ensures fed { result.0.doing ≡ Applied }
     {
@@ -134,7 +134,7 @@ impl<R: RangeTable, S: HostStore> Shared<R, S> {
 
     fn restart(&mut self) -> (Upshot, Reply)
         ensures step { IsStep self.old.state Restart result.0 self.new.state }
-        ensures noted { given_of result.1 ≡ result.0.given }
+        ensures noted { view_of_reply result.1 ≡ result.0.given }
         ensures counts { self.new.refusals ≡ counted result.0.store self.old.refusals }
     {
         let Ok(notices) = self.world.notices() else {
@@ -153,8 +153,8 @@ impl<R: RangeTable, S: HostStore> Shared<R, S> {
 
 // The server did not begin anew, and there is nobody to answer.
 fn unstarted(doing: Doing, store: StoreAnswer) -> (Upshot, Reply)
-    ensures upshot { result.0 ≡ comes_to (doing_of doing) (answer_of store) (unbegun (doing_of doing)) }
-    ensures noted { given_of result.1 ≡ unbegun (doing_of doing) }
+    ensures upshot { result.0 ≡ comes_to (view_of_doing doing) (view_of_stored store) (unbegun (view_of_doing doing)) }
+    ensures noted { view_of_reply result.1 ≡ unbegun (view_of_doing doing) }
 {
     let (reply, noted) = match doing {
         Doing::Applied => (Reply::StoreRefused, Reply::StoreRefused),

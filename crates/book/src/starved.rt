@@ -3,9 +3,9 @@ ghost use Rattle.std.specs.Prelude.{◌≡◌};
 ghost use Rattle.definitions.specs.Hosts.{NotAsked};
 ghost use Rattle.definitions.specs.Step.{State, Starved};
 ghost use Rattle.record_reading.specs.Values.{view_of_reading};
-ghost use Rattle.book.specs.Given.{comes_to, given_of, starved_reading};
-ghost use Rattle.kept_replies.specs.Pairs.{asker};
-ghost use Rattle.book.specs.Notes.{happening_of, Steps, Takes};
+ghost use Rattle.book.specs.Given.{comes_to, view_of_reply, starved_reading};
+ghost use Rattle.kept_replies.specs.Pairs.{view_of_peer};
+ghost use Rattle.book.specs.Notes.{view_of_event, Steps, Takes};
 
 use crate::event::BookEvent;
 use crate::receipt::Taken;
@@ -22,7 +22,7 @@ impl BookEvent {
     pub fn starved(&self) -> Upshot
         ensures starves { result.doing ≡ Starved }
         ensures unasked { result.store ≡ NotAsked }
-        ensures stays { (s : State) → Steps s (happening_of self.now) result s }
+        ensures stays { (s : State) → Steps s (view_of_event self.now) result s }
     {
         Upshot {
             doing: Doing::Starved,
@@ -32,7 +32,7 @@ impl BookEvent {
     }
 
     fn starved_reply(&self) -> Reply
-        ensures { (s : State) → Steps s (happening_of self.now) (comes_to Starved NotAsked (given_of result)) s }
+        ensures { (s : State) → Steps s (view_of_event self.now) (comes_to Starved NotAsked (view_of_reply result)) s }
     {
         match self {
             BookEvent::Take { peer, record } => starved_take(*peer, record),
@@ -53,7 +53,7 @@ impl BookEvent {
 impl Taken {
     /// What the call gets where there was no memory for it before it began: SYSTEM_ERR, and nothing where the record is ignored.
     pub fn starved(self) -> Reply
-        ensures { (s : State) → Steps s (Takes (asker self.peer) self.«record») (comes_to Starved NotAsked (given_of result)) s }
+        ensures { (s : State) → Steps s (Takes (view_of_peer self.peer) self.«record») (comes_to Starved NotAsked (view_of_reply result)) s }
     {
         starved_take(self.peer, &self.record)
     }
@@ -61,13 +61,13 @@ impl Taken {
 
 // A record of this peer.
 fn starved_take(peer: Peer, asked: &Bytes) -> Reply
-    ensures { (s : State) → Steps s (Takes (asker peer) asked.now) (comes_to Starved NotAsked (given_of result)) s }
+    ensures { (s : State) → Steps s (Takes (view_of_peer peer) asked.now) (comes_to Starved NotAsked (view_of_reply result)) s }
 {
     starved_by(&Reading::read(asked))
 }
 
 fn starved_by(reading: &Reading<'_>) -> Reply
-    ensures { given_of result ≡ starved_reading (view_of_reading reading.now) }
+    ensures { view_of_reply result ≡ starved_reading (view_of_reading reading.now) }
 {
     match reading {
         Reading::Ignored => Reply::Starved,

@@ -2,10 +2,10 @@
 ghost use Rattle.std.specs.Prelude.{◌≡◌};
 ghost use Rattle.definitions.specs.Replies.{Asks};
 ghost use Rattle.definitions.specs.Step.{Take};
-ghost use Rattle.kept_replies.specs.Pairs.{asker};
+ghost use Rattle.kept_replies.specs.Pairs.{view_of_peer};
 ghost use Rattle.record_reading.specs.Values.{view_of_call};
 ghost use Rattle.call_plans.specs.Planned.{counted};
-ghost use Rattle.book.specs.Given.{given_of};
+ghost use Rattle.book.specs.Given.{view_of_reply};
 ghost use Rattle.book.specs.Notes.{IsStep, Steps, Takes};
 
 use crate::reply::Reply;
@@ -22,8 +22,8 @@ use record_reading::Reading;
 impl<R: RangeTable, S: HostStore> Shared<R, S> {
     /// A record of a peer: it is ignored, turned away, or given to its procedure, unless its reply is kept.
     pub(crate) fn take(&mut self, peer: Peer, bytes: &Bytes) -> (Upshot, Reply)
-        ensures step { Steps self.old.state (Takes (asker peer) bytes.now) result.0 self.new.state }
-        ensures noted { given_of result.1 ≡ result.0.given }
+        ensures step { Steps self.old.state (Takes (view_of_peer peer) bytes.now) result.0 self.new.state }
+        ensures noted { view_of_reply result.1 ≡ result.0.given }
         ensures counts { self.new.refusals ≡ counted result.0.store self.old.refusals }
     {
         match Reading::read(bytes) {
@@ -34,8 +34,8 @@ impl<R: RangeTable, S: HostStore> Shared<R, S> {
     }
 
     fn called(&mut self, peer: Peer, bytes: &Bytes, xid: u32, call: &Call<'_>) -> (Upshot, Reply)
-        ensures step { IsStep self.old.state (Take (asker peer) bytes.now (Asks xid (view_of_call call.now))) result.0 self.new.state }
-        ensures noted { given_of result.1 ≡ result.0.given }
+        ensures step { IsStep self.old.state (Take (view_of_peer peer) bytes.now (Asks xid (view_of_call call.now))) result.0 self.new.state }
+        ensures noted { view_of_reply result.1 ≡ result.0.given }
         ensures counts { self.new.refusals ≡ counted result.0.store self.old.refusals }
     {
         let Ok(record) = bytes.clone() else {

@@ -3,10 +3,10 @@ ghost use Rattle.std.specs.Prelude.{◌≡◌};
 ghost use Rattle.definitions.specs.Hosts.{NotAsked};
 ghost use Rattle.definitions.specs.Step.{Applied, Starved as IsStarved, Nothing, Replies};
 ghost use Rattle.definitions.specs.Replies.{SystemErr, Refuses};
-ghost use Rattle.call_outcome.specs.Values.{outcome_of};
+ghost use Rattle.call_outcome.specs.Values.{view_of_outcome};
 ghost use Rattle.record_reading.specs.Values.{view_of_refusal};
-ghost use Rattle.call_plans.specs.Planned.{answer_of};
-ghost use Rattle.book.specs.Given.{comes_to, given_of};
+ghost use Rattle.call_plans.specs.Planned.{view_of_stored};
+ghost use Rattle.book.specs.Given.{comes_to, view_of_reply};
 
 use crate::reply::Reply;
 use call_outcome::Outcome;
@@ -33,20 +33,20 @@ pub struct Upshot {
 }
 
 impl Model for Upshot {
-    ghost use Rattle.call_plans.specs.Planned.{answer_of};
-    ghost use Rattle.book.specs.Given.{Upshot, comes_to, doing_of, given_of};
+    ghost use Rattle.call_plans.specs.Planned.{view_of_stored};
+    ghost use Rattle.book.specs.Given.{Upshot, comes_to, view_of_doing, view_of_reply};
 
     ghost Value = { Upshot };
 
-    ghost view = { λ u. comes_to (doing_of u.doing) (answer_of u.store) (given_of u.reply) };
+    ghost view = { λ u. comes_to (view_of_doing u.doing) (view_of_stored u.store) (view_of_reply u.reply) };
 }
 
 // The events below give their reply twice: to whoever asked, and to the journal.
 
 // Nobody is answered.
 pub(crate) fn nothing(store: StoreAnswer) -> (Upshot, Reply)
-    ensures upshot { result.0 ≡ comes_to Applied (answer_of store) Nothing }
-    ensures noted { given_of result.1 ≡ Nothing }
+    ensures upshot { result.0 ≡ comes_to Applied (view_of_stored store) Nothing }
+    ensures noted { view_of_reply result.1 ≡ Nothing }
 {
     let upshot = Upshot {
         doing: Doing::Applied,
@@ -59,7 +59,7 @@ pub(crate) fn nothing(store: StoreAnswer) -> (Upshot, Reply)
 // The call of this xid is not given to a procedure.
 pub(crate) fn refuses(xid: u32, refusal: Refusal) -> (Upshot, Reply)
     ensures upshot { result.0 ≡ comes_to Applied NotAsked (Replies xid (Refuses (view_of_refusal refusal))) }
-    ensures noted { given_of result.1 ≡ Replies xid (Refuses (view_of_refusal refusal)) }
+    ensures noted { view_of_reply result.1 ≡ Replies xid (Refuses (view_of_refusal refusal)) }
 {
     let upshot = Upshot {
         doing: Doing::Applied,
@@ -71,8 +71,8 @@ pub(crate) fn refuses(xid: u32, refusal: Refusal) -> (Upshot, Reply)
 
 // There was no memory for the call of this xid, when the store had answered so.
 pub(crate) fn starved(store: StoreAnswer, xid: u32) -> (Upshot, Reply)
-    ensures upshot { result.0 ≡ comes_to IsStarved (answer_of store) (Replies xid SystemErr) }
-    ensures noted { given_of result.1 ≡ Replies xid SystemErr }
+    ensures upshot { result.0 ≡ comes_to IsStarved (view_of_stored store) (Replies xid SystemErr) }
+    ensures noted { view_of_reply result.1 ≡ Replies xid SystemErr }
 {
     let upshot = Upshot {
         doing: Doing::Starved,
@@ -85,7 +85,7 @@ pub(crate) fn starved(store: StoreAnswer, xid: u32) -> (Upshot, Reply)
 // The call of this xid came again, and there are too few places for the calls that went with it.
 pub(crate) fn too_few_places(xid: u32) -> (Upshot, Reply)
     ensures upshot { result.0 ≡ comes_to Applied NotAsked (Replies xid SystemErr) }
-    ensures noted { given_of result.1 ≡ Replies xid SystemErr }
+    ensures noted { view_of_reply result.1 ≡ Replies xid SystemErr }
 {
     let upshot = Upshot {
         doing: Doing::Applied,
@@ -102,9 +102,9 @@ pub(crate) fn answers(
     outcome: Arc<Outcome, Global>,
     noted: Arc<Outcome, Global>,
 ) -> (Upshot, Reply)
-    requires { outcome_of noted.value ≡ outcome_of outcome.value }
-    ensures upshot { result.0 ≡ comes_to Applied (answer_of store) (Replies xid (outcome_of outcome.value)) }
-    ensures noted { given_of result.1 ≡ Replies xid (outcome_of outcome.value) }
+    requires { view_of_outcome noted.value ≡ view_of_outcome outcome.value }
+    ensures upshot { result.0 ≡ comes_to Applied (view_of_stored store) (Replies xid (view_of_outcome outcome.value)) }
+    ensures noted { view_of_reply result.1 ≡ Replies xid (view_of_outcome outcome.value) }
 {
     let upshot = Upshot {
         doing: Doing::Applied,

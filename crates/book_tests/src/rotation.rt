@@ -4,8 +4,8 @@ ghost use Rattle.book.specs.Journal.{room_of};
 
 use book::{Book, BookEvent, Closed, Peer, Receipt, SEGMENT, Segment, Taken, newest_entered};
 use bytes::Bytes;
+use callbacks::ShortBytes;
 use hosts_db::{HostStore, MemHosts};
-use letters::ShortBytes;
 use range_table::{FlatTable, RangeTable};
 use std::alloc::Global;
 use std::test::*;

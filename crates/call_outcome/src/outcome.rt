@@ -2,7 +2,7 @@
 ghost use Rattle.std.specs.Prelude.{◌≡◌, ◌+◌, ◌≤◌, ◌++◌, ◌↔◌, length, IsOk, OnOk, OnErr};
 ghost use Rattle.rpc_msg.specs.declared.reply.Reply.TheVariants.{AcceptFailure};
 ghost use Rattle.record_reading.specs.Values.{view_of_refusal};
-ghost use Rattle.call_outcome.specs.Values.{outcome_of, result_of};
+ghost use Rattle.call_outcome.specs.Values.{view_of_outcome, view_of_result};
 ghost use Rattle.call_outcome.specs.Replies.{reply_of_refusal, reply_bytes, success_bytes};
 
 use crate::result::CallResult;
@@ -25,10 +25,10 @@ impl Outcome {
     /// Appends the reply to the call of this xid: its header, and the result behind a SUCCESS. It is written whole or not
     /// at all: `FrameFull` exactly where it doesn't fit, and the frame is unchanged then. It fits behind 40 bytes, so it
     /// does in an empty frame.
-    pub fn reply(&self, xid: u32, f: &mut Frame) -> Result<(), FrameFull>
+    pub fn put_reply(&self, xid: u32, f: &mut Frame) -> Result<(), FrameFull>
         ensures fits { length f.old ≤ 40 → IsOk result }
-        ensures room { IsOk result ↔ (length f.old + length (reply_bytes xid (outcome_of self.now)) ≤ 4096) }
-        ensures ok { OnOk result (f.new ≡ f.old ++ reply_bytes xid (outcome_of self.now)) }
+        ensures room { IsOk result ↔ (length f.old + length (reply_bytes xid (view_of_outcome self.now)) ≤ 4096) }
+        ensures ok { OnOk result (f.new ≡ f.old ++ reply_bytes xid (view_of_outcome self.now)) }
         ensures err { OnErr result (f.new ≡ f.old) }
     {
         match self {
@@ -41,8 +41,8 @@ impl Outcome {
 
 fn put_success(done: &CallResult, xid: u32, f: &mut Frame) -> Result<(), FrameFull>
     ensures fits { length f.old ≤ 40 → IsOk result }
-    ensures room { IsOk result ↔ (length f.old + length (success_bytes xid (result_of done.now)) ≤ 4096) }
-    ensures ok { OnOk result (f.new ≡ f.old ++ success_bytes xid (result_of done.now)) }
+    ensures room { IsOk result ↔ (length f.old + length (success_bytes xid (view_of_result done.now)) ≤ 4096) }
+    ensures ok { OnOk result (f.new ≡ f.old ++ success_bytes xid (view_of_result done.now)) }
     ensures err { OnErr result (f.new ≡ f.old) }
 {
     let start = f.len();

@@ -1,10 +1,10 @@
 //! The results of procedures.
 ghost use Rattle.std.specs.Prelude.{◌≡◌, ◌+◌, ◌≤◌, ◌++◌, ◌↔◌, length, IsOk, OnOk, OnErr};
 ghost use Rattle.nlm4_types.specs.Share.{view_of_shareres};
-ghost use Rattle.call_outcome.specs.Values.{result_of, share_res_of};
+ghost use Rattle.call_outcome.specs.Values.{view_of_result, share_res_of};
 ghost use Rattle.call_outcome.specs.Replies.{result_bytes};
 
-use letters::{Res, ShortBytes, TestRes};
+use callbacks::{Res, ShortBytes, TestRes};
 use nlm4_types::{Stat, Version};
 use nsm_types::{NsmResult, SmStat, SmStatRes};
 use xdr_core::{Frame, FrameFull};
@@ -39,8 +39,8 @@ impl CallResult {
     /// Writes the result (RFC 4506). It fits behind a header of 64 bytes.
     pub(crate) fn put(&self, f: &mut Frame) -> Result<(), FrameFull>
         ensures fits { length f.old ≤ 64 → IsOk result }
-        ensures room { IsOk result ↔ (length f.old + length (result_bytes (result_of self.now)) ≤ 4096) }
-        ensures ok { OnOk result (f.new ≡ f.old ++ result_bytes (result_of self.now)) }
+        ensures room { IsOk result ↔ (length f.old + length (result_bytes (view_of_result self.now)) ≤ 4096) }
+        ensures ok { OnOk result (f.new ≡ f.old ++ result_bytes (view_of_result self.now)) }
         ensures err { OnErr result (f.new ≡ f.old) }
     {
         match self {

@@ -7,9 +7,9 @@ use Rattle.definitions.specs.Settings.{Setting, mode_at}
 use Rattle.definitions.specs.Waits.{Waiter}
 use Rattle.definitions.specs.World.{World, with_all_due}
 use Rattle.owner_ids.specs.Names.{named}
-use Rattle.owner_ids.specs.Said.{said}
-use Rattle.lock_world.specs.Seen.{Seen, Knows, IsIdle}
-use Rattle.lock_world.proofs.Notices.{due_settings, due_waiters}
+use Rattle.owner_ids.specs.Said.{view_of_owner}
+use Rattle.lock_state.specs.Seen.{Seen, Knows, IsIdle}
+use Rattle.lock_state.proofs.Notices.{due_settings, due_waiters}
 use Rattle.call_plans.specs.declared.plans.Change.{Change}
 use Rattle.call_plans.specs.declared.plans.Change.TheVariants as change
 use Rattle.call_plans.specs.Planned.{IsForgottenIfIdle, IsForgottenBy, IsForgottenFor}
@@ -29,9 +29,9 @@ module _ (letters : List Letter) (s v : Seen) (world : v.world ≡ with_all_due 
 
   pub by_still : (c : Change) → IsForgottenBy c s → IsForgottenBy c v
   by_still change.Nothing h = tt
-  by_still (change.Set r) h = one_still (said r.owner) h
-  by_still (change.Wait x letter) h = one_still (said x.owner) h
-  by_still (change.Cancel x) h = one_still (said x.owner) h
+  by_still (change.Set r) h = one_still (view_of_owner r.owner) h
+  by_still (change.Wait x letter) h = one_still (view_of_owner x.owner) h
+  by_still (change.Cancel x) h = one_still (view_of_owner x.owner) h
   by_still (change.Share x) h = tt
   by_still (change.Unshare x) h = tt
   by_still (change.DropHost name) h = λ x is knows. h x is (known_before x knows)
@@ -40,8 +40,8 @@ module _ (letters : List Letter) (s v : Seen) (world : v.world ≡ with_all_due 
 
   pub for_still : (c : Change) → IsForgottenFor c s.world s → IsForgottenFor c v.world v
   for_still change.Nothing h = tt
-  for_still (change.Set r) h = one_still (said r.owner) h
-  for_still (change.Wait x letter) h = one_still (said x.owner) h
+  for_still (change.Set r) h = one_still (view_of_owner r.owner) h
+  for_still (change.Wait x letter) h = one_still (view_of_owner x.owner) h
   for_still (change.Cancel x) h = tt
   for_still (change.Share x) h = tt
   for_still (change.Unshare x) h = tt

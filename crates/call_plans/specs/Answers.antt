@@ -10,12 +10,12 @@ use Rattle.definitions.specs.Rulings.{Told, Ruling, ruled}
 use Rattle.definitions.specs.Grants.{Change, TableStays, TableChanges, became, grant_answered}
 use Rattle.definitions.specs.Step.{settled_after}
 use Rattle.hosts_db.specs.declared.error.StoreError.{StoreError}
-use Rattle.letters.specs.Grants.{granted_lock}
+use Rattle.callbacks.specs.Grants.{granted_lock}
 use Rattle.nlm4_types.specs.declared.stat.Stat.TheVariants.{Denied}
 use Rattle.record_reading.specs.declared.answer.AnswerReading.{AnswerReading}
 use Rattle.record_reading.specs.declared.answer.AnswerReading.TheVariants as reading
-use Rattle.lock_world.specs.Answered.{lock_at}
-use Rattle.lock_world.specs.Seen.{Seen}
+use Rattle.lock_state.specs.Answered.{lock_at}
+use Rattle.lock_state.specs.Seen.{Seen}
 use Rattle.call_plans.specs.Planned.{counted, IsForgottenIfIdle}
 
 -- the store is asked exactly where the rules ask it, which is for an epoch

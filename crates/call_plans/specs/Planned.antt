@@ -13,12 +13,12 @@ use Rattle.definitions.specs.Grants.{granted_res_rules}
 use Rattle.definitions.specs.Replies.{Outcome}
 use Rattle.definitions.specs.Rulings.{Ruling, decided, ruled}
 use Rattle.definitions.specs.Answer.{Answered}
-use Rattle.letters.specs.Meanings.{my_id_of}
+use Rattle.callbacks.specs.Meanings.{my_id_of}
 use Rattle.nlm4_types.specs.Stat.{view_of_stat}
-use Rattle.owner_ids.specs.Said.{said}
-use Rattle.owner_ranges.specs.Same.{mode_of, held_mode}
-use Rattle.call_outcome.specs.Values.{outcome_of}
-use Rattle.lock_world.specs.Seen.{Seen, Knows, KeepsKnown, IsIdle}
+use Rattle.owner_ids.specs.Said.{view_of_owner}
+use Rattle.range_owners.specs.Same.{view_of_mode, view_of_held_mode}
+use Rattle.call_outcome.specs.Values.{view_of_outcome}
+use Rattle.lock_state.specs.Seen.{Seen, Knows, KeepsKnown, IsIdle}
 use Rattle.call_plans.specs.declared.plans.Range as range
 use Rattle.call_plans.specs.declared.plans.Wanted as wanted
 use Rattle.call_plans.specs.declared.plans.Asked.{Asked}
@@ -33,10 +33,10 @@ use Rattle.call_plans.specs.declared.plans.StoreAnswer.{StoreAnswer as Said}
 use Rattle.call_plans.specs.declared.plans.StoreAnswer.TheVariants as store
 
 abbrev pub setting_of : range.Range → Setting
-setting_of r = record { file = r.file; owner = said r.owner; first = r.first; last = r.last; mode = held_mode r.mode }
+setting_of r = record { file = r.file; owner = view_of_owner r.owner; first = r.first; last = r.last; mode = view_of_held_mode r.mode }
 
 abbrev pub request_wanted : wanted.Wanted → Request
-request_wanted x = record { file = x.file; owner = said x.owner; first = x.first; last = x.last; mode = mode_of x.mode }
+request_wanted x = record { file = x.file; owner = view_of_owner x.owner; first = x.first; last = x.last; mode = view_of_mode x.mode }
 
 abbrev pub changed : Change → World → World
 changed change.Nothing w = w
@@ -51,7 +51,7 @@ changed (change.Restart notices) w = with_all_due (opening w.own_name w.hosts) n
 
 -- what is told in a world: its calls are due in it
 abbrev pub told_in : told.Told → World → Answered
-told_in t w = record { outcome = outcome_of t.outcome.told.value; due = t.due.items; world = with_all_due w t.due.items }
+told_in t w = record { outcome = view_of_outcome t.outcome.told.value; due = t.due.items; world = with_all_due w t.due.items }
 
 abbrev pub answered : answer.Answer → World → Answered
 answered a w = told_in a.told (changed a.change w)
@@ -63,10 +63,10 @@ asked_of (asks.Watched mon_name my_id bytes) = hosts.Watched mon_name (my_id_of 
 asked_of (asks.Unwatched mon_name my_id) = hosts.Unwatched mon_name (my_id_of my_id)
 asked_of asks.Begin = hosts.Begin
 
-abbrev pub answer_of : Said → StoreAnswer
-answer_of store.NotAsked = NotAsked
-answer_of store.Yes = Yes
-answer_of store.Refused = Refused
+abbrev pub view_of_stored : Said → StoreAnswer
+view_of_stored store.NotAsked = NotAsked
+view_of_stored store.Yes = Yes
+view_of_stored store.Refused = Refused
 
 -- the world once the store has made the change that it was asked for
 abbrev pub after_asked : Asked → World → World
@@ -167,12 +167,12 @@ CanAsk (plan.AfterStore call agreed refused) w = CanAskFor call w
 
 -- whoever is to hold a lock, or to wait for one, is known
 abbrev pub MayHold : range.Range → Seen → Type 0
-MayHold r s = (r.mode ≡ None) ⊎ Knows s (said r.owner)
+MayHold r s = (r.mode ≡ None) ⊎ Knows s (view_of_owner r.owner)
 
 abbrev pub IsReadyFor : Change → Seen → Type 0
 IsReadyFor change.Nothing s = Unit {0}
 IsReadyFor (change.Set r) s = MayHold r s
-IsReadyFor (change.Wait x letter) s = Knows s (said x.owner)
+IsReadyFor (change.Wait x letter) s = Knows s (view_of_owner x.owner)
 IsReadyFor (change.Cancel x) s = Unit {0}
 IsReadyFor (change.Share x) s = Unit {0}
 IsReadyFor (change.Unshare x) s = Unit {0}
@@ -192,8 +192,8 @@ IsForgottenIfIdle x w s = IsIdle w x → Knows s x → ⊥
 
 abbrev pub IsForgottenFor : Change → World → Seen → Type 0
 IsForgottenFor change.Nothing w s = Unit {0}
-IsForgottenFor (change.Set r) w s = IsForgottenIfIdle (said r.owner) w s
-IsForgottenFor (change.Wait x letter) w s = IsForgottenIfIdle (said x.owner) w s
+IsForgottenFor (change.Set r) w s = IsForgottenIfIdle (view_of_owner r.owner) w s
+IsForgottenFor (change.Wait x letter) w s = IsForgottenIfIdle (view_of_owner x.owner) w s
 IsForgottenFor (change.Cancel x) w s = Unit {0}
 IsForgottenFor (change.Share x) w s = Unit {0}
 IsForgottenFor (change.Unshare x) w s = Unit {0}
@@ -208,9 +208,9 @@ IsForgotten (plan.AfterStore call agreed refused) w s = IsForgottenFor agreed.ch
 -- whoever the change names, and holds nothing and waits for nothing once it is done, has no number
 abbrev pub IsForgottenBy : Change → Seen → Type 0
 IsForgottenBy change.Nothing s = Unit {0}
-IsForgottenBy (change.Set r) s = IsForgottenIfIdle (said r.owner) s.world s
-IsForgottenBy (change.Wait x letter) s = IsForgottenIfIdle (said x.owner) s.world s
-IsForgottenBy (change.Cancel x) s = IsForgottenIfIdle (said x.owner) s.world s
+IsForgottenBy (change.Set r) s = IsForgottenIfIdle (view_of_owner r.owner) s.world s
+IsForgottenBy (change.Wait x letter) s = IsForgottenIfIdle (view_of_owner x.owner) s.world s
+IsForgottenBy (change.Cancel x) s = IsForgottenIfIdle (view_of_owner x.owner) s.world s
 IsForgottenBy (change.Share x) s = Unit {0}
 IsForgottenBy (change.Unshare x) s = Unit {0}
 IsForgottenBy (change.DropHost name) s = (x : Owner) → is_of_host name.items x ≡ true → Knows s x → ⊥
@@ -230,8 +230,8 @@ KeepsOthersThan x before after = (y : Owner) → y ≢ x → Knows before y → 
 
 abbrev pub KeepsOthersFor : Change → Seen → Seen → Type 0
 KeepsOthersFor change.Nothing before after = KeepsKnown before after
-KeepsOthersFor (change.Set r) before after = KeepsOthersThan (said r.owner) before after
-KeepsOthersFor (change.Wait x letter) before after = KeepsOthersThan (said x.owner) before after
+KeepsOthersFor (change.Set r) before after = KeepsOthersThan (view_of_owner r.owner) before after
+KeepsOthersFor (change.Wait x letter) before after = KeepsOthersThan (view_of_owner x.owner) before after
 KeepsOthersFor (change.Cancel x) before after = KeepsKnown before after
 KeepsOthersFor (change.Share x) before after = KeepsKnown before after
 KeepsOthersFor (change.Unshare x) before after = KeepsKnown before after

@@ -13,15 +13,15 @@ ghost use Rattle.definitions.specs.Replay.{fits};
 ghost use Rattle.nlm4_types.specs.Stat.{view_of_stat};
 ghost use Rattle.out_calls.specs.Found.{found};
 ghost use Rattle.record_reading.specs.Answers.{view_of_answer};
-ghost use Rattle.call_plans.specs.Planned.{answer_of, counted};
-ghost use Rattle.lock_world.specs.Answered.{call_at, lock_at};
-ghost use Rattle.lock_world.specs.Seen.{IsIdle, Knows};
+ghost use Rattle.call_plans.specs.Planned.{view_of_stored, counted};
+ghost use Rattle.lock_state.specs.Answered.{call_at, lock_at};
+ghost use Rattle.lock_state.specs.Seen.{IsIdle, Knows};
 ghost use Rattle.call_plans.specs.Answers.{IsDone, IsFoundForgotten, IsGrant, IsGrantForgotten, IsNotice, IsTurnedForgotten, is_granted, grant_told, change_by, store_said};
 
 use crate::plans::StoreAnswer;
+use callbacks::Message;
 use hosts_db::{HostStore, StoreError};
-use letters::Message;
-use lock_world::{AnswerKey, World};
+use lock_state::{AnswerKey, World};
 use nlm4_types::Stat;
 use out_calls::Call;
 use range_table::RangeTable;
@@ -34,9 +34,9 @@ pub fn answered<R: RangeTable, S: HostStore>(
     world: &mut World<R, S>,
     reading: &AnswerReading,
 ) -> StoreAnswer
-    ensures world { world.new.world ≡ settled_after the_limits (ruled (answer_of result) (answer_rules the_limits world.old.world (view_of_answer reading.now))) }
-    ensures fits { (kept : List KeptPair) → fits the_limits (record { world = world.old.world; kept = kept }) (record { event = Answer (view_of_answer reading.now); doing = Applied; store = answer_of result }) ≡ true }
-    ensures refusals { world.new.refusals ≡ counted (answer_of result) world.old.refusals }
+    ensures world { world.new.world ≡ settled_after the_limits (ruled (view_of_stored result) (answer_rules the_limits world.old.world (view_of_answer reading.now))) }
+    ensures fits { (kept : List KeptPair) → fits the_limits (record { world = world.old.world; kept = kept }) (record { event = Answer (view_of_answer reading.now); doing = Applied; store = view_of_stored result }) ≡ true }
+    ensures refusals { world.new.refusals ≡ counted (view_of_stored result) world.old.refusals }
     ensures forgotten { IsTurnedForgotten reading.now world.old.world world.new }
 {
     match reading {
@@ -72,7 +72,7 @@ fn succeeded<R: RangeTable, S: HostStore>(
     xid: u32,
     stat: Option<Stat>,
 ) -> StoreAnswer
-    ensures done { IsDone (answered_success the_limits world.old.world (option_map view_of_stat stat) (call_of_xid xid world.old.world.calls)) (answer_of result) world.old world.new }
+    ensures done { IsDone (answered_success the_limits world.old.world (option_map view_of_stat stat) (call_of_xid xid world.old.world.calls)) (view_of_stored result) world.old world.new }
     ensures forgotten { stat ≡ Some Stat.Denied → IsFoundForgotten is_granted (call_of_xid xid world.old.world.calls) world.old.world.calls world.new }
 {
     let key = AnswerKey::Xid(xid);
@@ -173,7 +173,7 @@ fn noticed<R: RangeTable, S: HostStore>(
     number: u64,
 ) -> StoreAnswer
     requires { IsNotice number (call_of_xid xid world.old.world.calls) }
-    ensures { (stat : Option nlm.Stat) → IsDone (answered_success the_limits world.old.world stat (call_of_xid xid world.old.world.calls)) (answer_of result) world.old world.new }
+    ensures { (stat : Option nlm.Stat) → IsDone (answered_success the_limits world.old.world stat (call_of_xid xid world.old.world.calls)) (view_of_stored result) world.old world.new }
 {
     let store = store_answer(world.acked(xid));
     drop(world.end(number));
@@ -181,7 +181,7 @@ fn noticed<R: RangeTable, S: HostStore>(
 }
 
 fn store_answer(acked: Option<Result<(), StoreError>>) -> StoreAnswer
-    ensures { answer_of result ≡ store_said acked }
+    ensures { view_of_stored result ≡ store_said acked }
 {
     match acked {
         None => StoreAnswer::NotAsked,

@@ -11,4 +11,4 @@ mod told;
 pub use answers::{answered, granted_res};
 pub use owner_ids::Starved;
 pub use plans::{Answer, Asked, Change, Plan, Range, Shared, StoreAnswer, Told, Wanted};
-pub use steps::{abandon, agree, ask, change, commit, prepare, prepare_change};
+pub use steps::{abandon, agree, ask, commit, make_change, prepare, prepare_change};

@@ -1,12 +1,12 @@
 //! What is to be done for a call.
 ghost use Rattle.std.specs.Prelude.{◌≡◌, ◌≤◌, ◌<◌, ◌^◌};
-ghost use Rattle.call_outcome.specs.Values.{outcome_of};
-ghost use Rattle.owner_ids.specs.Said.{said};
-ghost use Rattle.lock_world.specs.Whole.{IsShown};
-ghost use Rattle.lock_world.proofs.OneProof.{shown_prop};
+ghost use Rattle.call_outcome.specs.Values.{view_of_outcome};
+ghost use Rattle.owner_ids.specs.Said.{view_of_owner};
+ghost use Rattle.lock_state.specs.Whole.{IsShown};
+ghost use Rattle.lock_state.proofs.OneProof.{shown_prop};
 
 use call_outcome::Outcome;
-use letters::{Letter, MyId, ShortBytes};
+use callbacks::{Letter, MyId, ShortBytes};
 use nlm4_types::Stat;
 use owner_ids::Owner;
 use range_table::{FileId, Mode};
@@ -23,7 +23,7 @@ pub struct Range {
     pub mode: Option<Mode>,
     pub ghost ordered: { first ≤ last },
     pub ghost inside: { last < 2 ^ 63 },
-    pub ghost shown: { IsShown (said owner) } by { shown_prop (said owner) },
+    pub ghost shown: { IsShown (view_of_owner owner) } by { shown_prop (view_of_owner owner) },
 }
 
 /// A lock that an owner wants, from the first to the last byte.
@@ -36,7 +36,7 @@ pub struct Wanted {
     pub mode: Mode,
     pub ghost ordered: { first ≤ last },
     pub ghost inside: { last < 2 ^ 63 },
-    pub ghost shown: { IsShown (said owner) } by { shown_prop (said owner) },
+    pub ghost shown: { IsShown (view_of_owner owner) } by { shown_prop (view_of_owner owner) },
 }
 
 /// What is asked of the store (XNFS, NSM).
@@ -92,7 +92,7 @@ pub enum Change {
 pub struct Shared {
     pub told: Arc<Outcome, Global>,
     pub noted: Arc<Outcome, Global>,
-    pub ghost same: { outcome_of noted.value ≡ outcome_of told.value },
+    pub ghost same: { view_of_outcome noted.value ≡ view_of_outcome told.value },
 }
 
 /// What is told: the outcome, and the calls of the server's own that become due for it.

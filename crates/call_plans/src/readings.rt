@@ -2,19 +2,19 @@
 ghost use Rattle.std.specs.Prelude.{◌≡◌};
 ghost use Rattle.definitions.specs.World.{World as SaidWorld};
 ghost use Rattle.definitions.specs.Rulings.{ruled};
-ghost use Rattle.call_outcome.specs.Values.{outcome_of};
+ghost use Rattle.call_outcome.specs.Values.{view_of_outcome};
 ghost use Rattle.definitions.specs.Settings.{setting_of as setting_said};
 ghost use Rattle.held_locks.specs.Asked.{asked, changed as change_said};
-ghost use Rattle.call_plans.specs.Planned.{answer_of, planned, request_wanted, setting_of};
+ghost use Rattle.call_plans.specs.Planned.{view_of_stored, planned, request_wanted, setting_of};
 
 use crate::plans::{Plan, Range, StoreAnswer, Told, Wanted};
 
 impl Range {
     /// The same, as the locks are told.
-    pub fn change(&self) -> held_locks::Change<'_>
+    pub fn setting(&self) -> held_locks::NewSetting<'_>
         ensures { change_said result ≡ setting_of self.now }
     {
-        held_locks::Change {
+        held_locks::NewSetting {
             file: self.file,
             owner: &self.owner,
             first: self.first,
@@ -55,8 +55,8 @@ impl Wanted {
 impl Plan {
     /// What will be told under this answer of the store, known before the plan is done.
     pub fn told(&self, store: StoreAnswer) -> &Told
-        ensures outcome { (w : SaidWorld) → outcome_of result.now.outcome.told.value ≡ (ruled (answer_of store) (planned self.now w)).outcome }
-        ensures due { (w : SaidWorld) → result.now.due.items ≡ (ruled (answer_of store) (planned self.now w)).due }
+        ensures outcome { (w : SaidWorld) → view_of_outcome result.now.outcome.told.value ≡ (ruled (view_of_stored store) (planned self.now w)).outcome }
+        ensures due { (w : SaidWorld) → result.now.due.items ≡ (ruled (view_of_stored store) (planned self.now w)).due }
     {
         match (self, store) {
             (Plan::Decided(answer), _) => &answer.told,

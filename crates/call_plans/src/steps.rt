@@ -4,19 +4,19 @@ ghost use Rattle.definitions.specs.Hosts.{after_store, is_past_limit};
 ghost use Rattle.definitions.specs.World.{with_hosts, with_setting};
 ghost use Rattle.hosts_db.specs.Calls.{Counts, Makes, IsPastLimit};
 ghost use Rattle.definitions.specs.Starts.{refuses};
-ghost use Rattle.call_outcome.specs.Values.{outcome_of};
-ghost use Rattle.letters.specs.Meanings.{my_id_of};
+ghost use Rattle.call_outcome.specs.Values.{view_of_outcome};
+ghost use Rattle.callbacks.specs.Meanings.{my_id_of};
 ghost use Rattle.std.specs.Option.{option_copied};
-ghost use Rattle.lock_world.specs.Seen.{KeepsKnown};
-ghost use Rattle.call_plans.specs.Planned.{answer_of, answered, asked_of, told_in, stored, counted};
+ghost use Rattle.lock_state.specs.Seen.{KeepsKnown};
+ghost use Rattle.call_plans.specs.Planned.{view_of_stored, answered, asked_of, told_in, stored, counted};
 ghost use Rattle.call_plans.specs.Planned.{IsAnswerTo, IsCommitted, IsWithin, Fits, FitsChange, FitsAnswer, FitsDue, FitsUnder, CanAsk, CanAskFor, IsReady, IsReadyFor, MayHold};
 ghost use Rattle.call_plans.specs.Planned.{IsForgotten, IsForgottenFor, IsForgottenBy, IsForgottenUnder, KeepsOthers, KeepsOthersFor, changed, setting_of};
 
 use crate::answers::granted_res;
 use crate::plans::{Answer, Asked, Change, Plan, Range, Shared, StoreAnswer, Told};
+use callbacks::{MyId, ShortBytes};
 use hosts_db::{HostStore, StoreError};
-use letters::{MyId, ShortBytes};
-use lock_world::World;
+use lock_state::World;
 use owner_ids::Starved;
 use range_table::{NoRuns, RangeTable};
 
@@ -110,12 +110,12 @@ pub fn ask<R: RangeTable, S: HostStore>(
     plan: &Plan,
 ) -> Result<StoreAnswer, Starved>
     requires { CanAsk plan.now world.old.world }
-    ensures answer { IfOk result (λ answer. IsAnswerTo plan.now (answer_of answer)) }
-    ensures world { IfOk result (λ answer. world.new.world ≡ stored plan.now (answer_of answer) world.old.world) }
-    ensures limit { IfOk result (λ answer. IsWithin plan.now (answer_of answer) world.old.world) }
-    ensures refusals { IfOk result (λ answer. world.new.refusals ≡ counted (answer_of answer) world.old.refusals) }
+    ensures answer { IfOk result (λ answer. IsAnswerTo plan.now (view_of_stored answer)) }
+    ensures world { IfOk result (λ answer. world.new.world ≡ stored plan.now (view_of_stored answer) world.old.world) }
+    ensures limit { IfOk result (λ answer. IsWithin plan.now (view_of_stored answer) world.old.world) }
+    ensures refusals { IfOk result (λ answer. world.new.refusals ≡ counted (view_of_stored answer) world.old.refusals) }
     ensures starved { OnErr result (world.new ≡ world.old) }
-    ensures fits { IfOk result (λ answer. Fits plan.now world.old.world → FitsUnder (answer_of answer) plan.now world.new.world) }
+    ensures fits { IfOk result (λ answer. Fits plan.now world.old.world → FitsUnder (view_of_stored answer) plan.now world.new.world) }
     ensures ready { IsReady plan.now world.old → IsReady plan.now world.new }
 {
     match plan {
@@ -175,11 +175,11 @@ pub fn commit<R: RangeTable, S: HostStore>(
     plan: Plan,
     store: StoreAnswer,
 ) -> Shared
-    requires fits { FitsUnder (answer_of store) plan world.old.world }
+    requires fits { FitsUnder (view_of_stored store) plan world.old.world }
     requires ready { IsReady plan world.old }
-    ensures answer { IsCommitted (answer_of store) plan (outcome_of result.told.value) world.old.world world.new.world }
+    ensures answer { IsCommitted (view_of_stored store) plan (view_of_outcome result.told.value) world.old.world world.new.world }
     ensures refusals { world.new.refusals ≡ world.old.refusals }
-    ensures forgotten { IsForgottenUnder (answer_of store) plan world.new }
+    ensures forgotten { IsForgottenUnder (view_of_stored store) plan world.new }
 {
     match (plan, store) {
         (Plan::Decided(answer), _) => do_answer(world, answer),
@@ -202,7 +202,7 @@ fn refuse<R: RangeTable, S: HostStore>(
     refused: Told,
 ) -> Shared
     requires { FitsDue refused world.old.world }
-    ensures told { record { outcome = outcome_of result.told.value; due = refused.due.items; world = world.new.world } ≡ told_in refused world.old.world }
+    ensures told { record { outcome = view_of_outcome result.told.value; due = refused.due.items; world = world.new.world } ≡ told_in refused world.old.world }
     ensures refusals { world.new.refusals ≡ world.old.refusals }
     ensures forgotten { IsForgottenFor change.now world.new.world world.new }
 {
@@ -214,7 +214,7 @@ fn refuse<R: RangeTable, S: HostStore>(
 fn do_answer<R: RangeTable, S: HostStore>(world: &mut World<R, S>, answer: Answer) -> Shared
     requires fits { FitsAnswer answer world.old.world }
     requires ready { IsReadyFor answer.change world.old }
-    ensures told { record { outcome = outcome_of result.told.value; due = answer.told.due.items; world = world.new.world } ≡ answered answer world.old.world }
+    ensures told { record { outcome = view_of_outcome result.told.value; due = answer.told.due.items; world = world.new.world } ≡ answered answer world.old.world }
     ensures refusals { world.new.refusals ≡ world.old.refusals }
     ensures forgotten { IsForgottenBy answer.change world.new }
 {
@@ -222,13 +222,13 @@ fn do_answer<R: RangeTable, S: HostStore>(world: &mut World<R, S>, answer: Answe
         told,
         change: wanted,
     } = answer;
-    change(world, wanted);
+    make_change(world, wanted);
     tell(world, told)
 }
 
 fn tell<R: RangeTable, S: HostStore>(world: &mut World<R, S>, told: Told) -> Shared
     requires { FitsDue told world.old.world }
-    ensures told { record { outcome = outcome_of result.told.value; due = told.due.items; world = world.new.world } ≡ told_in told world.old.world }
+    ensures told { record { outcome = view_of_outcome result.told.value; due = told.due.items; world = world.new.world } ≡ told_in told world.old.world }
     ensures names { world.new.names ≡ world.old.names }
     ensures refusals { world.new.refusals ≡ world.old.refusals }
 {
@@ -243,11 +243,11 @@ fn set<R: RangeTable, S: HostStore>(world: &mut World<R, S>, range: &Range) -> R
     ensures err { OnErr result (world.new.world ≡ world.old.world) }
     ensures refusals { world.new.refusals ≡ world.old.refusals }
 {
-    world.set(&range.change())
+    world.set(&range.setting())
 }
 
 /// Makes the change, without memory. No waiter is granted yet.
-pub fn change<R: RangeTable, S: HostStore>(world: &mut World<R, S>, change: Change)
+pub fn make_change<R: RangeTable, S: HostStore>(world: &mut World<R, S>, change: Change)
     requires fits { FitsChange change world.old.world }
     requires ready { IsReadyFor change world.old }
     ensures world { world.new.world ≡ changed change world.old.world }
@@ -284,11 +284,11 @@ pub fn agree<R: RangeTable, S: HostStore>(
 ) -> Result<StoreAnswer, Starved>
     requires fits { Fits plan.now world.old.world }
     requires asks { CanAsk plan.now world.old.world }
-    ensures answer { IfOk result (λ answer. IsAnswerTo plan.now (answer_of answer)) }
-    ensures limit { IfOk result (λ answer. IsWithin plan.now (answer_of answer) world.old.world) }
-    ensures world { IfOk result (λ answer. world.new.world ≡ stored plan.now (answer_of answer) world.old.world) }
-    ensures counts { IfOk result (λ answer. world.new.refusals ≡ counted (answer_of answer) world.old.refusals) }
-    ensures fits { IfOk result (λ answer. FitsUnder (answer_of answer) plan.now world.new.world) }
+    ensures answer { IfOk result (λ answer. IsAnswerTo plan.now (view_of_stored answer)) }
+    ensures limit { IfOk result (λ answer. IsWithin plan.now (view_of_stored answer) world.old.world) }
+    ensures world { IfOk result (λ answer. world.new.world ≡ stored plan.now (view_of_stored answer) world.old.world) }
+    ensures counts { IfOk result (λ answer. world.new.refusals ≡ counted (view_of_stored answer) world.old.refusals) }
+    ensures fits { IfOk result (λ answer. FitsUnder (view_of_stored answer) plan.now world.new.world) }
     ensures ready { OnOk result (IsReady plan.now world.new) }
     ensures err { OnErr result ((world.new.world ≡ world.old.world) × (world.new.refusals ≡ world.old.refusals)) }
     ensures forgotten { OnErr result (IsForgotten plan.now world.new.world world.new) }

@@ -1,13 +1,13 @@
 //! What is told, made of its parts.
 ghost use Rattle.std.specs.Prelude.{◌≡◌, ◌≤◌, IfOk};
-ghost use Rattle.call_outcome.specs.Values.{outcome_of};
+ghost use Rattle.call_outcome.specs.Values.{view_of_outcome};
 ghost use Rattle.definitions.specs.Answer.{gives, sent_back};
 ghost use Rattle.definitions.specs.World.{World as SaidWorld, slots_free, the_limits};
 ghost use Rattle.call_plans.specs.Planned.{told_in, FitsDue};
 
 use crate::plans::{Shared, Told};
 use call_outcome::{CallResult, Outcome};
-use letters::Letter;
+use callbacks::Letter;
 use owner_ids::Starved;
 use std::alloc::Global;
 use std::sync::Arc;
@@ -29,7 +29,7 @@ impl Shared {
 impl Told {
     /// The outcome alone: no call of the server's own goes with it.
     pub fn reply(alloc: Global, outcome: Outcome) -> Result<Told, Starved>
-        ensures told { IfOk result (λ made. (w : SaidWorld) → told_in made w ≡ gives w (outcome_of outcome)) }
+        ensures told { IfOk result (λ made. (w : SaidWorld) → told_in made w ≡ gives w (view_of_outcome outcome)) }
         ensures fits { IfOk result (λ made. (w : SaidWorld) → FitsDue made w) }
     {
         Ok(Told {

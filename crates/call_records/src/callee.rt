@@ -1,11 +1,11 @@
 //! What is called, and with what.
 ghost use Rattle.std.specs.Prelude.{◌≡◌, ◌+◌, ◌≤◌, ◌++◌, ◌↔◌, length, IsOk, OnOk, OnErr};
 ghost use Rattle.nlm4_types.specs.Version.{view_of_version};
-ghost use Rattle.letters.specs.Meanings.{my_id_of};
+ghost use Rattle.callbacks.specs.Meanings.{my_id_of};
 ghost use Rattle.call_records.specs.Records.{lock_manager, record_to, status_monitor, watcher};
 ghost use Rattle.call_records.specs.Parts.{arguments_bytes};
 
-use letters::MyId;
+use callbacks::MyId;
 use nlm4_types::{NlmMessage, Version};
 use nsm_types::NsmMessage;
 use rpc_msg::put_call;

@@ -1,10 +1,10 @@
 //! Whom a record is for.
 ghost use Rattle.std.specs.Prelude.{◌≡◌, ◌≤◌, length};
-ghost use Rattle.letters.specs.Meanings.{destination_of};
+ghost use Rattle.callbacks.specs.Meanings.{view_of_destination};
 ghost use Rattle.call_records.specs.Dests.{dest_of};
 
 use arrayvec::ArrayVec;
-use letters::Destination;
+use callbacks::Destination;
 use std::marker::Model;
 
 /// The name of a host, at most 1,024 bytes, which lie in the value itself. A contract sees them.
@@ -52,7 +52,7 @@ pub enum Dest {
 impl Dest {
     /// The same as a letter says.
     pub fn of(to: &Destination) -> Dest
-        ensures { dest_of result ≡ destination_of to.now }
+        ensures { dest_of result ≡ view_of_destination to.now }
     {
         match to {
             Destination::Host(name) => Dest::Host(HostName::new(name.as_slice())),

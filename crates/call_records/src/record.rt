@@ -1,13 +1,13 @@
 //! The record of a call.
 ghost use Rattle.std.specs.Prelude.{◌≡◌, ◌+◌, ◌≤◌, ◌++◌, ◌↔◌, length, IsOk, OnOk, OnErr};
-ghost use Rattle.letters.specs.Meanings.{lock_of, message_of};
+ghost use Rattle.callbacks.specs.Meanings.{view_of_told_lock, view_of_message};
 ghost use Rattle.nlm4_types.specs.Lock.{view_of_lock};
 ghost use Rattle.nlm4_types.specs.Messages.{message_bytes, procedure_of};
 ghost use Rattle.nlm4_types.specs.Version.{view_of_version};
 ghost use Rattle.call_records.specs.Records.{call_record, lock_manager, record_to};
 
 use crate::callee::{Arguments, Callee};
-use letters::{Lock, Message};
+use callbacks::{Lock, Message};
 use local_ops::put_granted;
 use nlm4_types::{Grant, NlmMessage, Version};
 use nsm_types::{NsmMessage, StatChge, Status};
@@ -17,8 +17,8 @@ use xdr_core::{Fixed, Frame, FrameFull};
 /// exactly where it doesn't fit, and the frame is unchanged then. It fits behind 24 bytes, so it does in an empty frame.
 pub fn put_record(number: u64, message: &Message, f: &mut Frame) -> Result<(), FrameFull>
     ensures fits { length f.old ≤ 24 → IsOk result }
-    ensures room { IsOk result ↔ (length f.old + length (call_record number (message_of message.now)) ≤ 4096) }
-    ensures ok { OnOk result (f.new ≡ f.old ++ call_record number (message_of message.now)) }
+    ensures room { IsOk result ↔ (length f.old + length (call_record number (view_of_message message.now)) ≤ 4096) }
+    ensures ok { OnOk result (f.new ≡ f.old ++ call_record number (view_of_message message.now)) }
     ensures err { OnErr result (f.new ≡ f.old) }
 {
     match message {
@@ -79,7 +79,7 @@ pub fn put_record(number: u64, message: &Message, f: &mut Frame) -> Result<(), F
 fn grant_of(number: u64, exclusive: bool, lock: &Lock) -> Grant<'_>
     ensures number { result.number ≡ number }
     ensures exclusive { result.exclusive ≡ exclusive }
-    ensures lock { view_of_lock result.alock ≡ lock_of lock.now }
+    ensures lock { view_of_lock result.alock ≡ view_of_told_lock lock.now }
 {
     Grant {
         number,

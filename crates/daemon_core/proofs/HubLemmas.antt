@@ -3,16 +3,16 @@ use Rattle.std.proofs.Common.{◌≡◌, ℕ, zero, suc, ◌<◌, ◌≤◌, inl
 use Rattle.std.proofs.lemmas.Bool.Decides.{nat_tests}
 use Rattle.definitions.specs.Hosts.{NotAsked}
 use Rattle.definitions.specs.Step.{Given, State}
-use Rattle.kept_replies.specs.Pairs.{asker}
+use Rattle.kept_replies.specs.Pairs.{view_of_peer}
 use Rattle.call_plans.specs.declared.plans.StoreAnswer.{StoreAnswer as Told}
 use Rattle.call_plans.specs.declared.plans.StoreAnswer.TheVariants as told
-use Rattle.call_plans.specs.Planned.{answer_of, counted}
+use Rattle.call_plans.specs.Planned.{view_of_stored, counted}
 use Rattle.book.specs.Given.{Upshot}
 use Rattle.book.specs.Journal.{TakesMemory}
 use Rattle.book.specs.Notes.{Happening, Takes, BeginsAnew, Steps}
 use Rattle.daemon_core.specs.declared.outcome.Outcome.{Outcome}
 use Rattle.daemon_core.specs.declared.outcome.Outcome.TheVariants.{Starved, NoSegment}
-use Rattle.daemon_core.specs.Outcomes.{doing_of, NeedsEntry}
+use Rattle.daemon_core.specs.Outcomes.{view_of_outcome, NeedsEntry}
 use Rattle.daemon_core.specs.declared.outputs.Outputs.{Outputs}
 use Rattle.daemon_core.specs.Outputs.{quiet, upshot_of, told_to}
 use Rattle.daemon_core.specs.Untaken.{AreRecords, untaken}
@@ -51,8 +51,8 @@ TakesAt-none old out place i link link' there none is =
 
 pub TakesAt-some : (old : Hub) (state : State) (refusals : ℕ) (out : Outputs) (place i : ℕ) (link link' : Link) (bytes : List ℕ) (given : Given) → slice_get old.links place ≡ Some link
     → (records : List (List ℕ)) × AreRecords link.received records × (slice_get (untaken records link.taken) i ≡ Some bytes) × (link' ≡ with_taken link i)
-    → Steps old.state (Takes (asker link.peer) bytes) (upshot_of out given) state → refusals ≡ counted (answer_of out.store) old.refusals
-    → (out.outcome ≡ NoSegment → IsUnnoted (Takes (asker link.peer) bytes) old.state out state) → out ≡ told_to link.number out.outcome out.store given
+    → Steps old.state (Takes (view_of_peer link.peer) bytes) (upshot_of out given) state → refusals ≡ counted (view_of_stored out.store) old.refusals
+    → (out.outcome ≡ NoSegment → IsUnnoted (Takes (view_of_peer link.peer) bytes) old.state out state) → out ≡ told_to link.number out.outcome out.store given
     → TakesAt (Some place) i old out (record { state = state; refusals = refusals; links = slice_set old.links place link' })
 TakesAt-some old state refusals out place i link link' bytes given there some step counts unnoted outputs =
     inl (record {
@@ -72,7 +72,7 @@ TakesAt-some old state refusals out place i link link' bytes given there some st
 
 -- ---- an event of the shared state
 
-not_asked : (store : Told) → answer_of store ≡ NotAsked → store ≡ told.NotAsked
+not_asked : (store : Told) → view_of_stored store ≡ NotAsked → store ≡ told.NotAsked
 not_asked told.NotAsked e = refl
 not_asked told.Yes e = absurd cc
 not_asked told.Refused e = absurd cc
@@ -83,10 +83,10 @@ links_after-kept told.Yes links unlike = absurd (unlike refl)
 links_after-kept told.Refused links unlike = refl
 
 -- what is told of an upshot
-module _ (out : Outputs) (outcome : Outcome) (upshot : Upshot) (is : out.outcome ≡ outcome) (store : answer_of out.store ≡ upshot.store) (doing : doing_of outcome ≡ upshot.doing) where
+module _ (out : Outputs) (outcome : Outcome) (upshot : Upshot) (is : out.outcome ≡ outcome) (store : view_of_stored out.store ≡ upshot.store) (doing : view_of_outcome outcome ≡ upshot.doing) where
   pub upshot_of-told : upshot_of out upshot.given ≡ upshot
   upshot_of-told =
-      let became : doing_of out.outcome ≡ upshot.doing = ap doing_of is ∙ doing in λ i. record { doing = became i; store = store i; given = upshot.given }
+      let became : view_of_outcome out.outcome ≡ upshot.doing = ap view_of_outcome is ∙ doing in λ i. record { doing = became i; store = store i; given = upshot.given }
 
   module _ (event : Happening) (old new : State) (unasked : outcome ≡ NoSegment → upshot.store ≡ NotAsked) (unchanged : outcome ≡ NoSegment → new ≡ old) (needed : NeedsEntry event old) where
     pub unnoted : out.outcome ≡ NoSegment → IsUnnoted event old out new

@@ -3,9 +3,9 @@ use Rattle.std.proofs.Common.{◌≡◌, ℕ, zero, suc, ◌≤◌, inl, inr, Bo
 use Rattle.record_mark.specs.Stream.{Splits, HasOneReading}
 use Rattle.definitions.specs.Step.{Given, State}
 use Rattle.kept_replies.specs.declared.key.Peer.{Peer}
-use Rattle.kept_replies.specs.Pairs.{asker}
+use Rattle.kept_replies.specs.Pairs.{view_of_peer}
 use Rattle.call_plans.specs.declared.plans.StoreAnswer.{StoreAnswer}
-use Rattle.call_plans.specs.Planned.{answer_of, counted}
+use Rattle.call_plans.specs.Planned.{view_of_stored, counted}
 use Rattle.book.specs.Given.{comes_to}
 use Rattle.book.specs.Notes.{Happening, Takes, SendsNext, HearsAnswer, AsksLine, FallsSilent, GraceEnds, BeginsAnew, Steps, OneStep}
 use Rattle.daemon_core.specs.declared.event.Event.{Event}
@@ -13,7 +13,7 @@ use Rattle.daemon_core.specs.declared.event.Event.TheVariants.{Connect, Piece, D
 use Rattle.daemon_core.specs.declared.outcome.Outcome.{Outcome}
 use Rattle.daemon_core.specs.declared.outcome.Outcome.TheVariants.{Applied, Starved, NoSegment}
 use Rattle.daemon_core.specs.declared.outputs.Outputs.{Outputs}
-use Rattle.daemon_core.specs.Outcomes.{doing_of}
+use Rattle.daemon_core.specs.Outcomes.{view_of_outcome}
 use Rattle.daemon_core.specs.Outputs.{marked_by, told, told_call, told_line, told_to}
 use Rattle.daemon_core.specs.Untaken.{AreRecords, untaken}
 use Rattle.daemon_core.specs.Link.{Link, Hears, Receives, with_taken}
@@ -26,10 +26,10 @@ same-hub : (new end : Hub) → new.state ≡ end.state → new.refusals ≡ end.
 same-hub new end s r l = λ i. record { state = s i; refusals = r i; links = l i }
 
 -- what the events gave, and the states after them
-same-step : OneStep → (old new end : State) (event : Happening) (o p : Outcome) (a b : StoreAnswer) (given other : Given) → o ≡ p → a ≡ b → Steps old event (comes_to (doing_of o) (answer_of a) given) new
-    → Steps old event (comes_to (doing_of p) (answer_of b) other) end → (given ≡ other) × (new ≡ end)
+same-step : OneStep → (old new end : State) (event : Happening) (o p : Outcome) (a b : StoreAnswer) (given other : Given) → o ≡ p → a ≡ b → Steps old event (comes_to (view_of_outcome o) (view_of_stored a) given) new
+    → Steps old event (comes_to (view_of_outcome p) (view_of_stored b) other) end → (given ≡ other) × (new ≡ end)
 same-step one old new end event o p a b given other e f x y =
-    one old new end event (doing_of p) (answer_of b) given other (subst (λ (q : Outcome). Steps old event (comes_to (doing_of q) (answer_of b) given) new) e (subst (λ (q : StoreAnswer). Steps old event (comes_to (doing_of o) (answer_of q) given) new) f x)) y
+    one old new end event (view_of_outcome p) (view_of_stored b) given other (subst (λ (q : Outcome). Steps old event (comes_to (view_of_outcome q) (view_of_stored b) given) new) e (subst (λ (q : StoreAnswer). Steps old event (comes_to (view_of_outcome o) (view_of_stored q) given) new) f x)) y
 
 quiet-same : (old new new' : Hub) (out out' : Outputs) → IsQuiet old out new → IsQuiet old out' new' → Same out out' new new'
 quiet-same old new new' out out' h h' = (h.1 ∙ sym h'.1, h.0 ∙ sym h'.0)
@@ -100,19 +100,19 @@ Answers-same one step place i old new new' out out' e f h h' =
     let get : Link → List (List ℕ) → Option (List ℕ) = λ l rs. slice_get (untaken rs l.taken) i in
     let is' : slice_get (untaken h.records h.link.taken) i ≡ Some h'.bytes = ap (λ (rs : List (List ℕ)). get h.link rs) (sym records) ∙ (ap (λ (l : Link). get l h'.records) (sym link) ∙ h'.is) in
     let bytes : h'.bytes ≡ h.bytes = bytes-same (slice_get (untaken h.records h.link.taken) i) h'.bytes h.bytes is' h.is in
-    let Q : Link → List ℕ → Type 0 = λ l b. Steps old.state (Takes (asker l.peer) b) (comes_to (doing_of out'.outcome) (answer_of out'.store) h'.given) new'.state in
+    let Q : Link → List ℕ → Type 0 = λ l b. Steps old.state (Takes (view_of_peer l.peer) b) (comes_to (view_of_outcome out'.outcome) (view_of_stored out'.store) h'.given) new'.state in
     let step' = subst (λ (b : List ℕ). Q h.link b) bytes (subst (λ (l : Link). Q l h'.bytes) link h'.step) in
-    let same = same-step step old.state new.state new'.state (Takes (asker h.link.peer) h.bytes) out.outcome out'.outcome out.store out'.store h.given h'.given e f h.step step' in
+    let same = same-step step old.state new.state new'.state (Takes (view_of_peer h.link.peer) h.bytes) out.outcome out'.outcome out.store out'.store h.given h'.given e f h.step step' in
     let links : new.links ≡ new'.links = h.links ∙ (ap (λ (l : Link). slice_set old.links place (with_taken l i)) (sym link) ∙ sym h'.links) in (
       h.outputs ∙ ap (λ (o : Outcome). told_to h.link.number o out.store h.given) e ∙ ap (λ (a : StoreAnswer). told_to h.link.number out'.outcome a h.given) f ∙ ap (λ (x : Given). told_to h.link.number out'.outcome out'.store x) same.0 ∙ ap (λ (l : Link). told_to l.number out'.outcome out'.store h'.given) (sym link) ∙ sym h'.outputs,
-      same-hub new new' same.1 (h.refusals ∙ ap (λ (a : StoreAnswer). counted (answer_of a) old.refusals) f ∙ sym h'.refusals) links,
+      same-hub new new' same.1 (h.refusals ∙ ap (λ (a : StoreAnswer). counted (view_of_stored a) old.refusals) f ∙ sym h'.refusals) links,
     )
 
 Happens-same : OneStep → (tell : Outcome → StoreAnswer → Given → Outputs) (event : Happening) (old new new' : Hub) (out out' : Outputs) → out.outcome ≡ out'.outcome → out.store ≡ out'.store → Happens tell event old out new → Happens tell event old out' new' → Same out out' new new'
 Happens-same step tell event old new new' out out' e f h h' =
     let same = same-step step old.state new.state new'.state event out.outcome out'.outcome out.store out'.store h.given h'.given e f h.step h'.step in (
       h.outputs ∙ ap (λ (o : Outcome). tell o out.store h.given) e ∙ ap (λ (a : StoreAnswer). tell out'.outcome a h.given) f ∙ ap (λ (x : Given). tell out'.outcome out'.store x) same.0 ∙ sym h'.outputs,
-      same-hub new new' same.1 (h.refusals ∙ ap (λ (a : StoreAnswer). counted (answer_of a) old.refusals) f ∙ sym h'.refusals) (h.links ∙ ap (λ (a : StoreAnswer). links_after event a old.links) f ∙ sym h'.links),
+      same-hub new new' same.1 (h.refusals ∙ ap (λ (a : StoreAnswer). counted (view_of_stored a) old.refusals) f ∙ sym h'.refusals) (h.links ∙ ap (λ (a : StoreAnswer). links_after event a old.links) f ∙ sym h'.links),
     )
 
 none-not : HasOneReading → (place i : ℕ) (old new new' : Hub) (out out' : Outputs) → Answers place i old out new → HasNone place i old out' new' → ⊥

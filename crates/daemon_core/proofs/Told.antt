@@ -12,11 +12,11 @@ use Rattle.definitions.specs.Shown.{shown_stat}
 use Rattle.definitions.specs.World.{World, the_limits, slots_free, with_all_due}
 use Rattle.definitions.specs.Step.{Event, Take, Peer, Doing, Applied, Starved, Given, Replies, State, Stepped, KeptPair, applied, taken, repeated, look, step, with_row_stored, asked_unless_kept, moved_to_front, IsUnapplied}
 use Rattle.definitions.proofs.RepeatLaws.{repeat_law}
-use Rattle.kept_replies.specs.Pairs.{asker}
-use Rattle.call_plans.specs.Planned.{answer_of}
+use Rattle.kept_replies.specs.Pairs.{view_of_peer}
+use Rattle.call_plans.specs.Planned.{view_of_stored}
 use Rattle.book.specs.Given.{Upshot}
 use Rattle.book.specs.Notes.{IsStep}
-use Rattle.daemon_core.specs.Outcomes.{doing_of}
+use Rattle.daemon_core.specs.Outcomes.{view_of_outcome}
 use Rattle.daemon_core.specs.Outputs.{reply_to, upshot_of}
 use Rattle.daemon_core.specs.declared.outputs.Outputs.{Outputs}
 use Rattle.daemon_core.specs.Hub.{Hub, Answers}
@@ -95,19 +95,19 @@ module _ (place i : ℕ) (old new : Hub) (out : Outputs) (t : Answers place i ol
   sent : (given : Given) → t.given ≡ given → out.sent ≡ reply_to t.link.number given
   sent given e = ap (λ (o : Outputs). o.sent) t.outputs ∙ ap (reply_to t.link.number) e
 
-  pub tells : (xid : ℕ) (version : Version) (call : NlmCall) (stat : Stat) → t.step.said ≡ Take (asker t.link.peer) t.bytes (Asks xid (Nlm version call)) → look old.state (asker t.link.peer) t.bytes ≡ None
-      → doing_of out.outcome ≡ Applied → early_refusal old.state.world call ≡ Some stat → TellsStat t.link xid (shown_stat version stat) out
+  pub tells : (xid : ℕ) (version : Version) (call : NlmCall) (stat : Stat) → t.step.said ≡ Take (view_of_peer t.link.peer) t.bytes (Asks xid (Nlm version call)) → look old.state (view_of_peer t.link.peer) t.bytes ≡ None
+      → view_of_outcome out.outcome ≡ Applied → early_refusal old.state.world call ≡ Some stat → TellsStat t.link xid (shown_stat version stat) out
   tells xid version call stat is none applied early = record {
-    outcome = (ruled (answer_of out.store) (nlm_answer the_limits old.state.world version call)).outcome;
-    stat_is = says_early old.state.world version call stat (answer_of out.store) early;
-    sent = sent _ (anew old.state new.state t.step.said (upshot_of out t.given) t.step.step (asker t.link.peer) t.bytes xid (Nlm version call) is applied none);
+    outcome = (ruled (view_of_stored out.store) (nlm_answer the_limits old.state.world version call)).outcome;
+    stat_is = says_early old.state.world version call stat (view_of_stored out.store) early;
+    sent = sent _ (anew old.state new.state t.step.said (upshot_of out t.given) t.step.step (view_of_peer t.link.peer) t.bytes xid (Nlm version call) is applied none);
   }
 
-  pub repeats : (xid : ℕ) (call : Call) (k : KeptPair) → t.step.said ≡ Take (asker t.link.peer) t.bytes (Asks xid call) → look old.state (asker t.link.peer) t.bytes ≡ Some k → AnswersRepeat t.link xid k old out new
+  pub repeats : (xid : ℕ) (call : Call) (k : KeptPair) → t.step.said ≡ Take (view_of_peer t.link.peer) t.bytes (Asks xid call) → look old.state (view_of_peer t.link.peer) t.bytes ≡ Some k → AnswersRepeat t.link xid k old out new
   repeats xid call k is there = record {
-    unapplied = subst (λ (s : State). IsUnapplied old.state.world s.world) (sym (steps old.state new.state t.step.said (upshot_of out t.given) t.step.step (asker t.link.peer) t.bytes xid call is (doing_of out.outcome) refl).1) (repeat_law the_limits old.state (asker t.link.peer) t.bytes xid call (doing_of out.outcome) (answer_of out.store) k there);
+    unapplied = subst (λ (s : State). IsUnapplied old.state.world s.world) (sym (steps old.state new.state t.step.said (upshot_of out t.given) t.step.step (view_of_peer t.link.peer) t.bytes xid call is (view_of_outcome out.outcome) refl).1) (repeat_law the_limits old.state (view_of_peer t.link.peer) t.bytes xid call (view_of_outcome out.outcome) (view_of_stored out.store) k there);
     again = λ applied slots.
-        let r = again old.state new.state t.step.said (upshot_of out t.given) t.step.step (asker t.link.peer) t.bytes xid call is k there applied in
+        let r = again old.state new.state t.step.said (upshot_of out t.given) t.step.step (view_of_peer t.link.peer) t.bytes xid call is k there applied in
         let both : repeated the_limits old.state k ≡ record { given = Replies k.xid k.outcome; state = record { world = with_all_due old.state.world k.letters; kept = moved_to_front k old.state.kept } } = rw slots refl in
         record {
           sent = sent (Replies k.xid k.outcome) (r.0 ∙ ap (λ (x : Stepped). x.given) both);
@@ -115,11 +115,11 @@ module _ (place i : ℕ) (old new : Hub) (out : Outputs) (t : Answers place i ol
           kept = ap (λ (s : State). s.kept) r.1 ∙ ap (λ (x : Stepped). x.state.kept) both;
         };
     full = λ applied slots.
-        let r = again old.state new.state t.step.said (upshot_of out t.given) t.step.step (asker t.link.peer) t.bytes xid call is k there applied in
+        let r = again old.state new.state t.step.said (upshot_of out t.given) t.step.step (view_of_peer t.link.peer) t.bytes xid call is k there applied in
         let both : repeated the_limits old.state k ≡ record { given = Replies k.xid SystemErr; state = old.state } = rw slots refl in
         record { sent = sent (Replies k.xid SystemErr) (r.0 ∙ ap (λ (x : Stepped). x.given) both); state = r.1 ∙ ap (λ (x : Stepped). x.state) both };
     starved = λ starves.
-        let r = wanting old.state new.state t.step.said (upshot_of out t.given) t.step.step (asker t.link.peer) t.bytes xid call is k there starves in
+        let r = wanting old.state new.state t.step.said (upshot_of out t.given) t.step.step (view_of_peer t.link.peer) t.bytes xid call is k there starves in
         record { sent = sent (Replies xid SystemErr) r.0; state = r.1 };
   }
 

@@ -1,24 +1,24 @@
 -- What is sent, as a contract sees it.
 use Rattle.std.specs.Prelude.{◌≡◌, false}
 use Rattle.definitions.specs.Bytes.{Bytes}
-use Rattle.local_ops.specs.Answers.{reply_of}
+use Rattle.local_ops.specs.Answers.{view_of_local_answer}
 use Rattle.local_ops.specs.Texts.{reply_text}
-use Rattle.book.specs.Given.{given_of, record_of}
+use Rattle.book.specs.Given.{view_of_reply, record_of}
 use Rattle.daemon_core.specs.declared.sent.Addressee as declared
 use Rattle.daemon_core.specs.declared.sent.Addressee.TheVariants as addressee
 use Rattle.daemon_core.specs.declared.sent.Content.{Content}
 use Rattle.daemon_core.specs.declared.sent.Content.TheVariants as content
 use Rattle.daemon_core.specs.Sending.{Addressee, ToClient, ToHost, ToLocal, gets_records}
 
-abbrev pub addressee_of : declared.Addressee → Addressee
-addressee_of (addressee.Client number) = ToClient number
-addressee_of (addressee.Host name) = ToHost name
-addressee_of (addressee.Local l) = ToLocal l
+abbrev pub view_of_addressee : declared.Addressee → Addressee
+view_of_addressee (addressee.Client number) = ToClient number
+view_of_addressee (addressee.Host name) = ToHost name
+view_of_addressee (addressee.Local l) = ToLocal l
 
-abbrev pub bytes_of : Content → Bytes
-bytes_of (content.Reply reply) = record_of (given_of reply)
-bytes_of (content.Line answer) = reply_text (reply_of answer)
-bytes_of (content.Call frame) = frame
+abbrev pub view_of_content : Content → Bytes
+view_of_content (content.Reply reply) = record_of (view_of_reply reply)
+view_of_content (content.Line answer) = reply_text (view_of_local_answer answer)
+view_of_content (content.Call frame) = frame
 
 -- the answer to a line is for a local program
 abbrev pub IsFor : Content → Addressee → Type 0

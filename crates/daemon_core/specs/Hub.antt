@@ -5,10 +5,10 @@ use Rattle.definitions.specs.Bytes.{Bytes}
 use Rattle.definitions.specs.Hosts.{Hosts}
 use Rattle.definitions.specs.Step.{Given, State, opening_state}
 use Rattle.kept_replies.specs.declared.key.Peer.{Peer}
-use Rattle.kept_replies.specs.Pairs.{asker}
+use Rattle.kept_replies.specs.Pairs.{view_of_peer}
 use Rattle.call_plans.specs.declared.plans.StoreAnswer.{StoreAnswer}
 use Rattle.call_plans.specs.declared.plans.StoreAnswer.TheVariants.{NotAsked, Yes, Refused}
-use Rattle.call_plans.specs.Planned.{answer_of, counted}
+use Rattle.call_plans.specs.Planned.{view_of_stored, counted}
 use Rattle.book.specs.Journal.{TakesMemory}
 use Rattle.book.specs.Notes.{Happening, Takes, SendsNext, HearsAnswer, AsksLine, FallsSilent, GraceEnds, BeginsAnew, Steps}
 use Rattle.daemon_core.specs.declared.outcome.Outcome.{Outcome}
@@ -78,9 +78,9 @@ pub record Answers (place i : ℕ) (old : Hub) (out : Outputs) (new : Hub) : Typ
   pub bytes : List ℕ
   pub is : slice_get (untaken records link.taken) i ≡ Some bytes
   pub given : Given
-  pub step : Steps old.state (Takes (asker link.peer) bytes) (upshot_of out given) new.state
-  pub refusals : new.refusals ≡ counted (answer_of out.store) old.refusals
-  pub unnoted : out.outcome ≡ NoSegment → IsUnnoted (Takes (asker link.peer) bytes) old.state out new.state
+  pub step : Steps old.state (Takes (view_of_peer link.peer) bytes) (upshot_of out given) new.state
+  pub refusals : new.refusals ≡ counted (view_of_stored out.store) old.refusals
+  pub unnoted : out.outcome ≡ NoSegment → IsUnnoted (Takes (view_of_peer link.peer) bytes) old.state out new.state
   pub links : new.links ≡ slice_set old.links place (with_taken link i)
   pub outputs : out ≡ told_to link.number out.outcome out.store given
 
@@ -125,7 +125,7 @@ links_after GraceEnds store links = links
 pub record Happens (tell : Outcome → StoreAnswer → Given → Outputs) (event : Happening) (old : Hub) (out : Outputs) (new : Hub) : Type 0 where
   pub given : Given
   pub step : Steps old.state event (upshot_of out given) new.state
-  pub refusals : new.refusals ≡ counted (answer_of out.store) old.refusals
+  pub refusals : new.refusals ≡ counted (view_of_stored out.store) old.refusals
   pub fed : out.outcome ≡ Starved → TakesMemory event
   pub unnoted : out.outcome ≡ NoSegment → IsUnnoted event old.state out new.state
   pub links : new.links ≡ links_after event out.store old.links

@@ -11,8 +11,8 @@ abbrev pub flags_from : List Bool → List ℕ → List Bool
 flags_from flags [] = flags
 flags_from flags (i ∷ is) = flags_from (marked flags i) is
 
-abbrev pub link_of : Inside → Link
-link_of c = record { number = c.number; peer = c.peer; received = c.received.items; taken = flags_from [] c.takes.items; receives = c.receives }
+abbrev pub view_of_connection : Inside → Link
+view_of_connection c = record { number = c.number; peer = c.peer; received = c.received.items; taken = flags_from [] c.takes.items; receives = c.receives }
 
 -- while bytes are received, the assembler took them all
 abbrev pub IsInStep : Bool → Assembled → List ℕ → List (List ℕ) → Type 0

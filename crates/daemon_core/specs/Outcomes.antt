@@ -9,10 +9,10 @@ use Rattle.daemon_core.specs.declared.outcome.Outcome.{Outcome}
 use Rattle.daemon_core.specs.declared.outcome.Outcome.TheVariants as outcome
 
 -- an event without an entry has starved
-abbrev pub doing_of : Outcome → Doing
-doing_of outcome.Applied = Applied
-doing_of outcome.Starved = Starved
-doing_of outcome.NoSegment = Starved
+abbrev pub view_of_outcome : Outcome → Doing
+view_of_outcome outcome.Applied = Applied
+view_of_outcome outcome.Starved = Starved
+view_of_outcome outcome.NoSegment = Starved
 
 -- of an event that has an entry
 abbrev pub noted_as : Became → Outcome

@@ -3,10 +3,10 @@ use Rattle.std.specs.Prelude.{ℕ, List, [], Bool, true, false, cond, Option, So
 use Rattle.definitions.specs.Step.{Given, Nothing, Replies, Says, Sends, IsStarved, IsRefused}
 use Rattle.record_mark.specs.Sent.{marked}
 use Rattle.local_ops.specs.Texts.{reply_text}
-use Rattle.call_plans.specs.Planned.{answer_of}
+use Rattle.call_plans.specs.Planned.{view_of_stored}
 use Rattle.daemon_core.specs.declared.outcome.Outcome.{Outcome}
 use Rattle.daemon_core.specs.declared.outcome.Outcome.TheVariants.{Applied, Starved, NoSegment}
-use Rattle.daemon_core.specs.Outcomes.{doing_of}
+use Rattle.daemon_core.specs.Outcomes.{view_of_outcome}
 use Rattle.call_plans.specs.declared.plans.StoreAnswer.{StoreAnswer}
 use Rattle.call_plans.specs.declared.plans.StoreAnswer.TheVariants.{NotAsked}
 use Rattle.book.specs.Given.{Upshot, comes_to, record_of}
@@ -69,7 +69,7 @@ refusal_of (Sends call letter) = None
 
 -- what the event came to that gave this
 abbrev pub upshot_of : Outputs → Given → Upshot
-upshot_of out given = comes_to (doing_of out.outcome) (answer_of out.store) given
+upshot_of out given = comes_to (view_of_outcome out.outcome) (view_of_stored out.store) given
 
 -- of an event that sends nothing
 abbrev pub told : Outcome → StoreAnswer → Given → Outputs

@@ -7,9 +7,9 @@ use Rattle.definitions.specs.Replies.{Call, Nlm, Outcome, Success, SystemErr, Re
 use Rattle.definitions.specs.Shown.{shown_stat}
 use Rattle.definitions.specs.World.{World, the_limits, slots_free, with_all_due}
 use Rattle.definitions.specs.Step.{Take, Applied, Starved, KeptPair, Replies, look, moved_to_front, IsUnapplied}
-use Rattle.kept_replies.specs.Pairs.{asker}
+use Rattle.kept_replies.specs.Pairs.{view_of_peer}
 use Rattle.daemon_core.specs.Link.{Link}
-use Rattle.daemon_core.specs.Outcomes.{doing_of}
+use Rattle.daemon_core.specs.Outcomes.{view_of_outcome}
 use Rattle.daemon_core.specs.Outputs.{reply_to}
 use Rattle.daemon_core.specs.declared.outputs.Outputs.{Outputs}
 use Rattle.daemon_core.specs.Hub.{Hub, Answers}
@@ -34,11 +34,11 @@ stat_in _ = None
 
 -- the record that was taken asks for this call
 abbrev pub IsCall : {place i : ℕ} {old new : Hub} {out : Outputs} → Answers place i old out new → ℕ → Call → Type 0
-IsCall taken xid call = taken.step.said ≡ Take (asker taken.link.peer) taken.bytes (Asks xid call)
+IsCall taken xid call = taken.step.said ≡ Take (view_of_peer taken.link.peer) taken.bytes (Asks xid call)
 
 -- the pair that is kept of it, if one is
 abbrev pub kept_of : {place i : ℕ} {old new : Hub} {out : Outputs} → Answers place i old out new → Option KeptPair
-kept_of {old = old} taken = look old.state (asker taken.link.peer) taken.bytes
+kept_of {old = old} taken = look old.state (view_of_peer taken.link.peer) taken.bytes
 
 -- the client that asked gets this status
 pub record TellsStat (link : Link) (xid : ℕ) (stat : Stat) (out : Outputs) : Type 0 where
@@ -50,7 +50,7 @@ pub record TellsStat (link : Link) (xid : ℕ) (stat : Stat) (out : Outputs) : T
 abbrev pub RefusalIsTold : Type 0
 RefusalIsTold =
     (place i : ℕ) (old new : Hub) (out : Outputs) (taken : Answers place i old out new) (xid : ℕ) (version : Version) (call : NlmCall) (stat : Stat) → IsCall taken xid (Nlm version call) → kept_of taken ≡ None
-    → doing_of out.outcome ≡ Applied → early_refusal old.state.world call ≡ Some stat → TellsStat taken.link xid (shown_stat version stat) out
+    → view_of_outcome out.outcome ≡ Applied → early_refusal old.state.world call ≡ Some stat → TellsStat taken.link xid (shown_stat version stat) out
 
 -- the kept reply is sent again, the calls that went with it are due again, and the pair is now the newest
 pub record IsRepeated (link : Link) (k : KeptPair) (old : Hub) (out : Outputs) (new : Hub) : Type 0 where
@@ -66,9 +66,9 @@ pub record IsTurnedBack (link : Link) (xid : ℕ) (old : Hub) (out : Outputs) (n
 -- a call whose reply is kept is not done again: locks, waiters, shares, phase and hosts stay. It gets its reply again, unless memory or the places for its calls are wanting
 pub record AnswersRepeat (link : Link) (xid : ℕ) (k : KeptPair) (old : Hub) (out : Outputs) (new : Hub) : Type 0 where
   pub unapplied : IsUnapplied old.state.world new.state.world
-  pub again : doing_of out.outcome ≡ Applied → leb (length k.letters) (slots_free the_limits old.state.world) ≡ true → IsRepeated link k old out new
-  pub full : doing_of out.outcome ≡ Applied → leb (length k.letters) (slots_free the_limits old.state.world) ≡ false → IsTurnedBack link k.xid old out new
-  pub starved : doing_of out.outcome ≡ Starved → IsTurnedBack link xid old out new
+  pub again : view_of_outcome out.outcome ≡ Applied → leb (length k.letters) (slots_free the_limits old.state.world) ≡ true → IsRepeated link k old out new
+  pub full : view_of_outcome out.outcome ≡ Applied → leb (length k.letters) (slots_free the_limits old.state.world) ≡ false → IsTurnedBack link k.xid old out new
+  pub starved : view_of_outcome out.outcome ≡ Starved → IsTurnedBack link xid old out new
 
 abbrev pub KeptIsGivenAgain : Type 0
 KeptIsGivenAgain =

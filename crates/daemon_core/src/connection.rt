@@ -31,9 +31,9 @@ impl Model for Connection {
 
     ghost Value = { Link };
 
-    ghost use Rattle.daemon_core.specs.Inside.{link_of, IsQueue};
+    ghost use Rattle.daemon_core.specs.Inside.{view_of_connection, IsQueue};
 
-    ghost view = { link_of };
+    ghost view = { view_of_connection };
 
     ghost invariant = { IsQueue };
 }

@@ -12,10 +12,10 @@ use crate::outputs::{
     Outputs, make_quiet, make_sent, make_starved, make_unnoted, tell, tell_line, tell_to,
 };
 use book::{Book, BookEvent, StoreAnswer};
+use callbacks::ShortBytes;
 use held_locks::Locks;
 use hosts_db::HostStore;
 use kept_replies::Peer;
-use letters::ShortBytes;
 use owner_ids::Starved;
 use range_table::RangeTable;
 use std::alloc::Global;
@@ -205,14 +205,14 @@ impl<R: RangeTable, S: HostStore> Daemon<R, S> {
         ensures { HubStep self.old event result self.new }
     {
         match event {
-            Event::Connect(number, peer) => self.connect(number, peer),
-            Event::Piece(number, bytes) => self.receive(number, &bytes),
-            Event::Disconnect(number) => self.disconnect(number),
-            Event::Take(number, index) => self.take(number, index),
+            Event::Connect { connection, peer } => self.connect(connection, peer),
+            Event::Piece { connection, bytes } => self.receive(connection, &bytes),
+            Event::Disconnect { connection } => self.disconnect(connection),
+            Event::Take { connection, index } => self.take(connection, index),
             Event::Send => self.send(),
-            Event::Answer(bytes) => self.answer(bytes),
-            Event::Local(connection, line) => self.local(connection, line),
-            Event::Silent(number) => self.silent(number),
+            Event::Answer { bytes } => self.answer(bytes),
+            Event::Local { connection, line } => self.local(connection, line),
+            Event::Silent { number } => self.silent(number),
             Event::GraceOver => self.grace_over(),
             Event::Restart => self.restart(),
         }

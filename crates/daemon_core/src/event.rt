@@ -9,22 +9,22 @@ use thiserror::Error;
 #[derive(Drop)]
 pub enum Event {
     /// A connection begins, from this peer.
-    Connect(u64, Peer),
+    Connect { connection: u64, peer: Peer },
     /// Bytes come on it.
-    Piece(u64, Vec<u8>),
+    Piece { connection: u64, bytes: Vec<u8> },
     /// It ends. Whole records that were not taken are not answered.
-    Disconnect(u64),
+    Disconnect { connection: u64 },
     /// The record at this place among its whole records that were not yet taken is answered.
-    Take(u64, usize),
+    Take { connection: u64, index: usize },
     /// The server's own call that became due first is sent, if one is due.
     Send,
     /// An answer came to one of the server's own calls. One that belongs to none changes nothing.
-    Answer(Vec<u8>),
+    Answer { bytes: Vec<u8> },
     /// A local program's line, without its line feed, on its connection of this number. It is answered there.
-    Local(u64, Vec<u8>),
+    Local { connection: u64, line: Vec<u8> },
     /// Nothing answered the server's own call of this number. It is due again, or forgotten after three sendings; nothing
     /// changes where it is due now, or where there is none.
-    Silent(u64),
+    Silent { number: u64 },
     /// The grace period ends (XNFS, NLM: recovery).
     GraceOver,
     /// The server begins anew, with the store's rows, and in grace. Where the store agrees, all connections end.

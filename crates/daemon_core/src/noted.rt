@@ -3,9 +3,9 @@
 ghost use Rattle.std.specs.Prelude.{◌≡◌, ◌<◌, true, false};
 ghost use Rattle.definitions.specs.Hosts.{NotAsked};
 ghost use Rattle.call_plans.specs.Planned.{counted};
-ghost use Rattle.book.specs.Notes.{happening_of, Steps};
+ghost use Rattle.book.specs.Notes.{view_of_event, Steps};
 ghost use Rattle.book.specs.Journal.{room_of, rotated, TakesMemory};
-ghost use Rattle.daemon_core.specs.Outcomes.{doing_of};
+ghost use Rattle.daemon_core.specs.Outcomes.{view_of_outcome};
 ghost use Rattle.daemon_core.specs.Rooms.{BeginsWhereFull};
 
 use crate::outcome::Outcome;
@@ -21,10 +21,10 @@ pub(crate) fn note<R: RangeTable, S: HostStore>(
     book: &mut Book<R, S>,
     event: BookEvent,
 ) -> (Outcome, Upshot)
-    ensures outcome { doing_of result.0 ≡ result.1.doing }
-    ensures step { Steps book.old.journal.end (happening_of event) result.1 book.new.journal.end }
+    ensures outcome { view_of_outcome result.0 ≡ result.1.doing }
+    ensures step { Steps book.old.journal.end (view_of_event event) result.1 book.new.journal.end }
     ensures counts { book.new.refusals ≡ counted result.1.store book.old.refusals }
-    ensures fed { result.0 ≡ Outcome.Starved → TakesMemory (happening_of event) }
+    ensures fed { result.0 ≡ Outcome.Starved → TakesMemory (view_of_event event) }
 
     // Without an entry no store is asked, and nothing changes.
     ensures unasked { result.0 ≡ Outcome.NoSegment → result.1.store ≡ NotAsked }

@@ -3,7 +3,7 @@
 ghost use Rattle.std.specs.Prelude.{cond};
 ghost use Rattle.record_mark.specs.Sent.{marked};
 ghost use Rattle.written.specs.Written.{Wrote};
-ghost use Rattle.daemon_core.specs.Addressed.{addressee_of};
+ghost use Rattle.daemon_core.specs.Addressed.{view_of_addressee};
 ghost use Rattle.daemon_core.specs.Sending.{gets_records};
 
 use crate::sent::Addressee;
@@ -26,7 +26,7 @@ pub(crate) fn write_frame<W: Write>(
     to: &Addressee,
     frame: &Frame,
 ) -> Result<(), WriteFault>
-    ensures { Wrote (W.contents writer.old) (W.contents writer.new) result (cond (gets_records (addressee_of to.now)) (marked frame.now) frame.now) }
+    ensures { Wrote (W.contents writer.old) (W.contents writer.new) result (cond (gets_records (view_of_addressee to.now)) (marked frame.now) frame.now) }
 {
     if to.gets_records() {
         write_record(writer, frame)

@@ -2,11 +2,11 @@
 
 ghost use Rattle.std.specs.Prelude.{◌≡◌, Some, None};
 ghost use Rattle.call_records.specs.Dests.{dest_of};
-ghost use Rattle.call_plans.specs.Planned.{answer_of};
+ghost use Rattle.call_plans.specs.Planned.{view_of_stored};
 ghost use Rattle.daemon_core.specs.declared.outcome.Outcome.TheVariants.{Applied};
 ghost use Rattle.call_plans.specs.declared.plans.StoreAnswer.TheVariants.{NotAsked};
 ghost use Rattle.daemon_core.specs.Sending.{addressee};
-ghost use Rattle.book.specs.Given.{given_of};
+ghost use Rattle.book.specs.Given.{view_of_reply};
 ghost use Rattle.daemon_core.specs.Outputs.{quiet, starved, unnoted, heard, refusal_of, reply_to, line_to, told, told_line, told_to};
 
 use crate::event::Refusal;
@@ -71,7 +71,7 @@ pub(crate) fn make_unnoted() -> Outputs
 /// Of an event that sends nothing.
 pub(crate) fn tell(outcome: Outcome, upshot: Upshot) -> Outputs
     ensures outcome { result.outcome ≡ outcome }
-    ensures store { answer_of result.store ≡ upshot.store }
+    ensures store { view_of_stored result.store ≡ upshot.store }
     ensures told { result ≡ told result.outcome result.store upshot.given }
 {
     Outputs {
@@ -85,7 +85,7 @@ pub(crate) fn tell(outcome: Outcome, upshot: Upshot) -> Outputs
 /// Of a record that came on this connection.
 pub(crate) fn tell_to(number: u64, outcome: Outcome, upshot: Upshot) -> Outputs
     ensures outcome { result.outcome ≡ outcome }
-    ensures store { answer_of result.store ≡ upshot.store }
+    ensures store { view_of_stored result.store ≡ upshot.store }
     ensures told { result ≡ told_to number result.outcome result.store upshot.given }
 {
     Outputs {
@@ -99,7 +99,7 @@ pub(crate) fn tell_to(number: u64, outcome: Outcome, upshot: Upshot) -> Outputs
 /// Of a line that came on this local connection.
 pub(crate) fn tell_line(connection: u64, outcome: Outcome, upshot: Upshot) -> Outputs
     ensures outcome { result.outcome ≡ outcome }
-    ensures store { answer_of result.store ≡ upshot.store }
+    ensures store { view_of_stored result.store ≡ upshot.store }
     ensures told { result ≡ told_line connection result.outcome result.store upshot.given }
 {
     Outputs {
@@ -123,7 +123,7 @@ pub(crate) fn make_sent(to: Dest, frame: Frame) -> Outputs
 }
 
 fn refusal_in(reply: &Reply) -> Option<Refusal>
-    ensures { result ≡ refusal_of (given_of reply.now) }
+    ensures { result ≡ refusal_of (view_of_reply reply.now) }
 {
     match reply {
         Reply::Starved => Some(Refusal::Starved),
@@ -137,7 +137,7 @@ fn refusal_in(reply: &Reply) -> Option<Refusal>
 }
 
 fn send(to: u64, reply: Reply) -> Option<Sent>
-    ensures { result ≡ reply_to to (given_of reply) }
+    ensures { result ≡ reply_to to (view_of_reply reply) }
 {
     match reply {
         Reply::Answers { .. } | Reply::Refuses { .. } | Reply::SystemErr { .. } => {
@@ -148,7 +148,7 @@ fn send(to: u64, reply: Reply) -> Option<Sent>
 }
 
 fn send_line(to: u64, reply: Reply) -> Option<Sent>
-    ensures { result ≡ line_to to (given_of reply) }
+    ensures { result ≡ line_to to (view_of_reply reply) }
 {
     match reply {
         Reply::Says(answer) => Some(Sent::line(to, answer)),

@@ -2,11 +2,11 @@
 
 ghost use Rattle.std.specs.Prelude.{◌≡◌, Some};
 ghost use Rattle.call_records.specs.Dests.{dest_of};
-ghost use Rattle.book.specs.Given.{given_of, record_of};
+ghost use Rattle.book.specs.Given.{view_of_reply, record_of};
 ghost use Rattle.daemon_core.specs.Sending.{ToClient, ToLocal, addressee, gets_records};
-ghost use Rattle.daemon_core.specs.Addressed.{addressee_of};
+ghost use Rattle.daemon_core.specs.Addressed.{view_of_addressee};
 ghost use Rattle.daemon_core.specs.Outputs.{bytes_sent};
-ghost use Rattle.local_ops.specs.Answers.{reply_of};
+ghost use Rattle.local_ops.specs.Answers.{view_of_local_answer};
 ghost use Rattle.local_ops.specs.Texts.{reply_text};
 ghost use Rattle.written.specs.Written.{Wrote};
 
@@ -31,7 +31,7 @@ pub enum Addressee {
 impl Addressee {
     /// Whether it gets records of one fragment (RFC 5531, section 11). A local program gets lines.
     pub fn gets_records(&self) -> bool
-        ensures { result ≡ gets_records (addressee_of self.now) }
+        ensures { result ≡ gets_records (view_of_addressee self.now) }
     {
         match self {
             Addressee::Client(_) | Addressee::Host(_) => true,
@@ -57,19 +57,19 @@ pub struct Sent {
 
 impl Model for Sent {
     ghost use Rattle.daemon_core.specs.Sending.{Sending};
-    ghost use Rattle.daemon_core.specs.Addressed.{addressee_of, bytes_of, IsFor};
+    ghost use Rattle.daemon_core.specs.Addressed.{view_of_addressee, view_of_content, IsFor};
 
     ghost Value = { Sending };
 
-    ghost view = { λ s. record { to = addressee_of s.to; bytes = bytes_of s.content } };
+    ghost view = { λ s. record { to = view_of_addressee s.to; bytes = view_of_content s.content } };
 
-    ghost invariant = { λ s. IsFor s.content (addressee_of s.to) };
+    ghost invariant = { λ s. IsFor s.content (view_of_addressee s.to) };
 }
 
 impl Sent {
     // To this connection.
     pub(crate) fn reply(to: u64, reply: Reply) -> Sent
-        ensures { result ≡ record { to = ToClient to; bytes = record_of (given_of reply) } }
+        ensures { result ≡ record { to = ToClient to; bytes = record_of (view_of_reply reply) } }
     {
         Sent {
             to: Addressee::Client(to),
@@ -79,7 +79,7 @@ impl Sent {
 
     // The answer to a line, to this local connection.
     pub(crate) fn line(to: u64, answer: LocalAnswer) -> Sent
-        ensures { result ≡ record { to = ToLocal to; bytes = reply_text (reply_of answer) } }
+        ensures { result ≡ record { to = ToLocal to; bytes = reply_text (view_of_local_answer answer) } }
     {
         Sent {
             to: Addressee::Local(to),
@@ -103,7 +103,7 @@ impl Sent {
 
     /// Whom it is for.
     pub fn to(&self) -> &Addressee
-        ensures { addressee_of result.now ≡ self.now.to }
+        ensures { view_of_addressee result.now ≡ self.now.to }
     {
         &self.to
     }

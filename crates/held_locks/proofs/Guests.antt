@@ -5,16 +5,16 @@ use Rattle.definitions.specs.Bytes.{Bytes}
 use Rattle.definitions.specs.Owners.{Owner, is_of_host}
 use Rattle.definitions.specs.Settings.{Setting}
 use Rattle.definitions.specs.Starts.{used_of}
-use Rattle.owner_ids.specs.Said.{said}
+use Rattle.owner_ids.specs.Said.{view_of_owner}
 use Rattle.owner_ids.specs.Names.{Names, is_owned_by, is_some_of_host}
 use Rattle.range_table.specs.Settings.{IsUsed, mode_at, held_by, held_after}
 use Rattle.range_table.specs.declared.run.Setting.{Setting as NumberSetting}
-use Rattle.owner_ranges.specs.Same.{AreOfHost}
-use Rattle.owner_ranges.specs.Stands.{Stands}
-use Rattle.owner_ranges.proofs.Words.{some_same, number_same}
-use Rattle.owner_ranges.proofs.Keeping.{interned}
-use Rattle.owner_ranges.proofs.Counting.{used_of_over, used_after_over}
-use Rattle.held_locks.specs.declared.asked.Change.{Change}
+use Rattle.range_owners.specs.Same.{AreOfHost}
+use Rattle.range_owners.specs.Stands.{Stands}
+use Rattle.range_owners.proofs.Words.{some_same, number_same}
+use Rattle.range_owners.proofs.Keeping.{interned}
+use Rattle.range_owners.proofs.Counting.{used_of_over, used_after_over}
+use Rattle.held_locks.specs.declared.asked.NewSetting.{NewSetting}
 use Rattle.held_locks.specs.Asked.{changed, change_by_number}
 use Rattle.held_locks.specs.Stranger.{IsAsker}
 use Rattle.held_locks.proofs.Strangers.{named_too, same_beside, renames_too}
@@ -60,10 +60,10 @@ guests_used names ns settings name n x count h a own u =
     let w = welcomed names name n x own ns settings h a in
     used_of_over w.by (mode_at ns) settings (and_guest names name n) name count w.stands w.all u
 
-pub guests_used_after : (names : Names) (ns : List NumberSetting) (settings : List Setting) (name : Bytes) (n : ℕ) (change : Change) (count : ℕ)
-    → Stands names (mode_at ns) settings → IsAsker names n (said change.owner.now) → is_of_host name (said change.owner.now) ≡ true → IsUsed (held_by (and_guest names name n) (held_after (mode_at ns) (change_by_number n change))) count → count ≡ used_of name (settings ++ changed change ∷ [])
+pub guests_used_after : (names : Names) (ns : List NumberSetting) (settings : List Setting) (name : Bytes) (n : ℕ) (change : NewSetting) (count : ℕ)
+    → Stands names (mode_at ns) settings → IsAsker names n (view_of_owner change.owner.now) → is_of_host name (view_of_owner change.owner.now) ≡ true → IsUsed (held_by (and_guest names name n) (held_after (mode_at ns) (change_by_number n change))) count → count ≡ used_of name (settings ++ changed change ∷ [])
 guests_used_after names ns settings name n change count h a own u =
-    let w = welcomed names name n (said change.owner.now) own ns settings h a in
+    let w = welcomed names name n (view_of_owner change.owner.now) own ns settings h a in
     used_after_over w.by ns settings (and_guest names name n) name (change_by_number n change) (changed change) count w.stands w.all (record { file = refl; owner = w.guest; first = refl; last = refl; mode = refl }) u
 
 -- and so is the test of a quota

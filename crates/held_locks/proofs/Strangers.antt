@@ -6,18 +6,18 @@ use Rattle.definitions.specs.Owners.{Owner}
 use Rattle.definitions.specs.Settings.{Setting}
 use Rattle.definitions.specs.Conflict.{conflicts as conflicts_said}
 use Rattle.definitions.specs.Starts.{Run, first_conflict}
-use Rattle.owner_ids.specs.Said.{said}
+use Rattle.owner_ids.specs.Said.{view_of_owner}
 use Rattle.owner_ids.specs.Names.{Names, Renames, number_cmp}
 use Rattle.owner_ids.proofs.Orders.{number_agrees}
 use Rattle.range_table.specs.Settings.{Held, IsConflict, IsFirstConflict, IsUpTo, conflicts, excludes}
 use Rattle.range_table.specs.File.{same_file}
 use Rattle.range_table.specs.declared.run.Run.{Run as NumberRun}
-use Rattle.owner_ranges.specs.Same.{mode_of, IsSameRun, IsSameFound}
-use Rattle.owner_ranges.specs.Stands.{Stands}
-use Rattle.owner_ranges.proofs.Words.{some_same, number_same, number_other}
-use Rattle.owner_ranges.proofs.Keeping.{interned}
-use Rattle.owner_ranges.proofs.FirstConflicts.{first_over}
-use Rattle.owner_ranges.proofs.InWay.{conflicts_over}
+use Rattle.range_owners.specs.Same.{view_of_mode, IsSameRun, IsSameFound}
+use Rattle.range_owners.specs.Stands.{Stands}
+use Rattle.range_owners.proofs.Words.{some_same, number_same, number_other}
+use Rattle.range_owners.proofs.Keeping.{interned}
+use Rattle.range_owners.proofs.FirstConflicts.{first_over}
+use Rattle.range_owners.proofs.InWay.{conflicts_over}
 use Rattle.held_locks.specs.declared.asked.Request.{Request as HeldRequest}
 use Rattle.held_locks.specs.Asked.{asked, run_by_number}
 use Rattle.held_locks.specs.Stranger.{IsAsker}
@@ -50,7 +50,7 @@ other_number wanted r h = number_other r.owner wanted.owner (not_true (r.owner =
 
 module _ (names : Names) (held : Held) (settings : List Setting) (h : Stands names held settings) (n : ℕ) (r : HeldRequest) (ordered : r.first ≤ r.last) where
   abbrev x : Owner
-  x = said r.owner.now
+  x = view_of_owner r.owner.now
 
   abbrev wanted : NumberRun
   wanted = run_by_number n r
@@ -100,11 +100,11 @@ module _ (names : Names) (held : Held) (settings : List Setting) (h : Stands nam
       conflicts_over too held settings wanted (asked r) found stands (record { file = refl; owner = (renames_too names n x).there; first = refl; last = refl; mode = refl }) ordered d
 
 -- what is shown of a run is the run of its owner
-pub same_shown : (names : Names) (a : NumberRun) (x : Owner) (t : Run) → names a.owner ≡ Some x → IsSameRun names a t → record { file = a.file; owner = x; first = a.first; last = a.last; mode = mode_of a.mode } ≡ t
+pub same_shown : (names : Names) (a : NumberRun) (x : Owner) (t : Run) → names a.owner ≡ Some x → IsSameRun names a t → record { file = a.file; owner = x; first = a.first; last = a.last; mode = view_of_mode a.mode } ≡ t
 same_shown names a x t e s = let o : x ≡ t.owner = some_same x t.owner (sym e ∙ s.owner) in rw (s.file, o, s.first, s.last, s.mode) refl
 
 -- what is found and shown is the first conflict
-pub shown_as : (names : Names) (found : Option NumberRun) (t : Option Run) (a : NumberRun) (x : Owner) → found ≡ Some a → names a.owner ≡ Some x → IsSameFound names found t → Some (record { file = a.file; owner = x; first = a.first; last = a.last; mode = mode_of a.mode }) ≡ t
+pub shown_as : (names : Names) (found : Option NumberRun) (t : Option Run) (a : NumberRun) (x : Owner) → found ≡ Some a → names a.owner ≡ Some x → IsSameFound names found t → Some (record { file = a.file; owner = x; first = a.first; last = a.last; mode = view_of_mode a.mode }) ≡ t
 shown_as names None t a x i e s = cc
 shown_as names (Some b) None a x i e s = absurd s
 shown_as names (Some b) (Some t) a x i e s = let q : a ≡ b = some_same a b (sym i) in ap Some (same_shown names a x t e (subst (λ z. IsSameRun names z t) (sym q) s))

@@ -2,7 +2,7 @@
 use Rattle.std.proofs.Common.{◌≡◌, ◌≢◌, ◌≤◌, ◌+◌, ◌==◌, ◌&&◌, ℕ, Bool, true, false, cond, ltb, refl, sym, ap, ◌∙◌, arith}
 use Rattle.std.proofs.lemmas.Bool.{lt-ltb, le-ltb, ltb-true, ltb-false}
 use Rattle.range_table.proofs.Tests.{by_test}
-use Rattle.owner_ranges.proofs.Words.{number_is, number_other}
+use Rattle.range_owners.proofs.Words.{number_is, number_other}
 
 cond_same : {X : Type 0} (b : Bool) (d x : X) → x ≡ d → cond b d x ≡ d
 cond_same true d x e = refl

@@ -19,15 +19,15 @@ use Rattle.range_table.proofs.Tests.{by_test}
 use Rattle.range_table.proofs.Tables.{mode_at-append, mode_at-filter}
 use Rattle.range_table.proofs.Counts.{used_once, IsUsed-same}
 use Rattle.range_table.proofs.Splitting.{part_used, used_parts}
-use Rattle.owner_ranges.specs.Stands.{Stands}
-use Rattle.owner_ranges.proofs.Words.{number_same, number_other, number_is, covers_owner, none_or}
-use Rattle.owner_ranges.proofs.Keeping.{cleared, stands_after, released, had_or_interned, stands_without_owner, stands_without_host}
-use Rattle.owner_ranges.specs.Same.{IsSameSetting, held_mode}
-use Rattle.owner_ids.specs.Said.{said}
-use Rattle.held_locks.specs.declared.asked.Change.{Change}
+use Rattle.range_owners.specs.Stands.{Stands}
+use Rattle.range_owners.proofs.Words.{number_same, number_other, number_is, covers_owner, none_or}
+use Rattle.range_owners.proofs.Keeping.{cleared, stands_after, released, had_or_interned, stands_without_owner, stands_without_host}
+use Rattle.range_owners.specs.Same.{IsSameSetting, view_of_held_mode}
+use Rattle.owner_ids.specs.Said.{view_of_owner}
+use Rattle.held_locks.specs.declared.asked.NewSetting.{NewSetting}
 use Rattle.held_locks.specs.Asked.{changed, change_by_number}
-use Rattle.owner_ranges.proofs.Counting.{used_is, of_host}
-use Rattle.owner_ranges.proofs.Released.{nothing_used, release_test}
+use Rattle.range_owners.proofs.Counting.{used_is, of_host}
+use Rattle.range_owners.proofs.Released.{nothing_used, release_test}
 use Rattle.held_locks.specs.Tied.{IsTied, AreCounts}
 
 nothing_at : {X : Type 0} (d : X) (n : ℕ) → slice_index_or [] n d ≡ d
@@ -150,11 +150,11 @@ module _ (names : Names) (held : Held) (settings : List Setting) (h : Stands nam
 
 -- ---- what keeps the tie
 
-pub same_change : (names : List (Option Owner)) (n : ℕ) (c : Change) → named names n ≡ Some (said c.owner.now) → IsSameSetting (named names) (change_by_number n c) (changed c)
+pub same_change : (names : List (Option Owner)) (n : ℕ) (c : NewSetting) → named names n ≡ Some (view_of_owner c.owner.now) → IsSameSetting (named names) (change_by_number n c) (changed c)
 same_change names n c e = record { file = refl; owner = e; first = refl; last = refl; mode = refl }
 
 -- a setting of an owner who has a number
-pub tied_set : (ns others : List NumberSetting) (counts after : List ℕ) (names : List (Option Owner)) (settings : List Setting) (n : ℕ) (c : Change) → IsTied ns counts names settings → named names n ≡ Some (said c.owner.now) → others ≡ ns ++ change_by_number n c ∷ [] → AreCounts others after → length after ≡ length counts → IsTied others after names (settings ++ changed c ∷ [])
+pub tied_set : (ns others : List NumberSetting) (counts after : List ℕ) (names : List (Option Owner)) (settings : List Setting) (n : ℕ) (c : NewSetting) → IsTied ns counts names settings → named names n ≡ Some (view_of_owner c.owner.now) → others ≡ ns ++ change_by_number n c ∷ [] → AreCounts others after → length after ≡ length counts → IsTied others after names (settings ++ changed c ∷ [])
 tied_set ns others counts after names settings n c h e o counted places = record {
   stands = subst (λ l. Stands (named names) (mode_at l) (settings ++ changed c ∷ [])) (sym o) (stands_after (named names) ns settings (change_by_number n c) (changed c) h.stands (same_change names n c e));
   counted = counted;
@@ -163,22 +163,22 @@ tied_set ns others counts after names settings n c h e o counted places = record
 }
 
 -- an unlock by an owner who has none
-pub tied_stranger : (ns : List NumberSetting) (counts : List ℕ) (names : List (Option Owner)) (settings : List Setting) (c : Change) → IsTied ns counts names settings → ((k : ℕ) → named names k ≢ Some (said c.owner.now)) → c.mode ≡ None → IsTied ns counts names (settings ++ changed c ∷ [])
+pub tied_stranger : (ns : List NumberSetting) (counts : List ℕ) (names : List (Option Owner)) (settings : List Setting) (c : NewSetting) → IsTied ns counts names settings → ((k : ℕ) → named names k ≢ Some (view_of_owner c.owner.now)) → c.mode ≡ None → IsTied ns counts names (settings ++ changed c ∷ [])
 tied_stranger ns counts names settings c h fresh none = record {
-  stands = stranger_unlocks (named names) (mode_at ns) settings h.stands (said c.owner.now) fresh (changed c) refl (ap held_mode none);
+  stands = stranger_unlocks (named names) (mode_at ns) settings h.stands (view_of_owner c.owner.now) fresh (changed c) refl (ap view_of_held_mode none);
   counted = h.counted;
   within = h.within;
   few = h.few;
 }
 
 -- who locks is known, so a stranger unlocks
-pub stranger_mode : (names : List (Option Owner)) (c : Change) → ((c.mode ≡ None) ⊎ ((n : ℕ) × (named names n ≡ Some (said c.owner.now)))) → ((k : ℕ) → named names k ≢ Some (said c.owner.now)) → c.mode ≡ None
+pub stranger_mode : (names : List (Option Owner)) (c : NewSetting) → ((c.mode ≡ None) ⊎ ((n : ℕ) × (named names n ≡ Some (view_of_owner c.owner.now)))) → ((k : ℕ) → named names k ≢ Some (view_of_owner c.owner.now)) → c.mode ≡ None
 stranger_mode names c (inl e) fresh = e
 stranger_mode names c (inr k) fresh = absurd (fresh k.0 k.1)
 
 -- ---- owners that hold nothing
 
-none_held : (m : Option NumberMode) → held_mode m ≡ None → m ≡ None
+none_held : (m : Option NumberMode) → view_of_held_mode m ≡ None → m ≡ None
 none_held None e = refl
 none_held (Some m) e = cc
 
@@ -197,7 +197,7 @@ pub number_idle : (ns : List NumberSetting) (counts : List ℕ) (names : List (O
 number_idle ns counts names settings n h e = release_test (λ k. k == n) (mode_at ns) n (number_same n n refl) (subst (IsUsed (held_by (λ k. k == n) (mode_at ns))) e (h.counted n))
 
 pub owner_idle : (ns : List NumberSetting) (counts : List ℕ) (names : List (Option Owner)) (settings : List Setting) (n : ℕ) (x : Owner) → IsTied ns counts names settings → named names n ≡ Some x → slice_index_or counts n 0 ≡ 0 → (file : Bytes) (byte : ℕ) → owner_mode_at settings file x byte ≡ None
-owner_idle ns counts names settings n x h e z file byte = sym (h.stands.used n x e file byte) ∙ ap held_mode (number_idle ns counts names settings n h z file byte)
+owner_idle ns counts names settings n x h e z file byte = sym (h.stands.used n x e file byte) ∙ ap view_of_held_mode (number_idle ns counts names settings n h z file byte)
 
 -- names of numbers that hold nothing may go
 pub stands_fewer : (names after : Names) (held : Held) (settings : List Setting) → Stands names held settings → ((n : ℕ) → (after n ≡ names n) ⊎ ((after n ≡ None) × ((file : File) (byte : ℕ) → held file n byte ≡ None))) → Stands after held settings
@@ -219,7 +219,7 @@ stands_fewer names after held settings h goes = record {
 
   here : (n : ℕ) (x : Owner) → names n ≡ Some x → (file : Bytes) (byte : ℕ) → owner_mode_at settings file x byte ≢ None → (after n ≡ names n) ⊎ ((after n ≡ None) × ((file : File) (byte : ℕ) → held file n byte ≡ None)) → after n ≡ Some x
   here n x e file byte m (inl s) = s ∙ e
-  here n x e file byte m (inr g) = absurd (m (sym (h.used n x e file byte) ∙ ap held_mode (g.1 file byte)))
+  here n x e file byte m (inr g) = absurd (m (sym (h.used n x e file byte) ∙ ap view_of_held_mode (g.1 file byte)))
 
 pub tied_released : (ns : List NumberSetting) (counts : List ℕ) (names after : List (Option Owner)) (settings : List Setting) (n : ℕ) → IsTied ns counts names settings → ((file : File) (byte : ℕ) → mode_at ns file n byte ≡ None) → Renames (named names) (named after) n None → IsTied ns counts after settings
 tied_released ns counts names after settings n h idle r = record {

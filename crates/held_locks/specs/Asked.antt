@@ -3,26 +3,26 @@ use Rattle.std.specs.Prelude.{ℕ, Option, Some, None}
 use Rattle.definitions.specs.Owners.{Owner}
 use Rattle.definitions.specs.Settings.{Setting, Request}
 use Rattle.definitions.specs.Starts.{Run}
-use Rattle.owner_ids.specs.Said.{said}
+use Rattle.owner_ids.specs.Said.{view_of_owner}
 use Rattle.range_table.specs.declared.run.Run.{Run as NumberRun}
 use Rattle.range_table.specs.declared.run.Setting.{Setting as NumberSetting}
-use Rattle.owner_ranges.specs.Same.{mode_of, held_mode}
+use Rattle.range_owners.specs.Same.{view_of_mode, view_of_held_mode}
 use Rattle.held_locks.specs.declared.asked.Request.{Request as HeldRequest}
-use Rattle.held_locks.specs.declared.asked.Change.{Change}
+use Rattle.held_locks.specs.declared.asked.NewSetting.{NewSetting}
 use Rattle.held_locks.specs.declared.asked.Holder.{Holder}
 
 abbrev pub asked : HeldRequest → Request
-asked r = record { file = r.file; owner = said r.owner.now; first = r.first; last = r.last; mode = mode_of r.mode }
+asked r = record { file = r.file; owner = view_of_owner r.owner.now; first = r.first; last = r.last; mode = view_of_mode r.mode }
 
-abbrev pub changed : Change → Setting
-changed c = record { file = c.file; owner = said c.owner.now; first = c.first; last = c.last; mode = held_mode c.mode }
+abbrev pub changed : NewSetting → Setting
+changed c = record { file = c.file; owner = view_of_owner c.owner.now; first = c.first; last = c.last; mode = view_of_held_mode c.mode }
 
 -- what an owner sets by a lock that is wanted
 abbrev pub setting_by : Owner → NumberRun → Setting
-setting_by x r = record { file = r.file; owner = x; first = r.first; last = r.last; mode = Some (mode_of r.mode) }
+setting_by x r = record { file = r.file; owner = x; first = r.first; last = r.last; mode = Some (view_of_mode r.mode) }
 
 abbrev pub shown : Holder → Run
-shown h = record { file = h.file; owner = said h.owner.now; first = h.first; last = h.last; mode = mode_of h.mode }
+shown h = record { file = h.file; owner = view_of_owner h.owner.now; first = h.first; last = h.last; mode = view_of_mode h.mode }
 
 abbrev pub shown_found : Option Holder → Option Run
 shown_found None = None
@@ -31,5 +31,5 @@ shown_found (Some h) = Some (shown h)
 abbrev pub run_by_number : ℕ → HeldRequest → NumberRun
 run_by_number n r = record { file = r.file; owner = n; first = r.first; last = r.last; mode = r.mode }
 
-abbrev pub change_by_number : ℕ → Change → NumberSetting
+abbrev pub change_by_number : ℕ → NewSetting → NumberSetting
 change_by_number n c = record { file = c.file; owner = n; first = c.first; last = c.last; mode = c.mode }

@@ -5,7 +5,7 @@ use Rattle.definitions.specs.Settings.{Setting}
 use Rattle.range_table.specs.declared.run.Setting.{Setting as NumberSetting}
 use Rattle.range_table.specs.Settings.{mode_at, held_by, IsUsed}
 use Rattle.owner_ids.specs.Names.{named}
-use Rattle.owner_ranges.specs.Stands.{Stands}
+use Rattle.range_owners.specs.Stands.{Stands}
 
 -- how many runs each number has
 abbrev pub AreCounts : List NumberSetting → List ℕ → Type 0

@@ -14,7 +14,7 @@ pub struct Request<'a> {
 
 /// What an owner is to hold from the first to the last byte from now on: a mode, or nothing.
 #[derive(Clone, Copy)]
-pub struct Change<'a> {
+pub struct NewSetting<'a> {
     pub file: FileId,
     pub owner: &'a Owner,
     pub first: u64,
@@ -38,12 +38,12 @@ ghost use Rattle.held_locks.specs.Asked.{asked, changed, run_by_number};
 
 impl<'a> Request<'a> {
     /// What its owner is to hold once it has the lock.
-    pub fn change(&self) -> Change<'a>
+    pub fn setting(&self) -> NewSetting<'a>
         ensures is { changed result ≡ setting_of (asked self.now) }
         ensures ordered { result.first ≡ self.now.first }
         ensures inside { result.last ≡ self.now.last }
     {
-        Change {
+        NewSetting {
             file: self.file,
             owner: self.owner,
             first: self.first,
@@ -54,8 +54,8 @@ impl<'a> Request<'a> {
 }
 
 impl Request<'_> {
-    // The same, of a number.
-    pub(crate) fn by_number(&self, owner: OwnerId) -> Run
+    /// The same lock, by its owner's number.
+    pub fn by_number(&self, owner: OwnerId) -> Run
         ensures { result ≡ run_by_number owner self.now }
     {
         Run {

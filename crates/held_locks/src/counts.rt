@@ -7,7 +7,7 @@ ghost use Rattle.range_table.specs.Settings.{IsRefused, mode_at, is_by};
 ghost use Rattle.held_locks.specs.Asked.{change_by_number};
 ghost use Rattle.held_locks.specs.Tied.{AreCounts};
 
-use crate::asked::Change;
+use crate::asked::NewSetting;
 use owner_ids::{Host, HostOf, OwnerId, Owners, Starved};
 use range_table::{FileId, NoRuns, RangeTable};
 
@@ -42,7 +42,7 @@ pub(crate) fn set<R: RangeTable>(
     table: &mut R,
     counts: &mut Vec<u32>,
     number: OwnerId,
-    change: &Change<'_>,
+    change: &NewSetting<'_>,
 ) -> Result<(), NoRuns>
     requires ordered { change.now.first ≤ change.now.last }
     requires inside { change.now.last < 2 ^ 63 }

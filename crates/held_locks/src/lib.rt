@@ -8,6 +8,6 @@ mod listing;
 mod locks;
 mod quotas;
 
-pub use asked::{Change, Holder, Request};
+pub use asked::{Holder, NewSetting, Request};
 pub use listing::Listing;
 pub use locks::Locks;

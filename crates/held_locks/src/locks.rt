@@ -4,16 +4,16 @@ ghost use Rattle.definitions.specs.Owners.{Owner as SaidOwner, is_of_host};
 ghost use Rattle.definitions.specs.Settings.{without_host, without_owner_on};
 ghost use Rattle.definitions.specs.Conflict.{conflicts};
 ghost use Rattle.definitions.specs.Starts.{first_conflict, is_short, refuses, used, runs};
-ghost use Rattle.owner_ids.specs.Said.{said};
+ghost use Rattle.owner_ids.specs.Said.{view_of_owner};
 ghost use Rattle.owner_ids.specs.Names.{named};
-ghost use Rattle.owner_ranges.specs.Stands.{Stands};
+ghost use Rattle.range_owners.specs.Stands.{Stands};
 ghost use Rattle.range_table.specs.Settings.{mode_at};
 ghost use Rattle.held_locks.specs.Asked.{asked, changed, setting_by, shown, shown_found};
 ghost use Rattle.held_locks.specs.Held.{IsKnown, KeepsKnown, KeepsNames, SameNames, HoldsNothing};
 ghost use Rattle.held_locks.specs.Listing.{IsListing};
 ghost use Rattle.held_locks.specs.Stranger.{IsAsker};
 
-use crate::asked::{Change, Holder, Request};
+use crate::asked::{Holder, NewSetting, Request};
 use crate::counts::{self, make_place};
 use crate::listing::Listing;
 use history::History;
@@ -34,12 +34,12 @@ struct OwnerSetting {
 
 impl Model for OwnerSetting {
     ghost use Rattle.definitions.specs.Settings.{Setting};
-    ghost use Rattle.owner_ids.specs.Said.{said};
-    ghost use Rattle.owner_ranges.specs.Same.{held_mode};
+    ghost use Rattle.owner_ids.specs.Said.{view_of_owner};
+    ghost use Rattle.range_owners.specs.Same.{view_of_held_mode};
 
     ghost Value = { Setting };
 
-    ghost view = { λ s. record { file = s.file; owner = said s.owner; first = s.first; last = s.last; mode = held_mode s.mode } };
+    ghost view = { λ s. record { file = s.file; owner = view_of_owner s.owner; first = s.first; last = s.last; mode = view_of_held_mode s.mode } };
 }
 
 /// The locks of all owners on all files, over a table of ranges. A contract sees the settings of the owners, oldest first,
@@ -95,7 +95,7 @@ impl<R: RangeTable> Locks<R> {
 
     // The asker's number, or nobody's.
     pub(crate) fn asker(&self, owner: &Owner) -> OwnerId
-        ensures { IsAsker (named self.now.names) result (said owner.now) }
+        ensures { IsAsker (named self.now.names) result (view_of_owner owner.now) }
     {
         match self.owners.number(owner) {
             Some(number) => number,
@@ -140,7 +140,7 @@ impl<R: RangeTable> Locks<R> {
     /// Makes an owner known, so that a lock of it can be set. Starved: no owner has become known, and none is forgotten.
     pub fn admit(&mut self, owner: &Owner) -> Result<(), Starved>
         ensures settings { self.new.settings ≡ self.old.settings }
-        ensures known { OnOk result (IsKnown self.new (said owner.now)) }
+        ensures known { OnOk result (IsKnown self.new (view_of_owner owner.now)) }
         ensures others { KeepsKnown self.old self.new }
         ensures names { KeepsNames self.old self.new }
         ensures err { OnErr result (SameNames self.old self.new) }
@@ -156,7 +156,7 @@ impl<R: RangeTable> Locks<R> {
     }
 
     /// Whether `set` would refuse the change, also of an owner who isn't known: he holds nothing. Changes nothing.
-    pub fn refuses(&self, change: &Change<'_>) -> bool
+    pub fn refuses(&self, change: &NewSetting<'_>) -> bool
         requires ordered { change.now.first ≤ change.now.last }
         requires inside { change.now.last < 2 ^ 63 }
         ensures { result ≡ refuses 65536 self.now.settings (changed change.now) }
@@ -172,10 +172,10 @@ impl<R: RangeTable> Locks<R> {
     /// From now on the owner holds this mode from the first to the last byte, or nothing. Whoever locks is known.
     /// Refused where fewer than 2 of 65,536 runs are free, but for an unlock that raises the number of runs no further.
     /// Then nothing has changed.
-    pub fn set(&mut self, change: &Change<'_>) -> Result<(), NoRuns>
+    pub fn set(&mut self, change: &NewSetting<'_>) -> Result<(), NoRuns>
         requires ordered { change.now.first ≤ change.now.last }
         requires inside { change.now.last < 2 ^ 63 }
-        requires known { (change.now.mode ≡ None) ⊎ IsKnown self.old (said change.now.owner.now) }
+        requires known { (change.now.mode ≡ None) ⊎ IsKnown self.old (view_of_owner change.now.owner.now) }
         ensures refused { IsErr result ↔ IsTrue (refuses 65536 self.old.settings (changed change.now)) }
         ensures ok { OnOk result (self.new.settings ≡ self.old.settings ++ changed change.now ∷ []) }
         ensures err { OnErr result (self.new.settings ≡ self.old.settings) }
@@ -198,7 +198,7 @@ impl<R: RangeTable> Locks<R> {
         ensures err { OnErr result (self.new.settings ≡ self.old.settings) }
         ensures names { self.new.names ≡ self.old.names }
     {
-        let change = Change {
+        let change = NewSetting {
             file: wanted.file,
             owner: self.owners.get(wanted.owner),
             first: wanted.first,
@@ -214,9 +214,9 @@ impl<R: RangeTable> Locks<R> {
 impl<R: RangeTable> Locks<R> {
     // The number of a known owner that holds nothing.
     fn idle_number(&self, owner: &Owner) -> Option<OwnerId>
-        ensures number { IfSome result (λ n. named self.now.names n ≡ Some (said owner.now)) }
-        ensures idle { IfSome result (λ n. HoldsNothing self.now (said owner.now)) }
-        ensures none { IfNone result (HoldsNothing self.now (said owner.now) → (n : ℕ) → named self.now.names n ≢ Some (said owner.now)) }
+        ensures number { IfSome result (λ n. named self.now.names n ≡ Some (view_of_owner owner.now)) }
+        ensures idle { IfSome result (λ n. HoldsNothing self.now (view_of_owner owner.now)) }
+        ensures none { IfNone result (HoldsNothing self.now (view_of_owner owner.now) → (n : ℕ) → named self.now.names n ≢ Some (view_of_owner owner.now)) }
     {
         match self.owners.number(owner) {
             Some(number) if self.counts[number as usize] == 0 => Some(number),
@@ -227,10 +227,10 @@ impl<R: RangeTable> Locks<R> {
     /// Forgets an owner that holds nothing. The others stay known.
     pub fn forget_idle(&mut self, owner: &Owner)
         ensures settings { self.new.settings ≡ self.old.settings }
-        ensures others { (x : SaidOwner) → x ≢ said owner.now → IsKnown self.old x → IsKnown self.new x }
-        ensures names { (n : ℕ) (x : SaidOwner) → x ≢ said owner.now → named self.old.names n ≡ Some x → named self.new.names n ≡ Some x }
-        ensures forgotten { HoldsNothing self.old (said owner.now) → (n : ℕ) → named self.new.names n ≢ Some (said owner.now) }
-        ensures kept { (HoldsNothing self.old (said owner.now) → ⊥) → KeepsKnown self.old self.new }
+        ensures others { (x : SaidOwner) → x ≢ view_of_owner owner.now → IsKnown self.old x → IsKnown self.new x }
+        ensures names { (n : ℕ) (x : SaidOwner) → x ≢ view_of_owner owner.now → named self.old.names n ≡ Some x → named self.new.names n ≡ Some x }
+        ensures forgotten { HoldsNothing self.old (view_of_owner owner.now) → (n : ℕ) → named self.new.names n ≢ Some (view_of_owner owner.now) }
+        ensures kept { (HoldsNothing self.old (view_of_owner owner.now) → ⊥) → KeepsKnown self.old self.new }
     {
         if let Some(number) = self.idle_number(owner) {
             self.owners.release(number);
@@ -256,7 +256,7 @@ impl<R: RangeTable> Locks<R> {
 
     /// Takes the settings of an owner on a file out. It stays known.
     pub fn drop_owner_on_file(&mut self, file: &FileId, owner: &Owner)
-        ensures settings { self.new.settings ≡ without_owner_on file.now (said owner.now) self.old.settings }
+        ensures settings { self.new.settings ≡ without_owner_on file.now (view_of_owner owner.now) self.old.settings }
         ensures names { self.new.names ≡ self.old.names }
     {
         if let Some(number) = self.owners.number(owner) {
@@ -320,7 +320,7 @@ impl<R: RangeTable> Locks<R> {
     /// The owner of a number in use.
     pub fn owner(&self, number: OwnerId) -> &Owner
         requires { IsSome (named self.now.names number) }
-        ensures { named self.now.names number ≡ Some (said result.now) }
+        ensures { named self.now.names number ≡ Some (view_of_owner result.now) }
     {
         self.owners.get(number)
     }

@@ -3,10 +3,10 @@ ghost use Rattle.std.specs.Prelude.{◌≡◌, ◌≤◌, ◌<◌, ◌^◌, ◌=
 ghost use Rattle.definitions.specs.Owners.{is_of_host};
 ghost use Rattle.definitions.specs.Quotas.{is_past};
 ghost use Rattle.owner_ids.specs.Names.{named, is_owned_by};
-ghost use Rattle.owner_ids.specs.Said.{said};
+ghost use Rattle.owner_ids.specs.Said.{view_of_owner};
 ghost use Rattle.held_locks.specs.Asked.{changed};
 
-use crate::asked::Change;
+use crate::asked::NewSetting;
 use crate::locks::Locks;
 use owner_ids::{Host, HostOf, OwnerId};
 use range_table::RangeTable;
@@ -29,10 +29,10 @@ impl<'a> Host for HostAnd<'a> {
 impl<R: RangeTable> Locks<R> {
     /// Whether after the change the owners of its owner's host would have more runs than so many, and more than before it.
     /// Also of an owner who isn't known: he holds nothing. Changes nothing.
-    pub fn is_past(&self, change: &Change<'_>, host: &[u8], quota: u32) -> bool
+    pub fn is_past(&self, change: &NewSetting<'_>, host: &[u8], quota: u32) -> bool
         requires ordered { change.now.first ≤ change.now.last }
         requires inside { change.now.last < 2 ^ 63 }
-        requires own { is_of_host host.now (said change.now.owner.now) ≡ true }
+        requires own { is_of_host host.now (view_of_owner change.now.owner.now) ≡ true }
         ensures { result ≡ is_past self.now.settings (changed change.now) host.now quota }
     {
         // A change makes at most two runs more, so where all owners' fit nobody's are counted.

@@ -8,9 +8,9 @@
 //! - `local quota 61 5`: a local program's line.
 use crate::lent::Lent;
 use crate::messages::message;
+use callbacks::ShortBytes;
 use daemon_core::{Addressee, Daemon, Event, Outputs, Peer, StoreAnswer};
 use hosts_db::HostStore;
-use letters::ShortBytes;
 use range_table::{FlatTable, RangeTable};
 use std::alloc::Global;
 use std::fmt::Write;
@@ -71,11 +71,22 @@ fn event_of(alloc: Global, event: &str) -> Option<Event> {
     match verb {
         "restart" => Some(Event::Restart),
         "over" => Some(Event::GraceOver),
-        "connect" => Some(Event::Connect(CONNECTION, Peer::PIPE)),
+        "connect" => Some(Event::Connect {
+            connection: CONNECTION,
+            peer: Peer::PIPE,
+        }),
         "send" => Some(Event::Send),
-        "answer" => Some(Event::Answer(message(alloc, rest)?)),
-        "local" => Some(Event::Local(LOCAL, Vec::from_slice(alloc, rest.as_bytes()).ok()?)),
-        _ => Some(Event::Piece(CONNECTION, message(alloc, event)?)),
+        "answer" => Some(Event::Answer {
+            bytes: message(alloc, rest)?,
+        }),
+        "local" => Some(Event::Local {
+            connection: LOCAL,
+            line: Vec::from_slice(alloc, rest.as_bytes()).ok()?,
+        }),
+        _ => Some(Event::Piece {
+            connection: CONNECTION,
+            bytes: message(alloc, event)?,
+        }),
     }
 }
 
@@ -89,7 +100,10 @@ fn happens<T: RangeTable, S: HostStore>(
     if daemon.waiting(CONNECTION) == 0 {
         return Some(outputs);
     }
-    Some(daemon.step(Event::Take(CONNECTION, 0)))
+    Some(daemon.step(Event::Take {
+        connection: CONNECTION,
+        index: 0,
+    }))
 }
 
 // Whether just this is sent.

@@ -1,6 +1,6 @@
 //! A record that waits for a worker.
 ghost use Rattle.std.specs.Prelude.{◌≡◌};
-ghost use Rattle.kept_replies.specs.Pairs.{asker};
+ghost use Rattle.kept_replies.specs.Pairs.{view_of_peer};
 
 use bytes::Bytes;
 use kept_replies::Peer;
@@ -16,18 +16,18 @@ pub struct Job {
 }
 
 impl Model for Job {
-    ghost use Rattle.kept_replies.specs.Pairs.{asker};
+    ghost use Rattle.kept_replies.specs.Pairs.{view_of_peer};
     ghost use Rattle.jobs.specs.Task.{Task};
 
     ghost Value = { Task };
 
-    ghost view = { λ j. record { connection = j.connection; peer = asker j.peer; number = j.number; asked = j.record } };
+    ghost view = { λ j. record { connection = j.connection; peer = view_of_peer j.peer; number = j.number; asked = j.record } };
 }
 
 impl Job {
     /// `number` says which record of its connection it is, from 0.
     pub fn new(connection: u64, peer: Peer, number: u64, asked: Bytes) -> Job
-        ensures { result ≡ record { connection = connection; peer = asker peer; number = number; asked = asked } }
+        ensures { result ≡ record { connection = connection; peer = view_of_peer peer; number = number; asked = asked } }
     {
         Job {
             connection,
@@ -53,7 +53,7 @@ impl Job {
 
     /// Who asks.
     pub fn peer(&self) -> Peer
-        ensures { asker result ≡ self.now.peer }
+        ensures { view_of_peer result ≡ self.now.peer }
     {
         self.peer
     }

@@ -15,7 +15,7 @@ use Rattle.definitions.specs.Bytes.{without_first}
 use Rattle.definitions.specs.Step.{KeptPair, is_same_key}
 use Rattle.kept_replies.specs.declared.key.Key.{Key}
 use Rattle.kept_replies.specs.contracts.key.KeyPartialEq.TheImpl.{eq-value}
-use Rattle.kept_replies.specs.Pairs.{asker, pair, pairs, shown, found, at_key}
+use Rattle.kept_replies.specs.Pairs.{view_of_peer, pair, pairs, shown, found, at_key}
 
 abbrev pub same_key : Key → Key → Bool
 same_key = eq-value.it
@@ -51,7 +51,7 @@ local_is false true h = cc
 local_is false false h = refl
 
 -- what a key finds was asked by its peer, with its record
-pub key_is : (key : Key) (k : KeptPair) → is_same_key (asker key.peer) key.record k ≡ true → (k.peer ≡ asker key.peer) × (k.asked ≡ key.record)
+pub key_is : (key : Key) (k : KeptPair) → is_same_key (view_of_peer key.peer) key.record k ≡ true → (k.peer ≡ view_of_peer key.peer) × (k.asked ≡ key.record)
 key_is key k h =
     let p = split (bytes_eq k.asked key.record) (bytes_eq k.peer.address key.peer.address) (cond k.peer.local key.peer.is_local (not key.peer.is_local)) h in
     let address = (bytes_eq-Decides k.peer.address key.peer.address).0 p.1 in
@@ -94,9 +94,9 @@ module _ {V : Type 0} (xid : V → ℕ) (outcome : V → Outcome) (letters : V �
     | false ↦ entry_shown es
   ]))
 
-  pub rest_shown : (es : List (Key × V)) → Ps (remove_entry (same_key key) es) ≡ without_first (is_same_key (asker key.peer) key.record) (Ps es)
+  pub rest_shown : (es : List (Key × V)) → Ps (remove_entry (same_key key) es) ≡ without_first (is_same_key (view_of_peer key.peer) key.record) (Ps es)
   rest_shown [] = refl
-  rest_shown (e ∷ es) = rw (← same_key_is key e.0) ((elim (same_key key e.0) as (λ y. Ps (cond y es (e ∷ remove_entry (same_key key) es)) ≡ cond y (Ps es) (P e.0 e.1 ∷ without_first (is_same_key (asker key.peer) key.record) (Ps es))) [
+  rest_shown (e ∷ es) = rw (← same_key_is key e.0) ((elim (same_key key e.0) as (λ y. Ps (cond y es (e ∷ remove_entry (same_key key) es)) ≡ cond y (Ps es) (P e.0 e.1 ∷ without_first (is_same_key (view_of_peer key.peer) key.record) (Ps es))) [
     | true ↦ refl
     | false ↦ ap (λ l. P e.0 e.1 ∷ l) (rest_shown es)
   ]))
@@ -125,9 +125,9 @@ module _ {V : Type 0} (xid : V → ℕ) (outcome : V → Outcome) (letters : V �
     | false ↦ λ k. no_entry es k
   ]) h)
 
-  passes : (ks : List KeptPair) (k : KeptPair) → at_key key ks ≡ Some k → is_same_key (asker key.peer) key.record k ≡ true
+  passes : (ks : List KeptPair) (k : KeptPair) → at_key key ks ≡ Some k → is_same_key (view_of_peer key.peer) key.record k ≡ true
   passes [] k h = cc
-  passes (x ∷ ks) k h = (elim (is_same_key (asker key.peer) key.record x) as (λ y. is_same_key (asker key.peer) key.record x ≡ y → cond y (Some x) (at_key key ks) ≡ Some k → is_same_key (asker key.peer) key.record k ≡ true) [
+  passes (x ∷ ks) k h = (elim (is_same_key (view_of_peer key.peer) key.record x) as (λ y. is_same_key (view_of_peer key.peer) key.record x ≡ y → cond y (Some x) (at_key key ks) ≡ Some k → is_same_key (view_of_peer key.peer) key.record k ≡ true) [
     | true ↦ λ t same. let q : x ≡ k = cc in rw (← q) t
     | false ↦ λ t rest. passes ks k rest
   ]) refl h

@@ -8,13 +8,13 @@ use Rattle.definitions.specs.Bytes.{first_that}
 use Rattle.kept_replies.specs.declared.key.Key.{Key}
 use Rattle.kept_replies.specs.declared.key.Peer.{Peer}
 
-abbrev pub asker : Peer → Asker
-asker p = record { address = p.address; local = p.is_local }
+abbrev pub view_of_peer : Peer → Asker
+view_of_peer p = record { address = p.address; local = p.is_local }
 
 module _ {V : Type 0} (xid : V → ℕ) (outcome : V → Outcome) (letters : V → List Letter) where
   -- a key and what is kept under it
   abbrev pub pair : Key → V → KeptPair
-  pair key v = record { peer = asker key.peer; asked = key.record; xid = xid v; outcome = outcome v; letters = letters v }
+  pair key v = record { peer = view_of_peer key.peer; asked = key.record; xid = xid v; outcome = outcome v; letters = letters v }
 
   abbrev pub pairs : List (Key × V) → List KeptPair
   pairs = map (λ e. pair e.0 e.1)
@@ -30,4 +30,4 @@ found (Some k) kept = moved_to_front k kept
 
 -- the pair with the key, if there is one
 abbrev pub at_key : Key → List KeptPair → Option KeptPair
-at_key key = first_that (is_same_key (asker key.peer) key.record)
+at_key key = first_that (is_same_key (view_of_peer key.peer) key.record)

@@ -2,12 +2,12 @@
 
 ghost use Rattle.std.specs.Prelude.{[], ◌∷◌, ◌++◌, codes};
 ghost use Rattle.std.specs.Fmt.{decimal, signed_decimal};
-ghost use Rattle.owner_ids.specs.Said.{said};
-ghost use Rattle.owner_ranges.specs.Same.{mode_of};
+ghost use Rattle.owner_ids.specs.Said.{view_of_owner};
+ghost use Rattle.range_owners.specs.Same.{view_of_mode};
 ghost use Rattle.definitions.specs.Owners.{Remote};
 ghost use Rattle.definitions.specs.Replies.{LineHeld};
 ghost use Rattle.local_ops.specs.Texts.{reply_text, owner_text, mode_text, spaced};
-ghost use Rattle.local_ops.specs.Answers.{reply_of};
+ghost use Rattle.local_ops.specs.Answers.{view_of_local_answer};
 ghost use Rattle.written.specs.Written.{Wrote};
 
 use crate::listing::{HostsText, TableText};
@@ -62,7 +62,7 @@ pub enum LocalAnswer {
 impl LocalAnswer {
     /// Writes the answer's line with its line feed, or its lines. Where a write fails, a front of them was written.
     pub fn write<W: Write>(&self, writer: &mut W) -> Result<(), WriteFault>
-        ensures { Wrote (W.contents writer.old) (W.contents writer.new) result (reply_text (reply_of self.now)) }
+        ensures { Wrote (W.contents writer.old) (W.contents writer.new) result (reply_text (view_of_local_answer self.now)) }
     {
         match self {
             LocalAnswer::Held {
@@ -97,7 +97,7 @@ fn write_held<W: Write>(
     owner: &Owner,
 ) -> Result<(), WriteFault>
     ensures { Wrote (W.contents writer.old) (W.contents writer.new) result
-        (reply_text (LineHeld (mode_of mode) first len (said owner.now))) }
+        (reply_text (LineHeld (view_of_mode mode) first len (view_of_owner owner.now))) }
 {
     write_range(writer, mode, first, len)?;
     write_owner(writer, owner)?;
@@ -107,7 +107,7 @@ fn write_held<W: Write>(
 /// Writes what stands before the owner, up to the space.
 fn write_range<W: Write>(writer: &mut W, mode: Mode, first: u64, len: u64) -> Result<(), WriteFault>
     ensures { Wrote (W.contents writer.old) (W.contents writer.new) result
-        (spaced (codes "held" ∷ mode_text (mode_of mode) ∷ decimal first ∷ decimal len ∷ [] ∷ [])) }
+        (spaced (codes "held" ∷ mode_text (view_of_mode mode) ∷ decimal first ∷ decimal len ∷ [] ∷ [])) }
 {
     let mut first_digits = Buffer::new();
     let mut len_digits = Buffer::new();
@@ -124,7 +124,7 @@ fn write_range<W: Write>(writer: &mut W, mode: Mode, first: u64, len: u64) -> Re
 }
 
 fn write_owner<W: Write>(writer: &mut W, owner: &Owner) -> Result<(), WriteFault>
-    ensures { Wrote (W.contents writer.old) (W.contents writer.new) result (owner_text (said owner.now)) }
+    ensures { Wrote (W.contents writer.old) (W.contents writer.new) result (owner_text (view_of_owner owner.now)) }
 {
     match owner {
         Owner::Process(pid) => write_numbered(writer, b"p", u64::from(*pid)),

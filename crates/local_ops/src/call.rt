@@ -7,7 +7,7 @@ ghost use Rattle.local_ops.specs.Grammar.{Reads};
 
 use crate::fields::{BadLine, Fields, Word};
 use crate::quota::Quota;
-use letters::LocalLock;
+use callbacks::LocalLock;
 use owner_ids::Owner;
 use range_table::{FileId, Mode};
 

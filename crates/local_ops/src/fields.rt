@@ -3,16 +3,16 @@
 ghost use Rattle.std.specs.Prelude.{◌≡◌, ◌≤◌, ◌↔◌, [], ◌∷◌, length, true, IfOk, IsOk, MatchResult};
 ghost use Rattle.std.specs.List.{position};
 ghost use Rattle.std.specs.Option.{option_and_then};
-ghost use Rattle.letters.specs.Locals.{is_local};
-ghost use Rattle.owner_ids.specs.Said.{said};
-ghost use Rattle.owner_ranges.specs.Same.{held_mode};
+ghost use Rattle.callbacks.specs.Locals.{is_local};
+ghost use Rattle.owner_ids.specs.Said.{view_of_owner};
+ghost use Rattle.range_owners.specs.Same.{view_of_held_mode};
 ghost use Rattle.local_ops.specs.Reading.{Gives, GivesRest, is_space, fields_of, fields_left, first_field, number_in, owner_in, hex_in, change_in, process_of, runs_of, runs_in, owned_in, quota_in, lock_in};
-ghost use Rattle.letters.specs.Meanings.{local_lock_of};
+ghost use Rattle.callbacks.specs.Meanings.{local_lock_of};
 ghost use Rattle.local_ops.specs.Words.{word_in};
 
 use crate::quota::HostName;
+use callbacks::LocalLock;
 use itoa::Buffer;
-use letters::LocalLock;
 use owner_ids::Owner;
 use range_table::{FileId, Mode};
 use std::marker::Model;
@@ -75,8 +75,8 @@ pub(crate) fn read_number(field: &[u8]) -> Result<u64, BadLine>
 /// `p` and a pid, or `d` and a number.
 #[tactic(auto, unfolding(crate::specs::Reading::owner_in))]
 fn read_owner(field: &[u8]) -> Result<Owner, BadLine>
-    ensures gives { Gives said result (owner_in field.now) }
-    ensures local { IfOk result (λ owner. is_local (said owner) ≡ true) }
+    ensures gives { Gives view_of_owner result (owner_in field.now) }
+    ensures local { IfOk result (λ owner. is_local (view_of_owner owner) ≡ true) }
 {
     let Some((kind, digits)) = field.split_first() else {
         return Err(BadLine);
@@ -90,8 +90,8 @@ fn read_owner(field: &[u8]) -> Result<Owner, BadLine>
 
 /// A pid is below 2^31.
 fn read_process(digits: &[u8]) -> Result<Owner, BadLine>
-    ensures gives { Gives said result (option_and_then process_of (number_in digits.now)) }
-    ensures local { IfOk result (λ owner. is_local (said owner) ≡ true) }
+    ensures gives { Gives view_of_owner result (option_and_then process_of (number_in digits.now)) }
+    ensures local { IfOk result (λ owner. is_local (view_of_owner owner) ≡ true) }
 {
     match u32::try_from(read_number(digits)?) {
         Ok(pid) if pid < 1 << 31 => Ok(Owner::Process(pid)),
@@ -148,7 +148,7 @@ fn read_runs(field: &[u8]) -> Result<u32, BadLine>
 /// A mode, or `u`, an unlock.
 #[tactic(auto, unfolding(crate::specs::Reading::change_in))]
 fn read_change(field: &[u8]) -> Result<Option<Mode>, BadLine>
-    ensures { Gives held_mode result (change_in field.now) }
+    ensures { Gives view_of_held_mode result (change_in field.now) }
 {
     match field {
         b"r" => Ok(Some(Mode::Shared)),
@@ -242,15 +242,15 @@ impl<'a> Fields<'a> {
         read_number(self.next()?)
     }
 
-    fn change(&mut self) -> Result<Option<Mode>, BadLine>
-        ensures { GivesRest held_mode result self.new (first_field change_in self.old) }
+    fn mode_or_none(&mut self) -> Result<Option<Mode>, BadLine>
+        ensures { GivesRest view_of_held_mode result self.new (first_field change_in self.old) }
     {
         read_change(self.next()?)
     }
 
     fn owner(&mut self) -> Result<Owner, BadLine>
-        ensures gives { GivesRest said result self.new (first_field owner_in self.old) }
-        ensures local { IfOk result (λ owner. is_local (said owner) ≡ true) }
+        ensures gives { GivesRest view_of_owner result self.new (first_field owner_in self.old) }
+        ensures local { IfOk result (λ owner. is_local (view_of_owner owner) ≡ true) }
     {
         read_owner(self.next()?)
     }
@@ -265,8 +265,8 @@ impl<'a> Fields<'a> {
     /// OWNER FH.
     #[tactic(auto, unfolding(crate::specs::Reading::owned_in))]
     pub(crate) fn owned(&mut self) -> Result<(Owner, FileId), BadLine>
-        ensures gives { GivesRest (λ owned. (said owned.0, owned.1)) result self.new (owned_in self.old) }
-        ensures local { IfOk result (λ owned. is_local (said owned.0) ≡ true) }
+        ensures gives { GivesRest (λ owned. (view_of_owner owned.0, owned.1)) result self.new (owned_in self.old) }
+        ensures local { IfOk result (λ owned. is_local (view_of_owner owned.0) ≡ true) }
         ensures short { IfOk result (λ owned. length owned.1 ≤ 64) }
     {
         let owner = self.owner()?;
@@ -299,10 +299,10 @@ impl<'a> Fields<'a> {
     /// OWNER FH MODE FIRST LEN.
     #[tactic(auto, unfolding(crate::specs::Reading::lock_in))]
     pub(crate) fn lock(&mut self) -> Result<(Option<Mode>, LocalLock), BadLine>
-        ensures { GivesRest (λ read. (held_mode read.0, local_lock_of read.1)) result self.new (lock_in self.old) }
+        ensures { GivesRest (λ read. (view_of_held_mode read.0, local_lock_of read.1)) result self.new (lock_in self.old) }
     {
         let (owner, file) = self.owned()?;
-        let mode = self.change()?;
+        let mode = self.mode_or_none()?;
         let offset = self.number()?;
         let len = self.number()?;
         let lock = LocalLock {

@@ -4,8 +4,8 @@ ghost use Rattle.std.specs.Prelude.{◌≡◌, List};
 ghost use Rattle.definitions.specs.Hosts.{HostRow};
 ghost use Rattle.definitions.specs.Replies.{LineTable, LineHosts};
 ghost use Rattle.definitions.specs.Starts.{Run};
-ghost use Rattle.owner_ids.specs.Said.{said};
-ghost use Rattle.owner_ranges.specs.Same.{mode_of};
+ghost use Rattle.owner_ids.specs.Said.{view_of_owner};
+ghost use Rattle.range_owners.specs.Same.{view_of_mode};
 ghost use Rattle.local_ops.specs.Texts.{reply_text};
 
 use history::History;
@@ -26,7 +26,7 @@ pub struct ListedRun {
 impl Model for ListedRun {
     ghost Value = { Run };
 
-    ghost view = { λ r. record { file = r.file; owner = said r.owner; first = r.first; last = r.last; mode = mode_of r.mode } };
+    ghost view = { λ r. record { file = r.file; owner = view_of_owner r.owner; first = r.first; last = r.last; mode = view_of_mode r.mode } };
 }
 
 /// A host as contracts see it. None is ever made.

@@ -3,9 +3,9 @@
 ghost use Rattle.std.specs.Prelude.{◌≡◌, ◌+◌, ◌≤◌, ◌++◌, ◌↔◌, length, IsOk, OnOk, OnErr, true};
 ghost use Rattle.std.specs.List.{flat_map};
 ghost use Rattle.std.specs.Fmt.{decimal};
-ghost use Rattle.letters.specs.Locals.{is_local};
-ghost use Rattle.owner_ids.specs.Said.{said};
-ghost use Rattle.owner_ranges.specs.Same.{mode_of};
+ghost use Rattle.callbacks.specs.Locals.{is_local};
+ghost use Rattle.owner_ids.specs.Said.{view_of_owner};
+ghost use Rattle.range_owners.specs.Same.{view_of_mode};
 ghost use Rattle.hex.specs.Hex.{encode_lower};
 ghost use Rattle.local_ops.specs.Texts.{owner_text, mode_text};
 
@@ -30,7 +30,7 @@ pub(crate) fn append_parts(parts: &[&[u8]], f: &mut Frame) -> Result<(), FrameFu
 }
 
 pub(crate) fn mode_text_of(mode: Mode) -> &'static [u8]
-    ensures text { result.now ≡ mode_text (mode_of mode) }
+    ensures text { result.now ≡ mode_text (view_of_mode mode) }
     ensures one { length result.now ≡ 1 }
 {
     match mode {
@@ -41,8 +41,8 @@ pub(crate) fn mode_text_of(mode: Mode) -> &'static [u8]
 
 /// The letter and the number of a process or an open file description.
 pub(crate) fn local_text_of(owner: &Owner) -> (&'static [u8], u64)
-    requires { is_local (said owner.now) ≡ true }
-    ensures text { owner_text (said owner.now) ≡ result.0.now ++ decimal result.1 }
+    requires { is_local (view_of_owner owner.now) ≡ true }
+    ensures text { owner_text (view_of_owner owner.now) ≡ result.0.now ++ decimal result.1 }
     ensures one { length result.0.now ≡ 1 }
 {
     match owner {

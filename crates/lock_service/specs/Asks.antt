@@ -6,11 +6,11 @@ use Rattle.definitions.specs.Outgoing.{Letter, Message, ToHost, ToConnection, Gr
 use Rattle.definitions.specs.World.{World}
 use Rattle.definitions.specs.Rulings.{Told, Ruling, stays}
 use Rattle.definitions.specs.LockRules.{NewHost, LockAsk, blocked_lock}
-use Rattle.letters.specs.Meanings.{local_lock_of}
-use Rattle.letters.specs.declared.lock.LocalLock as local
+use Rattle.callbacks.specs.Meanings.{local_lock_of}
+use Rattle.callbacks.specs.declared.lock.LocalLock as local
 use Rattle.nlm4_types.specs.Lock.{view_of_lock}
 use Rattle.nlm4_types.specs.Version.{view_of_version}
-use Rattle.owner_ranges.specs.Same.{mode_of}
+use Rattle.range_owners.specs.Same.{view_of_mode}
 use Rattle.range_table.specs.declared.run.Mode.{Mode}
 use Rattle.call_plans.specs.Planned.{request_wanted}
 use Rattle.lock_service.specs.declared.lock_ask.NewHost as host
@@ -29,7 +29,7 @@ abbrev pub call_letter_of : call.GrantCall → Letter
 call_letter_of c = record { to = ToHost c.lock.caller_name.bytes.now; message = granted_by c }
 
 abbrev pub line_letter_of : ℕ → Mode → local.LocalLock → Letter
-line_letter_of l mode lock = record { to = ToConnection l; message = GrantedLine (mode_of mode) (local_lock_of lock) }
+line_letter_of l mode lock = record { to = ToConnection l; message = GrantedLine (view_of_mode mode) (local_lock_of lock) }
 
 abbrev pub letter_of : Grant → Letter
 letter_of (grant.Call c) = call_letter_of c

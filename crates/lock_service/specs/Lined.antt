@@ -5,25 +5,25 @@ use Rattle.definitions.specs.LockRules.{LockAsk}
 use Rattle.definitions.specs.World.{World}
 use Rattle.definitions.specs.Rulings.{Told}
 use Rattle.definitions.specs.Replies.{Line, LineReply, SetLock, SetLockWait}
-use Rattle.letters.specs.Meanings.{local_lock_of}
-use Rattle.local_ops.specs.Answers.{reply_of}
-use Rattle.owner_ranges.specs.Same.{mode_of, held_mode}
+use Rattle.callbacks.specs.Meanings.{local_lock_of}
+use Rattle.local_ops.specs.Answers.{view_of_local_answer}
+use Rattle.range_owners.specs.Same.{view_of_mode, view_of_held_mode}
 use Rattle.range_table.specs.declared.run.Mode.{Mode}
 use Rattle.call_plans.specs.Planned.{changed}
 use Rattle.lock_service.specs.declared.local.LinePlan.{LinePlan}
 use Rattle.lock_service.specs.declared.local.SetLine as line
 
 abbrev pub line_planned : LinePlan → World → Told LineReply
-line_planned p w = record { says = reply_of p.answer; world = changed p.change w }
+line_planned p w = record { says = view_of_local_answer p.answer; world = changed p.change w }
 
 -- `setlk`, or `setlkw`, which waits
 abbrev pub set_line_if : Bool → line.SetLine → Line
-set_line_if true s = SetLockWait (held_mode s.mode) (local_lock_of s.lock.now)
-set_line_if false s = SetLock (held_mode s.mode) (local_lock_of s.lock.now)
+set_line_if true s = SetLockWait (view_of_held_mode s.mode) (local_lock_of s.lock.now)
+set_line_if false s = SetLock (view_of_held_mode s.mode) (local_lock_of s.lock.now)
 
 -- what the lock rules are asked by a line with a mode, where so many places are free
 abbrev pub lock_asked : line.SetLine → Mode → ℕ → LockAsk
-lock_asked s mode free = line_ask s.connection free s.waits (mode_of mode) (local_lock_of s.lock.now)
+lock_asked s mode free = line_ask s.connection free s.waits (view_of_mode mode) (local_lock_of s.lock.now)
 
 abbrev pub set_line_of : line.SetLine → Line
 set_line_of s = set_line_if s.waits s

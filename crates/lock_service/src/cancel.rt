@@ -14,7 +14,7 @@ use crate::verdict::Verdict;
 use call_plans::{Change, Plan};
 use grace::CallKind;
 use hosts_db::HostStore;
-use lock_world::World;
+use lock_state::World;
 use nlm4_types::{CancelArgs, Stat, Version, WIDE};
 use owner_ids::Starved;
 use range_table::RangeTable;
@@ -47,11 +47,11 @@ fn verdict<R: RangeTable, S: HostStore>(
 {
     let place = match place_of(world, CallKind::Cancelling, &args.alock) {
         Ok(place) => place,
-        Err(stat) => return Ok(Verdict::says(stat)),
+        Err(stat) => return Ok(Verdict::of_stat(stat)),
     };
     let wanted = wanted_of(world.alloc(), &place, args.exclusive, &args.alock)?;
     if !world.is_waiting(&wanted.request()) {
-        return Ok(Verdict::says(Stat::Denied));
+        return Ok(Verdict::of_stat(Stat::Denied));
     }
     Ok(Verdict::Decided {
         stat: Stat::Granted,

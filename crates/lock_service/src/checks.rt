@@ -9,12 +9,9 @@ ghost use Rattle.lock_service.specs.Places.{IsPlaceOf};
 
 use grace::{CallKind, admits};
 use hosts_db::HostStore;
-use lock_world::World;
-use nlm4_types::{Lock, Stat, WIDE};
+use lock_state::World;
+use nlm4_types::{Lock, Stat, TOP, WIDE};
 use range_table::{FileId, RangeTable};
-
-/// A file's last byte.
-const TOP: u64 = 0x7fff_ffff_ffff_ffff;
 
 /// The bytes that a call names.
 #[derive(Clone, Copy)]

@@ -2,14 +2,14 @@
 ghost use Rattle.std.specs.Prelude.{◌≡◌, IfOk};
 ghost use Rattle.definitions.specs.Ranges.{owner_of as owner_said, mode_of as mode_said, last_of, request_of};
 ghost use Rattle.nlm4_types.specs.Lock.{view_of_lock};
-ghost use Rattle.owner_ids.specs.Said.{said};
-ghost use Rattle.owner_ranges.specs.Same.{mode_of as held_mode_of};
-ghost use Rattle.lock_world.specs.Whole.{IsShown};
+ghost use Rattle.owner_ids.specs.Said.{view_of_owner};
+ghost use Rattle.range_owners.specs.Same.{view_of_mode as held_mode_of};
+ghost use Rattle.lock_state.specs.Whole.{IsShown};
 ghost use Rattle.call_plans.specs.Planned.{request_wanted};
 
 use crate::checks::Place;
 use call_plans::Wanted;
-use letters::ShortBytes;
+use callbacks::ShortBytes;
 use nlm4_types::{Lock, Netobj, WIDE};
 use owner_ids::{Owner, Starved};
 use range_table::Mode;
@@ -17,8 +17,8 @@ use std::alloc::Global;
 
 /// The owner that a call names.
 pub(crate) fn owner_of(alloc: Global, alock: &Lock<'_, WIDE>) -> Result<Owner, Starved>
-    ensures owner { IfOk result (λ owner. said owner ≡ owner_said (view_of_lock alock.now)) }
-    ensures shown { IfOk result (λ owner. IsShown (said owner)) }
+    ensures owner { IfOk result (λ owner. view_of_owner owner ≡ owner_said (view_of_lock alock.now)) }
+    ensures shown { IfOk result (λ owner. IsShown (view_of_owner owner)) }
 {
     Ok(Owner::Remote {
         name: Vec::from_slice(alloc, alock.caller_name.bytes)?,

@@ -2,12 +2,12 @@
 ghost use Rattle.std.specs.Prelude.{◌≡◌, IfOk};
 ghost use Rattle.definitions.specs.Replies.{LineTable, LineHosts};
 ghost use Rattle.definitions.specs.Starts.{runs};
-ghost use Rattle.local_ops.specs.Answers.{reply_of};
+ghost use Rattle.local_ops.specs.Answers.{view_of_local_answer};
 
 use history::History;
 use hosts_db::HostStore;
 use local_ops::{HostsText, ListedHost, ListedRun, LocalAnswer, TableText};
-use lock_world::World;
+use lock_state::World;
 use owner_ids::Starved;
 use range_table::RangeTable;
 use table_text::{WriteFault, print_end, print_hosts, print_table};
@@ -21,7 +21,7 @@ fn starved(_unwritten: WriteFault) -> Starved {
 
 /// `table`: all locks. Changes nothing.
 pub fn list_table<R: RangeTable, S: HostStore>(world: &World<R, S>) -> Result<LocalAnswer, Starved>
-    ensures { IfOk result (λ answer. reply_of answer ≡ LineTable (runs world.now.world.settings)) }
+    ensures { IfOk result (λ answer. view_of_local_answer answer ≡ LineTable (runs world.now.world.settings)) }
 {
     let mut text = Vec::new(world.alloc());
     print_table(world.locks(), &mut text).map_err(starved)?;
@@ -32,7 +32,7 @@ pub fn list_table<R: RangeTable, S: HostStore>(world: &World<R, S>) -> Result<Lo
 
 /// `hosts`: all stored hosts. Changes nothing.
 pub fn list_hosts<R: RangeTable, S: HostStore>(world: &World<R, S>) -> Result<LocalAnswer, Starved>
-    ensures { IfOk result (λ answer. reply_of answer ≡ LineHosts world.now.world.hosts.rows) }
+    ensures { IfOk result (λ answer. view_of_local_answer answer ≡ LineHosts world.now.world.hosts.rows) }
 {
     let mut text = Vec::new(world.alloc());
     print_hosts(world.store().hosts(), &mut text).map_err(starved)?;

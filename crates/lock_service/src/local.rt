@@ -7,11 +7,11 @@ ghost use Rattle.definitions.specs.Ranges.{last_of as last_byte, line_unlock};
 ghost use Rattle.definitions.specs.Replies.{Close};
 ghost use Rattle.definitions.specs.Rulings.{ruled};
 ghost use Rattle.definitions.specs.Lines.{line_refusal, line_answer, line_told, line_word, get_unless, shown_run};
-ghost use Rattle.owner_ids.specs.Said.{said};
-ghost use Rattle.owner_ranges.specs.Same.{mode_of};
-ghost use Rattle.letters.specs.Meanings.{local_lock_of};
+ghost use Rattle.owner_ids.specs.Said.{view_of_owner};
+ghost use Rattle.range_owners.specs.Same.{view_of_mode};
+ghost use Rattle.callbacks.specs.Meanings.{local_lock_of};
 ghost use Rattle.held_locks.specs.Asked.{shown};
-ghost use Rattle.local_ops.specs.Answers.{reply_of};
+ghost use Rattle.local_ops.specs.Answers.{view_of_local_answer};
 ghost use Rattle.nlm4_types.specs.Stat.{view_of_stat};
 ghost use Rattle.call_plans.specs.Planned.{setting_of, FitsChange, IsForgottenIfIdle};
 ghost use Rattle.call_plans.specs.declared.plans.Change.TheVariants.{Nothing};
@@ -24,11 +24,11 @@ use crate::lock_rules::lock_rules;
 use crate::unlock::unlock_rules;
 use crate::verdict::Verdict;
 use call_plans::{Change, Range, Wanted, prepare_change};
+use callbacks::LocalLock;
 use grace::{CallKind, admits};
 use hosts_db::HostStore;
-use letters::LocalLock;
 use local_ops::LocalAnswer;
-use lock_world::World;
+use lock_state::World;
 use nlm4_types::{Stat, shown_len};
 use owner_ids::{Owner, Starved};
 use range_table::{FileId, Mode, RangeTable};
@@ -56,7 +56,7 @@ fn place_of<R: RangeTable, S: HostStore>(
     lock: &LocalLock,
 ) -> Result<Place, LocalAnswer>
     ensures ok { IfOk result (λ p. (line_refusal world.now.world (local_lock_of lock.now) ≡ None) × (p.file ≡ lock.now.file) × (p.first ≡ lock.now.offset) × (p.last ≡ last_byte lock.now.offset lock.now.len)) }
-    ensures err { IfErr result (λ answer. line_refusal world.now.world (local_lock_of lock.now) ≡ Some (reply_of answer)) }
+    ensures err { IfErr result (λ answer. line_refusal world.now.world (local_lock_of lock.now) ≡ Some (view_of_local_answer answer)) }
 {
     let Some(last) = last_of(lock.offset, lock.len) else {
         return Err(LocalAnswer::TooFar);
@@ -77,7 +77,7 @@ pub fn get_lock<R: RangeTable, S: HostStore>(
     mode: Mode,
     lock: &LocalLock,
 ) -> Result<LocalAnswer, Starved>
-    ensures { IfOk result (λ answer. reply_of answer ≡ get_unless world.now.world (mode_of mode) (local_lock_of lock.now) (line_refusal world.now.world (local_lock_of lock.now))) }
+    ensures { IfOk result (λ answer. view_of_local_answer answer ≡ get_unless world.now.world (view_of_mode mode) (local_lock_of lock.now) (line_refusal world.now.world (local_lock_of lock.now))) }
 {
     let place = match place_of(world, lock) {
         Ok(place) => place,
@@ -99,7 +99,7 @@ pub fn get_lock<R: RangeTable, S: HostStore>(
 // A lock that is in the way, as a line shows it.
 fn held_by(found: &held_locks::Holder<'_>) -> Result<LocalAnswer, Starved>
     requires { found.now.last < 2 ^ 63 }
-    ensures { IfOk result (λ answer. reply_of answer ≡ shown_run (Some (shown found.now))) }
+    ensures { IfOk result (λ answer. view_of_local_answer answer ≡ shown_run (Some (shown found.now))) }
 {
     Ok(LocalAnswer::Held {
         mode: found.mode,
@@ -119,7 +119,7 @@ pub fn plan_set<R: RangeTable, S: HostStore>(
 {
     let place = match place_of(world, line.lock) {
         Ok(place) => place,
-        Err(refusal) => return Ok(says(refusal)),
+        Err(refusal) => return Ok(plan_to_say(refusal)),
     };
     let verdict = match line.mode {
         Some(mode) => lock_verdict(world, &place, mode, line)?,
@@ -128,7 +128,7 @@ pub fn plan_set<R: RangeTable, S: HostStore>(
     Ok(told_by_line(verdict))
 }
 
-fn says(answer: LocalAnswer) -> LinePlan
+fn plan_to_say(answer: LocalAnswer) -> LinePlan
     ensures { result ≡ record { answer = answer; change = Nothing } }
 {
     LinePlan {
@@ -154,7 +154,7 @@ fn told_by_line(verdict: Verdict) -> LinePlan
 
 // A status in a line's word; the last of them are never a lock's.
 fn word_of(stat: Stat) -> LocalAnswer
-    ensures { reply_of result ≡ line_word (view_of_stat stat) }
+    ensures { view_of_local_answer result ≡ line_word (view_of_stat stat) }
 {
     match stat {
         Stat::Granted => LocalAnswer::Done,
@@ -241,14 +241,14 @@ pub fn set_lock<R: RangeTable, S: HostStore>(
     world: &mut World<R, S>,
     line: &SetLine<'_>,
 ) -> Result<LocalAnswer, Starved>
-    ensures reply { IfOk result (λ answer. reply_of answer ≡ (ruled NotAsked (line_answer the_limits world.old.world line.now.connection (set_line_of line.now))).says) }
+    ensures reply { IfOk result (λ answer. view_of_local_answer answer ≡ (ruled NotAsked (line_answer the_limits world.old.world line.now.connection (set_line_of line.now))).says) }
     ensures world { IfOk result (λ answer. world.new.world ≡ settled the_limits (ruled NotAsked (line_answer the_limits world.old.world line.now.connection (set_line_of line.now))).world) }
     ensures err { OnErr result (world.new.world ≡ world.old.world) }
     ensures refusals { world.new.refusals ≡ world.old.refusals }
 {
     let LinePlan { answer, change } = plan_set(world, line)?;
     prepare_change(world, &change)?;
-    call_plans::change(world, change);
+    call_plans::make_change(world, change);
     world.settle();
     Ok(answer)
 }
@@ -260,9 +260,9 @@ pub fn close_file<R: RangeTable, S: HostStore>(
     owner: &Owner,
     file: &FileId,
 )
-    ensures world { (l : ℕ) → world.new.world ≡ settled the_limits (ruled NotAsked (line_answer the_limits world.old.world l (Close (said owner.now) file.now))).world }
+    ensures world { (l : ℕ) → world.new.world ≡ settled the_limits (ruled NotAsked (line_answer the_limits world.old.world l (Close (view_of_owner owner.now) file.now))).world }
     ensures refusals { world.new.refusals ≡ world.old.refusals }
-    ensures forgotten { IsForgottenIfIdle (said owner.now) world.new.world world.new }
+    ensures forgotten { IsForgottenIfIdle (view_of_owner owner.now) world.new.world world.new }
 {
     world.close(file, owner);
     world.forget_idle(owner);

@@ -19,7 +19,7 @@ use crate::verdict::Verdict;
 use call_plans::Plan;
 use grace::CallKind;
 use hosts_db::HostStore;
-use lock_world::World;
+use lock_state::World;
 use nlm4_types::{LockArgs, Version, WIDE};
 use owner_ids::Starved;
 use range_table::RangeTable;
@@ -69,7 +69,7 @@ fn verdict<R: RangeTable, S: HostStore>(
     };
     let place = match place_of(world, kind, &args.alock) {
         Ok(place) => place,
-        Err(stat) => return Ok(Verdict::says(stat)),
+        Err(stat) => return Ok(Verdict::of_stat(stat)),
     };
     let wanted = wanted_of(world.alloc(), &place, args.exclusive, &args.alock)?;
     let ask = LockAsk {

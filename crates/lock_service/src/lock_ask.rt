@@ -3,7 +3,7 @@ ghost use Rattle.std.specs.Prelude.{◌≡◌, ◌≤◌, length, false};
 ghost use Rattle.definitions.specs.Ranges.{is_stale, is_too_far};
 
 use call_plans::Wanted;
-use letters::LocalLock;
+use callbacks::LocalLock;
 use nlm4_types::{Lock, Version, WIDE};
 use range_table::Mode;
 

@@ -5,7 +5,7 @@ ghost use Rattle.std.specs.Option.{is_some, option_map};
 ghost use Rattle.definitions.specs.Hosts.{Hosts, Monitor};
 ghost use Rattle.definitions.specs.LockRules.{lock_rules as rules_said, blocked_lock as blocked_said, after_row as after_row_said, row_asked};
 ghost use Rattle.definitions.specs.World.{the_limits, slots_free, with_hosts};
-ghost use Rattle.letters.specs.Meanings.{lock_of, message_of};
+ghost use Rattle.callbacks.specs.Meanings.{view_of_told_lock, view_of_message};
 ghost use Rattle.nlm4_types.specs.Lock.{view_of_lock};
 ghost use Rattle.nlm4_types.specs.Stat.{view_of_stat};
 ghost use Rattle.call_plans.specs.Planned.{changed, FitsChange};
@@ -15,9 +15,9 @@ ghost use Rattle.lock_service.specs.Verdicts.{IsAfterRow, IsVerdict, IsVerdictWi
 use crate::lock_ask::{Grant, GrantCall, LockAsk, NewHost};
 use crate::verdict::Verdict;
 use call_plans::{Asked, Change};
+use callbacks::{Caller, Destination, Letter, LocalLock, Message, ShortBytes};
 use hosts_db::HostStore;
-use letters::{Caller, Destination, Letter, LocalLock, Message, ShortBytes};
-use lock_world::World;
+use lock_state::World;
 use nlm4_types::Stat;
 use owner_ids::Starved;
 use range_table::{Mode, RangeTable};
@@ -35,7 +35,7 @@ pub(crate) fn lock_rules<R: RangeTable, S: HostStore>(
         return kept_out(world, ask);
     }
     if world.lacks_room(&ask.wanted.request()) {
-        return Ok(Verdict::says(Stat::DeniedNolocks));
+        return Ok(Verdict::of_stat(Stat::DeniedNolocks));
     }
     let change = Change::Set(ask.wanted.into_range());
     behind_row(world, ask.row, Stat::Granted, change)
@@ -50,7 +50,7 @@ fn kept_out<R: RangeTable, S: HostStore>(
     ensures asks { IfOk result (OnlyAsksIf (is_some ask.entry.row)) }
 {
     if ask.reclaim || !ask.block {
-        return Ok(Verdict::says(Stat::Denied));
+        return Ok(Verdict::of_stat(Stat::Denied));
     }
     blocked(world, ask)
 }
@@ -67,10 +67,10 @@ fn blocked<R: RangeTable, S: HostStore>(
         return behind_row(world, ask.row, Stat::Blocked, Change::Nothing);
     }
     if world.closes_cycle(&ask.wanted.request()) {
-        return Ok(Verdict::says(Stat::Deadlck));
+        return Ok(Verdict::of_stat(Stat::Deadlck));
     }
     if world.free_slots() <= ask.reserved {
-        return Ok(Verdict::says(Stat::DeniedNolocks));
+        return Ok(Verdict::of_stat(Stat::DeniedNolocks));
     }
     let letter = ask.grant.letter(world.alloc())?;
     behind_row(
@@ -159,7 +159,7 @@ impl GrantCall<'_> {
     {
         let name = self.lock.caller_name.bytes;
         let host = ShortBytes::copy_of(alloc, name)?;
-        let lock = letters::Lock {
+        let lock = callbacks::Lock {
             caller: Caller::copy_of(alloc, name, self.lock.svid, self.lock.oh.bytes)?,
             fh: ShortBytes::copy_of(alloc, self.lock.fh.bytes)?,
             l_offset: self.lock.l_offset,
@@ -168,9 +168,9 @@ impl GrantCall<'_> {
         Ok(Letter::new(Destination::Host(host), self.message(lock)))
     }
 
-    fn message(&self, lock: letters::Lock) -> Message
-        requires { lock_of lock ≡ view_of_lock self.now.lock }
-        ensures { message_of result ≡ granted_by self.now }
+    fn message(&self, lock: callbacks::Lock) -> Message
+        requires { view_of_told_lock lock ≡ view_of_lock self.now.lock }
+        ensures { view_of_message result ≡ granted_by self.now }
     {
         let GrantCall {
             version,

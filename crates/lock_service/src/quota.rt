@@ -6,13 +6,13 @@ ghost use Rattle.definitions.specs.Replies.{SetQuota};
 ghost use Rattle.definitions.specs.Rulings.{ruled};
 ghost use Rattle.definitions.specs.Step.{KeptPair, Local, Applied};
 ghost use Rattle.definitions.specs.World.{settled, the_limits};
-ghost use Rattle.call_plans.specs.Planned.{answer_of, counted};
-ghost use Rattle.local_ops.specs.Answers.{reply_of};
+ghost use Rattle.call_plans.specs.Planned.{view_of_stored, counted};
+ghost use Rattle.local_ops.specs.Answers.{view_of_local_answer};
 
 use call_plans::StoreAnswer;
 use hosts_db::HostStore;
 use local_ops::{LocalAnswer, Quota};
-use lock_world::World;
+use lock_state::World;
 use range_table::RangeTable;
 
 /// `quota`: the store keeps the quota of a host that has a row, and then who waited for no more than it is granted. What is
@@ -22,10 +22,10 @@ pub fn set_quota<R: RangeTable, S: HostStore>(
     world: &mut World<R, S>,
     quota: &Quota,
 ) -> (LocalAnswer, StoreAnswer)
-    ensures reply { (l : ℕ) → reply_of result.0 ≡ (ruled (answer_of result.1) (line_answer the_limits world.old.world l (SetQuota quota.now.name quota.now.runs))).says }
-    ensures world { (l : ℕ) → world.new.world ≡ settled the_limits (ruled (answer_of result.1) (line_answer the_limits world.old.world l (SetQuota quota.now.name quota.now.runs))).world }
-    ensures fits { (kept : List KeptPair) (l : ℕ) → fits the_limits (record { world = world.old.world; kept = kept }) (record { event = Local l (SetQuota quota.now.name quota.now.runs); doing = Applied; store = answer_of result.1 }) ≡ true }
-    ensures refusals { world.new.refusals ≡ counted (answer_of result.1) world.old.refusals }
+    ensures reply { (l : ℕ) → view_of_local_answer result.0 ≡ (ruled (view_of_stored result.1) (line_answer the_limits world.old.world l (SetQuota quota.now.name quota.now.runs))).says }
+    ensures world { (l : ℕ) → world.new.world ≡ settled the_limits (ruled (view_of_stored result.1) (line_answer the_limits world.old.world l (SetQuota quota.now.name quota.now.runs))).world }
+    ensures fits { (kept : List KeptPair) (l : ℕ) → fits the_limits (record { world = world.old.world; kept = kept }) (record { event = Local l (SetQuota quota.now.name quota.now.runs); doing = Applied; store = view_of_stored result.1 }) ≡ true }
+    ensures refusals { world.new.refusals ≡ counted (view_of_stored result.1) world.old.refusals }
 {
     let (answer, store) = stored(world, quota);
     world.settle();
@@ -37,9 +37,9 @@ fn stored<R: RangeTable, S: HostStore>(
     world: &mut World<R, S>,
     quota: &Quota,
 ) -> (LocalAnswer, StoreAnswer)
-    ensures told { record { says = reply_of result.0; world = world.new.world } ≡ ruled (answer_of result.1) (quota_rules world.old.world quota.now.name quota.now.runs) }
-    ensures fits { (kept : List KeptPair) (l : ℕ) → fits the_limits (record { world = world.old.world; kept = kept }) (record { event = Local l (SetQuota quota.now.name quota.now.runs); doing = Applied; store = answer_of result.1 }) ≡ true }
-    ensures refusals { world.new.refusals ≡ counted (answer_of result.1) world.old.refusals }
+    ensures told { record { says = view_of_local_answer result.0; world = world.new.world } ≡ ruled (view_of_stored result.1) (quota_rules world.old.world quota.now.name quota.now.runs) }
+    ensures fits { (kept : List KeptPair) (l : ℕ) → fits the_limits (record { world = world.old.world; kept = kept }) (record { event = Local l (SetQuota quota.now.name quota.now.runs); doing = Applied; store = view_of_stored result.1 }) ≡ true }
+    ensures refusals { world.new.refusals ≡ counted (view_of_stored result.1) world.old.refusals }
 {
     let name = quota.name.as_slice();
     if !world.has_row(name) {

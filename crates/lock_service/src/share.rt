@@ -17,7 +17,7 @@ use call_plans::{Answer, Change, Plan, Told};
 use dos_shares::{Access, Share, ShareError};
 use grace::CallKind;
 use hosts_db::HostStore;
-use lock_world::World;
+use lock_state::World;
 use nlm4_types::{Access as AskedAccess, ShareArgs, Stat, Version};
 use owner_ids::Starved;
 use range_table::RangeTable;

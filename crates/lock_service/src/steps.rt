@@ -5,11 +5,11 @@ ghost use Rattle.definitions.specs.World.{the_limits, settled};
 ghost use Rattle.definitions.specs.Rulings.{ruled};
 ghost use Rattle.definitions.specs.Answer.{nlm_answer, ruling};
 ghost use Rattle.definitions.specs.Replay.{may_leave_row};
-ghost use Rattle.call_outcome.specs.Values.{outcome_of};
+ghost use Rattle.call_outcome.specs.Values.{view_of_outcome};
 ghost use Rattle.nlm4_types.specs.Call.{view_of_call as view_of_nlm_call};
 ghost use Rattle.nlm4_types.specs.Version.{view_of_version};
 ghost use Rattle.record_reading.specs.Values.{view_of_call};
-ghost use Rattle.call_plans.specs.Planned.{answer_of, AsksOnlyIf, IsPlan};
+ghost use Rattle.call_plans.specs.Planned.{view_of_stored, AsksOnlyIf, IsPlan};
 ghost use Rattle.lock_service.specs.MayAsk.{may_ask};
 
 use crate::lock::LockCall;
@@ -18,7 +18,7 @@ use crate::{cancel, free_all, granted, lock, null, share, test, unlock, unshare}
 use call_outcome::Outcome;
 use call_plans::{Plan, StoreAnswer, agree, commit};
 use hosts_db::HostStore;
-use lock_world::World;
+use lock_state::World;
 use nlm4_types::{NlmCall, Version};
 use owner_ids::Starved;
 use range_table::RangeTable;
@@ -75,8 +75,8 @@ pub fn answer<R: RangeTable, S: HostStore>(
     local: bool,
     call: &Call<'_>,
 ) -> Result<(Arc<Outcome, Global>, StoreAnswer), Starved>
-    ensures reply { IfOk result (λ told. outcome_of told.0.value ≡ (ruled (answer_of told.1) (ruling the_limits world.old.world local (view_of_call call.now))).outcome) }
-    ensures world { IfOk result (λ told. world.new.world ≡ settled the_limits (ruled (answer_of told.1) (ruling the_limits world.old.world local (view_of_call call.now))).world) }
+    ensures reply { IfOk result (λ told. view_of_outcome told.0.value ≡ (ruled (view_of_stored told.1) (ruling the_limits world.old.world local (view_of_call call.now))).outcome) }
+    ensures world { IfOk result (λ told. world.new.world ≡ settled the_limits (ruled (view_of_stored told.1) (ruling the_limits world.old.world local (view_of_call call.now))).world) }
     ensures err { OnErr result (world.new.world ≡ world.old.world) }
 {
     let plan = plan(world, local, call)?;

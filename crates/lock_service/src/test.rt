@@ -8,10 +8,10 @@ ghost use Rattle.definitions.specs.Answer.{nlm_answer, test_answer};
 ghost use Rattle.nlm4_types.specs.Version.{view_of_version};
 ghost use Rattle.nlm4_types.specs.Arguments.{view_of_testargs};
 ghost use Rattle.nlm4_types.specs.Stat.{view_of_stat};
-ghost use Rattle.owner_ids.specs.Said.{said};
-ghost use Rattle.letters.specs.Meanings.{test_res_of, holder_of as holder_told};
+ghost use Rattle.owner_ids.specs.Said.{view_of_owner};
+ghost use Rattle.callbacks.specs.Meanings.{test_res_of, holder_of as holder_told};
 ghost use Rattle.held_locks.specs.Asked.{shown};
-ghost use Rattle.lock_world.specs.Whole.{IsShown};
+ghost use Rattle.lock_state.specs.Whole.{IsShown};
 ghost use Rattle.call_plans.specs.Planned.{IsPlan, AsksOnlyIf};
 
 use crate::checks::place_of;
@@ -19,10 +19,10 @@ use crate::copies::{cookie_of, mode_of, owner_of};
 use crate::telling::no_place;
 use call_outcome::{CallResult, Outcome};
 use call_plans::{Answer, Change, Plan, Told};
+use callbacks::{Destination, Holder, Letter, Message, ShortBytes, TestRes};
 use grace::CallKind;
 use hosts_db::HostStore;
-use letters::{Destination, Holder, Letter, Message, ShortBytes, TestRes};
-use lock_world::World;
+use lock_state::World;
 use nlm4_types::{Stat, TestArgs, Version, WIDE};
 use owner_ids::{Owner, Starved};
 use range_table::{Mode, RangeTable};
@@ -142,7 +142,7 @@ fn holder_of(
     version: Version,
     found: &held_locks::Holder<'_>,
 ) -> Result<Holder, Starved>
-    requires { IsShown (said found.now.owner.now) × (found.now.last < 2 ^ 63) }
+    requires { IsShown (view_of_owner found.now.owner.now) × (found.now.last < 2 ^ 63) }
     ensures { IfOk result (λ holder. holder_told holder ≡ holder_said (view_of_version version) (shown found.now)) }
 {
     Ok(Holder {
@@ -155,8 +155,8 @@ fn holder_of(
 }
 
 fn shown_svid(owner: &Owner) -> i32
-    requires { IsShown (said owner.now) }
-    ensures { result ≡ svid_said (said owner.now) }
+    requires { IsShown (view_of_owner owner.now) }
+    ensures { result ≡ svid_said (view_of_owner owner.now) }
 {
     match owner {
         Owner::Remote { svid, .. } => *svid,
@@ -167,8 +167,8 @@ fn shown_svid(owner: &Owner) -> i32
 
 #[tactic(auto, using(nlm4_types::proofs::Eight::eight_bytes_written))]
 fn shown_oh(alloc: Global, owner: &Owner) -> Result<ShortBytes, Starved>
-    requires { IsShown (said owner.now) }
-    ensures { IfOk result (λ oh. oh ≡ oh_said (said owner.now)) }
+    requires { IsShown (view_of_owner owner.now) }
+    ensures { IfOk result (λ oh. oh ≡ oh_said (view_of_owner owner.now)) }
 {
     Ok(match owner {
         Owner::Remote { oh, .. } => ShortBytes::copy_of(alloc, oh.as_slice())?,

@@ -16,7 +16,7 @@ use crate::verdict::Verdict;
 use call_plans::{Change, Plan, Range};
 use grace::CallKind;
 use hosts_db::HostStore;
-use lock_world::World;
+use lock_state::World;
 use nlm4_types::{Stat, UnlockArgs, Version, WIDE};
 use owner_ids::Starved;
 use range_table::RangeTable;
@@ -49,7 +49,7 @@ fn verdict<R: RangeTable, S: HostStore>(
 {
     let place = match place_of(world, CallKind::Unlocking, &args.alock) {
         Ok(place) => place,
-        Err(stat) => return Ok(Verdict::says(stat)),
+        Err(stat) => return Ok(Verdict::of_stat(stat)),
     };
     let range = Range {
         file: place.file,
@@ -71,8 +71,8 @@ pub(crate) fn unlock_rules<R: RangeTable, S: HostStore>(
     ensures verdict { (reserved : ℕ) → IsVerdict (rules_said the_limits world.now.world (setting_of range)) reserved world.now.world result }
     ensures asks { OnlyAsksIf false result }
 {
-    if world.is_refused(&range.change()) {
-        return Verdict::says(Stat::DeniedNolocks);
+    if world.is_refused(&range.setting()) {
+        return Verdict::of_stat(Stat::DeniedNolocks);
     }
     Verdict::Decided {
         stat: Stat::Granted,

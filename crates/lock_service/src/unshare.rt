@@ -12,7 +12,7 @@ use crate::share::{share_of, told};
 use call_plans::{Change, Plan};
 use grace::CallKind;
 use hosts_db::HostStore;
-use lock_world::World;
+use lock_state::World;
 use nlm4_types::{ShareArgs, Stat, Version};
 use owner_ids::Starved;
 use range_table::RangeTable;

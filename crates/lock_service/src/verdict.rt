@@ -26,7 +26,7 @@ pub(crate) enum Verdict {
 
 impl Verdict {
     /// A status, and nothing changes.
-    pub(crate) fn says(stat: Stat) -> Verdict
+    pub(crate) fn of_stat(stat: Stat) -> Verdict
         ensures verdict { (reserved : ℕ) (w : SaidWorld) → IsVerdict (stays w (view_of_stat stat)) reserved w result }
         ensures asks { OnlyAsksIf false result }
     {

@@ -2,7 +2,7 @@
 ghost use Rattle.std.specs.Prelude.{◌≤◌, ◌<◌, ◌^◌};
 
 use crate::owner::remote;
-use held_locks::{Change, Locks, Request};
+use held_locks::{Locks, NewSetting, Request};
 use owner_ids::{Owner, Starved};
 use range_table::{FileId, FlatTable, Mode};
 use std::alloc::Global;
@@ -30,7 +30,7 @@ fn set(
     requires inside { last < 2 ^ 63 }
 {
     locks.admit(owner)?;
-    let change = Change {
+    let change = NewSetting {
         file: file(),
         owner,
         first,

@@ -1,11 +1,11 @@
 //! A server on sockets.
 
 use crate::stores::stored_hosts;
+use callbacks::ShortBytes;
 use config::ServeConfig;
 use hosts_lasting::Lasting;
 use hosts_sql::SqlHosts;
 use jobs::Job;
-use letters::ShortBytes;
 use log::Log;
 use peers::{Peers, PeersFault};
 use pipe_loops::Fault as StoreFault;

@@ -1,11 +1,11 @@
 //! The stream on standard input is served.
 
 use crate::stores::{no_hosts, stored_hosts};
+use callbacks::ShortBytes;
 use config::{Name, StreamConfig};
 use hosts_db::HostStore;
 use hosts_lasting::Lasting;
 use hosts_sql::SqlHosts;
-use letters::ShortBytes;
 use pipe_loops::{Fault, Server, pipe_loop, table_loop};
 use range_arena::ArenaTable;
 use sqlite::Alter;

@@ -1,7 +1,7 @@
 //! One message of each kind, and what they are made of.
 ghost use Rattle.std.specs.Prelude.{◌≤◌, length};
 
-use letters::{Caller, Holder, LocalLock, Lock, Message, MyId, Res, ShortBytes, TestRes};
+use callbacks::{Caller, Holder, LocalLock, Lock, Message, MyId, Res, ShortBytes, TestRes};
 use nlm4_types::{Stat, Version};
 use owner_ids::Owner;
 use range_table::{FileId, Mode};

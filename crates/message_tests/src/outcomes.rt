@@ -4,7 +4,7 @@ ghost use Rattle.std.specs.Prelude.{◌≤◌, length};
 use crate::messages::Memory;
 use crate::words::is_words;
 use call_outcome::{CallResult, Outcome, ShareRes};
-use letters::Holder;
+use callbacks::Holder;
 use nlm4_types::{Stat, Version};
 use nsm_types::{MonitorRes, SmStat, SmStatRes};
 use record_reading::Refusal;
@@ -18,7 +18,7 @@ fn tells(told: CallResult, xid: u32, text: &str) -> bool {
 
 fn reply_is(outcome: Outcome, xid: u32, text: &str) -> bool {
     let mut f = Frame::new();
-    outcome.reply(xid, &mut f).is_ok() && is_words(&f, text)
+    outcome.put_reply(xid, &mut f).is_ok() && is_words(&f, text)
 }
 
 impl<R: Abort> Memory<'_, R> {
@@ -107,7 +107,7 @@ fn fits_behind(told: CallResult, count: usize) -> (bool, usize) {
     for _ in 0..count {
         let _ = f.append(&[7]);
     }
-    let fits = Outcome::Success(told).reply(2, &mut f).is_ok();
+    let fits = Outcome::Success(told).put_reply(2, &mut f).is_ok();
     (fits, f.len())
 }
 

@@ -2,7 +2,7 @@
 use crate::messages::Memory;
 use crate::words::is_words;
 use call_records::{Dest, put_record};
-use letters::{Destination, Letter, Message};
+use callbacks::{Destination, Letter, Message};
 use std::alloc::Global;
 use xdr_core::Frame;
 

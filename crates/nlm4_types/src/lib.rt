@@ -25,6 +25,6 @@ pub use notify::Notify;
 pub use offset::{NARROW, WIDE};
 pub use results::{Holder, Res, TestRes};
 pub use shares::{ShareArgs, ShareRes};
-pub use shown::{shown_holder_is_spelled, shown_len};
+pub use shown::{TOP, shown_holder_is_spelled, shown_len};
 pub use stat::Stat;
 pub use version::Version;

@@ -11,7 +11,7 @@ use crate::stat::Stat;
 use crate::version::Version;
 
 /// A file's last byte, 2^63-1.
-const TOP: u64 = i64::MAX as u64;
+pub const TOP: u64 = i64::MAX as u64;
 
 /// The greatest offset of 4 bytes.
 const NARROW_TOP: u64 = u32::MAX as u64;

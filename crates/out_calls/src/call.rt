@@ -3,7 +3,7 @@ ghost use Rattle.std.specs.Prelude.{◌≡◌, ◌<◌, ◌≤◌, ◌&&◌, ◌
 ghost use Rattle.definitions.specs.Bytes.{same_bytes, eight_bytes};
 ghost use Rattle.definitions.specs.Outgoing.{Outgoing, Letter as SentLetter, due_now, once_more, xid_of, was_sent, is_grant_to, is_granted_msg, ends_when_sent};
 
-use letters::Letter;
+use callbacks::Letter;
 use std::marker::Model;
 
 /// How often a call is sent before a silence forgets it.

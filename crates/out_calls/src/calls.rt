@@ -8,7 +8,7 @@ ghost use Rattle.out_calls.specs.Found.{found, kept_or};
 
 use crate::call::{Call, MOST_SENDINGS};
 use blocked_list::MOST_SLOTS;
-use letters::Letter;
+use callbacks::Letter;
 use owner_ids::Starved;
 use std::alloc::Global;
 use std::marker::Model;

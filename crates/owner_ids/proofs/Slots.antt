@@ -6,7 +6,7 @@ use Rattle.definitions.specs.Owners.{Owner}
 use Rattle.definitions.proofs.OwnerLaws.{same_owner-Decides}
 use Rattle.slab.specs.Slab.{Slab, get, Updates}
 use Rattle.owner_ids.specs.declared.owner.Owner.{Owner as HeldOwner}
-use Rattle.owner_ids.specs.Said.{said, said_some, same_held}
+use Rattle.owner_ids.specs.Said.{view_of_owner, said_some, same_held}
 use Rattle.owner_ids.specs.Names.{Names, Renames, named}
 
 pub named_said : (s : Slab HeldOwner) (n : ℕ) → named (map said_some s.slots) n ≡ said_some (get s n)
@@ -26,11 +26,11 @@ none_some : {A : Type 0} (a : A) → None ≡ Some a → ⊥
 none_some a e = cc
 
 -- two owners in memory say one owner, or they don't
-by_same : {P : Type 0} (x y : HeldOwner) → (same_held x y ≡ true → said x ≡ said y → P) → (same_held x y ≡ false → (said x ≡ said y → ⊥) → P) → P
+by_same : {P : Type 0} (x y : HeldOwner) → (same_held x y ≡ true → view_of_owner x ≡ view_of_owner y → P) → (same_held x y ≡ false → (view_of_owner x ≡ view_of_owner y → ⊥) → P) → P
 by_same {P} x y same other = go (same_held x y) refl where
   go : (b : Bool) → same_held x y ≡ b → P
-  go true t = same t ((same_owner-Decides (said x) (said y)).0 t)
-  go false t = other t (λ e. true≢false (sym ((same_owner-Decides (said x) (said y)).1 e) ∙ t))
+  go true t = same t ((same_owner-Decides (view_of_owner x) (view_of_owner y)).0 t)
+  go false t = other t (λ e. true≢false (sym ((same_owner-Decides (view_of_owner x) (view_of_owner y)).1 e) ∙ t))
 
 by_number : {P : Type 0} (k n : ℕ) → (k ≡ n → P) → (k ≢ n → P) → P
 by_number {P} k n one another = go (k == n) refl where
@@ -40,25 +40,25 @@ by_number {P} k n one another = go (k == n) refl where
 
 -- the map has the number of each owner in use, and nothing else
 pub record Lists (names : Names) (numbers : HeldOwner → Option ℕ) : Type 0 where
-  pub found : (x : HeldOwner) (n : ℕ) → numbers x ≡ Some n → names n ≡ Some (said x)
-  pub listed : (x : HeldOwner) (n : ℕ) → names n ≡ Some (said x) → numbers x ≡ Some n
+  pub found : (x : HeldOwner) (n : ℕ) → numbers x ≡ Some n → names n ≡ Some (view_of_owner x)
+  pub listed : (x : HeldOwner) (n : ℕ) → names n ≡ Some (view_of_owner x) → numbers x ≡ Some n
 
 module _ (names after : Names) (numbers next : HeldOwner → Option ℕ) (x : HeldOwner) (n : ℕ) (l : Lists names numbers) where
-  module _ (fresh : (k : ℕ) → names k ≢ Some (said x)) (free : names n ≡ None) (r : Renames names after n (Some (said x))) (u : (q : HeldOwner) → next q ≡ cond (same_held x q) (Some n) (numbers q)) where
-    added_found : (y : HeldOwner) (k : ℕ) → next y ≡ Some k → after k ≡ Some (said y)
+  module _ (fresh : (k : ℕ) → names k ≢ Some (view_of_owner x)) (free : names n ≡ None) (r : Renames names after n (Some (view_of_owner x))) (u : (q : HeldOwner) → next q ≡ cond (same_held x q) (Some n) (numbers q)) where
+    added_found : (y : HeldOwner) (k : ℕ) → next y ≡ Some k → after k ≡ Some (view_of_owner y)
     added_found y k e =
         by_same x y
         (λ t s. let i : n ≡ k = some_inside n k (ap (λ z. cond z (Some n) (numbers y)) (sym t) ∙ sym (u y) ∙ e) in
         ap after (sym i) ∙ r.there ∙ ap Some s)
         (λ t s. let f = l.found y k (ap (λ z. cond z (Some n) (numbers y)) (sym t) ∙ sym (u y) ∙ e) in
-        r.others k (λ i. none_some (said y) (sym free ∙ ap names (sym i) ∙ f)) ∙ f)
+        r.others k (λ i. none_some (view_of_owner y) (sym free ∙ ap names (sym i) ∙ f)) ∙ f)
 
-    added_listed : (y : HeldOwner) (k : ℕ) → after k ≡ Some (said y) → next y ≡ Some k
+    added_listed : (y : HeldOwner) (k : ℕ) → after k ≡ Some (view_of_owner y) → next y ≡ Some k
     added_listed y k e =
         by_number k n
-        (λ i. let s = some_inside (said x) (said y) (sym r.there ∙ ap after (sym i) ∙ e) in
-        u y ∙ ap (λ z. cond z (Some n) (numbers y)) ((same_owner-Decides (said x) (said y)).1 s) ∙ ap Some (sym i))
-        (λ o. let f : names k ≡ Some (said y) = sym (r.others k o) ∙ e in
+        (λ i. let s = some_inside (view_of_owner x) (view_of_owner y) (sym r.there ∙ ap after (sym i) ∙ e) in
+        u y ∙ ap (λ z. cond z (Some n) (numbers y)) ((same_owner-Decides (view_of_owner x) (view_of_owner y)).1 s) ∙ ap Some (sym i))
+        (λ o. let f : names k ≡ Some (view_of_owner y) = sym (r.others k o) ∙ e in
         by_same x y
         (λ t s. absurd (fresh k (f ∙ ap Some (sym s))))
         (λ t s. u y ∙ ap (λ z. cond z (Some n) (numbers y)) t ∙ l.listed y k f))
@@ -66,19 +66,19 @@ module _ (names after : Names) (numbers next : HeldOwner → Option ℕ) (x : He
     pub lists_added : Lists after next
     lists_added = record { found = added_found; listed = added_listed }
 
-  module _ (here : names n ≡ Some (said x)) (r : Renames names after n None) (u : (q : HeldOwner) → next q ≡ cond (same_held x q) None (numbers q)) where
-    removed_found : (y : HeldOwner) (k : ℕ) → next y ≡ Some k → after k ≡ Some (said y)
+  module _ (here : names n ≡ Some (view_of_owner x)) (r : Renames names after n None) (u : (q : HeldOwner) → next q ≡ cond (same_held x q) None (numbers q)) where
+    removed_found : (y : HeldOwner) (k : ℕ) → next y ≡ Some k → after k ≡ Some (view_of_owner y)
     removed_found y k e =
         by_same x y
         (λ t s. absurd (none_some k (ap (λ z. cond z None (numbers y)) (sym t) ∙ sym (u y) ∙ e)))
         (λ t s. let f = l.found y k (ap (λ z. cond z None (numbers y)) (sym t) ∙ sym (u y) ∙ e) in
-        r.others k (λ i. s (some_inside (said x) (said y) (sym here ∙ ap names (sym i) ∙ f))) ∙ f)
+        r.others k (λ i. s (some_inside (view_of_owner x) (view_of_owner y) (sym here ∙ ap names (sym i) ∙ f))) ∙ f)
 
-    removed_listed : (y : HeldOwner) (k : ℕ) → after k ≡ Some (said y) → next y ≡ Some k
+    removed_listed : (y : HeldOwner) (k : ℕ) → after k ≡ Some (view_of_owner y) → next y ≡ Some k
     removed_listed y k e =
         by_number k n
-        (λ i. absurd (none_some (said y) (sym r.there ∙ ap after (sym i) ∙ e)))
-        (λ o. let f : names k ≡ Some (said y) = sym (r.others k o) ∙ e in
+        (λ i. absurd (none_some (view_of_owner y) (sym r.there ∙ ap after (sym i) ∙ e)))
+        (λ o. let f : names k ≡ Some (view_of_owner y) = sym (r.others k o) ∙ e in
         by_same x y
         (λ t s. absurd (o (some_inside k n (sym (l.listed y k f) ∙ l.listed y n (here ∙ ap Some s)))))
         (λ t s. u y ∙ ap (λ z. cond z None (numbers y)) t ∙ l.listed y k f))

@@ -4,14 +4,14 @@ use Rattle.std.specs.BTreeMap.{get}
 use Rattle.definitions.specs.Owners.{Owner}
 use Rattle.owner_ids.specs.declared.owners.Owners.TheInside.{Inside}
 use Rattle.owner_ids.specs.declared.owner.Owner.{Owner as HeldOwner}
-use Rattle.owner_ids.specs.Said.{said, said_some, held_cmp}
+use Rattle.owner_ids.specs.Said.{view_of_owner, said_some, held_cmp}
 use Rattle.owner_ids.specs.Names.{named}
 
-abbrev pub owners_of : Inside → List (Option Owner)
-owners_of o = map said_some o.slots.slots
+abbrev pub view_of_owners : Inside → List (Option Owner)
+view_of_owners o = map said_some o.slots.slots
 
 -- the map has the number of each owner in use, and nothing else; one number is nobody's
 pub record IsKept (o : Inside) : Type 0 where
-  pub found : (x : HeldOwner) (n : ℕ) → get held_cmp o.numbers x ≡ Some n → named (owners_of o) n ≡ Some (said x)
-  pub listed : (x : HeldOwner) (n : ℕ) → named (owners_of o) n ≡ Some (said x) → get held_cmp o.numbers x ≡ Some n
-  pub nobody : named (owners_of o) 4294967295 ≡ None
+  pub found : (x : HeldOwner) (n : ℕ) → get held_cmp o.numbers x ≡ Some n → named (view_of_owners o) n ≡ Some (view_of_owner x)
+  pub listed : (x : HeldOwner) (n : ℕ) → named (view_of_owners o) n ≡ Some (view_of_owner x) → get held_cmp o.numbers x ≡ Some n
+  pub nobody : named (view_of_owners o) 4294967295 ≡ None

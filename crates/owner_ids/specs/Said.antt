@@ -7,26 +7,26 @@ use Rattle.definitions.specs.Owners.{Owner, Remote, Process, Description, owner_
 use Rattle.owner_ids.specs.declared.owner.Owner.{Owner as HeldOwner}
 use Rattle.owner_ids.specs.declared.owner.Owner.TheVariants.{Remote as HeldRemote, Process as HeldProcess, Description as HeldDescription}
 
-abbrev pub said : HeldOwner → Owner
-said (HeldRemote name svid oh) = Remote (record { name = name.items; svid = svid; oh = oh.items })
-said (HeldProcess pid) = Process pid
-said (HeldDescription number) = Description number
+abbrev pub view_of_owner : HeldOwner → Owner
+view_of_owner (HeldRemote name svid oh) = Remote (record { name = name.items; svid = svid; oh = oh.items })
+view_of_owner (HeldProcess pid) = Process pid
+view_of_owner (HeldDescription number) = Description number
 
 abbrev pub said_some : Option HeldOwner → Option Owner
 said_some None = None
-said_some (Some x) = Some (said x)
+said_some (Some x) = Some (view_of_owner x)
 
 -- owners in memory compare as what they say
 abbrev pub held_cmp : HeldOwner → HeldOwner → Ordering
-held_cmp = on said owner_cmp
+held_cmp = on view_of_owner owner_cmp
 
 abbrev pub same_held : HeldOwner → HeldOwner → Bool
 same_held = eq_by_cmp held_cmp
 
 -- both say one owner
 abbrev pub IsCopy : HeldOwner → HeldOwner → Type 0
-IsCopy x copy = said copy ≡ said x
+IsCopy x copy = view_of_owner copy ≡ view_of_owner x
 
 abbrev pub said_found : Option (Bor HeldOwner) → Option Owner
 said_found None = None
-said_found (Some x) = Some (said x.now)
+said_found (Some x) = Some (view_of_owner x.now)

@@ -2,7 +2,7 @@
 ghost use Rattle.std.specs.Prelude.{◌≡◌, refl, Some};
 ghost use Rattle.std.specs.Cmp.{partial_equiv_from_equiv, partial_order_from_agreeing_total};
 ghost use Rattle.definitions.specs.Owners.{is_of_host, is_description};
-ghost use Rattle.owner_ids.specs.Said.{said, held_cmp, same_held, IsCopy};
+ghost use Rattle.owner_ids.specs.Said.{view_of_owner, held_cmp, same_held, IsCopy};
 ghost use Rattle.owner_ids.specs.Held.{held_total, held_equiv};
 
 use std::alloc::AllocError;
@@ -26,7 +26,7 @@ pub enum Owner {
 impl Owner {
     /// Whether a client of this host named it.
     pub fn is_of_host(&self, host: &[u8]) -> bool
-        ensures { result ≡ is_of_host host.now (said self.now) }
+        ensures { result ≡ is_of_host host.now (view_of_owner self.now) }
     {
         match self {
             Owner::Remote { name, .. } => name.as_slice() == host,
@@ -38,7 +38,7 @@ impl Owner {
 impl Owner {
     /// Whether it is an open file description.
     pub fn is_description(&self) -> bool
-        ensures { result ≡ is_description (said self.now) }
+        ensures { result ≡ is_description (view_of_owner self.now) }
     {
         match self {
             Owner::Description(_) => true,

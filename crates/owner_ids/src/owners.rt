@@ -1,7 +1,7 @@
 //! Owners by number.
 ghost use Rattle.std.specs.Prelude.{◌≡◌, ◌≢◌, ◌<◌, ◌^◌, ℕ, [], Some, None, Ok, IfOk, OnErr, IfSome, IfNone, IsSome};
 ghost use Rattle.definitions.specs.Owners.{owner_cmp};
-ghost use Rattle.owner_ids.specs.Said.{said, said_some, said_found};
+ghost use Rattle.owner_ids.specs.Said.{view_of_owner, said_some, said_found};
 ghost use Rattle.owner_ids.specs.Names.{named, number_cmp, Renames, WasFor};
 ghost use Rattle.owner_ids.specs.Orders.{number_total, number_exact};
 
@@ -42,11 +42,11 @@ pub struct Owners {
 impl Model for Owners {
     ghost use Rattle.std.specs.Prelude.{List, Option};
     ghost use Rattle.definitions.specs.Owners.{Owner};
-    ghost use Rattle.owner_ids.specs.Kept.{owners_of, IsKept};
+    ghost use Rattle.owner_ids.specs.Kept.{view_of_owners, IsKept};
 
     ghost Value = { List (Option Owner) };
 
-    ghost view = { owners_of };
+    ghost view = { view_of_owners };
 
     ghost invariant = { IsKept };
 }
@@ -65,9 +65,9 @@ impl Owners {
     /// The number of an owner, which gets one where it has none. An owner in use keeps its number, and takes no memory.
     /// Starved: the owners in use and their numbers are as before.
     pub fn intern(&mut self, owner: &Owner) -> Result<OwnerId, Starved>
-        ensures known { (n : ℕ) → named self.old n ≡ Some (said owner.now) → result ≡ Ok n }
-        ensures named { IfOk result (λ n. Renames (named self.old) (named self.new) n (Some (said owner.now))) }
-        ensures was { IfOk result (λ n. WasFor (named self.old) n (said owner.now)) }
+        ensures known { (n : ℕ) → named self.old n ≡ Some (view_of_owner owner.now) → result ≡ Ok n }
+        ensures named { IfOk result (λ n. Renames (named self.old) (named self.new) n (Some (view_of_owner owner.now))) }
+        ensures was { IfOk result (λ n. WasFor (named self.old) n (view_of_owner owner.now)) }
         ensures err { OnErr result (self.new ≡ self.old) }
     {
         if let Some(number) = self.number(owner) {
@@ -81,17 +81,17 @@ impl Owners {
     /// The number of an owner in use.
     pub fn number(&self, owner: &Owner) -> Option<OwnerId>
         ensures nobody { named self.now 4294967295 ≡ None }
-        ensures found { IfSome result (λ n. named self.now n ≡ Some (said owner.now)) }
-        ensures known { (n : ℕ) → named self.now n ≡ Some (said owner.now) → result ≡ Some n }
+        ensures found { IfSome result (λ n. named self.now n ≡ Some (view_of_owner owner.now)) }
+        ensures known { (n : ℕ) → named self.now n ≡ Some (view_of_owner owner.now) → result ≡ Some n }
     {
         self.numbers.get(owner).copied()
     }
 
     // A number for an owner who has none, of which these are two copies.
     fn add(&mut self, owner: Owner, key: Owner) -> Result<OwnerId, Starved>
-        requires copies { said key ≡ said owner }
-        requires absent { (n : ℕ) → named self.old n ≢ Some (said owner) }
-        ensures named { IfOk result (λ n. Renames (named self.old) (named self.new) n (Some (said owner))) }
+        requires copies { view_of_owner key ≡ view_of_owner owner }
+        requires absent { (n : ℕ) → named self.old n ≢ Some (view_of_owner owner) }
+        ensures named { IfOk result (λ n. Renames (named self.old) (named self.new) n (Some (view_of_owner owner))) }
         ensures free { IfOk result (λ n. named self.old n ≡ None) }
         ensures err { OnErr result (self.new ≡ self.old) }
     {
@@ -111,7 +111,7 @@ impl Owners {
     /// The owner of a number in use.
     pub fn get(&self, number: OwnerId) -> &Owner
         requires { IsSome (named self.now number) }
-        ensures { named self.now number ≡ Some (said result.now) }
+        ensures { named self.now number ≡ Some (view_of_owner result.now) }
     {
         &self.slots[number as usize]
     }

@@ -6,13 +6,13 @@ use Rattle.definitions.specs.Outgoing.{Outgoing, next_due, after_sending, ends_w
 use Rattle.definitions.specs.Step.{State, Event, Send, Doing, Applied, Starved, Given, Nothing, Sends as Gives, IsStarved, sent}
 use Rattle.book.specs.Given.{comes_to}
 use Rattle.book.specs.Notes.{IsStep}
-use Rattle.call_plans.specs.Planned.{answer_of, counted}
+use Rattle.call_plans.specs.Planned.{view_of_stored, counted}
 use Rattle.call_plans.specs.declared.plans.StoreAnswer.{StoreAnswer as Answered}
 use Rattle.daemon_core.specs.declared.event.Event.TheVariants.{Send as Sending}
 use Rattle.daemon_core.specs.declared.event.Refusal.{Refusal}
 use Rattle.daemon_core.specs.declared.outcome.Outcome.{Outcome}
 use Rattle.daemon_core.specs.declared.outcome.Outcome.TheVariants as outcome
-use Rattle.daemon_core.specs.Outcomes.{doing_of}
+use Rattle.daemon_core.specs.Outcomes.{view_of_outcome}
 use Rattle.daemon_core.specs.declared.outputs.Outputs.{Outputs}
 use Rattle.daemon_core.specs.Sending.{Sending as Sent}
 use Rattle.daemon_core.specs.Outputs.{sent_on, refusal_of}
@@ -62,19 +62,19 @@ gave s Applied store given new h = inr (go (next_due s.world.calls) refl h.gives
 
 -- ---- a step of the daemon
 
-unsegmented : (o : Outcome) → doing_of o ≡ Starved → (o ≡ outcome.Starved → ⊥) → o ≡ outcome.NoSegment
+unsegmented : (o : Outcome) → view_of_outcome o ≡ Starved → (o ≡ outcome.Starved → ⊥) → o ≡ outcome.NoSegment
 unsegmented outcome.Applied e fed = cc
 unsegmented outcome.Starved e fed = absurd (fed refl)
 unsegmented outcome.NoSegment e fed = refl
 
-asked-none : (store : Answered) (refusals : ℕ) → answer_of store ≡ NotAsked → counted (answer_of store) refusals ≡ refusals
+asked-none : (store : Answered) (refusals : ℕ) → view_of_stored store ≡ NotAsked → counted (view_of_stored store) refusals ≡ refusals
 asked-none store refusals e = ap (λ (a : StoreAnswer). counted a refusals) e
 
 module _ (old new : Hub) (out : Outputs) (step : HubStep old Sending out new) where
-  gave_here : Gave old.state (doing_of out.outcome) (answer_of out.store) step.given new.state
+  gave_here : Gave old.state (view_of_outcome out.outcome) (view_of_stored out.store) step.given new.state
   gave_here =
-      let P : Event → Type 0 = λ e. IsStep old.state e (comes_to (doing_of out.outcome) (answer_of out.store) step.given) new.state in
-      gave old.state (doing_of out.outcome) (answer_of out.store) step.given new.state (subst P step.step.reads step.step.step)
+      let P : Event → Type 0 = λ e. IsStep old.state e (comes_to (view_of_outcome out.outcome) (view_of_stored out.store) step.given) new.state in
+      gave old.state (view_of_outcome out.outcome) (view_of_stored out.store) step.given new.state (subst P step.step.reads step.step.step)
 
   sent_is : out.sent ≡ sent_on step.given
   sent_is = ap (λ (o : Outputs). o.sent) step.outputs
@@ -89,7 +89,7 @@ module _ (old new : Hub) (out : Outputs) (step : HubStep old Sending out new) wh
       nothing_sent : out.sent ≡ None → ⊥
       nothing_sent e = let P : Option Sent → Type 0 = λ o. IsSome o in let n = subst P e some in cc
 
-      go : Gave old.state (doing_of out.outcome) (answer_of out.store) step.given new.state → due_count new.state.world.calls < due_count old.state.world.calls
+      go : Gave old.state (view_of_outcome out.outcome) (view_of_stored out.store) step.given new.state → due_count new.state.world.calls < due_count old.state.world.calls
       go (inl h) = absurd (nothing_sent (sent_is ∙ ap sent_on h.0))
       go (inr (inl h)) = absurd (nothing_sent (sent_is ∙ ap sent_on h.0))
       go (inr (inr h)) = let n = h.2 in omega (arith, n)
@@ -101,7 +101,7 @@ module _ (old new : Hub) (out : Outputs) (step : HubStep old Sending out new) wh
       same : (a b : Hub) → a.state ≡ b.state → a.refusals ≡ b.refusals → a.links ≡ b.links → a ≡ b
       same a b s r l = ap (λ x. record { state = x; refusals = a.refusals; links = a.links }) s ∙ ap (λ x. record { state = b.state; refusals = x; links = a.links }) r ∙ ap (λ x. record { state = b.state; refusals = b.refusals; links = x }) l
 
-      go : Gave old.state (doing_of out.outcome) (answer_of out.store) step.given new.state → (new ≡ old) × NothingDue new
+      go : Gave old.state (view_of_outcome out.outcome) (view_of_stored out.store) step.given new.state → (new ≡ old) × NothingDue new
       go (inl h) = let r : None ≡ refusal_of IsStarved = sym agreed ∙ refusal_is ∙ ap refusal_of h.0 in cc
       go (inr (inl h)) = (
         same new old h.2 (step.refusals ∙ asked-none out.store old.refusals h.3) step.links,
@@ -113,7 +113,7 @@ module _ (old new : Hub) (out : Outputs) (step : HubStep old Sending out new) wh
   pub starves : (r : Refusal) → out.refusal ≡ Some r → (r ≡ Refusal.Starved) × SendStarves old new
   starves r met = go gave_here
     where
-      go : Gave old.state (doing_of out.outcome) (answer_of out.store) step.given new.state → (r ≡ Refusal.Starved) × SendStarves old new
+      go : Gave old.state (view_of_outcome out.outcome) (view_of_stored out.store) step.given new.state → (r ≡ Refusal.Starved) × SendStarves old new
       go (inl h) =
           let is : Some r ≡ Some Refusal.Starved = sym met ∙ refusal_is ∙ ap refusal_of h.0 in
           (cc, record { out = out; step = step; met = unsegmented out.outcome h.1 step.fed })

@@ -78,7 +78,10 @@ fn answer_next<T: RangeTable, S: HostStore, W: Write>(
 ) -> Result<(), Fault>
     ensures { AnswersNext result daemon.old daemon.new (W.contents writer.old) (W.contents writer.new) }
 {
-    let outputs = daemon.step(Event::Take(CONNECTION, 0));
+    let outputs = daemon.step(Event::Take {
+        connection: CONNECTION,
+        index: 0,
+    });
     write_outputs(writer, &outputs)?;
     drop(outputs);
     send_due(daemon, writer)
@@ -160,7 +163,13 @@ fn pass<T: RangeTable, S: HostStore>(daemon: &mut Daemon<T, S>, event: Event) ->
 fn connect<T: RangeTable, S: HostStore>(daemon: &mut Daemon<T, S>) -> Result<(), Fault>
     ensures { Begins (Connect 0 PIPE ∷ []) result daemon.old daemon.new }
 {
-    pass(daemon, Event::Connect(CONNECTION, Peer::PIPE))
+    pass(
+        daemon,
+        Event::Connect {
+            connection: CONNECTION,
+            peer: Peer::PIPE,
+        },
+    )
 }
 
 /// The server begins anew, its grace period is over, unless it is to go on, and the stream's connection begins.

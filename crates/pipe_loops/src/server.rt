@@ -3,9 +3,9 @@
 ghost use Rattle.std.specs.Prelude.{◌≡◌, [], IfOk};
 ghost use Rattle.daemon_core.specs.Hub.{opening};
 
+use callbacks::ShortBytes;
 use daemon_core::Daemon;
 use hosts_db::HostStore;
-use letters::ShortBytes;
 use owner_ids::Starved;
 use range_table::RangeTable;
 use std::alloc::Global;

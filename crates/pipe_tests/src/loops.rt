@@ -3,8 +3,8 @@
 ghost use Rattle.std.specs.Prelude.{◌≡◌, [], IfOk};
 
 use crate::ends::{Sink, Source};
+use callbacks::ShortBytes;
 use hosts_db::{FULL_QUOTA, HostRow, MemHosts};
-use letters::ShortBytes;
 use pipe_loops::{Fault, Server, pipe_loop, table_loop};
 use range_table::FlatTable;
 use std::alloc::Global;

@@ -12,7 +12,7 @@ use Rattle.std.proofs.lemmas.Map.Lookups.{exact_unsigned}
 use Rattle.range_table.specs.File.{File, same_file, file_cmp}
 use Rattle.range_table.specs.Settings.{IsIn}
 use Rattle.range_table.specs.Runs.{is_of, run_before, Follows, IsRunList, IsPlace, insert_run}
-use Rattle.range_table.specs.Parts.{starts_before, last_of}
+use Rattle.range_table.specs.Parts.{starts_before, last_started}
 use Rattle.range_arena.specs.Indexed.{first_cmp, owned_cmp, owned_upto, owned_by, IsSortedBy, AreSame}
 use Rattle.range_table.specs.declared.run.Run.{Run}
 use Rattle.range_table.specs.declared.run.Setting.{Setting}
@@ -189,14 +189,14 @@ last_seat test (y ∷ ys) zero r s l e a h (inr i) t = absurd (let n = of_in (λ
 last_seat test (y ∷ ys) (suc p) r s l e a h (inl f) t = inr (subst (λ z. is_lt (owned_cmp z r) ≡ true) (sym f) (of_in (λ z. is_lt (owned_cmp y z) ≡ true) r ys h.0 (in_at ys p r (omega arith) e)))
 last_seat test (y ∷ ys) (suc p) r s l e a h (inr i) t = last_seat test ys p r s (omega arith) e a h.1 i t
 
-pub none_last : (c : Setting) (b : ℕ) (rs : List Run) → ((s : Run) → IsIn s rs → starts_before c b s ≡ true → ⊥) → last_of c b rs ≡ None
+pub none_last : (c : Setting) (b : ℕ) (rs : List Run) → ((s : Run) → IsIn s rs → starts_before c b s ≡ true → ⊥) → last_started c b rs ≡ None
 none_last c b [] n = refl
 none_last c b (r ∷ rs) n =
     by_test (starts_before c b r)
     (λ t. absurd (n r (inl refl) t))
     (λ t. rw (none_last c b rs (λ s i. n s (inr i)), t) refl)
 
-most_last : (c : Setting) (b : ℕ) (rs : List Run) (r : Run) → IsRunList rs → IsIn r rs → starts_before c b r ≡ true → ((s : Run) → IsIn s rs → starts_before c b s ≡ true → (s ≡ r) ⊎ (s.first < r.first)) → last_of c b rs ≡ Some r
+most_last : (c : Setting) (b : ℕ) (rs : List Run) (r : Run) → IsRunList rs → IsIn r rs → starts_before c b r ≡ true → ((s : Run) → IsIn s rs → starts_before c b s ≡ true → (s ≡ r) ⊎ (s.first < r.first)) → last_started c b rs ≡ Some r
 most_last c b [] r h i t m = absurd i
 most_last c b (x ∷ xs) r h (inl e) t m =
     rw (none_last c b xs (λ s i k. behind s i k (m s (inr i) k)), subst (λ z. starts_before c b z ≡ true) e t) (ap Some (sym e)) where
@@ -213,7 +213,7 @@ most_last c b (x ∷ xs) r h (inl e) t m =
 most_last c b (x ∷ xs) r h (inr i) t m = rw (most_last c b xs r h.1.1 i t (λ s j k. m s (inr j) k)) refl
 
 module _ (rs ys : List Run) (c : Setting) (byte place : ℕ) (listed : IsRunList rs) (sorted : IsSortedBy owned_cmp ys) (same : AreSame rs ys) (p : IsPlace (owned_upto c byte) ys place) where
-  pub none_upto : place ≡ 0 → last_of c (byte + 1) rs ≡ None
+  pub none_upto : place ≡ 0 → last_started c (byte + 1) rs ≡ None
   none_upto z = none_last c (byte + 1) rs (λ s i t. absurd (
       let a = subst (λ n. AllByRecursion (λ y. owned_upto c byte y ≡ false) (drop n ys)) z p.above in
       let n = of_in (λ y. owned_upto c byte y ≡ false) s ys a (same.into s i) in
@@ -236,13 +236,13 @@ module _ (rs ys : List Run) (c : Setting) (byte place : ℕ) (listed : IsRunList
     others : (s : Run) → IsIn s rs → starts_before c (byte + 1) s ≡ true → (s ≡ r) ⊎ (is_lt (owned_cmp s r) ≡ true)
     others s i t = last_seat (owned_upto c byte) ys q r s (omega arith) read (subst (λ n. AllByRecursion (λ y. owned_upto c byte y ≡ false) (drop n ys)) some p.above) sorted (same.into s i) (starts_upto c byte s t)
 
-    pub last_upto : is_of r c.file c.owner ≡ true → last_of c (byte + 1) rs ≡ Some r
+    pub last_upto : is_of r c.file c.owner ≡ true → last_started c (byte + 1) rs ≡ Some r
     last_upto o = most_last c (byte + 1) rs r listed read_stands (of_upto c byte r o passes) (λ s i t. less s t (others s i t)) where
       less : (s : Run) → starts_before c (byte + 1) s ≡ true → (s ≡ r) ⊎ (is_lt (owned_cmp s r) ≡ true) → (s ≡ r) ⊎ (s.first < r.first)
       less s t (inl e) = inl e
       less s t (inr k) = inr (between c byte (byte + 1) s r t k passes).less
 
-    pub none_of_owner : is_of r c.file c.owner ≡ false → last_of c (byte + 1) rs ≡ None
+    pub none_of_owner : is_of r c.file c.owner ≡ false → last_started c (byte + 1) rs ≡ None
     none_of_owner o = none_last c (byte + 1) rs (λ s i t. no s t (others s i t)) where
       no : (s : Run) → starts_before c (byte + 1) s ≡ true → (s ≡ r) ⊎ (is_lt (owned_cmp s r) ≡ true) → ⊥
       no s t (inl e) = let h = (starts c (byte + 1) s t).of in let k = subst (λ z. is_of z c.file c.owner ≡ true) e h in absurd (cc)

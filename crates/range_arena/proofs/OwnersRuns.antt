@@ -3,7 +3,7 @@ use Rattle.std.proofs.Common.{◌≡◌, ℕ, zero, suc, ◌+◌, ◌<◌, ◌�
 use Rattle.std.specs.List.{AllByRecursion, filter, remove}
 use Rattle.range_table.specs.Settings.{IsIn}
 use Rattle.range_table.specs.Runs.{is_of, starts_in, trim, kept, run_before, Follows, IsRunList}
-use Rattle.range_table.specs.Parts.{starts_before, last_index, last_of, later_run}
+use Rattle.range_table.specs.Parts.{starts_before, last_index, last_started, later_run}
 use Rattle.range_table.specs.declared.run.Run.{Run}
 use Rattle.range_table.specs.declared.run.Setting.{Setting}
 use Rattle.range_table.proofs.Tests.{by_test}
@@ -15,29 +15,29 @@ use Rattle.range_table.proofs.Edits.{stays, all_stay}
 use Rattle.range_arena.proofs.Sorts.{in_at}
 use Rattle.range_arena.proofs.Owned.{none_last, starts}
 
-pub none_before_0 : (c : Setting) (rs : List Run) → last_of c 0 rs ≡ None
+pub none_before_0 : (c : Setting) (rs : List Run) → last_started c 0 rs ≡ None
 none_before_0 c rs = none_last c 0 rs (λ s i t. let k = (starts c 0 s t).first in absurd (omega arith))
 
-pub no_index : (c : Setting) (b : ℕ) (rs : List Run) → last_of c b rs ≡ None → last_index c b rs ≡ None
+pub no_index : (c : Setting) (b : ℕ) (rs : List Run) → last_started c b rs ≡ None → last_index c b rs ≡ None
 no_index c b [] h = refl
-no_index c b (r ∷ rs) h = go (last_of c b rs) refl (starts_before c b r) refl h (no_index c b rs) where
-  go : (o : Option Run) → last_of c b rs ≡ o → (t : Bool) → starts_before c b r ≡ t → later_run o r t ≡ None → (last_of c b rs ≡ None → last_index c b rs ≡ None) → last_index c b (r ∷ rs) ≡ None
+no_index c b (r ∷ rs) h = go (last_started c b rs) refl (starts_before c b r) refl h (no_index c b rs) where
+  go : (o : Option Run) → last_started c b rs ≡ o → (t : Bool) → starts_before c b r ≡ t → later_run o r t ≡ None → (last_started c b rs ≡ None → last_index c b rs ≡ None) → last_index c b (r ∷ rs) ≡ None
   go (Some x) f t k g more = absurd (cc)
   go None f true k g more = absurd (cc)
   go None f false k g more = rw (more f, k) refl
 
-pub index_of : (c : Setting) (b : ℕ) (rs : List Run) (at : ℕ) (x : Run) → IsRunList rs → at < length rs → x ≡ get_or rs at x → last_of c b rs ≡ Some x → last_index c b rs ≡ Some at
+pub index_of : (c : Setting) (b : ℕ) (rs : List Run) (at : ℕ) (x : Run) → IsRunList rs → at < length rs → x ≡ get_or rs at x → last_started c b rs ≡ Some x → last_index c b rs ≡ Some at
 index_of c b [] at x h l e f = absurd (omega arith)
-index_of c b (r ∷ rs) zero x h l e f = go (last_of c b rs) refl (starts_before c b r) refl f where
-  go : (o : Option Run) → last_of c b rs ≡ o → (t : Bool) → starts_before c b r ≡ t → later_run o r t ≡ Some x → last_index c b (r ∷ rs) ≡ Some 0
+index_of c b (r ∷ rs) zero x h l e f = go (last_started c b rs) refl (starts_before c b r) refl f where
+  go : (o : Option Run) → last_started c b rs ≡ o → (t : Bool) → starts_before c b r ≡ t → later_run o r t ≡ Some x → last_index c b (r ∷ rs) ≡ Some 0
   go (Some y) p t k g =
       let o = (last_in c b (Follows r) rs y h.1.0 p).0.order in
       let s : y ≡ r = (let z : y ≡ x = cc in z ∙ e) in
       absurd (before_not_itself r (subst (λ z. run_before r z ≡ true) s o))
   go None p true k g = rw (no_index c b rs p, k) refl
   go None p false k g = absurd (cc)
-index_of c b (r ∷ rs) (suc at) x h l e f = go (last_of c b rs) refl (starts_before c b r) refl f (index_of c b rs at x h.1.1 (omega arith) e) where
-  go : (o : Option Run) → last_of c b rs ≡ o → (t : Bool) → starts_before c b r ≡ t → later_run o r t ≡ Some x → (last_of c b rs ≡ Some x → last_index c b rs ≡ Some at) → last_index c b (r ∷ rs) ≡ Some (suc at)
+index_of c b (r ∷ rs) (suc at) x h l e f = go (last_started c b rs) refl (starts_before c b r) refl f (index_of c b rs at x h.1.1 (omega arith) e) where
+  go : (o : Option Run) → last_started c b rs ≡ o → (t : Bool) → starts_before c b r ≡ t → later_run o r t ≡ Some x → (last_started c b rs ≡ Some x → last_index c b rs ≡ Some at) → last_index c b (r ∷ rs) ≡ Some (suc at)
   go (Some y) p t k g more = rw (more (p ∙ g)) refl
   go None p true k g more =
       let s : r ≡ x = cc in
@@ -69,28 +69,28 @@ seat_in [] x i = absurd i
 seat_in (y ∷ ys) x (inl e) = (0, omega arith, e)
 seat_in (y ∷ ys) x (inr i) = let m = seat_in ys x i in (suc m.0, let l = m.1 in omega arith, m.2)
 
-pub trims_not : (c : Setting) (rs : List Run) (x : Run) → IsRunList rs → IsIn x rs → last_of c c.first rs ≡ Some x → x.last ≤ (trim c x).last → rs ≡ map (trim c) rs
+pub trims_not : (c : Setting) (rs : List Run) (x : Run) → IsRunList rs → IsIn x rs → last_started c c.first rs ≡ Some x → x.last ≤ (trim c x).last → rs ≡ map (trim c) rs
 trims_not c rs x h i f l =
     let m = seat_in rs x i in
     sym (trims_one c rs m.0 x h (index_of c c.first rs m.0 x h m.1 m.2 f) m.2 ∙ ap (set rs m.0) (untrimmed c x l) ∙ set_same rs m.0 x m.2)
 
-pub trims_at : (c : Setting) (rs : List Run) (at : ℕ) (x : Run) → IsRunList rs → at < length rs → x ≡ get_or rs at x → last_of c c.first rs ≡ Some x → set rs at (record x { last = (trim c x).last }) ≡ map (trim c) rs
+pub trims_at : (c : Setting) (rs : List Run) (at : ℕ) (x : Run) → IsRunList rs → at < length rs → x ≡ get_or rs at x → last_started c c.first rs ≡ Some x → set rs at (record x { last = (trim c x).last }) ≡ map (trim c) rs
 trims_at c rs at x h l e f = ap (set rs at) (sym (trim_ends c x)) ∙ sym (trims_one c rs at x h (index_of c c.first rs at x h l e f) e)
 
 -- ---- the runs that start in the range
 
-pub last_most : (c : Setting) (b : ℕ) (rs : List Run) (x : Run) → IsRunList rs → last_of c b rs ≡ Some x → AllByRecursion (λ r. starts_before c b r ≡ true → r.first ≤ x.first) rs
+pub last_most : (c : Setting) (b : ℕ) (rs : List Run) (x : Run) → IsRunList rs → last_started c b rs ≡ Some x → AllByRecursion (λ r. starts_before c b r ≡ true → r.first ≤ x.first) rs
 last_most c b [] x h f = tt
-last_most c b (r ∷ rs) x h f = go (last_of c b rs) refl (starts_before c b r) refl f (last_most c b rs x h.1.1) where
-  none : (rs : List Run) → last_of c b rs ≡ None → AllByRecursion (λ s. starts_before c b s ≡ true → s.first ≤ x.first) rs
+last_most c b (r ∷ rs) x h f = go (last_started c b rs) refl (starts_before c b r) refl f (last_most c b rs x h.1.1) where
+  none : (rs : List Run) → last_started c b rs ≡ None → AllByRecursion (λ s. starts_before c b s ≡ true → s.first ≤ x.first) rs
   none [] p = tt
-  none (s ∷ ss) p = step (last_of c b ss) refl (starts_before c b s) refl p (none ss) where
-    step : (o : Option Run) → last_of c b ss ≡ o → (t : Bool) → starts_before c b s ≡ t → later_run o s t ≡ None → (last_of c b ss ≡ None → AllByRecursion (λ z. starts_before c b z ≡ true → z.first ≤ x.first) ss) → AllByRecursion (λ z. starts_before c b z ≡ true → z.first ≤ x.first) (s ∷ ss)
+  none (s ∷ ss) p = step (last_started c b ss) refl (starts_before c b s) refl p (none ss) where
+    step : (o : Option Run) → last_started c b ss ≡ o → (t : Bool) → starts_before c b s ≡ t → later_run o s t ≡ None → (last_started c b ss ≡ None → AllByRecursion (λ z. starts_before c b z ≡ true → z.first ≤ x.first) ss) → AllByRecursion (λ z. starts_before c b z ≡ true → z.first ≤ x.first) (s ∷ ss)
     step (Some y) q t k g more = absurd (cc)
     step None q true k g more = absurd (cc)
     step None q false k g more = (λ u. absurd (cc), more q)
 
-  go : (o : Option Run) → last_of c b rs ≡ o → (t : Bool) → starts_before c b r ≡ t → later_run o r t ≡ Some x → (last_of c b rs ≡ Some x → AllByRecursion (λ s. starts_before c b s ≡ true → s.first ≤ x.first) rs) → AllByRecursion (λ s. starts_before c b s ≡ true → s.first ≤ x.first) (r ∷ rs)
+  go : (o : Option Run) → last_started c b rs ≡ o → (t : Bool) → starts_before c b r ≡ t → later_run o r t ≡ Some x → (last_started c b rs ≡ Some x → AllByRecursion (λ s. starts_before c b s ≡ true → s.first ≤ x.first) rs) → AllByRecursion (λ s. starts_before c b s ≡ true → s.first ≤ x.first) (r ∷ rs)
   go (Some y) p t k g more =
       let q = last_in c b (Follows r) rs x h.1.0 (p ∙ g) in (
         λ u. let v = (starts c b r u).of in
@@ -105,23 +105,23 @@ last_most c b (r ∷ rs) x h f = go (last_of c b rs) refl (starts_before c b r) 
 starts_in_before : (c : Setting) (r : Run) → starts_in c r ≡ true → (starts_before c (c.last + 1) r ≡ true) × (c.first ≤ r.first)
 starts_in_before c r h = (grind (arith, file_tests), grind (arith, file_tests))
 
-pub none_starts : (c : Setting) (rs : List Run) → last_of c (c.last + 1) rs ≡ None → rs ≡ filter (stays c) rs
+pub none_starts : (c : Setting) (rs : List Run) → last_started c (c.last + 1) rs ≡ None → rs ≡ filter (stays c) rs
 none_starts c rs f = sym (all_stay c rs (each rs f)) where
-  each : (rs : List Run) → last_of c (c.last + 1) rs ≡ None → AllByRecursion (λ r. starts_in c r ≡ false) rs
+  each : (rs : List Run) → last_started c (c.last + 1) rs ≡ None → AllByRecursion (λ r. starts_in c r ≡ false) rs
   each [] p = tt
-  each (r ∷ rs) p = go (last_of c (c.last + 1) rs) refl (starts_before c (c.last + 1) r) refl p (each rs) where
-    go : (o : Option Run) → last_of c (c.last + 1) rs ≡ o → (t : Bool) → starts_before c (c.last + 1) r ≡ t → later_run o r t ≡ None → (last_of c (c.last + 1) rs ≡ None → AllByRecursion (λ s. starts_in c s ≡ false) rs) → AllByRecursion (λ s. starts_in c s ≡ false) (r ∷ rs)
+  each (r ∷ rs) p = go (last_started c (c.last + 1) rs) refl (starts_before c (c.last + 1) r) refl p (each rs) where
+    go : (o : Option Run) → last_started c (c.last + 1) rs ≡ o → (t : Bool) → starts_before c (c.last + 1) r ≡ t → later_run o r t ≡ None → (last_started c (c.last + 1) rs ≡ None → AllByRecursion (λ s. starts_in c s ≡ false) rs) → AllByRecursion (λ s. starts_in c s ≡ false) (r ∷ rs)
     go (Some y) q t k g more = absurd (cc)
     go None q true k g more = absurd (cc)
     go None q false k g more = (by_test (starts_in c r) (λ u. absurd (let z = (starts_in_before c r u).0 in cc)) (λ u. u), more q)
 
-pub none_starts_last : (c : Setting) (rs : List Run) (x : Run) → IsRunList rs → last_of c (c.last + 1) rs ≡ Some x → x.first < c.first → rs ≡ filter (stays c) rs
+pub none_starts_last : (c : Setting) (rs : List Run) (x : Run) → IsRunList rs → last_started c (c.last + 1) rs ≡ Some x → x.first < c.first → rs ≡ filter (stays c) rs
 none_starts_last c rs x h f l = sym (all_stay c rs (each rs (last_most c (c.last + 1) rs x h f))) where
   each : (rs : List Run) → AllByRecursion (λ r. starts_before c (c.last + 1) r ≡ true → r.first ≤ x.first) rs → AllByRecursion (λ r. starts_in c r ≡ false) rs
   each [] a = tt
   each (r ∷ rs) a = (by_test (starts_in c r) (λ u. absurd (let z = starts_in_before c r u in let m = a.0 z.0 in let n = z.1 in omega arith)) (λ u. u), each rs a.1)
 
-pub last_starts : (c : Setting) (rs : List Run) (x : Run) → IsRunList rs → last_of c (c.last + 1) rs ≡ Some x → c.first ≤ x.first → starts_in c x ≡ true
+pub last_starts : (c : Setting) (rs : List Run) (x : Run) → IsRunList rs → last_started c (c.last + 1) rs ≡ Some x → c.first ≤ x.first → starts_in c x ≡ true
 last_starts c rs x h f l =
     let t = (last_in c (c.last + 1) (λ r. Unit {0}) rs x (units rs) f).1 in
     let k = starts c (c.last + 1) x t in

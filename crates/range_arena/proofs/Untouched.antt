@@ -2,7 +2,7 @@
 use Rattle.std.proofs.Common.{◌≡◌, ℕ, ◌+◌, ◌<◌, ◌≤◌, Bool, true, false, List, [], ◌∷◌, Option, Some, None, refl, sym, ap, ◌∙◌, arith}
 use Rattle.std.specs.List.{AllByRecursion}
 use Rattle.range_table.specs.Runs.{starts_in, trim, kept, outlasts, right, insert_run, insert_some, cut, joins_low, low, joins_high, high, widened, run_of, joined}
-use Rattle.range_table.specs.Parts.{starts_before, last_of, later_run}
+use Rattle.range_table.specs.Parts.{starts_before, last_started, later_run}
 use Rattle.range_table.specs.declared.run.Mode.{Mode}
 use Rattle.range_table.specs.declared.run.Run.{Run}
 use Rattle.range_table.specs.declared.run.Setting.{Setting}
@@ -12,10 +12,10 @@ use Rattle.range_table.proofs.Files.{file_tests}
 abbrev NoneUpto : Setting → ℕ → List Run → Type 0
 NoneUpto c byte rs = AllByRecursion (λ r. starts_before c byte r ≡ false) rs
 
-none_start : (c : Setting) (byte : ℕ) (rs : List Run) → last_of c byte rs ≡ None → NoneUpto c byte rs
+none_start : (c : Setting) (byte : ℕ) (rs : List Run) → last_started c byte rs ≡ None → NoneUpto c byte rs
 none_start c byte [] h = tt
-none_start c byte (r ∷ rs) h = go (last_of c byte rs) refl (starts_before c byte r) refl h (none_start c byte rs) where
-  go : (o : Option Run) → last_of c byte rs ≡ o → (t : Bool) → starts_before c byte r ≡ t → later_run o r t ≡ None → (last_of c byte rs ≡ None → NoneUpto c byte rs) → (starts_before c byte r ≡ false) × NoneUpto c byte rs
+none_start c byte (r ∷ rs) h = go (last_started c byte rs) refl (starts_before c byte r) refl h (none_start c byte rs) where
+  go : (o : Option Run) → last_started c byte rs ≡ o → (t : Bool) → starts_before c byte r ≡ t → later_run o r t ≡ None → (last_started c byte rs ≡ None → NoneUpto c byte rs) → (starts_before c byte r ≡ false) × NoneUpto c byte rs
   go (Some s) f t k g more = absurd (cc)
   go None f true k g more = absurd (cc)
   go None f false k g more = (k, more f)
@@ -41,7 +41,7 @@ module _ (c : Setting) (byte : ℕ) (ordered : c.first ≤ c.last) (behind : c.l
   uncut : (rs : List Run) → NoneUpto c byte rs → rs ≡ cut c rs
   uncut rs h = sym (ap (λ o. insert_some o (kept c rs)) (none_right rs h) ∙ all_kept rs h)
 
-pub cut_nothing : (c : Setting) (rs : List Run) → c.first ≤ c.last → last_of c (c.last + 1) rs ≡ None → rs ≡ cut c rs
+pub cut_nothing : (c : Setting) (rs : List Run) → c.first ≤ c.last → last_started c (c.last + 1) rs ≡ None → rs ≡ cut c rs
 cut_nothing c rs o h = uncut c (c.last + 1) o (omega arith) rs (none_start c (c.last + 1) rs h)
 
 module _ (c : Setting) (m : Mode) (ordered : c.first ≤ c.last) where
@@ -62,7 +62,7 @@ module _ (c : Setting) (m : Mode) (ordered : c.first ≤ c.last) where
   same_range : (rs : List Run) → NoneUpto c (c.last + 2) rs → widened c m rs ≡ c
   same_range rs h = let a = same_low rs h in let b = same_high rs h in λ i. record c { first = a i; last = b i }
 
-  pub joined_alone : (rs : List Run) → last_of c (c.last + 2) rs ≡ None → joined c m rs ≡ insert_run (run_of c m) rs
+  pub joined_alone : (rs : List Run) → last_started c (c.last + 2) rs ≡ None → joined c m rs ≡ insert_run (run_of c m) rs
   joined_alone rs h =
       let n = none_start c (c.last + 2) rs h in
       ap (λ (w : Setting). insert_run (run_of w m) (cut w rs)) (same_range rs n) ∙ ap (insert_run (run_of c m)) (sym (uncut c (c.last + 2) ordered (omega arith) rs n))

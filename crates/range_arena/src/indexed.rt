@@ -3,7 +3,7 @@ ghost use Rattle.std.specs.Prelude.{◌≡◌, ◌<◌, ◌≤◌, ◌+◌, ◌^
 ghost use Rattle.std.specs.List.{remove, filter, list_any};
 ghost use Rattle.range_table.specs.Settings.{IsIn, conflicts, is_against};
 ghost use Rattle.range_table.specs.Runs.{IsRunList, IsPlace, run_before, insert_run, best_from, is_of, starts_in};
-ghost use Rattle.range_table.specs.Parts.{last_of};
+ghost use Rattle.range_table.specs.Parts.{last_started};
 ghost use Rattle.range_arena.specs.Indexed.{owned_cmp, owned_before, owned_upto, owned_by, IsSortedBy, AreSame};
 ghost use Rattle.range_table.specs.declared.run.Run.{Run};
 
@@ -147,7 +147,7 @@ impl Indexed {
     /// The last run of the range's owner on its file that starts at a byte or before it.
     pub(crate) fn last_upto(&self, range: &Setting, byte: u64) -> Option<Run>
         requires { IsRunList self.now }
-        ensures last { result ≡ last_of range.now (byte + 1) self.now }
+        ensures last { result ≡ last_started range.now (byte + 1) self.now }
         ensures stands { IfSome result (λ r. IsIn r self.now) }
     {
         let place = owned_past(&self.owned, range, byte);

@@ -3,7 +3,7 @@ ghost use Rattle.std.specs.Prelude.{OnOk, OnErr, IsErr, IsTrue, IfSome, ◌↔�
 ghost use Rattle.std.specs.List.{filter};
 ghost use Rattle.range_table.specs.Settings.{IsIn};
 ghost use Rattle.range_table.specs.Runs.{starts_in, trim, kept, right, cut, low, high, widened, joined, set_runs, is_split, is_full, IsRunList};
-ghost use Rattle.range_table.specs.Parts.{last_of};
+ghost use Rattle.range_table.specs.Parts.{last_started};
 
 use crate::indexed::Indexed;
 use range_table::run::{Mode, NoRuns, Run, Setting};
@@ -12,7 +12,7 @@ use range_table::run_list::MOST_RUNS;
 // The last run of the range's owner that starts before it.
 fn last_before(runs: &Indexed, range: &Setting) -> Option<Run>
     requires { IsRunList runs.now }
-    ensures last { result ≡ last_of range.now range.now.first runs.now }
+    ensures last { result ≡ last_started range.now range.now.first runs.now }
     ensures stands { IfSome result (λ r. IsIn r runs.now) }
 {
     if range.first == 0 {

@@ -4,8 +4,8 @@ use Rattle.record_mark.specs.Stream.{Reads, IsUnfinished, Splits}
 use Rattle.record_mark.specs.Assembled.{Assembled}
 use Rattle.record_mark.specs.declared.assembler.Assembler.TheInside.{Inside}
 
-abbrev pub assembled : Inside → Assembled
-assembled a = record { received = a.received.items; given = a.given.items; failed = a.failed }
+abbrev pub view_of_assembler : Inside → Assembled
+view_of_assembler a = record { received = a.received.items; given = a.given.items; failed = a.failed }
 
 -- the bytes lead to a part of a record
 pub record IsWaiting (received : List ℕ) (given : List (List ℕ)) (begun rest : List ℕ) : Type 0 where

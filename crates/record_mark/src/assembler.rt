@@ -47,9 +47,9 @@ impl Model for Assembler {
 
     ghost Value = { Assembled };
 
-    ghost use Rattle.record_mark.specs.Inside.{assembled, IsKept};
+    ghost use Rattle.record_mark.specs.Inside.{view_of_assembler, IsKept};
 
-    ghost view = { assembled };
+    ghost view = { view_of_assembler };
 
     ghost invariant = { IsKept };
 }

@@ -1,5 +1,5 @@
 pub mod RowLaws
-pub mod AnewLaws
+pub mod RestartLaws
 pub mod HonestLaws
 pub mod StepLaws
 pub mod RunLaws

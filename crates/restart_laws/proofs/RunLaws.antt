@@ -12,9 +12,9 @@ use Rattle.definitions.specs.Replies.{Nsm}
 use Rattle.definitions.specs.Step as said
 use Rattle.definitions.specs.Step.{State}
 use Rattle.record_reading.specs.Readings.{OneReading}
-use Rattle.kept_replies.specs.Pairs.{asker}
+use Rattle.kept_replies.specs.Pairs.{view_of_peer}
 use Rattle.kept_replies.specs.declared.key.Peer.{Peer}
-use Rattle.call_plans.specs.Planned.{answer_of}
+use Rattle.call_plans.specs.Planned.{view_of_stored}
 use Rattle.book.specs.Given.{Upshot}
 use Rattle.book.specs.Notes.{Happening, Steps}
 use Rattle.daemon_core.specs.declared.event.Event.{Event}
@@ -93,7 +93,7 @@ pub runs_keep_rows : OneReading → RunsKeepRows
 runs_keep_rows one = record {
   stay = run_stays;
   kept = from_opening one;
-  standing = λ name hosts refusals events outs hub new run place i out taken xid call host is done monitors told. standing_has_row hub.state new.state _ _ taken.step (from_opening one name hosts refusals events outs hub run) (asker taken.link.peer) taken.bytes xid call host is done monitors told;
+  standing = λ name hosts refusals events outs hub new run place i out taken xid call host is done monitors told. standing_has_row hub.state new.state _ _ taken.step (from_opening one name hosts refusals events outs hub run) (view_of_peer taken.link.peer) taken.bytes xid call host is done monitors told;
 }
 
 -- ---- reclaims
@@ -146,10 +146,10 @@ restart_begins old new out begun = go begun.begins
     go : Begins old out new → IsAnew old.state new.state × ((list : List Setting) → IsUnder list new.state.world)
     go (ByRestart h) =
         both _ _ h.step begun.done
-        (ap (λ (e : said.Event). is_beginning e (answer_of out.store)) h.step.reads ∙ ap (is_beginning said.Restart) begun.agreed)
+        (ap (λ (e : said.Event). is_beginning e (view_of_stored out.store)) h.step.reads ∙ ap (is_beginning said.Restart) begun.agreed)
     go (ByCrash taken xid is local) =
         both _ _ taken.step begun.done
-        (ap (λ (e : said.Event). is_beginning e (answer_of out.store)) is ∙ ap (said.is_restart (asker taken.link.peer) (Nsm SmSimuCrash)) begun.agreed ∙ local)
+        (ap (λ (e : said.Event). is_beginning e (view_of_stored out.store)) is ∙ ap (said.is_restart (view_of_peer taken.link.peer) (Nsm SmSimuCrash)) begun.agreed ∙ local)
 
 pub daemon_begins_anew : DaemonBeginsAnew
 daemon_begins_anew old new out begun = (restart_begins old new out begun).0
@@ -159,6 +159,6 @@ honest_runs_stay_under list mid r = run_under list r.start r.events r.outs mid r
 
 pub honest_reclaims_are_granted : HonestReclaimsAreGranted
 honest_reclaims_are_granted list compatible mid new r place i out taken xid version call a is done h = record {
-  granted = reclaim_is_granted list compatible mid.state new.state _ _ taken.step (honest_runs_stay_under list mid r) (asker taken.link.peer) taken.bytes xid version call a is done h;
+  granted = reclaim_is_granted list compatible mid.state new.state _ _ taken.step (honest_runs_stay_under list mid r) (view_of_peer taken.link.peer) taken.bytes xid version call a is done h;
   sent = ap (λ (o : Outputs). o.sent) taken.outputs;
 }

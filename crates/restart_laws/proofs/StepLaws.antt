@@ -16,7 +16,7 @@ use Rattle.restart_laws.specs.Anew.{IsAnew}
 use Rattle.restart_laws.specs.Honest.{IsGranted}
 use Rattle.restart_laws.specs.Laws.{RowsStay, KeptRowsStay, StandingHasRow, BeginsUnder, StaysUnder, ReclaimIsGranted}
 use Rattle.restart_laws.proofs.RowLaws.{IsRead, step_keeps, kept_rows, standing_has}
-use Rattle.restart_laws.proofs.AnewLaws.{begins_anew, begins_under}
+use Rattle.restart_laws.proofs.RestartLaws.{begins_anew, begins_under}
 use Rattle.restart_laws.proofs.HonestLaws.{reclaim_granted}
 
 read_of : (event : Happening) (said : Event) → Reads event said → IsRead said

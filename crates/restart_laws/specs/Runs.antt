@@ -10,12 +10,12 @@ use Rattle.definitions.specs.Replies.{Call, Nlm, Nsm}
 use Rattle.definitions.specs.Reclaims.{AreCompatible, IsHonest, IsUnder}
 use Rattle.definitions.specs.Moves.{IsReclaim}
 use Rattle.definitions.specs.Step.{Applied}
-use Rattle.kept_replies.specs.Pairs.{asker}
-use Rattle.call_plans.specs.Planned.{answer_of}
+use Rattle.kept_replies.specs.Pairs.{view_of_peer}
+use Rattle.call_plans.specs.Planned.{view_of_stored}
 use Rattle.daemon_core.specs.declared.event.Event.{Event}
 use Rattle.daemon_core.specs.declared.event.Event.TheVariants.{Take, Restart}
 use Rattle.daemon_core.specs.declared.outputs.Outputs.{Outputs}
-use Rattle.daemon_core.specs.Outcomes.{doing_of}
+use Rattle.daemon_core.specs.Outcomes.{view_of_outcome}
 use Rattle.daemon_core.specs.Outputs.{reply_to}
 use Rattle.daemon_core.specs.Hub.{Hub, Answers, HubStep, Run, opening}
 use Rattle.daemon_core.specs.Told.{IsCall, kept_of}
@@ -29,21 +29,21 @@ use Rattle.restart_laws.specs.Honest.{IsHonestReclaim, IsGranted}
 pub record RunsKeepRows : Type 0 where
   pub stay : (old new : Hub) (events : List Event) (outs : List Outputs) → Run old events outs new → (name : Bytes) → has_row old.state.world.hosts name ≡ true → has_row new.state.world.hosts name ≡ true
   pub kept : (name : Bytes) (hosts : Hosts) (refusals : ℕ) (events : List Event) (outs : List Outputs) (hub : Hub) → Run (opening name hosts refusals) events outs hub → KeptHaveRows hub.state
-  pub standing : (name : Bytes) (hosts : Hosts) (refusals : ℕ) (events : List Event) (outs : List Outputs) (hub new : Hub) → Run (opening name hosts refusals) events outs hub → (place i : ℕ) (out : Outputs) (taken : Answers place i hub out new) (xid : ℕ) (call : Call) (host : Bytes) → IsCall taken xid call → doing_of out.outcome ≡ Applied
-      → monitored_by call ≡ Some host → tells_lock (telling hub.state (asker taken.link.peer) call (answer_of out.store) (kept_of taken)) ≡ true → has_row new.state.world.hosts host ≡ true
+  pub standing : (name : Bytes) (hosts : Hosts) (refusals : ℕ) (events : List Event) (outs : List Outputs) (hub new : Hub) → Run (opening name hosts refusals) events outs hub → (place i : ℕ) (out : Outputs) (taken : Answers place i hub out new) (xid : ℕ) (call : Call) (host : Bytes) → IsCall taken xid call → view_of_outcome out.outcome ≡ Applied
+      → monitored_by call ≡ Some host → tells_lock (telling hub.state (view_of_peer taken.link.peer) call (view_of_stored out.store) (kept_of taken)) ≡ true → has_row new.state.world.hosts host ≡ true
 
 -- ---- restarts
 
 -- the event is a restart, or an SM_SIMU_CRASH of a local peer, which acts as one
 pub data Begins (old : Hub) (out : Outputs) (new : Hub) : Type 0 where
   ByRestart : HubStep old Restart out new → Begins old out new
-  ByCrash : {place i : ℕ} → (taken : Answers place i old out new) → (xid : ℕ) → IsCall taken xid (Nsm SmSimuCrash) → (asker taken.link.peer).local ≡ true → Begins old out new
+  ByCrash : {place i : ℕ} → (taken : Answers place i old out new) → (xid : ℕ) → IsCall taken xid (Nsm SmSimuCrash) → (view_of_peer taken.link.peer).local ≡ true → Begins old out new
 
 -- and the store agreed to it
 pub record IsBegun (old : Hub) (out : Outputs) (new : Hub) : Type 0 where
   pub begins : Begins old out new
-  pub done : doing_of out.outcome ≡ Applied
-  pub agreed : answer_of out.store ≡ Yes
+  pub done : view_of_outcome out.outcome ≡ Applied
+  pub agreed : view_of_stored out.store ≡ Yes
 
 abbrev pub DaemonBeginsAnew : Type 0
 DaemonBeginsAnew = (old new : Hub) (out : Outputs) → IsBegun old out new → IsAnew old.state new.state
@@ -80,8 +80,8 @@ pub record IsGrantedOnWire {place i : ℕ} {old new : Hub} {out : Outputs} (take
 -- whatever came since the restart, in whatever order and number, an honest reclaim is granted
 abbrev pub HonestReclaimsAreGranted : Type 0
 HonestReclaimsAreGranted =
-    (list : List Setting) → AreCompatible list → (mid new : Hub) → ReclaimsAfterRestart list mid → (place i : ℕ) (out : Outputs) (taken : Answers place i mid out new) (xid : ℕ) (version : Version) (call : NlmCall) (a : LockArgs) → IsCall taken xid (Nlm version call) → doing_of out.outcome ≡ Applied
-    → IsHonestReclaim list mid.state (asker taken.link.peer) taken.bytes call a (answer_of out.store) → IsGrantedOnWire taken version call a xid
+    (list : List Setting) → AreCompatible list → (mid new : Hub) → ReclaimsAfterRestart list mid → (place i : ℕ) (out : Outputs) (taken : Answers place i mid out new) (xid : ℕ) (version : Version) (call : NlmCall) (a : LockArgs) → IsCall taken xid (Nlm version call) → view_of_outcome out.outcome ≡ Applied
+    → IsHonestReclaim list mid.state (view_of_peer taken.link.peer) taken.bytes call a (view_of_stored out.store) → IsGrantedOnWire taken version call a xid
 
 -- and until grace ends the world stays under the list
 abbrev pub HonestRunsStayUnder : Type 0

@@ -1,6 +1,6 @@
 //! The turns of the sender.
 ghost use Rattle.std.specs.Prelude.{◌≡◌, false};
-ghost use Rattle.book.specs.Notes.{happening_of};
+ghost use Rattle.book.specs.Notes.{view_of_event};
 ghost use Rattle.sender.specs.Handing.{HandsOn};
 ghost use Rattle.workers.specs.Holds.{is_take};
 
@@ -28,7 +28,7 @@ const LONGEST_MILLIS: u64 = 100;
 #[derive(Drop)]
 pub(crate) struct Untaken {
     event: BookEvent,
-    ghost untaken: { is_take (happening_of event) ≡ false },
+    ghost untaken: { is_take (view_of_event event) ≡ false },
 }
 
 // What became of an end of grace.

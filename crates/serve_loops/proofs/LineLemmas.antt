@@ -11,7 +11,7 @@ use Rattle.definitions.specs.Step.{State, Given, Starved}
 use Rattle.definitions.specs.Hosts.{NotAsked}
 use Rattle.book.specs.declared.event.BookEvent.{BookEvent}
 use Rattle.book.specs.Given.{Upshot}
-use Rattle.book.specs.Notes.{Happening, AsksLine, Steps, happening_of}
+use Rattle.book.specs.Notes.{Happening, AsksLine, Steps, view_of_event}
 use Rattle.workers.specs.Holds.{Held, Notes}
 use Rattle.written.specs.Written.{WroteFront, Wrote}
 use Rattle.written.specs.declared.WriteFault.{WriteFault}
@@ -217,6 +217,6 @@ module _ (c : ℕ) (p piece : Bytes) (i d : ℕ) (q : Bytes) (x y : Option Bytes
 pub starved_told : (event : Happening) (given : Given) (u : Upshot) → u.doing ≡ Starved → u.store ≡ NotAsked → ((s : State) → Steps s event u s) → given ≡ u.given → StarvesAs event given
 starved_told event given u doing store steps is = record { upshot = u; doing = doing; store = store; steps = steps; given_is = is }
 
-pub asked : (old new : Held) (c : ℕ) (line : Bytes) (event : BookEvent) (r : Result Upshot BookEvent) (given : Given) → happening_of event ≡ AsksLine c line → IfOk r (λ u. Notes old (happening_of event) u new) → IfErr r (λ back. back ≡ event) → TellsOf r given → IsAnswered c line given
+pub asked : (old new : Held) (c : ℕ) (line : Bytes) (event : BookEvent) (r : Result Upshot BookEvent) (given : Given) → view_of_event event ≡ AsksLine c line → IfOk r (λ u. Notes old (view_of_event event) u new) → IfErr r (λ back. back ≡ event) → TellsOf r given → IsAnswered c line given
 asked old new c line event (Ok u) given is noted none told = inl (old, new, u, subst (λ (h : Happening). Notes old h u new) is noted, sym told)
-asked old new c line event (Err back) given is noted none told = inr (subst (λ (h : Happening). StarvesAs h given) (ap happening_of none ∙ is) told)
+asked old new c line event (Err back) given is noted none told = inr (subst (λ (h : Happening). StarvesAs h given) (ap view_of_event none ∙ is) told)

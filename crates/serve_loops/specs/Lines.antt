@@ -9,7 +9,7 @@ use Rattle.definitions.specs.Step.{State, Given, Nothing, Replies, Says, Sends, 
 use Rattle.local_ops.specs.Texts.{reply_text}
 use Rattle.book.specs.declared.event.BookEvent.{BookEvent}
 use Rattle.book.specs.Given.{Upshot}
-use Rattle.book.specs.Notes.{Happening, AsksLine, Steps, happening_of}
+use Rattle.book.specs.Notes.{Happening, AsksLine, Steps, view_of_event}
 use Rattle.workers.specs.Holds.{Held, Notes}
 use Rattle.written.specs.declared.WriteFault.{WriteFault}
 use Rattle.written.specs.Written.{WroteFront}
@@ -160,4 +160,4 @@ Finishes (Err fault) (Some ending.Stopped) = ⊥
 -- what is told of an event: what its entry gave, or what it gives without one
 abbrev pub TellsOf : Result Upshot BookEvent → Given → Type 0
 TellsOf (Ok upshot) given = given ≡ upshot.given
-TellsOf (Err event) given = StarvesAs (happening_of event) given
+TellsOf (Err event) given = StarvesAs (view_of_event event) given

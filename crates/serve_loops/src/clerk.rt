@@ -1,7 +1,7 @@
 //! Who answers a line.
 ghost use Rattle.std.specs.Prelude.{◌≡◌, false, IfOk, IfErr};
-ghost use Rattle.book.specs.Given.{given_of};
-ghost use Rattle.book.specs.Notes.{happening_of};
+ghost use Rattle.book.specs.Given.{view_of_reply};
+ghost use Rattle.book.specs.Notes.{view_of_event};
 ghost use Rattle.workers.specs.Holds.{is_take, Notes};
 ghost use Rattle.serve_loops.specs.Lines.{IsAnswered, TellsOf};
 
@@ -17,7 +17,7 @@ use workers::Shared;
 pub(crate) trait Answers {
     /// What a line, without its line feed, is answered on the connection of this number.
     fn ask(&mut self, connection: u64, line: Vec<u8>) -> Reply
-        ensures { IsAnswered connection line.items (given_of result) };
+        ensures { IsAnswered connection line.items (view_of_reply result) };
 
     /// Whether the server is to stop.
     fn is_stopping(&self) -> bool;
@@ -56,8 +56,8 @@ fn apply<R: RangeTable, S: HostStore, L: Ledger>(
     held: &mut Shared<R, S, L>,
     event: BookEvent,
 ) -> Done
-    requires { is_take (happening_of event) ≡ false }
-    ensures noted { IfOk result.upshot (λ upshot. Notes held.old (happening_of event) upshot held.new) }
+    requires { is_take (view_of_event event) ≡ false }
+    ensures noted { IfOk result.upshot (λ upshot. Notes held.old (view_of_event event) upshot held.new) }
     ensures none { IfErr result.upshot (λ back. back ≡ event) }
 {
     let upshot = held.apply(event);
@@ -66,7 +66,7 @@ fn apply<R: RangeTable, S: HostStore, L: Ledger>(
 }
 
 fn reply_of(upshot: Upshot) -> Reply
-    ensures { given_of result ≡ upshot.given }
+    ensures { view_of_reply result ≡ upshot.given }
 {
     upshot.reply
 }
@@ -74,7 +74,7 @@ fn reply_of(upshot: Upshot) -> Reply
 // What the line is told. Without an entry it is a line that starved.
 #[tactic(auto, using(crate::proofs::LineLemmas::starved_told))]
 fn told(upshot: Result<Upshot, BookEvent>) -> Reply
-    ensures { TellsOf upshot (given_of result) }
+    ensures { TellsOf upshot (view_of_reply result) }
 {
     match upshot {
         Ok(upshot) => reply_of(upshot),

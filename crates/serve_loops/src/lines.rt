@@ -1,6 +1,6 @@
 //! The lines of a local program are answered.
 ghost use Rattle.std.specs.Prelude.{◌≡◌, ◌<◌, ◌∷◌, [], eqb, IfOk, vec_len};
-ghost use Rattle.book.specs.Given.{given_of};
+ghost use Rattle.book.specs.Given.{view_of_reply};
 ghost use Rattle.written.specs.Written.{Wrote};
 ghost use Rattle.serve_loops.specs.Lines.{AnswersLine, Ends, Finishes, Hears, IsOpen, Reads, Takes, Turns, text_of};
 
@@ -51,7 +51,7 @@ fn read_piece<I: Read>(input: &mut I, mut place: Vec<u8>) -> Result<Vec<u8>, Fai
 
 // Writes what a line is answered.
 fn write_reply<O: Write>(output: &mut O, reply: &Reply) -> Result<(), WriteFault>
-    ensures { Wrote (O.contents output.old) (O.contents output.new) result (text_of (given_of reply.now)) }
+    ensures { Wrote (O.contents output.old) (O.contents output.new) result (text_of (view_of_reply reply.now)) }
 {
     match reply {
         Reply::Says(answer) => answer.write(output),
@@ -63,7 +63,7 @@ fn write_reply<O: Write>(output: &mut O, reply: &Reply) -> Result<(), WriteFault
 // Writes it, and hands it on.
 #[tactic(auto, using(crate::proofs::LineLemmas::flush_done, crate::proofs::LineLemmas::flush_failed))]
 fn tell<O: Write>(output: &mut O, reply: &Reply) -> Result<(), WriteFault>
-    ensures { Wrote (O.contents output.old) (O.contents output.new) result (text_of (given_of reply.now)) }
+    ensures { Wrote (O.contents output.old) (O.contents output.new) result (text_of (view_of_reply reply.now)) }
 {
     write_reply(output, reply)?;
     match output.flush() {

@@ -2,8 +2,8 @@
 ghost use Rattle.std.specs.Prelude.{◌≡◌, [], IfSome};
 
 use book::{Book, BookEvent, Dest};
+use callbacks::ShortBytes;
 use hosts_db::MemHosts;
-use letters::ShortBytes;
 use range_table::FlatTable;
 use serve_loops::{Due, MemoryCourier, Parcel, Signals, send_due};
 use std::alloc::{AllocError, Global};

@@ -1,5 +1,5 @@
 //! What a server is told.
-use letters::ShortBytes;
+use callbacks::ShortBytes;
 use peers::Peers;
 use std::net::SocketAddr;
 use std::time::Duration;

@@ -1,8 +1,8 @@
 //! A server, and who talks to it.
 use crate::hall::Hall;
 use crate::talks::{Talk, Told};
+use callbacks::ShortBytes;
 use hosts_db::MemHosts;
-use letters::ShortBytes;
 use log::Log;
 use peers::Peers;
 use server::{Backing, CallSettings, Settings, serve};

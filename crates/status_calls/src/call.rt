@@ -8,7 +8,7 @@ ghost use Rattle.call_plans.specs.Planned.{IsPlan};
 use crate::{crash, notify, stat, watches};
 use call_plans::Plan;
 use hosts_db::HostStore;
-use lock_world::World;
+use lock_state::World;
 use nsm_types::{MonitorRes, NsmCall};
 use owner_ids::Starved;
 use range_table::RangeTable;

@@ -9,7 +9,7 @@ use crate::stat;
 use call_outcome::{CallResult, Outcome};
 use call_plans::{Answer, Asked, Change, Plan, Told};
 use hosts_db::HostStore;
-use lock_world::World;
+use lock_state::World;
 use owner_ids::Starved;
 use range_table::RangeTable;
 

@@ -10,7 +10,7 @@ ghost use Rattle.call_plans.specs.Planned.{told_in, FitsDue, IsPlan};
 use call_outcome::{CallResult, Outcome};
 use call_plans::{Answer, Change, Plan, Told};
 use hosts_db::HostStore;
-use lock_world::World;
+use lock_state::World;
 use nsm_types::{MonitorRes, SmStat, SmStatRes};
 use owner_ids::Starved;
 use range_table::RangeTable;

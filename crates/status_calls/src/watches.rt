@@ -5,16 +5,16 @@ ghost use Rattle.definitions.specs.Nsm.{SmMon, SmUnmon, SmUnmonAll};
 ghost use Rattle.definitions.specs.Replies.{SystemErr};
 ghost use Rattle.definitions.specs.World.{the_limits};
 ghost use Rattle.definitions.specs.Answer.{gives, gives_state, nsm_answer, stored};
-ghost use Rattle.letters.specs.Meanings.{my_id_of};
+ghost use Rattle.callbacks.specs.Meanings.{my_id_of};
 ghost use Rattle.nsm_types.specs.Arguments.{view_of_my_id};
 ghost use Rattle.call_plans.specs.Planned.{IsPlan};
 
 use crate::stat;
 use call_outcome::Outcome;
 use call_plans::{Answer, Asked, Change, Plan, Told};
+use callbacks::{self, ShortBytes};
 use hosts_db::HostStore;
-use letters::{self, ShortBytes};
-use lock_world::World;
+use lock_state::World;
 use nsm_types::{Mon, MonId, MonitorRes, MyId};
 use owner_ids::Starved;
 use range_table::RangeTable;
@@ -98,10 +98,10 @@ fn unwatched<R: RangeTable, S: HostStore>(
     })
 }
 
-fn copy_of(alloc: Global, my_id: &MyId<'_>) -> Result<letters::MyId, Starved>
+fn copy_of(alloc: Global, my_id: &MyId<'_>) -> Result<callbacks::MyId, Starved>
     ensures { IfOk result (λ copy. my_id_of copy ≡ view_of_my_id my_id.now) }
 {
-    Ok(letters::MyId {
+    Ok(callbacks::MyId {
         my_name: ShortBytes::copy_of(alloc, my_id.my_name.bytes)?,
         prog: my_id.prog,
         vers: my_id.vers,

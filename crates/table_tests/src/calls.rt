@@ -1,7 +1,7 @@
 //! The server's own calls: worked rows, a full table, and a random script beside a plain list.
 use crate::random::next_bits;
 use blocked_list::MOST_SLOTS;
-use letters::{Caller, Destination, Letter, LocalLock, Lock, Message, ShortBytes};
+use callbacks::{Caller, Destination, Letter, LocalLock, Lock, Message, ShortBytes};
 use nlm4_types::Version;
 use out_calls::{Call, OutCalls};
 use owner_ids::Owner;

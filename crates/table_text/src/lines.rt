@@ -2,8 +2,8 @@
 
 ghost use Rattle.std.specs.Prelude.{◌≡◌, [], ◌∷◌, ◌++◌, codes};
 ghost use Rattle.std.specs.Fmt.{decimal, signed_decimal};
-ghost use Rattle.owner_ids.specs.Said.{said};
-ghost use Rattle.owner_ranges.specs.Same.{mode_of};
+ghost use Rattle.owner_ids.specs.Said.{view_of_owner};
+ghost use Rattle.range_owners.specs.Same.{view_of_mode};
 ghost use Rattle.definitions.specs.Owners.{Remote};
 ghost use Rattle.held_locks.specs.Asked.{shown};
 ghost use Rattle.local_ops.specs.Texts.{run_line, host_line, owner_text, mode_text, line, spaced};
@@ -54,7 +54,7 @@ fn put_range<W: Write>(
     last: u64,
 ) -> Result<(), WriteFault>
     ensures { Passed (W.contents writer.old) (W.contents writer.new) result block.new
-        (block.old ++ spaced ([] ∷ mode_text (mode_of mode) ∷ decimal first ∷ decimal last ∷ [] ∷ [])) }
+        (block.old ++ spaced ([] ∷ mode_text (view_of_mode mode) ∷ decimal first ∷ decimal last ∷ [] ∷ [])) }
 {
     let mut first_digits = Buffer::new();
     let mut last_digits = Buffer::new();
@@ -71,7 +71,7 @@ fn put_range<W: Write>(
 }
 
 fn mode_text_of(mode: Mode) -> &'static [u8]
-    ensures { result.now ≡ mode_text (mode_of mode) }
+    ensures { result.now ≡ mode_text (view_of_mode mode) }
 {
     match mode {
         Mode::Shared => b"r",
@@ -100,7 +100,7 @@ fn put_row<W: Write>(block: &mut Frame, writer: &mut W, row: &HostRow) -> Result
 }
 
 fn put_owner<W: Write>(block: &mut Frame, writer: &mut W, owner: &Owner) -> Result<(), WriteFault>
-    ensures { Passed (W.contents writer.old) (W.contents writer.new) result block.new (block.old ++ owner_text (said owner.now)) }
+    ensures { Passed (W.contents writer.old) (W.contents writer.new) result block.new (block.old ++ owner_text (view_of_owner owner.now)) }
 {
     match owner {
         Owner::Process(pid) => put_numbered(block, writer, b"p", u64::from(*pid)),

@@ -2,7 +2,7 @@
 //!
 //! A line has a file, a mode (`w`, `r`, or `u` for an unlock), the first and the last byte, and the owner: `1.2.3.4 w 0 9
 //! 97/7/65` is a write lock of svid 7 at the host `a` with the owner handle `A`. `p42` is a process, `d7` a description.
-use held_locks::{Change, Locks};
+use held_locks::{Locks, NewSetting};
 use owner_ids::Owner;
 use range_table::{FileId, FlatTable, Mode};
 use std::alloc::Global;
@@ -76,7 +76,7 @@ fn set(locks: &mut Locks<FlatTable>, alloc: Global, line: &str) -> bool {
     if file.is_empty() || file.len() > 64 || locks.admit(&owner).is_err() {
         return false;
     }
-    let change = Change {
+    let change = NewSetting {
         file: FileId::new(&file),
         owner: &owner,
         first: number(first).min(last),

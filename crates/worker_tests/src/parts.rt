@@ -3,10 +3,10 @@ ghost use Rattle.std.specs.Prelude.{◌≡◌, [], IfSome};
 
 use book::{Book, Closed};
 use bytes::Bytes;
+use callbacks::ShortBytes;
 use hosts_db::MemHosts;
 use jobs::{Channel, Job, Keeper, Place, Seat};
 use kept_replies::Peer;
-use letters::ShortBytes;
 use range_table::FlatTable;
 use std::alloc::{AllocError, Global};
 use std::sync::Mutex;

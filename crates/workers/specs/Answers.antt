@@ -8,7 +8,7 @@ use Rattle.book.specs.Given.{comes_to, record_of}
 use Rattle.book.specs.Notes.{Happening, Takes, Steps}
 use Rattle.book.specs.Receipts.{Receipt}
 use Rattle.book.specs.declared.receipt.Taken.{Taken}
-use Rattle.kept_replies.specs.Pairs.{asker}
+use Rattle.kept_replies.specs.Pairs.{view_of_peer}
 use Rattle.jobs.specs.Task.{Task}
 use Rattle.jobs.specs.declared.passes.View.{View}
 use Rattle.jobs.specs.Passes.{with_hand}
@@ -31,7 +31,7 @@ abbrev pub asks : Task → Happening
 asks job = Takes job.peer job.asked
 
 abbrev pub asks_of : Taken → Happening
-asks_of t = Takes (asker t.peer) t.«record»
+asks_of t = Takes (view_of_peer t.peer) t.«record»
 
 -- the call has one receipt more, which is of its peer and record, and the reply of that receipt is what is handed over
 abbrev pub TakesCall : Taken → ℕ → List Receipt → List Receipt → List Sent → List Sent → Type 0

@@ -4,7 +4,7 @@ use Rattle.std.specs.Io.KnownBytes.{Consumes, IsAtEnd}
 use Rattle.definitions.specs.Bytes.{Bytes}
 use Rattle.record_mark.specs.Stream.{Splits}
 use Rattle.record_mark.specs.Assembled.{Assembled, IsSplit}
-use Rattle.kept_replies.specs.Pairs.{asker}
+use Rattle.kept_replies.specs.Pairs.{view_of_peer}
 use Rattle.jobs.specs.Task.{Task}
 use Rattle.jobs.specs.Passes.{with_hand}
 use Rattle.workers.specs.declared.reading.Origin.{Origin}
@@ -14,7 +14,7 @@ use Rattle.workers.specs.Answers.{Answer, AreMet, Sent, all_sent, all_receipts, 
 
 -- the job of this record, under the next number
 abbrev pub job_of : Origin → Bytes → Task
-job_of o asked = record { connection = o.connection; peer = asker o.peer; number = o.put; asked = asked }
+job_of o asked = record { connection = o.connection; peer = view_of_peer o.peer; number = o.put; asked = asked }
 
 -- so many more were put
 abbrev pub counted : Origin → ℕ → Origin

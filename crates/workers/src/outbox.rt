@@ -1,6 +1,6 @@
 //! Where replies go, and what stands before a hold.
 ghost use Rattle.std.specs.Prelude.{◌≡◌, List, [], ◌∷◌, ◌++◌};
-ghost use Rattle.book.specs.Given.{given_of, record_of};
+ghost use Rattle.book.specs.Given.{view_of_reply, record_of};
 ghost use Rattle.workers.specs.Answers.{Sent, posted};
 
 use book::Reply;
@@ -21,7 +21,7 @@ pub trait Outbox {
 
     /// A reply that has a record.
     fn hand(&mut self, connection: u64, reply: &Reply)
-        ensures { handed self.new ≡ handed self.old ++ record { connection = connection; reply = record_of (given_of reply.now) } ∷ [] };
+        ensures { handed self.new ≡ handed self.old ++ record { connection = connection; reply = record_of (view_of_reply reply.now) } ∷ [] };
 
     /// The next replies are for this connection. Replies that are joined for another are written now, since what comes next may
     /// hold the worker for long.
@@ -39,7 +39,7 @@ pub trait Outbox {
 
 /// Hands over a reply, if it has a record.
 pub(crate) fn post<O: Outbox>(outbox: &mut O, connection: u64, reply: &Reply)
-    ensures { O.handed outbox.new ≡ O.handed outbox.old ++ posted connection (given_of reply.now) }
+    ensures { O.handed outbox.new ≡ O.handed outbox.old ++ posted connection (view_of_reply reply.now) }
 {
     match reply {
         Reply::Answers { .. } | Reply::Refuses { .. } | Reply::SystemErr { .. } => {
@@ -51,7 +51,7 @@ pub(crate) fn post<O: Outbox>(outbox: &mut O, connection: u64, reply: &Reply)
 
 /// As `post`, of a reply that nobody else needs.
 pub(crate) fn post_last<O: Outbox>(outbox: &mut O, connection: u64, reply: Reply)
-    ensures { O.handed outbox.new ≡ O.handed outbox.old ++ posted connection (given_of reply) }
+    ensures { O.handed outbox.new ≡ O.handed outbox.old ++ posted connection (view_of_reply reply) }
 {
     post(outbox, connection, &reply);
 }

@@ -3,7 +3,7 @@ ghost use Rattle.std.specs.Prelude.{◌≡◌, ◌+◌, ◌<◌, true, false, is
 ghost use Rattle.definitions.specs.Outgoing.{next_due};
 ghost use Rattle.book.specs.Given.{Upshot as Became};
 ghost use Rattle.book.specs.Journal.{Journal, room_of};
-ghost use Rattle.book.specs.Notes.{happening_of};
+ghost use Rattle.book.specs.Notes.{view_of_event};
 ghost use Rattle.book.specs.Receipts.{newest_receipt};
 ghost use Rattle.workers.specs.Holds.{is_take, takes_of, IsOneHistory, Rests, Notes};
 ghost use Rattle.workers.specs.Sending.{IsNextOf};
@@ -138,8 +138,8 @@ impl<R: RangeTable, S: HostStore, L: Ledger> Shared<R, S, L> {
     /// One hold of an event that is no record: a line, an answer, a silence, the end of grace, or a restart. It is one entry. The
     /// event comes back where there was no room for its entry, and then none was made.
     pub fn apply(&mut self, event: BookEvent) -> Result<Upshot, BookEvent>
-        requires untaken { is_take (happening_of event) ≡ false }
-        ensures noted { IfOk result (λ upshot. Notes self.old (happening_of event) upshot self.new) }
+        requires untaken { is_take (view_of_event event) ≡ false }
+        ensures noted { IfOk result (λ upshot. Notes self.old (view_of_event event) upshot self.new) }
         ensures none { IfErr result (λ back. (back ≡ event) × Rests self.old self.new) }
     {
         if !self.make_room() {

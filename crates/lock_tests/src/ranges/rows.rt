@@ -1,7 +1,7 @@
 //! What clients and processes ask, and what the table answers.
 use super::table::{Held, of};
 use owner_ids::{Owner, OwnerId, Owners};
-use owner_ranges::{clear, holds_nothing, intern, release, set};
+use range_owners::{clear, holds_nothing, intern, release, set};
 use range_table::{FlatTable, Mode};
 use std::test::Fail;
 

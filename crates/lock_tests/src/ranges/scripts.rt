@@ -5,7 +5,7 @@ use super::plain::{first_against, nth_on, starts_on};
 use super::table::nth;
 use crate::owner::remote;
 use owner_ids::{Owner, OwnerId, Owners};
-use owner_ranges::{drop_host, drop_owner_on_file, first_conflict, set, used, used_of};
+use range_owners::{drop_host, drop_owner_on_file, first_conflict, set, used, used_of};
 use range_table::{FileId, FlatTable, Mode, Run, Setting};
 use std::alloc::Global;
 use std::test::Fail;

@@ -4,7 +4,7 @@ ghost use Rattle.range_table.specs.Settings.{setting};
 
 use crate::owner::remote;
 use owner_ids::{Host, HostOf, Owner, OwnerId, Owners};
-use owner_ranges::{
+use range_owners::{
     drop_owner_on_file, first_conflict, refuses, runs, set, used, used_after, used_of,
 };
 use range_table::{FileId, FlatTable, Mode, RangeTable, Run, Setting};

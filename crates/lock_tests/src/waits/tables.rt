@@ -3,7 +3,7 @@ ghost use Rattle.std.specs.Prelude.{◌≤◌, ◌<◌, ◌^◌, None};
 
 use crate::owner::remote;
 use blocked_list::{BlockError, Quotas, Slots, Waiter};
-use letters::{Destination, Letter, Message, ShortBytes};
+use callbacks::{Destination, Letter, Message, ShortBytes};
 use owner_ids::{Owner, OwnerId, Owners};
 use range_table::{FileId, FlatTable, Mode, RangeTable, Run};
 use std::alloc::{AllocError, Global};

@@ -12,13 +12,13 @@ pub returns-in-Err-clause-verdict : goal.returns-in-Err-clause-verdict
 returns-in-Err-clause-verdict g c =
     let w = c.args.world.now.world in
     let a = view_of_cancargs c.args.args.now in
-    λ reserved. subst (λ ruling. IsVerdict ruling reserved w c.says.result) (sym (ap (cancel_unless w (request_of a.exclusive a.alock)) c.in-Err.ensures.err)) (c.says.ensures.verdict reserved w)
+    λ reserved. subst (λ ruling. IsVerdict ruling reserved w c.of_stat.result) (sym (ap (cancel_unless w (request_of a.exclusive a.alock)) c.in-Err.ensures.err)) (c.of_stat.ensures.verdict reserved w)
 
 pub returns-then-not-is_waiting-clause-verdict : goal.returns-then-not-is_waiting-clause-verdict
 returns-then-not-is_waiting-clause-verdict g c =
     let w = c.args.world.now.world in
     let a = view_of_cancargs c.args.args.now in
-    let said = c.says-then-not-is_waiting in
+    let said = c.of_stat-then-not-is_waiting in
     let is = waits_not w a c.in-Ok.ensures.ok.0 (asked c.request.result) (request_wanted c.in_ok-wanted.wanted) c.request.ensures c.in_ok-wanted.ensures c.is_waiting.result c.is_waiting.ensures c.if-not-is_waiting.true in
     λ reserved. subst (λ ruling. IsVerdict ruling reserved w said.result) (sym is) (said.ensures.verdict reserved w)
 

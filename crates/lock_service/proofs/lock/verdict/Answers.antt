@@ -12,4 +12,4 @@ pub returns-in-Err-clause-verdict : goal.returns-in-Err-clause-verdict
 returns-in-Err-clause-verdict g c =
     let w = c.args.world.now.world in
     let is = refused_by c.args.call w (view_of_version c.args.version) (view_of_lockargs c.args.args.now) (view_of_stat c.in-Err.stat) c.in-Err.ensures.err in
-    subst (λ ruling. IsVerdict ruling (places (form_by c.args.call)) w c.says.result) (sym is) (c.says.ensures.verdict (places (form_by c.args.call)) w)
+    subst (λ ruling. IsVerdict ruling (places (form_by c.args.call)) w c.of_stat.result) (sym is) (c.of_stat.ensures.verdict (places (form_by c.args.call)) w)

@@ -18,7 +18,7 @@ returns-then-closes_cycle-clause-verdict g c =
     let a = ask_of c.args.ask (slots_free the_limits w) in
     let waits_not = ap (λ (q : Request). is_waiting q w.waiters) (sym c.request.ensures) ∙ sym c.is_waiting.ensures ∙ c.if-is_waiting.false in
     let cycle = ap (λ (q : Request). closes_cycle w.settings w.waiters q) (sym c.request-2.ensures) ∙ sym c.closes_cycle.ensures ∙ c.if-closes_cycle.true in
-    subst (λ ruling. IsVerdict ruling c.args.ask.reserved w c.says.result) (sym (would_wait_for_itself w a waits_not cycle)) (c.says.ensures.verdict c.args.ask.reserved w)
+    subst (λ ruling. IsVerdict ruling c.args.ask.reserved w c.of_stat.result) (sym (would_wait_for_itself w a waits_not cycle)) (c.of_stat.ensures.verdict c.args.ask.reserved w)
 
 pub returns-then-free_slots-ask-clause-verdict : goal.returns-then-free_slots-ask-clause-verdict
 returns-then-free_slots-ask-clause-verdict g c =
@@ -28,7 +28,7 @@ returns-then-free_slots-ask-clause-verdict g c =
     let waits_not = ap (λ (q : Request). is_waiting q w.waiters) (sym c.request.ensures) ∙ sym c.is_waiting.ensures ∙ c.if-is_waiting.false in
     let no_cycle = ap (λ (q : Request). closes_cycle w.settings w.waiters q) (sym c.request-2.ensures) ∙ sym c.closes_cycle.ensures ∙ c.if-closes_cycle.false in
     let none = no_slot c.free_slots.result free c.args.ask.reserved c.free_slots.ensures c.if-free_slots-ask.true in
-    let said = c.says-then-free_slots-ask in
+    let said = c.of_stat-then-free_slots-ask in
     subst (λ ruling. IsVerdict ruling c.args.ask.reserved w said.result) (sym (no_place w a waits_not no_cycle none)) (said.ensures.verdict c.args.ask.reserved w)
 
 pub returns-clause-verdict : goal.returns-clause-verdict

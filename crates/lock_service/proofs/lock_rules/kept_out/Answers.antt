@@ -12,6 +12,6 @@ returns-then-ask-clause-verdict g c =
     let a = ask_of c.args.ask (slots_free the_limits w) in
     let reserved = c.args.ask.reserved in
     elim c.then-ask.branch [
-      | then-ask-via-then-ask b ↦ subst (λ ruling. IsVerdict ruling reserved w c.says.result) (sym (never_waits w a b.if-ask.true)) (c.says.ensures.verdict reserved w)
-      | then-ask-via-else-ask+then-not-ask b ↦ subst (λ ruling. IsVerdict ruling reserved w c.says.result) (sym (waits_for_none w a b.if-not-ask.true)) (c.says.ensures.verdict reserved w)
+      | then-ask-via-then-ask b ↦ subst (λ ruling. IsVerdict ruling reserved w c.of_stat.result) (sym (never_waits w a b.if-ask.true)) (c.of_stat.ensures.verdict reserved w)
+      | then-ask-via-else-ask+then-not-ask b ↦ subst (λ ruling. IsVerdict ruling reserved w c.of_stat.result) (sym (waits_for_none w a b.if-not-ask.true)) (c.of_stat.ensures.verdict reserved w)
     ]

@@ -14,4 +14,4 @@ returns-then-lacks_room-clause-verdict g c =
     let a = ask_of c.args.ask (slots_free the_limits w) in
     let free = ap (λ (q : Request). conflicts w.settings q) (sym c.request.ensures) ∙ sym c.conflicts.ensures ∙ c.if-conflicts.false in
     let full = ap (λ (q : Request). lacks_room 65536 (quotas_of w.hosts) w.settings q) (sym c.request-2.ensures) ∙ sym c.lacks_room.ensures ∙ c.if-lacks_room.true in
-    subst (λ ruling. IsVerdict ruling c.args.ask.reserved w c.says.result) (sym (no_room w a free full)) (c.says.ensures.verdict c.args.ask.reserved w)
+    subst (λ ruling. IsVerdict ruling c.args.ask.reserved w c.of_stat.result) (sym (no_room w a free full)) (c.of_stat.ensures.verdict c.args.ask.reserved w)

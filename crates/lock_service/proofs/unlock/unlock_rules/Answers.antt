@@ -12,6 +12,6 @@ pub returns-then-is_refused-clause-verdict : goal.returns-then-is_refused-clause
 returns-then-is_refused-clause-verdict g c =
     let w = c.args.world.now.world in
     let s = setting_of c.args.range in
-    let taken : is_refused 65536 (quotas_of w.hosts) w.settings s ≡ true = ap (λ (x : Setting). is_refused 65536 (quotas_of w.hosts) w.settings x) (sym c.change.ensures) ∙ sym c.is_refused.ensures ∙ c.if-is_refused.true in
+    let taken : is_refused 65536 (quotas_of w.hosts) w.settings s ≡ true = ap (λ (x : Setting). is_refused 65536 (quotas_of w.hosts) w.settings x) (sym c.setting.ensures) ∙ sym c.is_refused.ensures ∙ c.if-is_refused.true in
     let is = ap (λ b. cond b (stays w DENIED_NOLOCKS) (decided (record { says = GRANTED; world = with_setting w s }))) taken in
-    λ reserved. subst (λ ruling. IsVerdict ruling reserved w c.says.result) (sym is) (c.says.ensures.verdict reserved w)
+    λ reserved. subst (λ ruling. IsVerdict ruling reserved w c.of_stat.result) (sym is) (c.of_stat.ensures.verdict reserved w)

@@ -12,7 +12,7 @@ pub returns-in-Err-clause-verdict : goal.returns-in-Err-clause-verdict
 returns-in-Err-clause-verdict g c =
     let w = c.args.world.now.world in
     let a = view_of_unlockargs c.args.args.now in
-    λ reserved. subst (λ ruling. IsVerdict ruling reserved w c.says.result) (sym (ap (unlock_unless the_limits w a.alock) c.in-Err.ensures.err)) (c.says.ensures.verdict reserved w)
+    λ reserved. subst (λ ruling. IsVerdict ruling reserved w c.of_stat.result) (sym (ap (unlock_unless the_limits w a.alock) c.in-Err.ensures.err)) (c.of_stat.ensures.verdict reserved w)
 
 pub returns-clause-verdict : goal.returns-clause-verdict
 returns-clause-verdict g c =

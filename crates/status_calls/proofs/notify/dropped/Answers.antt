@@ -2,7 +2,7 @@ use Rattle.std.proofs.Common.{◌≤◌, length, sym, ap, ◌∙◌, arith, w32}
 use Rattle.std.proofs.lemmas.Int.{to_z-of_z}
 use Rattle.definitions.specs.Hosts.{watches_of}
 use Rattle.definitions.specs.World.{the_limits, slots_free}
-use Rattle.call_outcome.specs.Values.{outcome_of}
+use Rattle.call_outcome.specs.Values.{view_of_outcome}
 use Rattle.call_plans.specs.Planned.{asked_of, told_in}
 use Rattle.status_calls.proofs.Dropping.{same, with_room, fits}
 use Rattle.status_calls.proofs.notify.dropped.Goals as goal
@@ -21,7 +21,7 @@ returns g c =
     let asked = rw (to_z-of_z w32 state c.ranges.state) at c.in_ok-seen.ensures.asked in
     let told = rw (to_z-of_z w32 state c.ranges.state) at c.in_ok-status_letters.ensures in
     record {
-      ruled = same w name state call (outcome_of c.in_ok-of.field-0.told.value) letters dropped (told_in c.in_ok-reply.field-0 w) asked (ap outcome_of c.in_ok-of.ensures) told c.in_ok-from_slice.ensures.items (c.in_ok-reply.ensures.told w) ∙ sym (with_room w name state room);
+      ruled = same w name state call (view_of_outcome c.in_ok-of.field-0.told.value) letters dropped (told_in c.in_ok-reply.field-0 w) asked (ap view_of_outcome c.in_ok-of.ensures) told c.in_ok-from_slice.ensures.items (c.in_ok-reply.ensures.told w) ∙ sym (with_room w name state room);
       fits = ((tt, fits w name state call letters dropped told room), c.in_ok-reply.ensures.fits w);
       asks = c.in_ok-seen.ensures.asks w;
     }

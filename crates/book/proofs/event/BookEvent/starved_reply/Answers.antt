@@ -1,5 +1,5 @@
 use Rattle.std.proofs.Common.{subst, ℕ, List, inl, inr}
-use Rattle.kept_replies.specs.Pairs.{asker}
+use Rattle.kept_replies.specs.Pairs.{view_of_peer}
 use Rattle.record_reading.specs.Values.{view_of_reading}
 use Rattle.record_reading.specs.Readings.{IsReading}
 use Rattle.record_reading.specs.Answers.{IsAnswerReading, view_of_answer}

@@ -1,5 +1,5 @@
 use Rattle.std.proofs.Common.{◌≡◌, Some, sym, ◌∙◌}
-use Rattle.kept_replies.specs.Pairs.{asker}
+use Rattle.kept_replies.specs.Pairs.{view_of_peer}
 use Rattle.book.specs.Notes.{Takes}
 use Rattle.daemon_core.specs.Outputs.{told_to}
 use Rattle.daemon_core.specs.Hub.{Hub, place_of}
@@ -23,7 +23,7 @@ returns g c =
     let told = c.tell_to in
     let same = upshot_of-told told.result note.result.0 note.result.1 told.ensures.outcome told.ensures.store note.ensures.outcome in
     let step = rw c.peer-peer.ensures at note.ensures.step in
-    let alone = unnoted told.result note.result.0 note.result.1 told.ensures.outcome told.ensures.store note.ensures.outcome (Takes (asker link.peer) c.in-Some-take.record) old.state note.new.book.journal.end note.ensures.unasked note.ensures.unchanged tt in
+    let alone = unnoted told.result note.result.0 note.result.1 told.ensures.outcome told.ensures.store note.ensures.outcome (Takes (view_of_peer link.peer) c.in-Some-take.record) old.state note.new.book.journal.end note.ensures.unasked note.ensures.unchanged tt in
     let outputs : told.result ≡ told_to link.number told.result.outcome told.result.store note.result.1.given = rw (← c.number-number.ensures) told.ensures.told in
     rw (← c.self.view_is)
     (rw place

@@ -1,5 +1,5 @@
 use Rattle.std.proofs.Common.{◌≡◌, ◌≢◌, ℕ, Some, None}
-use Rattle.owner_ids.specs.Said.{said}
+use Rattle.owner_ids.specs.Said.{view_of_owner}
 use Rattle.owner_ids.specs.Names.{named}
 use Rattle.held_locks.proofs.Ties.{tied_dropped, tied_undropped}
 use Rattle.held_locks.proofs.locks.Locks.drop_owner_on_file.Goals as goal
@@ -13,7 +13,7 @@ invariant_of-self g c =
     let ns = (g.R.RangeTable.settings c.self.inside.table) in
     let names = c.self.inside.owners in
     let settings = c.self.inside.settings.items in
-    let x = said c.args.owner.now in
+    let x = view_of_owner c.args.owner.now in
     elim c.match-number.branch [
       | in-Some w ↦
           rw (c.after-self-inside.ensures, w.self-inside-is)

@@ -1,5 +1,5 @@
 use Rattle.std.proofs.Common.{◌≡◌, Some, sym, subst}
-use Rattle.owner_ids.specs.Said.{said}
+use Rattle.owner_ids.specs.Said.{view_of_owner}
 use Rattle.owner_ids.specs.Names.{named}
 use Rattle.held_locks.specs.Held.{HoldsNothing}
 use Rattle.held_locks.proofs.Ties.{tied_released, number_holds_nothing}
@@ -11,7 +11,7 @@ invariant_of-self g c =
     let names = c.self.inside.owners in
     let settings = c.self.inside.settings.items in
     let n = c.in-Some.number in
-    let x = said c.args.owner.now in
+    let x = view_of_owner c.args.owner.now in
     let nothing = subst (λ h. HoldsNothing h x) (sym c.self.view_is) c.in-Some.ensures.idle in
     let named_x = subst (λ h. named h.names n ≡ Some x) (sym c.self.view_is) c.in-Some.ensures.number in
     tied_released ns c.self.inside.counts.items names c.release.new.self settings n c.self.invariant (number_holds_nothing ns c.self.inside.counts.items names settings n x c.self.invariant named_x nothing) c.release.ensures

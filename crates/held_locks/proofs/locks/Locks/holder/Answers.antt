@@ -1,10 +1,10 @@
 use Rattle.std.proofs.Common.{◌<◌, Some, sym, ap, ◌∙◌, subst}
 use Rattle.definitions.specs.Starts.{used}
-use Rattle.owner_ids.specs.Said.{said}
+use Rattle.owner_ids.specs.Said.{view_of_owner}
 use Rattle.owner_ids.specs.Names.{named}
 use Rattle.range_table.specs.Settings.{mode_at}
-use Rattle.owner_ranges.proofs.RunOrders.{run_order_over}
-use Rattle.owner_ranges.proofs.Counting.{used_is}
+use Rattle.range_owners.proofs.RunOrders.{run_order_over}
+use Rattle.range_owners.proofs.Counting.{used_is}
 use Rattle.held_locks.proofs.Strangers.{same_shown, some_named}
 use Rattle.held_locks.proofs.locks.Locks.holder.Goals as goal
 
@@ -24,4 +24,4 @@ returns g c =
     let names = named c.self.inside.owners in
     let a = c.runs-run.ensures in
     let over = run_order_over names (mode_at (g.R.RangeTable.settings c.self.inside.table)) c.self.inside.settings.items a.0 c.args.i c.runs-run.result c.self.invariant.stands a.1 a.2 in
-    rw (← c.self.view_is) (over.1 ∙ ap Some (sym (same_shown names c.runs-run.result (said c.get.result.now) over.0 c.get.ensures over.2)))
+    rw (← c.self.view_is) (over.1 ∙ ap Some (sym (same_shown names c.runs-run.result (view_of_owner c.get.result.now) over.0 c.get.ensures over.2)))

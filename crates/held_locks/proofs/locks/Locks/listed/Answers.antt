@@ -1,8 +1,8 @@
 use Rattle.std.proofs.Common.{◌≡◌, ◌<◌, Some, sym, ap, ◌∙◌, subst, IsSome}
 use Rattle.definitions.specs.Starts.{used, runs}
-use Rattle.owner_ids.specs.Said.{said}
+use Rattle.owner_ids.specs.Said.{view_of_owner}
 use Rattle.owner_ids.specs.Names.{named}
-use Rattle.owner_ranges.proofs.RunOrders.{run_order_over, length_over}
+use Rattle.range_owners.proofs.RunOrders.{run_order_over, length_over}
 use Rattle.held_locks.proofs.Strangers.{same_shown, some_named}
 use Rattle.held_locks.proofs.locks.Locks.listed.Goals as goal
 
@@ -24,4 +24,4 @@ returns g c =
     let h = c.args.self.now in
     let l = c.requires.listing in
     let over = run_order_over (named h.names) l.held h.settings c.args.all.now c.args.i c.get-run.result.now l.stands l.all c.get-run.ensures in
-    over.1 ∙ ap Some (sym (same_shown (named h.names) c.get-run.result.now (said c.get.result.now) over.0 (ap (λ k. named k.names c.get-run.result.now.owner) (sym c.self.view_is) ∙ c.get.ensures) over.2))
+    over.1 ∙ ap Some (sym (same_shown (named h.names) c.get-run.result.now (view_of_owner c.get.result.now) over.0 (ap (λ k. named k.names c.get-run.result.now.owner) (sym c.self.view_is) ∙ c.get.ensures) over.2))

@@ -1,11 +1,11 @@
 use Rattle.std.proofs.Common.{◌≡◌, ◌≢◌, ℕ, false, Option, Some, None, is_some, refl, sym, ap, ◌∙◌}
 use Rattle.std.specs.Cmp.{both_ways}
 use Rattle.definitions.specs.Starts.{refuses}
-use Rattle.owner_ids.specs.Said.{said}
+use Rattle.owner_ids.specs.Said.{view_of_owner}
 use Rattle.owner_ids.specs.Names.{named}
 use Rattle.range_table.specs.Settings.{mode_at}
-use Rattle.owner_ranges.proofs.Counting.{refusal_over}
-use Rattle.owner_ranges.specs.Same.{held_mode}
+use Rattle.range_owners.proofs.Counting.{refusal_over}
+use Rattle.range_owners.specs.Same.{view_of_held_mode}
 use Rattle.held_locks.specs.Asked.{changed, change_by_number}
 use Rattle.held_locks.proofs.Ties.{stranger_is_not_refused, same_change}
 use Rattle.held_locks.proofs.locks.Locks.refuses.Goals as goal
@@ -30,7 +30,7 @@ pub returns-else-is_some : goal.returns-else-is_some
 returns-else-is_some g c =
     let change = c.args.change.now in
     let names = named c.self.inside.owners in
-    let fresh : (k : ℕ) → names k ≢ Some (said change.owner.now) = λ k e. none_some k (c.in-None.ensures.known k e) in
+    let fresh : (k : ℕ) → names k ≢ Some (view_of_owner change.owner.now) = λ k e. none_some k (c.in-None.ensures.known k e) in
     let none = no_mode change.mode (sym c.is_some.ensures ∙ c.if-is_some.false) in
     let held = mode_at (g.R.RangeTable.settings c.self.inside.table) in
-    rw (← c.self.view_is) (c.if-is_some.false ∙ sym (stranger_is_not_refused names held c.self.inside.settings.items c.self.invariant.stands (said change.owner.now) fresh (changed change) refl (ap held_mode none)))
+    rw (← c.self.view_is) (c.if-is_some.false ∙ sym (stranger_is_not_refused names held c.self.inside.settings.items c.self.invariant.stands (view_of_owner change.owner.now) fresh (changed change) refl (ap view_of_held_mode none)))

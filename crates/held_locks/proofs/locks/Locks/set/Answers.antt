@@ -1,9 +1,9 @@
 use Rattle.std.proofs.Common.{◌≡◌, ◌≢◌, ℕ, Some, None, sym, ap, ◌∙◌, subst, true, false, refl, ◌⊎◌}
-use Rattle.owner_ids.specs.Said.{said}
+use Rattle.owner_ids.specs.Said.{view_of_owner}
 use Rattle.owner_ids.specs.Names.{named}
 use Rattle.range_table.specs.Settings.{mode_at}
-use Rattle.owner_ranges.proofs.Counting.{refusal_over}
-use Rattle.owner_ranges.specs.Same.{held_mode}
+use Rattle.range_owners.proofs.Counting.{refusal_over}
+use Rattle.range_owners.specs.Same.{view_of_held_mode}
 use Rattle.held_locks.specs.Held.{IsKnown}
 use Rattle.held_locks.specs.Asked.{changed, change_by_number}
 use Rattle.held_locks.proofs.Ties.{tied_set, tied_stranger, stranger_mode, stranger_is_not_refused, same_change}
@@ -33,8 +33,8 @@ invariant_of-self-2 g c = elim c.match-number.branch [
       c.self.invariant w.in-Some.ensures.found w.in_ok-set.ensures.ok w.in_ok-set.ensures.counted w.in_ok-set.ensures.places)
   | in_default w ↦
       let change = c.args.change.now in
-      let fresh : (k : ℕ) → named c.self.inside.owners k ≢ Some (said change.owner.now) = λ k e. none_some k (w.in_default.ensures.known k e) in
-      let known = subst (λ h. (change.mode ≡ None) ⊎ IsKnown h (said change.owner.now)) (sym c.self.view_is) c.requires.known in
+      let fresh : (k : ℕ) → named c.self.inside.owners k ≢ Some (view_of_owner change.owner.now) = λ k e. none_some k (w.in_default.ensures.known k e) in
+      let known = subst (λ h. (change.mode ≡ None) ⊎ IsKnown h (view_of_owner change.owner.now)) (sym c.self.view_is) c.requires.known in
       rw (c.after-self-inside.ensures, w.self-inside-is)
       (tied_stranger (g.R.RangeTable.settings c.self.inside.table) c.self.inside.counts.items c.self.inside.owners c.self.inside.settings.items change c.self.invariant fresh (stranger_mode c.self.inside.owners change known fresh))
 ]
@@ -51,9 +51,9 @@ returns-clause-refused g c = elim c.match-number.branch [
   | in_default w ↦
       let change = c.args.change.now in
       let names = named c.self.inside.owners in
-      let fresh : (k : ℕ) → names k ≢ Some (said change.owner.now) = λ k e. none_some k (w.in_default.ensures.known k e) in
-      let known = subst (λ h. (change.mode ≡ None) ⊎ IsKnown h (said change.owner.now)) (sym c.self.view_is) c.requires.known in
+      let fresh : (k : ℕ) → names k ≢ Some (view_of_owner change.owner.now) = λ k e. none_some k (w.in_default.ensures.known k e) in
+      let known = subst (λ h. (change.mode ≡ None) ⊎ IsKnown h (view_of_owner change.owner.now)) (sym c.self.view_is) c.requires.known in
       let none = stranger_mode c.self.inside.owners change known fresh in
       let held = mode_at (g.R.RangeTable.settings c.self.inside.table) in
-      rw (← c.self.view_is) ((λ e. false_true e), λ t. sym (stranger_is_not_refused names held c.self.inside.settings.items c.self.invariant.stands (said change.owner.now) fresh (changed change) refl (ap held_mode none)) ∙ t)
+      rw (← c.self.view_is) ((λ e. false_true e), λ t. sym (stranger_is_not_refused names held c.self.inside.settings.items c.self.invariant.stands (view_of_owner change.owner.now) fresh (changed change) refl (ap view_of_held_mode none)) ∙ t)
 ]

@@ -3,10 +3,10 @@ use Rattle.definitions.specs.Owners.{Owner}
 use Rattle.owner_ids.specs.Names.{named}
 use Rattle.range_table.specs.Settings.{mode_at}
 use Rattle.range_table.specs.declared.run.Run.{Run}
-use Rattle.owner_ranges.proofs.Counting.{refusal_over}
-use Rattle.owner_ranges.specs.Same.{IsSameSetting}
+use Rattle.range_owners.proofs.Counting.{refusal_over}
+use Rattle.range_owners.specs.Same.{IsSameSetting}
 use Rattle.held_locks.specs.Asked.{setting_by}
-use Rattle.held_locks.specs.declared.asked.Change.{Change}
+use Rattle.held_locks.specs.declared.asked.NewSetting.{NewSetting}
 use Rattle.held_locks.proofs.Ties.{tied_set}
 use Rattle.held_locks.proofs.locks.Locks.set_run.Goals as goal
 
@@ -28,7 +28,7 @@ returns-in_err-set-clause-refused g c = λ x e.
 pub invariant_of-self-2 : goal.invariant_of-self-2
 invariant_of-self-2 g c =
     let r = c.args.wanted.now in
-    let change : Change = record { file = r.file; owner = c.get.result; first = r.first; last = r.last; mode = Some r.mode } in
+    let change : NewSetting = record { file = r.file; owner = c.get.result; first = r.first; last = r.last; mode = Some r.mode } in
     rw c.after-self-inside.ensures
     (tied_set (g.R.RangeTable.settings c.self.inside.table) (g.R.RangeTable.settings c.set.new.table) c.self.inside.counts.items c.set.new.counts.items c.self.inside.owners c.self.inside.settings.items r.owner change
     c.self.invariant c.get.ensures c.in_ok-set.ensures.ok c.in_ok-set.ensures.counted c.in_ok-set.ensures.places)

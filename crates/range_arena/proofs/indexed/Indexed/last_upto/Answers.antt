@@ -1,7 +1,7 @@
 use Rattle.std.proofs.Common.{◌≡◌, ◌+◌, ◌-◌, suc, Some, None, sym, subst, ◌∙◌, arith}
 use Rattle.range_table.specs.Settings.{IsIn}
 use Rattle.range_table.specs.Runs.{IsRunList}
-use Rattle.range_table.specs.Parts.{last_of}
+use Rattle.range_table.specs.Parts.{last_started}
 use Rattle.range_arena.proofs.Owned.{none_upto, last_upto, none_of_owner, read_stands}
 use Rattle.range_arena.proofs.indexed.Indexed.last_upto.Goals as goal
 
@@ -10,7 +10,7 @@ returns-then-place-eq0-clause-last c =
     let i = c.self.inside in
     let k = c.self.invariant in
     let listed = subst IsRunList (sym c.self.view_is) c.requires in
-    subst (λ rs. None ≡ last_of c.args.range.now (c.args.byte + 1) rs) c.self.view_is
+    subst (λ rs. None ≡ last_started c.args.range.now (c.args.byte + 1) rs) c.self.view_is
     (sym (none_upto i.list i.owned c.args.range.now c.args.byte c.owned_past-place.result listed k.sorted k.same c.owned_past-place.ensures.place c.if-place-eq0.true))
 
 pub returns-then-is_of-clause-last : goal.returns-then-is_of-clause-last
@@ -21,7 +21,7 @@ returns-then-is_of-clause-last c =
     let n = c.if-place-eq0.false in
     let some : place ≡ suc (place - 1) = omega arith in
     let listed = subst IsRunList (sym c.self.view_is) c.requires in
-    subst (λ rs. Some c.get-run.result.now ≡ last_of c.args.range.now (c.args.byte + 1) rs) c.self.view_is
+    subst (λ rs. Some c.get-run.result.now ≡ last_started c.args.range.now (c.args.byte + 1) rs) c.self.view_is
     (sym (last_upto i.list i.owned c.args.range.now c.args.byte place listed k.sorted k.same c.owned_past-place.ensures.place c.get-run.result.now (place - 1) some c.owned_past-place.ensures.within c.get-run.ensures (sym c.is_of.ensures ∙ c.if-is_of.true)))
 
 pub returns-then-is_of-clause-stands : goal.returns-then-is_of-clause-stands
@@ -43,5 +43,5 @@ returns-else-is_of-clause-last c =
     let n = c.if-place-eq0.false in
     let some : place ≡ suc (place - 1) = omega arith in
     let listed = subst IsRunList (sym c.self.view_is) c.requires in
-    subst (λ rs. None ≡ last_of c.args.range.now (c.args.byte + 1) rs) c.self.view_is
+    subst (λ rs. None ≡ last_started c.args.range.now (c.args.byte + 1) rs) c.self.view_is
     (sym (none_of_owner i.list i.owned c.args.range.now c.args.byte place listed k.sorted k.same c.owned_past-place.ensures.place c.get-run.result.now (place - 1) some c.owned_past-place.ensures.within c.get-run.ensures (sym c.is_of.ensures ∙ c.if-is_of.false)))

@@ -1,11 +1,11 @@
 use Rattle.std.proofs.Common.{ap, ◌∙◌, ◌++◌, ◌∷◌, []}
-use Rattle.book.specs.Given.{given_of}
+use Rattle.book.specs.Given.{view_of_reply}
 use Rattle.workers.proofs.desk.Desk.take.Goals as goal
 
 pub returns-clause-taken : goal.returns-clause-taken
 returns-clause-taken g c = (
   c.in_ok-receipt.field-0.receipt,
-  given_of c.reply.result.now,
+  view_of_reply c.reply.result.now,
   c.in_ok-receipt.ensures.told.0,
   c.reply.ensures,
   c.add.ensures ∙ ap (λ l. l ++ c.in_ok-receipt.field-0.receipt ∷ []) c.prepare.ensures.all,

@@ -1,23 +1,23 @@
 use Rattle.std.proofs.Common.{◌≡◌, refl, ap, ◌∙◌, sym, subst, Some, None, ◌++◌, ◌∷◌, []}
 use Rattle.std.proofs.lemmas.List.{append-nil}
-use Rattle.kept_replies.specs.Pairs.{asker}
+use Rattle.kept_replies.specs.Pairs.{view_of_peer}
 use Rattle.definitions.specs.Hosts.{NotAsked}
 use Rattle.definitions.specs.Step.{Starved}
-use Rattle.book.specs.Given.{comes_to, given_of}
+use Rattle.book.specs.Given.{comes_to, view_of_reply}
 use Rattle.book.specs.Notes.{Happening, Takes, Steps}
 use Rattle.workers.specs.Answers.{Worker, asks, asks_of, posted}
 use Rattle.workers.proofs.worker.Worker.answer.Goals.{in-Err, in-Ok}
 use Rattle.workers.proofs.worker.Worker.answer.Goals as goal
 
 -- what the desk was handed is the job's call
-the_call : (g : _) (c : goal.Joined-take g) → Takes (asker c.peer-peer.result) c.into_record.result ≡ asks c.args.job
+the_call : (g : _) (c : goal.Joined-take g) → Takes (view_of_peer c.peer-peer.result) c.into_record.result ≡ asks c.args.job
 the_call g c = λ i. Takes (c.peer-peer.ensures i) (c.into_record.ensures i)
 
 pub returns-clause-answered : goal.returns-clause-answered
 returns-clause-answered g c = elim c.match-take.branch [
   | in-Err w ↦
       let none = w.in-Err.ensures.none in
-      let given = given_of w.starved.result in (
+      let given = view_of_reply w.starved.result in (
         record { job = c.args.job; receipt = None; given = given },
         refl,
         λ s. subst (λ (e : Happening). Steps s e (comes_to Starved NotAsked given) s) (ap asks_of none.0 ∙ the_call g c) (w.starved.ensures s),

@@ -1,0 +1,65 @@
+-- What is sent, as the definitions have it.
+use Rattle.std.specs.Prelude.{Option, Some, None}
+use Rattle.std.specs.Borrow.{Bor}
+use Rattle.std.specs.Option.{option_map}
+use Rattle.definitions.specs.Nlm as nlm
+use Rattle.definitions.specs.Nsm as nsm
+use Rattle.definitions.specs.Outgoing as outgoing
+use Rattle.nlm4_types.specs.Stat.{view_of_stat}
+use Rattle.nlm4_types.specs.Version.{view_of_version}
+use Rattle.owner_ids.specs.Said.{view_of_owner}
+use Rattle.range_owners.specs.Same.{view_of_mode}
+use Rattle.callbacks.specs.declared.lock.Lock as lock_declared
+use Rattle.callbacks.specs.declared.lock.LocalLock as local_declared
+use Rattle.callbacks.specs.declared.results.Res as res_declared
+use Rattle.callbacks.specs.declared.results.Holder as holder_declared
+use Rattle.callbacks.specs.declared.results.TestRes as test_declared
+use Rattle.callbacks.specs.declared.message.MyId as my_id_declared
+use Rattle.callbacks.specs.declared.message.Message.{Message}
+use Rattle.callbacks.specs.declared.message.Message.TheVariants as message
+use Rattle.callbacks.specs.declared.letter.Destination.{Destination}
+use Rattle.callbacks.specs.declared.letter.Destination.TheVariants as destination
+
+abbrev pub view_of_told_lock : lock_declared.Lock → nlm.Lock
+view_of_told_lock l = record {
+  caller_name = l.caller.name;
+  fh = l.fh;
+  oh = l.caller.oh;
+  svid = l.caller.svid;
+  l_offset = l.l_offset;
+  l_len = l.l_len;
+}
+
+abbrev pub found_lock : Option (Bor lock_declared.Lock) → Option nlm.Lock
+found_lock None = None
+found_lock (Some l) = Some (view_of_told_lock l.now)
+
+abbrev pub local_lock_of : local_declared.LocalLock → outgoing.LocalLock
+local_lock_of l = record { owner = view_of_owner l.owner; file = l.file; offset = l.offset; len = l.len }
+
+abbrev pub res_of : res_declared.Res → nlm.Res
+res_of r = record { cookie = r.cookie; stat = view_of_stat r.stat }
+
+abbrev pub holder_of : holder_declared.Holder → nlm.Holder
+holder_of h = record { exclusive = h.exclusive; svid = h.svid; oh = h.oh; l_offset = h.l_offset; l_len = h.l_len }
+
+abbrev pub test_res_of : test_declared.TestRes → nlm.TestRes
+test_res_of r = record { cookie = r.cookie; stat = view_of_stat r.stat; holder = option_map holder_of r.holder }
+
+abbrev pub my_id_of : my_id_declared.MyId → nsm.MyId
+my_id_of m = record { my_name = m.my_name; prog = m.prog; vers = m.vers; proc = m.proc }
+
+abbrev pub view_of_message : Message → outgoing.Message
+view_of_message (message.Granted version exclusive lock) = outgoing.Granted (view_of_version version) exclusive (view_of_told_lock lock)
+view_of_message (message.GrantedMsg version exclusive lock) = outgoing.GrantedMsg (view_of_version version) exclusive (view_of_told_lock lock)
+view_of_message (message.GrantedLine mode lock) = outgoing.GrantedLine (view_of_mode mode) (local_lock_of lock)
+view_of_message (message.TestResult version res) = outgoing.TestResult (view_of_version version) (test_res_of res)
+view_of_message (message.LockResult version res) = outgoing.LockResult (view_of_version version) (res_of res)
+view_of_message (message.CancelResult version res) = outgoing.CancelResult (view_of_version version) (res_of res)
+view_of_message (message.UnlockResult version res) = outgoing.UnlockResult (view_of_version version) (res_of res)
+view_of_message (message.Status my_id mon_name state bytes) = outgoing.Status (my_id_of my_id) mon_name state bytes
+view_of_message (message.Notify name state) = outgoing.Notify name state
+
+abbrev pub view_of_destination : Destination → outgoing.Destination
+view_of_destination (destination.Host name) = outgoing.ToHost name
+view_of_destination (destination.Connection number) = outgoing.ToConnection number

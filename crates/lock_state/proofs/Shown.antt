@@ -1,0 +1,73 @@
+-- Which owners can be shown, through the changes of a list.
+use Rattle.std.proofs.Common.{◌≡◌, ◌≤◌, Bool, true, false, cond, List, [], ◌∷◌, ◌++◌, length, refl, Some, None, Result, Ok, Err, OnOk, OnErr, arith}
+use Rattle.definitions.specs.Bytes.{is_any, without, without_first, first_that}
+use Rattle.definitions.specs.Settings.{Setting}
+use Rattle.definitions.specs.Waits.{Waiter}
+use Rattle.lock_state.specs.Whole.{IsShown, CanShow, AreShown, AreWaitersShown}
+
+pub shown_more : (settings : List Setting) (s : Setting) → AreShown settings → CanShow s → AreShown (settings ++ s ∷ [])
+shown_more [] s a h = (h, tt)
+shown_more (t ∷ settings) s a h = (a.0, shown_more settings s a.1 h)
+
+pub shown_without : (test : Setting → Bool) (settings : List Setting) → AreShown settings → AreShown (without test settings)
+shown_without test [] a = tt
+shown_without test (s ∷ settings) a = go (test s) (shown_without test settings a.1)
+  where
+    go : (b : Bool) → AreShown (without test settings) → AreShown (cond b (without test settings) (s ∷ without test settings))
+    go true more = more
+    go false more = (a.0, more)
+
+pub waiters_without : (test : Waiter → Bool) (waiters : List Waiter) → AreWaitersShown waiters → AreWaitersShown (without test waiters)
+waiters_without test [] a = tt
+waiters_without test (x ∷ waiters) a = go (test x) (waiters_without test waiters a.1)
+  where
+    go : (b : Bool) → AreWaitersShown (without test waiters) → AreWaitersShown (cond b (without test waiters) (x ∷ without test waiters))
+    go true more = more
+    go false more = (a.0, more)
+
+pub waiters_without_first : (test : Waiter → Bool) (waiters : List Waiter) → AreWaitersShown waiters → AreWaitersShown (without_first test waiters)
+waiters_without_first test [] a = tt
+waiters_without_first test (x ∷ waiters) a = go (test x) (waiters_without_first test waiters a.1)
+  where
+    go : (b : Bool) → AreWaitersShown (without_first test waiters) → AreWaitersShown (cond b waiters (x ∷ without_first test waiters))
+    go true more = a.1
+    go false more = (a.0, more)
+
+pub first_shown : (test : Waiter → Bool) (waiters : List Waiter) (x : Waiter) → AreWaitersShown waiters → first_that test waiters ≡ Some x → IsShown x.request.owner
+first_shown test [] x a e = absurd (no_some x e)
+  where
+    no_some : (y : Waiter) → None ≡ Some y → ⊥
+    no_some y e = cc
+first_shown test (y ∷ waiters) x a e = go (test y) e (first_shown test waiters x a.1)
+  where
+    one : Some y ≡ Some x → y ≡ x
+    one e = cc
+
+    is : (z : Waiter) → y ≡ z → IsShown z.request.owner
+    is z e = rw (← e) a.0
+
+    go : (b : Bool) → cond b (Some y) (first_that test waiters) ≡ Some x → (first_that test waiters ≡ Some x → IsShown x.request.owner) → IsShown x.request.owner
+    go true f more = is x (one f)
+    go false f more = more f
+
+-- what is taken out by a test passes it no more
+pub none_passes : {X : Type 0} (test : X → Bool) (xs : List X) → is_any test (without test xs) ≡ false
+none_passes test [] = refl
+none_passes test (x ∷ xs) = go (test x) refl (none_passes test xs)
+  where
+    go : (b : Bool) → test x ≡ b → is_any test (without test xs) ≡ false → is_any test (cond b (without test xs) (x ∷ without test xs)) ≡ false
+    go true e more = more
+    go false e more = rw e more
+
+pub length_without : {X : Type 0} (test : X → Bool) (xs : List X) → length (without test xs) ≤ length xs
+length_without test [] = omega arith
+length_without test (x ∷ xs) = go (test x) (length_without test xs)
+  where
+    go : (b : Bool) → length (without test xs) ≤ length xs → length (cond b (without test xs) (x ∷ without test xs)) ≤ length (x ∷ xs)
+    go true more = omega arith
+    go false more = omega arith
+
+-- a setting that is made or refused
+pub shown_set : {A E : Type 0} (r : Result A E) (settings left : List Setting) (s : Setting) → OnOk r (left ≡ settings ++ s ∷ []) → OnErr r (left ≡ settings) → AreShown settings → CanShow s → AreShown left
+shown_set (Ok x) settings left s ok err a h = rw ok (shown_more settings s a h)
+shown_set (Err e) settings left s ok err a h = rw err a

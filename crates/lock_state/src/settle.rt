@@ -1,0 +1,66 @@
+//! Who waits is granted once nothing is in the way.
+ghost use Rattle.std.specs.Prelude.{◌≡◌, ◌<◌, true, false, length, IfSome};
+ghost use Rattle.definitions.specs.World.{settled, the_limits, is_ready_in};
+ghost use Rattle.blocked_list.specs.First.{IsFirstPlace};
+ghost use Rattle.definitions.specs.Owners.{Owner as SaidOwner};
+ghost use Rattle.lock_state.specs.Seen.{IsIdle};
+
+use crate::quotas::{Stored, is_limited};
+use crate::unsettled::Unsettled;
+use crate::world::World;
+use blocked_list::laws::setting_frees_own_file;
+use hosts_db::HostStore;
+use range_table::RangeTable;
+
+impl<R: RangeTable, S: HostStore> World<R, S> {
+    /// Grants the first waiter that can be granted, and again from the front, until none can be. Each grant's call
+    /// becomes due.
+    pub fn settle(&mut self)
+        ensures world { self.new.world ≡ settled the_limits self.old.world }
+        ensures refusals { self.new.refusals ≡ self.old.refusals }
+        ensures names { self.new.names ≡ self.old.names }
+        ensures idle { (x : SaidOwner) → IsIdle self.new.world x → IsIdle self.old.world x }
+    {
+        while self.grant_next() {}
+    }
+
+    // Grants the first waiter that can be granted. Whether there was one.
+    fn grant_next(&mut self) -> bool
+        ensures same { settled the_limits self.new.world ≡ settled the_limits self.old.world }
+        ensures done { result ≡ false → self.new.world ≡ settled the_limits self.new.world }
+        ensures idle { (x : SaidOwner) → IsIdle self.new.world x → IsIdle self.old.world x }
+        ensures fewer { result ≡ true → length self.new.world.waiters < length self.old.world.waiters }
+        ensures refusals { self.new.refusals ≡ self.old.refusals }
+        ensures names { self.new.names ≡ self.old.names }
+    {
+        let Some(place) = self.next_place() else {
+            self.unsettled = Unsettled::Nowhere;
+            return false;
+        };
+        setting_frees_own_file();
+        let _free = self.slots.free();
+        let waiter = self.slots.grant(place);
+        let wanted = waiter.wanted();
+        let quotas = Stored { store: &self.store };
+        let was_held = is_limited(&quotas, self.locks.owner(wanted.owner));
+        self.unsettled = self.unsettled.after_grant(was_held);
+        let _ = self.locks.set_run(wanted);
+        self.calls.make_due(self.next, waiter.into_letter());
+        self.next = self.next.wrapping_add(1);
+        true
+    }
+
+    // Where the first waiter stands that can be granted. Nobody is looked at who can't be.
+    fn next_place(&self) -> Option<usize>
+        ensures bound { IfSome result (λ place. place < length self.now.world.waiters) }
+        ensures first { IsFirstPlace (is_ready_in the_limits self.now.world) self.now.world.waiters result }
+    {
+        let (table, owners) = self.locks.parts();
+        let quotas = Stored { store: &self.store };
+        match &self.unsettled {
+            Unsettled::Nowhere => None,
+            Unsettled::On(file) => self.slots.next_grantable_on(table, owners, &quotas, file),
+            Unsettled::Anywhere => self.slots.next_grantable(table, owners, &quotas),
+        }
+    }
+}

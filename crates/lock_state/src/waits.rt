@@ -1,0 +1,78 @@
+//! Who waits for a lock.
+ghost use Rattle.std.specs.Prelude.{◌≡◌, ◌↔◌, ◌≤◌, ◌<◌, ◌^◌, false, IsErr, OnOk, OnErr};
+ghost use Rattle.definitions.specs.Waits.{is_waiting, without_waiter, closes_cycle};
+ghost use Rattle.definitions.specs.World.{with_waiter, slots_free, the_limits};
+ghost use Rattle.owner_ids.specs.Said.{view_of_owner};
+ghost use Rattle.held_locks.specs.Asked.{asked, run_by_number};
+ghost use Rattle.lock_state.specs.Seen.{Knows};
+ghost use Rattle.lock_state.specs.Whole.{IsShown};
+
+use crate::world::World;
+use blocked_list::{NotWaiting, Waiter};
+use callbacks::Letter;
+use held_locks::Request;
+use hosts_db::HostStore;
+use owner_ids::OwnerId;
+use range_table::{RangeTable, Run};
+
+impl<R: RangeTable, S: HostStore> World<R, S> {
+    /// Whether its owner waits for just this lock.
+    pub fn is_waiting(&self, wanted: &Request<'_>) -> bool
+        ensures { result ≡ is_waiting (asked wanted.now) self.now.world.waiters }
+    {
+        let (_, owners) = self.locks.parts();
+        match owners.number(wanted.owner) {
+            Some(number) => self.slots.is_waiting(&wanted.by_number(number)),
+            None => false,
+        }
+    }
+
+    /// Whether the owner, if it waited for this lock, would wait for itself, directly or through others (POSIX fcntl,
+    /// EDEADLK).
+    pub fn closes_cycle(&self, wanted: &Request<'_>) -> bool
+        requires ordered { wanted.now.first ≤ wanted.now.last }
+        requires inside { wanted.now.last < 2 ^ 63 }
+        ensures { result ≡ closes_cycle self.now.world.settings self.now.world.waiters (asked wanted.now) }
+    {
+        let (table, owners) = self.locks.parts();
+        match owners.number(wanted.owner) {
+            Some(number) => self
+                .slots
+                .closes_cycle(table, owners, &wanted.by_number(number)),
+            None => false,
+        }
+    }
+
+    /// From now on the owner waits for this lock, behind all who wait, and the letter is what tells of the grant. It takes
+    /// no memory.
+    pub fn wait(&mut self, wanted: &Request<'_>, letter: Letter)
+        requires ordered { wanted.now.first ≤ wanted.now.last }
+        requires inside { wanted.now.last < 2 ^ 63 }
+        requires room { 0 < slots_free the_limits self.old.world }
+        requires known { Knows self.old (view_of_owner wanted.now.owner.now) }
+        requires shown { IsShown (view_of_owner wanted.now.owner.now) }
+        ensures { self.new ≡ record self.old { world = with_waiter self.old.world (record { request = asked wanted.now; letter = letter }) } }
+    {
+        let (_, owners) = self.locks.parts();
+        let Some(number) = owners.number(wanted.owner) else {
+            unreachable!();
+        };
+        self.unsettled = self.unsettled.with_file(&wanted.file);
+        let waiter = Waiter::new(wanted.by_number(number), letter);
+        let _ = self.slots.block(waiter);
+    }
+
+    /// The owner waits for just this lock no longer (XNFS, NLM_CANCEL). `NotWaiting` where it didn't; then nothing has
+    /// changed.
+    pub fn cancel(&mut self, wanted: &Request<'_>) -> Result<(), NotWaiting>
+        ensures refused { IsErr result ↔ (is_waiting (asked wanted.now) self.old.world.waiters ≡ false) }
+        ensures ok { OnOk result (self.new ≡ record self.old { world = record self.old.world { waiters = without_waiter (asked wanted.now) self.old.world.waiters } }) }
+        ensures err { OnErr result (self.new ≡ self.old) }
+    {
+        let (_, owners) = self.locks.parts();
+        match owners.number(wanted.owner) {
+            Some(number) => self.slots.cancel(&wanted.by_number(number)),
+            None => Err(NotWaiting),
+        }
+    }
+}

@@ -1,6 +1,0 @@
-use Rattle.held_locks.specs.Asked.{asked}
-use Rattle.lock_world.proofs.Found.{found_shown}
-use Rattle.lock_world.proofs.world.World.first_conflict.Goals as goal
-
-pub returns-clause-shown : goal.returns-clause-shown
-returns-clause-shown g c = found_shown c.self.inside.locks.settings (asked c.args.wanted.now) c.first_conflict.result c.self.invariant.shown c.first_conflict.ensures
