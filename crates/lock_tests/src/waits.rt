@@ -1,5 +1,3 @@
-//! Who waits for a lock: worked rows over the flat table, the limit, and a random script beside plain lists.
-mod plain;
+//! Who waits for a lock: worked rows over the flat table, and the limit.
 mod rows;
-mod script;
 mod tables;

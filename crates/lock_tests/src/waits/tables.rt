@@ -72,7 +72,7 @@ fn letter(alloc: Global, number: i32) -> Result<Letter, AllocError> {
     ))
 }
 
-pub(super) fn number_of(waiter: &Waiter) -> i32 {
+fn number_of(waiter: &Waiter) -> i32 {
     match waiter.letter().message() {
         Message::Notify { state, .. } => *state,
         _ => -1,
