@@ -9,7 +9,8 @@ use range_arena::ArenaTable;
 use range_table::RangeTable;
 use std::alloc::Global;
 
-fn opened(alloc: Global) -> Option<Daemon<ArenaTable, MemHosts>> {
+/// The daemon of a server named `server`, with nothing stored. None where there is no memory for it.
+pub(crate) fn opened(alloc: Global) -> Option<Daemon<ArenaTable, MemHosts>> {
     let store = MemHosts::new(alloc, 0, Vec::new(alloc), Vec::new(alloc)).ok()?;
     let table = ArenaTable::new(alloc).ok()?;
     let name = ShortBytes::copy_of(alloc, b"server").ok()?;

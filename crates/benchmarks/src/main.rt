@@ -6,12 +6,14 @@
 //! - `change` or `come`, with `-none`, `-each` or `-one`, a size and a number of rounds: waiters;
 //! - `kept`, a size and a number of rounds: kept replies;
 //! - `book test` or `book lock`, a number of files, of runs that are held over them, and of rounds: the book;
-//! - `daemon null` or `daemon mixed`, and a number of calls: the daemon.
+//! - `daemon null` or `daemon mixed`, and a number of calls: the daemon;
+//! - `growths`: no number but what a daemon sends in a script of events, the same whichever of its growths is refused.
 #![tactic(auto)]
 
 mod asked;
 mod books;
 mod daemons;
+mod growths;
 mod ranges;
 mod replies;
 mod waits;
@@ -56,8 +58,10 @@ fn main(rt: HostRuntime) -> Result<()> {
         words.push(word.as_str())?;
     }
     for part in words.split(|word| *word == "and") {
-        let answer = done(alloc, part)?;
-        println!(rt; "{answer}")?;
+        match part {
+            ["growths"] => print!(rt; "{}", growths::printed(alloc)?)?,
+            _ => println!(rt; "{}", done(alloc, part)?)?,
+        }
     }
     Ok(())
 }

@@ -1,0 +1,344 @@
+//! One waits, one shares, a local program locks, one locks by message, and all is sent that is due; whoever runs it may have one
+//! growth refused. An event that comes to want of memory is told so and is made again, and what every other event sends is
+//! printed: its number, to whom, and the bytes. So the text is the same whichever growth of the daemon's was refused.
+//!
+//! The program's own memory is got before the daemon is made. Where that is refused the program ends in an error.
+use crate::daemons::opened;
+use anyhow::{Result, anyhow};
+use daemon_core::{Addressee, Daemon, Event, Outcome, Outputs, Peer};
+use hosts_db::HostStore;
+use range_table::RangeTable;
+use std::alloc::Global;
+use std::fmt::Write;
+
+/// The connection that brings records.
+const CONNECTION: u64 = 0;
+
+/// That of a local program.
+const LOCAL: u64 = 5;
+
+/// More bytes than a record has, or what an event sends.
+const MOST_BYTES: usize = 256;
+
+/// More than all the text has.
+const MOST_PRINTED: usize = 8_192;
+
+/// What a local program is told where memory is wanting.
+const STARVED_LINE: &[u8] = b"starved\n";
+
+/// A call is a record in words of four bytes in hexadecimal, from the mark of its one fragment on (RFC 5531; RFC 1813, appendix
+/// II; XNFS, NLM). A bar parts it into two pieces. They are a LOCK, one that waits, a SHARE, a LOCK_MSG and an UNLOCK.
+const SCRIPT: &[&str] = &[
+    "restart",
+    "grace-over",
+    "connect",
+    "call 8000006c 2 0 2 186b5 4 2 0 0 0 0 4 2 0 1 1 61000000 4 1020304 1 41000000 7 0 0 0 a 0 3",
+    "call 8000006c 3c 0 2 186b5 4 2 0 0 0 0 4 3c 1 1 1 62000000 4 1020304 1 42000000 8 0 0 0 a 0 3",
+    "call 80000054 3d 0 2 186b5 4 14 0 0 0 0 4 3d 1 63000000 4 1020304 1 43000000 0 1 0",
+    "line setlk p42 0a w 0 1",
+    "call 8000006c 3e 0 2 186b5 4 7 0 0 0 0 4 3e 0 1 1 64000000 4 1020304 1 44000000 a 0 32 0 1 0 3",
+    "call 8000005c 3f 0 2 186b5 4 4 0 0 0 0 | 4 3f 1 61000000 4 1020304 1 41000000 7 0 0 0 a",
+    "send",
+    "send",
+];
+
+/// An event.
+#[derive(Drop)]
+struct Step {
+    event: Event,
+    /// What it is told where it comes to want of memory, and what makes it again then.
+    starved: String,
+    again: Vec<Event>,
+    /// Whether it is the rest of a record, which is left out where the front of it was sent again, with all of it.
+    is_rest: bool,
+}
+
+fn put_hex(text: &mut String, bytes: &[u8]) -> Result<()> {
+    for byte in bytes {
+        write!(text, "{byte:02x}")?;
+    }
+    Ok(())
+}
+
+/// What the last event was told, and all that is printed.
+#[derive(Drop)]
+struct Page {
+    sent: Vec<u8>,
+    told: String,
+    printed: String,
+}
+
+impl Page {
+    fn new(alloc: Global) -> Result<Page> {
+        Ok(Page {
+            sent: Vec::with_capacity(alloc, MOST_BYTES)?,
+            told: String::with_capacity(alloc, MOST_PRINTED)?,
+            printed: String::with_capacity(alloc, MOST_PRINTED)?,
+        })
+    }
+
+    fn put_whom(&mut self, to: &Addressee) -> Result<()> {
+        match to {
+            Addressee::Client(number) => write!(self.told, "client {number} ")?,
+            Addressee::Local(number) => write!(self.told, "local {number} ")?,
+            Addressee::Host(name) => {
+                self.told.push_str("host ")?;
+                put_hex(&mut self.told, name.as_slice())?;
+                self.told.push_str(" ")?;
+            }
+        }
+        Ok(())
+    }
+
+    fn hear(&mut self, outputs: &Outputs) -> Result<()> {
+        self.sent.clear();
+        self.told.clear();
+        if let Some(refusal) = outputs.refusal {
+            write!(self.told, "refused {refusal}")?;
+        }
+        if let Some(sent) = &outputs.sent {
+            self.put_whom(sent.to())?;
+            sent.write(&mut self.sent)?;
+            put_hex(&mut self.told, self.sent.as_slice())?;
+        }
+        Ok(())
+    }
+
+    /// Prints what this event was told, if it was told something.
+    fn print(&mut self, number: u32, outputs: &Outputs) -> Result<()> {
+        self.hear(outputs)?;
+        if outputs.outcome != Outcome::Applied {
+            writeln!(self.printed, "wrong {number} starves once more")?;
+        }
+        if !self.told.is_empty() {
+            writeln!(self.printed, "{number} {}", self.told)?;
+        }
+        Ok(())
+    }
+
+    /// Prints what this event was told if it isn't what it should be.
+    fn print_if_not(&mut self, number: u32, outputs: &Outputs, wanted: &str) -> Result<()> {
+        self.hear(outputs)?;
+        if self.told.as_str() != wanted {
+            writeln!(self.printed, "wrong {number} {}", self.told)?;
+        }
+        Ok(())
+    }
+}
+
+fn bytes_of(alloc: Global, words: &str) -> Result<Vec<u8>> {
+    let mut bytes = Vec::with_capacity(alloc, MOST_BYTES)?;
+    for word in words.split_whitespace() {
+        if word != "|" {
+            let word = u32::from_str_radix(word, 16)?;
+            bytes.extend_from_slice(word.to_be_bytes().as_slice())?;
+        }
+    }
+    Ok(bytes)
+}
+
+fn connect() -> Event {
+    Event::Connect {
+        connection: CONNECTION,
+        peer: Peer::PIPE,
+    }
+}
+
+fn take() -> Event {
+    Event::Take {
+        connection: CONNECTION,
+        index: 0,
+    }
+}
+
+fn piece(alloc: Global, words: &str) -> Result<Event> {
+    Ok(Event::Piece {
+        connection: CONNECTION,
+        bytes: bytes_of(alloc, words)?,
+    })
+}
+
+fn line(alloc: Global, text: &str) -> Result<Event> {
+    Ok(Event::Local {
+        connection: LOCAL,
+        line: Vec::from_slice(alloc, text.as_bytes())?,
+    })
+}
+
+/// What is told of an event that has nobody to answer.
+fn refusal(alloc: Global) -> Result<String> {
+    Ok(String::from_str(alloc, "refused 1 Starved")?)
+}
+
+/// The reply SYSTEM_ERR, under the xid of this record (RFC 5531, section 9).
+fn system_err(alloc: Global, words: &str) -> Result<String> {
+    let xid = words.split_whitespace().nth(1).unwrap_or("");
+    let xid = u32::from_str_radix(xid, 16)?;
+    let mut told = String::with_capacity(alloc, MOST_BYTES)?;
+    write!(told, "client {CONNECTION} 80000018{xid:08x}00000001")?;
+    told.push_str("00000000000000000000000000000005")?;
+    Ok(told)
+}
+
+/// Makes the steps of the script.
+#[derive(Drop)]
+struct Steps {
+    alloc: Global,
+    steps: Vec<Step>,
+}
+
+impl Steps {
+    // Two of this event, the second of which makes the first again.
+    fn put_twice(&mut self, event: Event, same: Event) -> Result<()> {
+        let step = Step {
+            event,
+            starved: refusal(self.alloc)?,
+            again: vec![in self.alloc; same]?,
+            is_rest: false,
+        };
+        self.steps.push(step)?;
+        Ok(())
+    }
+
+    // After a piece that starved the connection receives no more: a new one gets the record whole.
+    fn put_piece(&mut self, part: &str, record: &str, is_rest: bool) -> Result<()> {
+        let end = Event::Disconnect {
+            connection: CONNECTION,
+        };
+        let step = Step {
+            event: piece(self.alloc, part)?,
+            starved: refusal(self.alloc)?,
+            again: vec![in self.alloc; end, connect(), piece(self.alloc, record)?]?,
+            is_rest,
+        };
+        self.steps.push(step)?;
+        Ok(())
+    }
+
+    fn put_take(&mut self, record: &str) -> Result<()> {
+        let step = Step {
+            event: take(),
+            starved: system_err(self.alloc, record)?,
+            again: vec![in self.alloc; piece(self.alloc, record)?, take()]?,
+            is_rest: false,
+        };
+        self.steps.push(step)?;
+        Ok(())
+    }
+
+    fn put_call(&mut self, record: &str) -> Result<()> {
+        match record.split_once(" | ") {
+            None => self.put_piece(record, record, false)?,
+            Some((front, rest)) => {
+                self.put_piece(front, record, false)?;
+                self.put_piece(rest, record, true)?;
+            }
+        }
+        self.put_take(record)
+    }
+
+    fn put_line(&mut self, text: &str) -> Result<()> {
+        let mut starved = String::with_capacity(self.alloc, MOST_BYTES)?;
+        write!(starved, "local {LOCAL} ")?;
+        put_hex(&mut starved, STARVED_LINE)?;
+        let step = Step {
+            event: line(self.alloc, text)?,
+            starved,
+            again: vec![in self.alloc; line(self.alloc, text)?]?,
+            is_rest: false,
+        };
+        self.steps.push(step)?;
+        Ok(())
+    }
+
+    fn put(&mut self, row: &str) -> Result<()> {
+        match row.split_once(" ").unwrap_or((row, "")) {
+            ("restart", _) => self.put_twice(Event::Restart, Event::Restart),
+            ("grace-over", _) => self.put_twice(Event::GraceOver, Event::GraceOver),
+            ("connect", _) => self.put_twice(connect(), connect()),
+            ("call", record) => self.put_call(record),
+            ("line", text) => self.put_line(text),
+            ("send", _) => self.put_twice(Event::Send, Event::Send),
+            (other, _) => Err(anyhow!("no event is named {other}")),
+        }
+    }
+}
+
+fn script(alloc: Global) -> Result<Vec<Step>> {
+    let mut steps = Steps {
+        alloc,
+        steps: Vec::with_capacity(alloc, SCRIPT.len())?,
+    };
+    for row in SCRIPT {
+        steps.put(row)?;
+    }
+    let Steps { steps, .. } = steps;
+    Ok(steps)
+}
+
+// What starved stored a host's row, or nothing.
+fn is_left(rows: usize, before: usize) -> bool {
+    rows == before || rows == before.saturating_add(1)
+}
+
+/// Whether the event came to want of memory, and so was made again.
+fn goes<T: RangeTable, S: HostStore>(
+    daemon: &mut Daemon<T, S>,
+    page: &mut Page,
+    number: u32,
+    step: Step,
+) -> Result<bool> {
+    let Step {
+        event,
+        starved,
+        again,
+        ..
+    } = step;
+    let before = daemon.store().hosts().len();
+    let outputs = daemon.step(event);
+    if outputs.outcome == Outcome::Applied {
+        page.print(number, &outputs)?;
+        return Ok(false);
+    }
+    page.print_if_not(number, &outputs, &starved)?;
+    if !is_left(daemon.store().hosts().len(), before) {
+        writeln!(page.printed, "wrong {number} leaves other rows of hosts")?;
+    }
+    for event in again {
+        let outputs = daemon.step(event);
+        page.print(number, &outputs)?;
+    }
+    Ok(true)
+}
+
+fn play<T: RangeTable, S: HostStore>(
+    daemon: &mut Daemon<T, S>,
+    page: &mut Page,
+    steps: Vec<Step>,
+) -> Result<()> {
+    let mut number = 0u32;
+    let mut is_whole = false;
+    for step in steps {
+        number = number.wrapping_add(1);
+        if !(is_whole && step.is_rest) {
+            is_whole = goes(daemon, page, number, step)?;
+        }
+    }
+    Ok(())
+}
+
+/// All that is printed.
+pub(crate) fn printed(alloc: Global) -> Result<String> {
+    let steps = script(alloc)?;
+    let mut page = Page::new(alloc)?;
+    match opened(alloc).or_else(|| opened(alloc)) {
+        None => page.printed.push_str("wrong 0 no daemon is made\n")?,
+        Some(mut daemon) => {
+            let played = play(&mut daemon, &mut page, steps);
+            drop(daemon);
+            played?;
+        }
+    }
+    let Page { printed, .. } = page;
+    Ok(printed)
+}
