@@ -44,10 +44,6 @@ impl<'a, R: Clock> Hall<'a, R> {
 }
 
 impl<'a, R: Clock> Gate for Hall<'a, R> {
-    fn may_hold(&self) -> bool {
-        true
-    }
-
     fn before(&self, _job: &Job) {
         self.inside.fetch_add(1, Ordering::SeqCst);
         if !self.waits(self.wanted) {

@@ -54,10 +54,6 @@ impl Hall {
 }
 
 impl Gate for Hall {
-    fn may_hold(&self) -> bool {
-        true
-    }
-
     fn before(&self, _job: &Job) {
         self.inside.fetch_add(1, Ordering::SeqCst);
         if self.inside.load(Ordering::SeqCst) >= self.wanted {
