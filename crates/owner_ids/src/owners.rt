@@ -1,5 +1,5 @@
 //! Owners by number.
-ghost use Rattle.std.specs.Prelude.{◌≡◌, ◌≢◌, ◌<◌, ◌^◌, ℕ, [], Some, None, Ok, IfOk, OnErr, IfSome, IfNone, IsSome};
+ghost use Rattle.std.specs.Prelude.{◌≡◌, ◌≢◌, ◌<◌, ◌^◌, ℕ, [], Some, None, Ok, IfOk, OnErr, IfSome, IfNone, IsSome, true};
 ghost use Rattle.definitions.specs.Owners.{owner_cmp};
 ghost use Rattle.owner_ids.specs.Said.{view_of_owner, said_some, said_found};
 ghost use Rattle.owner_ids.specs.Names.{named, number_cmp, Renames, WasFor};
@@ -12,6 +12,8 @@ use std::alloc::{AllocError, Global};
 use std::cmp::Ordering;
 use std::collections::BTreeMap;
 use std::marker::Model;
+use std::sync::atomic::AtomicU32;
+use std::sync::atomic::Ordering::Relaxed;
 use thiserror::Error;
 
 /// The number of an owner while it is in use.
@@ -37,6 +39,9 @@ pub struct Owners {
     slots: Slab<Owner>,
     // A search by value is in the owners' order, so that no choice of names makes it slow.
     numbers: BTreeMap<Owner, OwnerId>,
+    // The number that was found last. One call asks for its owner several times: where that has this number still, the search
+    // is spared. Any value will do, since it is looked at first.
+    recent: AtomicU32,
 }
 
 impl Model for Owners {
@@ -59,6 +64,7 @@ impl Owners {
         Owners {
             slots: Slab::new(alloc),
             numbers: BTreeMap::new(alloc),
+            recent: AtomicU32::new(NOBODY),
         }
     }
 
@@ -75,7 +81,9 @@ impl Owners {
         }
         let kept = owner.clone()?;
         let key = owner.clone()?;
-        self.add(kept, key)
+        let number = self.add(kept, key)?;
+        self.recent.store(number, Relaxed);
+        Ok(number)
     }
 
     /// The number of an owner in use.
@@ -84,7 +92,23 @@ impl Owners {
         ensures found { IfSome result (λ n. named self.now n ≡ Some (view_of_owner owner.now)) }
         ensures known { (n : ℕ) → named self.now n ≡ Some (view_of_owner owner.now) → result ≡ Some n }
     {
-        self.numbers.get(owner).copied()
+        let recent = self.recent.load(Relaxed);
+        if self.is_at(recent, owner) {
+            return Some(recent);
+        }
+        let number = self.numbers.get(owner).copied()?;
+        self.recent.store(number, Relaxed);
+        Some(number)
+    }
+
+    // Whether this number is the owner's.
+    fn is_at(&self, number: OwnerId, owner: &Owner) -> bool
+        ensures { result ≡ true → named self.now number ≡ Some (view_of_owner owner.now) }
+    {
+        match self.find(number) {
+            Some(known) => known == owner,
+            None => false,
+        }
     }
 
     // A number for an owner who has none, of which these are two copies.

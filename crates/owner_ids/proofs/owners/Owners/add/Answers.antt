@@ -15,7 +15,7 @@ when_ok : {V E P : Type 0} (r : Result V E) → is_err r ≡ false → OnOk r P 
 when_ok (Ok v) e h = h
 when_ok (Err v) e h = absurd (cc)
 
-renamed : (c : goal.After-insert_reserved) → Renames (named (view_of_owners c.self.inside)) (named (view_of_owners (record { slots = c.insert_reserved.new.self; numbers = c.insert.new.self }))) c.vacant_key-place.result (Some (view_of_owner c.args.owner))
+renamed : (c : goal.After-insert_reserved) → Renames (named (view_of_owners c.self.inside)) (named (view_of_owners (record { slots = c.insert_reserved.new.self; numbers = c.insert.new.self; recent = c.self.inside.recent }))) c.vacant_key-place.result (Some (view_of_owner c.args.owner))
 renamed c =
     let n : c.insert_reserved.result ≡ c.vacant_key-place.result = c.insert_reserved.ensures.key ∙ sym c.vacant_key-place.ensures.value in
     renames_from c.self.inside.slots.slots c.reserve.new.self c.insert_reserved.new.self c.vacant_key-place.result (Some c.args.owner)
@@ -26,7 +26,7 @@ pub invariant_of-self-2 : goal.invariant_of-self-2
 invariant_of-self-2 c =
     let names = named (view_of_owners c.self.inside) in
     let u = when_ok c.insert.result (sym c.is_err.ensures.value ∙ c.if-is_err.false) c.insert.ensures.updates in
-    let free : names c.vacant_key-place.result ≡ None = ap (λ s. named s c.vacant_key-place.result) (ap (λ s. view_of_owners (record { slots = s; numbers = c.self.inside.numbers })) (sym c.reserve.ensures.rest_kept)) ∙ named_said c.reserve.new.self c.vacant_key-place.result ∙ ap said_some c.vacant_key-place.ensures.vacant in
+    let free : names c.vacant_key-place.result ≡ None = ap (λ s. named s c.vacant_key-place.result) (ap (λ s. view_of_owners (record { slots = s; numbers = c.self.inside.numbers; recent = c.self.inside.recent })) (sym c.reserve.ensures.rest_kept)) ∙ named_said c.reserve.new.self c.vacant_key-place.result ∙ ap said_some c.vacant_key-place.ensures.vacant in
     let kept = lists_added names _ (get held_cmp c.self.inside.numbers) (get held_cmp c.insert.new.self) c.args.owner c.vacant_key-place.result
     (record { found = c.self.invariant.found; listed = c.self.invariant.listed })
     (λ k e. c.requires.absent k (ap (λ o. named o k) (sym c.self.view_is) ∙ e))
