@@ -7,7 +7,7 @@ ghost use Rattle.jobs.specs.Passes.{keeper_of, hand_view, with_put, with_taken, 
 
 use crate::Job;
 use crate::passes::{Handing, Parts, Puts, Settles, Takes, View};
-use crossbeam_channel::{Pass, RuledReceiver, RuledSender, bounded_with};
+use crossbeam_channel::{Pass, RuledReceiver, RuledSender, TrySendError, bounded_with};
 use std::alloc::{AllocError, Global};
 use std::sync::Wait;
 use std::sync::atomic::{AtomicBool, AtomicU64, Ordering};
@@ -85,7 +85,7 @@ impl Queue {
         sent
     }
 
-    /// As `send`, but no worker is woken: whoever puts a job so takes one next.
+    /// As `send`, but no worker is woken while there is a place: whoever puts a job so takes one next.
     pub fn put<R: Wait>(&self, rt: &R, slip: &mut Slip, job: Job) -> Result<(), Closed>
         requires channel { IsSeatAt (sends_on self.now.to) slip.old }
         requires works { (view slip.old).works ≡ true }
@@ -95,6 +95,23 @@ impl Queue {
         if self.is_closed.load(Ordering::SeqCst) {
             return Err(Closed { job });
         }
+        match self.to.try_send_as::<Puts, R>(rt, slip, job) {
+            Ok(()) => Ok(()),
+            Err(TrySendError::Full(job)) => self.put_in_turn(rt, slip, job),
+            Err(error) => Err(Closed {
+                job: error.into_inner(),
+            }),
+        }
+    }
+
+    // Waits for a place. Whoever waits takes no job meanwhile, and where all do so only a worker makes one: it is woken first.
+    fn put_in_turn<R: Wait>(&self, rt: &R, slip: &mut Slip, job: Job) -> Result<(), Closed>
+        requires channel { IsSeatAt (sends_on self.now.to) slip.old }
+        requires works { (view slip.old).works ≡ true }
+        ensures channel { IsSeatAt (sends_on self.now.to) slip.new }
+        ensures put { MatchResult result (λ _. view slip.new ≡ with_put (view slip.old) job) (λ e. (e.job ≡ job) × (view slip.new ≡ view slip.old)) }
+    {
+        self.nudge();
         match self.to.send_as::<Puts, R>(rt, slip, job) {
             Ok(()) => Ok(()),
             Err(error) => Err(Closed {

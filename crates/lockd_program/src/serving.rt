@@ -45,6 +45,10 @@ pub(crate) enum ServeFault {
 struct Open;
 
 impl Gate for Open {
+    fn may_hold(&self) -> bool {
+        false
+    }
+
     fn before(&self, _job: &Job) {}
 }
 

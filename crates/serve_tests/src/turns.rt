@@ -21,6 +21,10 @@ use workers::{Gate, MemoryOutbox, Shared, Worker};
 struct Open;
 
 impl Gate for Open {
+    fn may_hold(&self) -> bool {
+        false
+    }
+
     fn before(&self, _job: &Job) {}
 }
 

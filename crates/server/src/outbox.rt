@@ -57,6 +57,10 @@ impl<'a, 'h, K: Drop, Q: Signals, R: Wait> Outbox for SocketOutbox<'a, 'h, K, Q,
         self.wire.turn_to(connection);
     }
 
+    fn will_write(&self, connection: u64) -> bool {
+        self.wire.will_write(connection)
+    }
+
     fn done(&mut self, connection: u64, is_due: bool) {
         self.wire.turn_to(connection);
         self.wire.count();

@@ -64,6 +64,16 @@ impl<'a, 'h, K: Drop, R: Wait> Wire<'a, 'h, K, R> {
         self.to = self.find(number);
     }
 
+    // Whether what is joined leaves no room for one more record.
+    fn is_full(&self) -> bool {
+        self.joined.len() > MOST - LARGEST
+    }
+
+    /// Whether what is joined is written before a record for this connection is joined.
+    pub(crate) fn will_write(&self, number: u64) -> bool {
+        !self.joined.is_empty() && (self.is_full() || !self.is_to(number))
+    }
+
     // Writes what is joined.
     fn write(&mut self) {
         if let Some(connection) = &self.to {
@@ -83,7 +93,7 @@ impl<'a, 'h, K: Drop, R: Wait> Wire<'a, 'h, K, R> {
 
     /// Joins a record.
     pub(crate) fn join(&mut self, record: &Frame) {
-        if self.joined.len() > MOST - LARGEST {
+        if self.is_full() {
             self.write();
         }
         if self.append(record.as_slice()).is_err() {

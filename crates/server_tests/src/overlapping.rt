@@ -17,3 +17,10 @@ fn overlapping_workers(rt: HostRuntime) {
     let many = served_to(&rt, rt.alloc(), 16, 17, Talk::One(17));
     assert_eq!(rt; many, Some((17, Told::of(17), true)));
 }
+
+// More calls in one write than wait for a worker, so that whoever reads them can't put them all before one is taken.
+#[test]
+fn more_calls_at_once_than_wait(rt: HostRuntime) {
+    let served = served_to(&rt, rt.alloc(), 2, 0, Talk::AtOnce(600));
+    assert_eq!(rt; served, Some((600, Told::of(600), true)));
+}

@@ -27,6 +27,8 @@ pub(crate) enum Talk {
     Sixteen,
     // One connection asks as often as this.
     One(u32),
+    // One connection asks as often as this in one write.
+    AtOnce(u32),
     // One owner locks, another waits, the first unlocks: the second is granted.
     Granting,
 }
@@ -90,9 +92,31 @@ where
     for xid in 0..calls {
         write(&connection, &null(alloc, xid)?)?;
     }
+    count_replies(rt, ports, &connection, calls)
+}
+
+// One connection asks as often as this in one write. How many are answered.
+fn ask_at_once<R>(rt: &R, alloc: Global, ports: Ports, calls: u32) -> io::Result<Told>
+where
+    R: Net<Stream = TcpStream> + Clock,
+{
+    let connection = dial(rt, ports.rpc)?;
+    let mut all = Vec::new(alloc);
+    for xid in 0..calls {
+        all.extend_from_slice(&null(alloc, xid)?)?;
+    }
+    write(&connection, &all)?;
+    count_replies(rt, ports, &connection, calls)
+}
+
+// Reads so many replies, and has the server stop. How many came.
+fn count_replies<R>(rt: &R, ports: Ports, connection: &TcpStream, calls: u32) -> io::Result<Told>
+where
+    R: Net<Stream = TcpStream> + Clock,
+{
     let mut count = 0u32;
     for _ in 0..calls {
-        let _ = read::<REPLY>(&connection)?;
+        let _ = read::<REPLY>(connection)?;
         count = count.wrapping_add(1);
     }
     let is_stopped = stop(rt, ports.local)?;
@@ -154,6 +178,7 @@ impl Talk {
         match self {
             Talk::Sixteen => ask_each(rt, alloc, ports, hall),
             Talk::One(calls) => ask_all(rt, alloc, ports, calls),
+            Talk::AtOnce(calls) => ask_at_once(rt, alloc, ports, calls),
             Talk::Granting => grant(rt, alloc, ports),
         }
     }

@@ -18,6 +18,10 @@ use workers::{Gate, Shared};
 pub(crate) struct Open;
 
 impl Gate for Open {
+    fn may_hold(&self) -> bool {
+        false
+    }
+
     fn before(&self, _job: &Job) {}
 }
 

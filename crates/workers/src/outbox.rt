@@ -11,6 +11,11 @@ use xdr_core::Frame;
 
 /// Runs before a worker takes the book's lock.
 pub trait Gate {
+    /// Whether it may hold a worker. Then another is woken first, where jobs may be left behind.
+    fn may_hold(&self) -> bool {
+        true
+    }
+
     fn before(&self, job: &Job);
 }
 
@@ -27,6 +32,9 @@ pub trait Outbox {
     /// hold the worker for long.
     fn turn_to(&mut self, connection: u64)
         ensures { handed self.new ≡ handed self.old };
+
+    /// Whether replies are written before, or with, the next one for this connection. A write may hold the worker for long.
+    fn will_write(&self, connection: u64) -> bool;
 
     /// One job of this connection is done: it has its reply, or none. `is_due`: a call of the server's own is due then.
     fn done(&mut self, connection: u64, is_due: bool)
@@ -103,6 +111,10 @@ impl Outbox for MemoryOutbox {
     }
 
     fn turn_to(&mut self, _connection: u64) {}
+
+    fn will_write(&self, _connection: u64) -> bool {
+        false
+    }
 
     fn done(&mut self, _connection: u64, _is_due: bool) {}
 

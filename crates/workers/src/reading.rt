@@ -91,9 +91,8 @@ fn cut(assembler: &mut Assembler, alloc: Global, piece: &[u8]) -> (Records, Opti
 }
 
 impl<P: Place, L: Ledger> Worker<P, L> {
-    /// Reads the stream to its end. Each whole record is a job, numbered from `put` on, in order. Nobody is woken for the first
-    /// record of a read, since this worker takes as many jobs as it put before it reads on, whoever put them. For the second one
-    /// worker is woken, who wakes the next.
+    /// Reads the stream to its end. Each whole record is a job, numbered from `put` on, in order. While there are places
+    /// nobody is woken for them, since this worker takes as many jobs as it put before it reads on, whoever put them.
     pub fn read<R: RangeTable, S: HostStore, G: Gate, O: Outbox, T: Read, W: Wait>(
         &mut self,
         rt: &W,
@@ -132,7 +131,7 @@ impl<P: Place, L: Ledger> Worker<P, L> {
         Ending::Failed
     }
 
-    // Puts the records of one read, and wakes a worker for the second. Whether the channel took them all.
+    // Puts the records of one read. Whether the channel took them all.
     fn put_all<W: Wait>(
         &mut self,
         rt: &W,
@@ -142,14 +141,10 @@ impl<P: Place, L: Ledger> Worker<P, L> {
     ) -> bool
         ensures { Puts result records.items origin.old origin.new self.old self.new }
     {
-        let mut is_first = true;
-        let mut is_second = false;
         for asked in records {
-            if !self.put_next(rt, channel, origin, asked, is_second) {
+            if !self.put_next(rt, channel, origin, asked) {
                 return false;
             }
-            is_second = is_first;
-            is_first = false;
         }
         true
     }
@@ -161,7 +156,6 @@ impl<P: Place, L: Ledger> Worker<P, L> {
         channel: &Channel<P>,
         origin: &mut Origin,
         asked: Bytes,
-        wakes: bool,
     ) -> bool
         ensures put { result ≡ true → (self.new ≡ record { seat = with_put self.old.seat (job_of origin.old asked); receipts = self.old.receipts }) × (origin.new ≡ counted origin.old 1) }
         ensures back { result ≡ false → (self.new ≡ self.old) × (origin.new ≡ origin.old) }
@@ -170,11 +164,7 @@ impl<P: Place, L: Ledger> Worker<P, L> {
             return false;
         };
         let job = Job::new(origin.connection, origin.peer, origin.put, asked);
-        let put = if wakes {
-            self.send(rt, channel, job)
-        } else {
-            self.put(rt, channel, job)
-        };
+        let put = self.put(rt, channel, job);
         if put.is_err() {
             return false;
         }

@@ -31,6 +31,19 @@ impl<P: Place, L: Ledger> Model for Worker<P, L> {
     ghost view = { λ w. record { seat = w.seat; receipts = w.desk.receipts.all.items } };
 }
 
+// Wakes a worker where so many jobs may be left, and whoever answers this one may be held up before the next.
+fn wake_before<P: Place, G: Gate, O: Outbox>(
+    channel: &Channel<P>,
+    gate: &G,
+    outbox: &O,
+    job: &Job,
+    left: usize,
+) {
+    if left > 0 && (gate.may_hold() || outbox.will_write(job.connection())) {
+        channel.nudge();
+    }
+}
+
 /// What a worker leaves behind.
 #[derive(Drop)]
 pub struct Leaves<P: Place, L: Ledger> {
@@ -111,7 +124,8 @@ impl<P: Place, L: Ledger> Worker<P, L> {
         }
     }
 
-    /// Takes as many jobs, if there are so many, whoever put them, and answers them. Then it flushes.
+    /// Takes as many jobs, if there are so many, whoever put them, and answers them. Then it flushes. Where it may be held up,
+    /// and jobs may wait that it is to take, it wakes a worker for them first.
     pub fn help<R: RangeTable, S: HostStore, G: Gate, O: Outbox, W: Wait>(
         &mut self,
         rt: &W,
@@ -123,10 +137,13 @@ impl<P: Place, L: Ledger> Worker<P, L> {
     )
         ensures worked { Worked self.old self.new (O.handed outbox.old) (O.handed outbox.new) }
     {
+        let mut left = count;
         for _ in 0..count {
             let Some(job) = self.seat.try_receive(rt, channel) else {
                 break;
             };
+            left = left.saturating_sub(1);
+            wake_before(channel, gate, outbox, &job, left);
             self.serve(rt, shared, gate, outbox, job);
         }
         outbox.flush();
