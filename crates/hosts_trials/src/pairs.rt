@@ -220,7 +220,7 @@ fn shows_full_quotas(rt: HostRuntime) {
 }
 
 #[test]
-fn start_upgrades(rt: HostRuntime) {
+fn schema_upgrade(rt: HostRuntime) {
     let story = Story {
         sql: [FIRST, ROWS],
         past: PAST,

@@ -286,7 +286,15 @@ const IN_GRACE: Stream = Stream {
     ended: Ok(()),
 };
 
+/// The same behind the grace period, of a host that is stored beside another: the notices of the restart follow the reply.
+const STORED: Stream = Stream {
+    which: Loop::RepliesToHosts,
+    told: "80000024 2 1 0 0 0 0 4 2 0 80000038 1 0 2 186b8 1 6 0 0 0 0 6 73657276 65720000 3 80000038 2 0 2 186b8 1 6 0 0 0 0 6 73657276 65720000 3",
+    ..IN_GRACE
+};
+
 #[test]
-fn grace_goes_on(rt: HostRuntime) {
+fn grace_and_file(rt: HostRuntime) {
     assert!(rt; is_served(rt.alloc(), &IN_GRACE, AMPLE));
+    assert!(rt; is_served(rt.alloc(), &STORED, AMPLE));
 }
