@@ -36,14 +36,18 @@ impl<T: Drop> Archive<T> {
         Ok(())
     }
 
-    /// One item more.
-    pub(crate) fn add(&mut self, item: T)
+    /// One item more. It comes back where none are kept.
+    pub(crate) fn add(&mut self, item: T) -> Option<T>
         requires place { HasPlace self.old.kept }
         ensures { self.new.all.items ≡ self.old.all.items ++ item ∷ [] }
     {
         self.all = self.all.and(&item);
-        if let Some(items) = &mut self.kept {
-            items.push_reserved(item);
+        match &mut self.kept {
+            Some(items) => {
+                items.push_reserved(item);
+                None
+            }
+            None => Some(item),
         }
     }
 

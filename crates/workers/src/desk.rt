@@ -78,9 +78,14 @@ impl<L: Ledger> Desk<L> {
         };
         // The book's lock is free again behind this line.
         let got = hold(rt, shared).take(taken, same, &mut self.share);
-        let Entered { receipt, is_due } = got?;
+        let Entered {
+            receipt,
+            is_due,
+            over,
+        } = got?;
         post(outbox, connection, receipt.reply());
         self.receipts.add(receipt);
+        drop(over);
         Ok(is_due)
     }
 }

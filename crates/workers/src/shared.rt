@@ -29,6 +29,8 @@ pub struct Shared<R: RangeTable, S: HostStore, L: Ledger> {
     book: Book<R, S>,
     archive: Archive<Closed<R, S>>,
     total: Total<L>,
+    // A segment that is over and isn't kept, until whoever takes the next call takes it along.
+    over: Option<Closed<R, S>>,
 }
 
 impl<R: RangeTable, S: HostStore, L: Ledger> Model for Shared<R, S, L> {
@@ -50,11 +52,13 @@ pub struct Ends<R: RangeTable, S: HostStore> {
 
 /// What a hold gives that took a call.
 #[derive(Drop)]
-pub struct Entered {
+pub struct Entered<R: RangeTable, S: HostStore> {
     /// The receipt of its entry.
     pub receipt: Receipt,
     /// Whether a call of the server's own is due behind it.
     pub is_due: bool,
+    /// A segment that is over and isn't kept, to be dropped behind the hold: that takes longer than many holds.
+    pub over: Option<Closed<R, S>>,
 }
 
 /// What is sent next.
@@ -84,6 +88,7 @@ impl<R: RangeTable, S: HostStore, L: Ledger> Shared<R, S, L> {
             book,
             archive: Archive::new(alloc, is_kept),
             total,
+            over: None,
         }
     }
 
@@ -103,7 +108,7 @@ impl<R: RangeTable, S: HostStore, L: Ledger> Shared<R, S, L> {
             return false;
         };
         let closed = self.book.rotate(fresh);
-        self.archive.add(closed);
+        self.over = self.archive.add(closed);
         self.book.room() > 0
     }
 
@@ -114,7 +119,7 @@ impl<R: RangeTable, S: HostStore, L: Ledger> Shared<R, S, L> {
         taken: Taken,
         same: Bytes,
         share: &mut Share<L>,
-    ) -> Result<Entered, Taken>
+    ) -> Result<Entered<R, S>, Taken>
         requires same { same ≡ taken.«record» }
         requires part { 0 < share.old.parts }
         ensures noted { IfOk result (λ entered. (upshot : Became) × Notes self.old (asks_of taken) upshot self.new × (newest_receipt self.new.book.journal.notes ≡ Some entered.receipt)) }
@@ -132,7 +137,12 @@ impl<R: RangeTable, S: HostStore, L: Ledger> Shared<R, S, L> {
         let receipt = self.book.receipt(taken, upshot.reply);
         self.total.add(share, 1);
         let is_due = self.book.has_due();
-        Ok(Entered { receipt, is_due })
+        let over = self.over.take();
+        Ok(Entered {
+            receipt,
+            is_due,
+            over,
+        })
     }
 
     /// One hold of an event that is no record: a line, an answer, a silence, the end of grace, or a restart. It is one entry. The
