@@ -1,5 +1,5 @@
 -- A host's runs are counted with an owner that has no number as if it had one.
-use Rattle.std.proofs.Common.{◌≡◌, ◌≢◌, ◌<◌, ◌≤◌, ℕ, ◌==◌, ◌||◌, ◌&&◌, ltb, Bool, true, false, cond, inl, inr, refl, sym, ap, ◌∙◌, subst, List, [], ◌∷◌, ◌++◌, Option, Some, None}
+use Rattle.std.proofs.Common.{◌≡◌, ◌≢◌, ◌<◌, ◌≤◌, ℕ, ◌==◌, ◌||◌, ◌&&◌, ltb, Bool, true, false, inl, inr, refl, sym, ap, ◌∙◌, List, [], ◌∷◌, ◌++◌, Some}
 use Rattle.std.proofs.lemmas.Bool.{eqb-true, true≢false, lt-ltb, le-ltb}
 use Rattle.definitions.specs.Bytes.{Bytes}
 use Rattle.definitions.specs.Owners.{Owner, is_of_host}

@@ -1,4 +1,6 @@
 //! What is asked of the locks, and what they show.
+ghost use Rattle.std.specs.Prelude.{◌≡◌, ◌≤◌, ◌<◌, ◌^◌};
+
 use owner_ids::{Owner, OwnerId};
 use range_table::{FileId, Mode, Run};
 
@@ -10,6 +12,8 @@ pub struct Request<'a> {
     pub first: u64,
     pub last: u64,
     pub mode: Mode,
+    pub ghost ordered: { first ≤ last },
+    pub ghost inside: { last < 2 ^ 63 },
 }
 
 /// What an owner is to hold from the first to the last byte from now on: a mode, or nothing.
@@ -20,6 +24,8 @@ pub struct NewSetting<'a> {
     pub first: u64,
     pub last: u64,
     pub mode: Option<Mode>,
+    pub ghost ordered: { first ≤ last },
+    pub ghost inside: { last < 2 ^ 63 },
 }
 
 /// Bytes of a file that an owner holds in one mode, and no more around them.
@@ -32,16 +38,13 @@ pub struct Holder<'a> {
     pub mode: Mode,
 }
 
-ghost use Rattle.std.specs.Prelude.{◌≡◌};
-ghost use Rattle.definitions.specs.Settings.{setting_of};
-ghost use Rattle.held_locks.specs.Asked.{asked, changed, run_by_number};
-
 impl<'a> Request<'a> {
+    ghost use Rattle.definitions.specs.Settings.{setting_of};
+    ghost use Rattle.held_locks.specs.Asked.{asked, changed};
+
     /// What its owner is to hold once it has the lock.
     pub fn setting(&self) -> NewSetting<'a>
-        ensures is { changed result ≡ setting_of (asked self.now) }
-        ensures ordered { result.first ≡ self.now.first }
-        ensures inside { result.last ≡ self.now.last }
+        ensures { changed result ≡ setting_of (asked self.now) }
     {
         NewSetting {
             file: self.file,
@@ -54,6 +57,8 @@ impl<'a> Request<'a> {
 }
 
 impl Request<'_> {
+    ghost use Rattle.held_locks.specs.Asked.{run_by_number};
+
     /// The same lock, by its owner's number.
     pub fn by_number(&self, owner: OwnerId) -> Run
         ensures { result ≡ run_by_number owner self.now }

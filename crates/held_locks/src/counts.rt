@@ -1,5 +1,5 @@
 //! How many runs each number has.
-ghost use Rattle.std.specs.Prelude.{◌≡◌, ◌<◌, ◌≤◌, ◌^◌, ◌↔◌, ◌-◌, ◌++◌, ◌∷◌, ℕ, [], Some, None, cond, length, not, IsErr, OnOk, OnErr, slice_index_or, slice_set};
+ghost use Rattle.std.specs.Prelude.{◌≡◌, ◌<◌, ◌≤◌, ◌↔◌, ◌-◌, ◌++◌, ◌∷◌, ℕ, [], Some, None, cond, length, not, IsErr, OnOk, OnErr, slice_index_or, slice_set};
 ghost use Rattle.std.specs.List.{filter};
 ghost use Rattle.definitions.specs.Owners.{Owner as SaidOwner};
 ghost use Rattle.owner_ids.specs.Names.{named, is_owned_by};
@@ -44,8 +44,6 @@ pub(crate) fn set<R: RangeTable>(
     number: OwnerId,
     change: &NewSetting<'_>,
 ) -> Result<(), NoRuns>
-    requires ordered { change.now.first ≤ change.now.last }
-    requires inside { change.now.last < 2 ^ 63 }
     requires place { number < length counts.old.items }
     requires counted { AreCounts (R.settings table.old) counts.old.items }
     ensures refused { IsErr result ↔ IsRefused (mode_at (R.settings table.old)) (change_by_number number change.now) }

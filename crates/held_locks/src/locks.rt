@@ -1,5 +1,5 @@
 //! The locks of all owners.
-ghost use Rattle.std.specs.Prelude.{◌≡◌, ◌≢◌, ◌≤◌, ◌<◌, ◌^◌, ◌+◌, ◌⊎◌, ◌↔◌, ◌++◌, ◌∷◌, ℕ, [], true, false, Some, None, IfOk, IfSome, IfNone, OnOk, OnErr, IsErr, IsTrue, IsSome, slice_get};
+ghost use Rattle.std.specs.Prelude.{◌≡◌, ◌≢◌, ◌≤◌, ◌<◌, ◌^◌, ◌⊎◌, ◌↔◌, ◌++◌, ◌∷◌, ℕ, [], true, false, Some, None, IfSome, IfNone, OnOk, OnErr, IsErr, IsTrue, IsSome, slice_get};
 ghost use Rattle.definitions.specs.Owners.{Owner as SaidOwner, is_of_host};
 ghost use Rattle.definitions.specs.Settings.{without_host, without_owner_on};
 ghost use Rattle.definitions.specs.Conflict.{conflicts};
@@ -105,8 +105,6 @@ impl<R: RangeTable> Locks<R> {
 
     /// The lock of another owner that is first in the way: of the least first byte, then of the least owner.
     pub fn first_conflict(&self, wanted: &Request<'_>) -> Option<Holder<'_>>
-        requires ordered { wanted.now.first ≤ wanted.now.last }
-        requires inside { wanted.now.last < 2 ^ 63 }
         ensures { shown_found result ≡ first_conflict self.now.settings (asked wanted.now) }
     {
         let asker = self.asker(wanted.owner);
@@ -127,8 +125,6 @@ impl<R: RangeTable> Locks<R> {
 
     /// Whether another owner's lock is in the way.
     pub fn conflicts(&self, wanted: &Request<'_>) -> bool
-        requires ordered { wanted.now.first ≤ wanted.now.last }
-        requires inside { wanted.now.last < 2 ^ 63 }
         ensures { result ≡ conflicts self.now.settings (asked wanted.now) }
     {
         let asker = self.asker(wanted.owner);
@@ -157,8 +153,6 @@ impl<R: RangeTable> Locks<R> {
 
     /// Whether `set` would refuse the change, also of an owner who isn't known: he holds nothing. Changes nothing.
     pub fn refuses(&self, change: &NewSetting<'_>) -> bool
-        requires ordered { change.now.first ≤ change.now.last }
-        requires inside { change.now.last < 2 ^ 63 }
         ensures { result ≡ refuses 65536 self.now.settings (changed change.now) }
     {
         match self.owners.number(change.owner) {
@@ -173,8 +167,6 @@ impl<R: RangeTable> Locks<R> {
     /// Refused where fewer than 2 of 65,536 runs are free, but for an unlock that raises the number of runs no further.
     /// Then nothing has changed.
     pub fn set(&mut self, change: &NewSetting<'_>) -> Result<(), NoRuns>
-        requires ordered { change.now.first ≤ change.now.last }
-        requires inside { change.now.last < 2 ^ 63 }
         requires known { (change.now.mode ≡ None) ⊎ IsKnown self.old (view_of_owner change.now.owner.now) }
         ensures refused { IsErr result ↔ IsTrue (refuses 65536 self.old.settings (changed change.now)) }
         ensures ok { OnOk result (self.new.settings ≡ self.old.settings ++ changed change.now ∷ []) }

@@ -1,5 +1,5 @@
 //! How many runs a host's owners would have after a change.
-ghost use Rattle.std.specs.Prelude.{◌≡◌, ◌≤◌, ◌<◌, ◌^◌, ◌==◌, ◌||◌, true};
+ghost use Rattle.std.specs.Prelude.{◌≡◌, ◌==◌, ◌||◌, true};
 ghost use Rattle.definitions.specs.Owners.{is_of_host};
 ghost use Rattle.definitions.specs.Quotas.{is_past};
 ghost use Rattle.owner_ids.specs.Names.{named, is_owned_by};
@@ -30,8 +30,6 @@ impl<R: RangeTable> Locks<R> {
     /// Whether after the change the owners of its owner's host would have more runs than so many, and more than before it.
     /// Also of an owner who isn't known: he holds nothing. Changes nothing.
     pub fn is_past(&self, change: &NewSetting<'_>, host: &[u8], quota: u32) -> bool
-        requires ordered { change.now.first ≤ change.now.last }
-        requires inside { change.now.last < 2 ^ 63 }
         requires own { is_of_host host.now (view_of_owner change.now.owner.now) ≡ true }
         ensures { result ≡ is_past self.now.settings (changed change.now) host.now quota }
     {

@@ -1,5 +1,5 @@
 //! The small changes that calls are made of.
-ghost use Rattle.std.specs.Prelude.{◌≡◌, ◌≢◌, ◌↔◌, ◌⊎◌, ◌≤◌, ◌<◌, ◌^◌, ℕ, true, false, None, Some, length, OnOk, OnErr, IsErr, IsTrue};
+ghost use Rattle.std.specs.Prelude.{◌≡◌, ◌≢◌, ◌↔◌, ◌⊎◌, true, false, None, OnOk, OnErr, IsErr, IsTrue};
 ghost use Rattle.definitions.specs.Owners.{Owner as SaidOwner, is_of_host};
 ghost use Rattle.definitions.specs.Phases.{Normal};
 ghost use Rattle.definitions.specs.Starts.{refuses};
@@ -49,8 +49,6 @@ impl<R: RangeTable, S: HostStore> World<R, S> {
     /// where fewer than 2 of 65,536 runs are free, but for an unlock that raises the number of runs no further. Then
     /// nothing has changed.
     pub fn set(&mut self, change: &NewSetting<'_>) -> Result<(), NoRuns>
-        requires ordered { change.now.first ≤ change.now.last }
-        requires inside { change.now.last < 2 ^ 63 }
         requires known { (change.now.mode ≡ None) ⊎ Knows self.old (view_of_owner change.now.owner.now) }
         requires shown { IsShown (view_of_owner change.now.owner.now) }
         ensures refused { IsErr result ↔ IsTrue (refuses 65536 self.old.world.settings (changed change.now)) }

@@ -1,5 +1,5 @@
 //! What the quotas of hosts hold back.
-ghost use Rattle.std.specs.Prelude.{◌≡◌, ◌≤◌, ◌<◌, ◌^◌, ◌||◌, false};
+ghost use Rattle.std.specs.Prelude.{◌≡◌, ◌||◌, false};
 ghost use Rattle.definitions.specs.Quotas.{quotas_of, exceeds, is_refused, lacks_room};
 ghost use Rattle.definitions.specs.Starts.{is_short, refuses};
 ghost use Rattle.owner_ids.specs.Said.{view_of_owner};
@@ -55,8 +55,6 @@ fn is_held_back<R: RangeTable, Q: Quotas>(
     quotas: &Q,
     change: &NewSetting<'_>,
 ) -> bool
-    requires ordered { change.now.first ≤ change.now.last }
-    requires inside { change.now.last < 2 ^ 63 }
     ensures { refuses 65536 locks.now.settings (changed change.now) ≡ false → result ≡ exceeds (Q.by_host quotas.now) locks.now.settings (changed change.now) }
 {
     unlimited_exceeds_nothing();
@@ -72,8 +70,6 @@ pub(crate) fn is_refused<R: RangeTable, Q: Quotas>(
     quotas: &Q,
     change: &NewSetting<'_>,
 ) -> bool
-    requires ordered { change.now.first ≤ change.now.last }
-    requires inside { change.now.last < 2 ^ 63 }
     ensures { result ≡ is_refused 65536 (Q.by_host quotas.now) locks.now.settings (changed change.now) }
 {
     locks.refuses(change) || is_held_back(locks, quotas, change)
@@ -85,8 +81,6 @@ pub(crate) fn lacks_room<R: RangeTable, Q: Quotas>(
     quotas: &Q,
     wanted: &Request<'_>,
 ) -> bool
-    requires ordered { wanted.now.first ≤ wanted.now.last }
-    requires inside { wanted.now.last < 2 ^ 63 }
     ensures { result ≡ lacks_room 65536 (Q.by_host quotas.now) locks.now.settings (asked wanted.now) }
 {
     locks.is_short() || is_held_back(locks, quotas, &wanted.setting())

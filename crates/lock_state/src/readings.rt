@@ -1,5 +1,5 @@
 //! What the locks show.
-ghost use Rattle.std.specs.Prelude.{◌≡◌, ◌≤◌, ◌<◌, ◌^◌, IfSome};
+ghost use Rattle.std.specs.Prelude.{◌≡◌, ◌<◌, ◌^◌, IfSome};
 ghost use Rattle.definitions.specs.Quotas.{quotas_of, lacks_room, is_refused};
 ghost use Rattle.definitions.specs.Starts.{first_conflict};
 ghost use Rattle.definitions.specs.Conflict.{conflicts};
@@ -16,8 +16,6 @@ use range_table::RangeTable;
 impl<R: RangeTable, S: HostStore> World<R, S> {
     /// The lock of another owner that is first in the way: of the least first byte, then of the least owner.
     pub fn first_conflict(&self, wanted: &Request<'_>) -> Option<Holder<'_>>
-        requires ordered { wanted.now.first ≤ wanted.now.last }
-        requires inside { wanted.now.last < 2 ^ 63 }
         ensures found { shown_found result ≡ first_conflict self.now.world.settings (asked wanted.now) }
         ensures shown { IfSome result (λ found. IsShown (view_of_owner found.owner.now) × (found.last < 2 ^ 63)) }
     {
@@ -26,8 +24,6 @@ impl<R: RangeTable, S: HostStore> World<R, S> {
 
     /// Whether another owner's lock is in the way.
     pub fn conflicts(&self, wanted: &Request<'_>) -> bool
-        requires ordered { wanted.now.first ≤ wanted.now.last }
-        requires inside { wanted.now.last < 2 ^ 63 }
         ensures { result ≡ conflicts self.now.world.settings (asked wanted.now) }
     {
         self.locks.conflicts(wanted)
@@ -36,8 +32,6 @@ impl<R: RangeTable, S: HostStore> World<R, S> {
     /// Whether there is no room for the lock: fewer than 2 of 65,536 runs are free, or after it the owner's host would have
     /// more runs than its quota, and more than before.
     pub fn lacks_room(&self, wanted: &Request<'_>) -> bool
-        requires ordered { wanted.now.first ≤ wanted.now.last }
-        requires inside { wanted.now.last < 2 ^ 63 }
         ensures { result ≡ lacks_room 65536 (quotas_of self.now.world.hosts) self.now.world.settings (asked wanted.now) }
     {
         lacks_room(&self.locks, &Stored { store: &self.store }, wanted)
@@ -46,8 +40,6 @@ impl<R: RangeTable, S: HostStore> World<R, S> {
     /// Whether the change is refused: where `set` would refuse it, or it goes past its owner's host's quota. Also of an
     /// owner who isn't known. Changes nothing.
     pub fn is_refused(&self, change: &NewSetting<'_>) -> bool
-        requires ordered { change.now.first ≤ change.now.last }
-        requires inside { change.now.last < 2 ^ 63 }
         ensures { result ≡ is_refused 65536 (quotas_of self.now.world.hosts) self.now.world.settings (changed change.now) }
     {
         is_refused(&self.locks, &Stored { store: &self.store }, change)

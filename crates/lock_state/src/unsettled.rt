@@ -1,5 +1,5 @@
 //! Where somebody who waits may be ready to be granted, so that nobody else is looked at.
-ghost use Rattle.std.specs.Prelude.{◌≡◌, ◌≤◌, ◌<◌, ◌^◌, ◌⊎◌, ◌↔◌, ◌++◌, ◌∷◌, [], None, List, OnOk, OnErr, IsErr, IsTrue};
+ghost use Rattle.std.specs.Prelude.{◌≡◌, ◌⊎◌, ◌↔◌, ◌++◌, ◌∷◌, [], None, List, OnOk, OnErr, IsErr, IsTrue};
 ghost use Rattle.definitions.specs.Moves.{AreRanges};
 ghost use Rattle.definitions.specs.Starts.{refuses};
 ghost use Rattle.definitions.specs.Waits.{Waiter as SaidWaiter};
@@ -64,8 +64,6 @@ pub(crate) fn set_on<R: RangeTable, Q: Quotas>(
     quotas: &Q,
     change: &NewSetting<'_>,
 ) -> Result<(), NoRuns>
-    requires ordered { change.now.first ≤ change.now.last }
-    requires inside { change.now.last < 2 ^ 63 }
     requires known { (change.now.mode ≡ None) ⊎ IsKnown locks.old (view_of_owner change.now.owner.now) }
     ensures refused { IsErr result ↔ IsTrue (refuses 65536 locks.old.settings (changed change.now)) }
     ensures ok { OnOk result (locks.new.settings ≡ locks.old.settings ++ changed change.now ∷ []) }

@@ -1,9 +1,9 @@
 //! Who waits for a lock.
-ghost use Rattle.std.specs.Prelude.{◌≡◌, ◌↔◌, ◌≤◌, ◌<◌, ◌^◌, false, IsErr, OnOk, OnErr};
+ghost use Rattle.std.specs.Prelude.{◌≡◌, ◌↔◌, ◌<◌, false, IsErr, OnOk, OnErr};
 ghost use Rattle.definitions.specs.Waits.{is_waiting, without_waiter, closes_cycle};
 ghost use Rattle.definitions.specs.World.{with_waiter, slots_free, the_limits};
 ghost use Rattle.owner_ids.specs.Said.{view_of_owner};
-ghost use Rattle.held_locks.specs.Asked.{asked, run_by_number};
+ghost use Rattle.held_locks.specs.Asked.{asked};
 ghost use Rattle.lock_state.specs.Seen.{Knows};
 ghost use Rattle.lock_state.specs.Whole.{IsShown};
 
@@ -12,8 +12,7 @@ use blocked_list::{NotWaiting, Waiter};
 use callbacks::Letter;
 use held_locks::Request;
 use hosts_db::HostStore;
-use owner_ids::OwnerId;
-use range_table::{RangeTable, Run};
+use range_table::RangeTable;
 
 impl<R: RangeTable, S: HostStore> World<R, S> {
     /// Whether its owner waits for just this lock.
@@ -30,8 +29,6 @@ impl<R: RangeTable, S: HostStore> World<R, S> {
     /// Whether the owner, if it waited for this lock, would wait for itself, directly or through others (POSIX fcntl,
     /// EDEADLK).
     pub fn closes_cycle(&self, wanted: &Request<'_>) -> bool
-        requires ordered { wanted.now.first ≤ wanted.now.last }
-        requires inside { wanted.now.last < 2 ^ 63 }
         ensures { result ≡ closes_cycle self.now.world.settings self.now.world.waiters (asked wanted.now) }
     {
         let (table, owners) = self.locks.parts();
@@ -46,8 +43,6 @@ impl<R: RangeTable, S: HostStore> World<R, S> {
     /// From now on the owner waits for this lock, behind all who wait, and the letter is what tells of the grant. It takes
     /// no memory.
     pub fn wait(&mut self, wanted: &Request<'_>, letter: Letter)
-        requires ordered { wanted.now.first ≤ wanted.now.last }
-        requires inside { wanted.now.last < 2 ^ 63 }
         requires room { 0 < slots_free the_limits self.old.world }
         requires known { Knows self.old (view_of_owner wanted.now.owner.now) }
         requires shown { IsShown (view_of_owner wanted.now.owner.now) }

@@ -1,5 +1,4 @@
-use Rattle.std.proofs.Common.{◌≡◌, ◌<◌, Some, sym, ap, ◌∙◌, subst, IsSome}
-use Rattle.definitions.specs.Starts.{used, runs}
+use Rattle.std.proofs.Common.{◌<◌, Some, sym, ap, ◌∙◌, subst, IsSome}
 use Rattle.owner_ids.specs.Said.{view_of_owner}
 use Rattle.owner_ids.specs.Names.{named}
 use Rattle.range_owners.proofs.RunOrders.{run_order_over, length_over}

@@ -28,7 +28,7 @@ returns-in_err-set-clause-refused g c = λ x e.
 pub invariant_of-self-2 : goal.invariant_of-self-2
 invariant_of-self-2 g c =
     let r = c.args.wanted.now in
-    let change : NewSetting = record { file = r.file; owner = c.get.result; first = r.first; last = r.last; mode = Some r.mode } in
+    let change : NewSetting = record { file = r.file; owner = c.get.result; first = r.first; last = r.last; mode = Some r.mode; ordered = c.requires.ordered; inside = c.requires.inside } in
     rw c.after-self-inside.ensures
     (tied_set (g.R.RangeTable.settings c.self.inside.table) (g.R.RangeTable.settings c.set.new.table) c.self.inside.counts.items c.set.new.counts.items c.self.inside.owners c.self.inside.settings.items r.owner change
     c.self.invariant c.get.ensures c.in_ok-set.ensures.ok c.in_ok-set.ensures.counted c.in_ok-set.ensures.places)

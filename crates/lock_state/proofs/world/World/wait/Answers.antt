@@ -37,7 +37,7 @@ invariant_of-self g c =
     let calls = ap (λ (t : Taken). t.calls) (on_ok c.block.result (free g c) c.block.ensures.ok) in
     rw c.with_file-self-inside.ensures
     (whole_waiting c.block.result c.self.inside.locks.names c.self.inside.locks.settings c.self.inside.slots c.block.new.self c.self.inside.calls (quotas_of (g.S.HostStore.rows c.self.inside.store)) c.self.inside.unsettled c.self.invariant
-    (record { request = asked c.args.wanted.now; letter = c.args.letter }) (by g c) there calls c.requires.shown c.requires.ordered)
+    (record { request = asked c.args.wanted.now; letter = c.args.letter }) (by g c) there calls c.requires.shown c.args.wanted.now.ordered)
 
 pub returns : goal.returns
 returns g c = rw (← c.self.view_is) (rw (by g c) refl)
