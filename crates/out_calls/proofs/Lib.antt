@@ -1,2 +1,3 @@
 pub mod Sendings
 pub mod Oldest
+pub mod Order

@@ -9,7 +9,7 @@ use Rattle.definitions.specs.Outgoing.{Outgoing, after_sending, after_silence, a
 use Rattle.blocked_list.specs.First.{IsFirstAt}
 use Rattle.blocked_list.proofs.Firsts.{first_that-none, first_is, found_at, without_first-at}
 
-abbrev due : Outgoing → Bool
+abbrev pub due : Outgoing → Bool
 due c = c.is_due
 
 pub after_sending-none : (calls : List Outgoing) → is_any due calls ≡ false → after_sending calls ≡ calls

@@ -1,6 +1,6 @@
 //! The calls that wait to be sent or answered.
 ghost use Rattle.std.specs.Prelude.{◌≡◌, ◌↔◌, ◌≤◌, ◌<◌, ◌++◌, ◌∷◌, [], length, IfOk, IsTrue, Option, None, Some, IfSome, IfNone, slice_index_or};
-ghost use Rattle.std.specs.List.{remove};
+ghost use Rattle.std.specs.List.{position_or_len, remove};
 ghost use Rattle.definitions.specs.Bytes.{first_that, without_first};
 ghost use Rattle.definitions.specs.Outgoing.{Outgoing, Letter as SentLetter, due_now, next_due, is_numbered, without_call, after_sending, after_silence, call_of_xid, call_of_cookie, without_grants_to};
 ghost use Rattle.blocked_list.specs.First.{IsFirstPlace};
@@ -15,22 +15,28 @@ use std::marker::Model;
 
 /// The server's own calls, in the order in which they became due. Contracts see the list of them.
 ///
+/// Those that were sent and wait for their answer stand in front, and behind them those that are due: a call that becomes
+/// due again goes to the end. So the next one to be sent is found without a walk.
+///
 /// Each has a place among the `MOST_SLOTS` that calls share with waiters, and whoever keeps that count takes the place
 /// first. Room for all is reserved at the start, so no later call takes memory.
 #[derive(Drop)]
 pub struct OutCalls {
     calls: Vec<Call>,
+    // How many were sent and wait: here stands the first that is due.
+    sent: usize,
 }
 
 impl Model for OutCalls {
     ghost use Rattle.std.specs.Prelude.{List, ◌≤◌, length, vec_capacity};
     ghost use Rattle.definitions.specs.Outgoing.{Outgoing};
+    ghost use Rattle.out_calls.specs.Order.{IsInOrder};
 
     ghost Value = { List Outgoing };
 
     ghost view = { λ o. o.calls.items };
 
-    ghost invariant = { λ o. (length o.calls.items ≤ 8192) × (8192 ≤ vec_capacity o.calls) };
+    ghost invariant = { λ o. (length o.calls.items ≤ 8192) × (8192 ≤ vec_capacity o.calls) × IsInOrder o.sent o.calls.items };
 }
 
 impl OutCalls {
@@ -40,6 +46,7 @@ impl OutCalls {
     {
         Ok(OutCalls {
             calls: Vec::with_capacity(alloc, MOST_SLOTS)?,
+            sent: 0,
         })
     }
 
@@ -125,7 +132,7 @@ impl OutCalls {
         ensures calls { self.new ≡ without_call number self.old }
     {
         let place = self.place_of(number)?;
-        Some(self.calls.remove(place))
+        Some(self.take_out(place))
     }
 
     /// Nothing answered the call of this number. It becomes due again, behind the others, or is forgotten once it was
@@ -143,6 +150,7 @@ impl OutCalls {
         ensures { self.new ≡ without_grants_to name.now self.old }
     {
         self.calls.retain(|call| !call.is_grant_to(name));
+        self.sent = first_due(self.calls.as_slice());
     }
 
     /// Takes out every call, as at a restart.
@@ -150,13 +158,18 @@ impl OutCalls {
         ensures { self.new ≡ [] }
     {
         self.calls.clear();
+        self.sent = 0;
     }
 
-    // Where the next call to be sent stands.
+    // Where the next call to be sent stands: behind those that wait.
     fn due_place(&self) -> Option<usize>
         ensures { IsFirstPlace (λ c. c.is_due) self.now result }
     {
-        self.calls.iter().position(|call| call.is_due())
+        if self.sent < self.calls.len() {
+            Some(self.sent)
+        } else {
+            None
+        }
     }
 
     // Where the first call of this number stands.
@@ -175,10 +188,10 @@ impl OutCalls {
             return;
         }
         if self.calls[place].sendings() < MOST_SENDINGS {
-            let call = self.calls.remove(place);
+            let call = self.take_out(place);
             self.calls.push_reserved(call.repeat());
         } else {
-            drop(self.calls.remove(place));
+            drop(self.take_out(place));
         }
     }
 
@@ -188,11 +201,37 @@ impl OutCalls {
         ensures { self.new ≡ after_sending self.old }
     {
         if self.calls[place].ends_when_sent() {
-            drop(self.calls.remove(place));
+            drop(self.take_out(place));
         } else {
             self.calls[place].send();
+            self.sent += 1;
         }
     }
+
+    // The call at this place goes, and those behind it stand one place further in front: the first that is due, too, where
+    // the call was sent.
+    fn take_out(&mut self, place: usize) -> Call
+        requires { place < length self.old }
+        ensures call { result ≡ slice_index_or self.old place result }
+        ensures others { self.new ≡ remove self.old place }
+        ensures room { length self.new < MOST_SLOTS }
+    {
+        let call = self.calls.remove(place);
+        if place < self.sent {
+            self.sent -= 1;
+        }
+        call
+    }
+}
+
+// Where the first call stands that is due, or how many there are where none is.
+fn first_due(calls: &[Call]) -> usize
+    ensures { result ≡ position_or_len (λ c. c.is_due) calls.now }
+{
+    calls
+        .iter()
+        .position(|call| call.is_due())
+        .unwrap_or(calls.len())
 }
 
 // Of two calls the one of lesser number; the first where they have one.

@@ -10,11 +10,7 @@ pub returns-in_err-place-clause-calls : goal.returns-in_err-place-clause-calls
 returns-in_err-place-clause-calls c = sym (without_first-none (is_numbered c.args.number) c.args.self.now c.in_err-place.ensures)
 
 pub returns-clause-call : goal.returns-clause-call
-returns-clause-call c =
-    let there = rw c.self.view_is at c.remove.ensures.value in
-    found_at (is_numbered c.args.number) c.args.self.now c.in_ok-place.place c.remove.result c.in_ok-place.ensures there
+returns-clause-call c = found_at (is_numbered c.args.number) c.args.self.now c.in_ok-place.place c.take_out.result c.in_ok-place.ensures c.take_out.ensures.call
 
 pub returns-clause-calls : goal.returns-clause-calls
-returns-clause-calls c =
-    let gone = rw c.self.view_is at c.remove.ensures.items in
-    gone ∙ sym (without_first-at (is_numbered c.args.number) c.args.self.now c.in_ok-place.place c.in_ok-place.ensures)
+returns-clause-calls c = c.take_out.ensures.others ∙ sym (without_first-at (is_numbered c.args.number) c.args.self.now c.in_ok-place.place c.in_ok-place.ensures)

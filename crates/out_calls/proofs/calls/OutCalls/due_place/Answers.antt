@@ -1,9 +1,19 @@
-use Rattle.std.proofs.Common.{rules, tests}
-use Rattle.std.proofs.lemmas.Iterator.{YieldsList-from_slice}
-use Rattle.std.proofs.lemmas.Iterator.Search.{position_from_yields_List}
-use Rattle.definitions.specs.Outgoing.{Outgoing}
-use Rattle.blocked_list.proofs.Firsts.{first_place}
+use Rattle.std.proofs.Common.{◌<◌, ◌≤◌, length, arith}
+use Rattle.out_calls.proofs.Order.{in_order-first, in_order-none}
 use Rattle.out_calls.proofs.calls.OutCalls.due_place.Goals as goal
 
-pub returns : goal.returns
-returns c = rw (← c.self.view_is) (first_place (λ (d : Outgoing). d.is_due) c.self.inside.calls.items c.position.result (position_from_yields_List (λ (d : Outgoing). d.is_due) _ _ c.position.result c.position.ensures.ran (YieldsList-from_slice c.self.inside.calls.items cc) (λ x b q k. search (rules, tests))))
+pub returns-then-self-len : goal.returns-then-self-len
+returns-then-self-len c =
+    let t = c.if-self-len.true in
+    let e = c.len.ensures in
+    let ok = c.self.inside.calls.ok.0 in
+    let l : c.self.inside.sent < length c.self.inside.calls.items = omega arith in
+    rw (← c.self.view_is) (in_order-first c.self.inside.sent c.self.inside.calls.items l c.self.invariant.2)
+
+pub returns-else-self-len : goal.returns-else-self-len
+returns-else-self-len c =
+    let f = c.if-self-len.false in
+    let e = c.len.ensures in
+    let ok = c.self.inside.calls.ok.0 in
+    let l : length c.self.inside.calls.items ≤ c.self.inside.sent = omega arith in
+    rw (← c.self.view_is) (in_order-none c.self.inside.sent c.self.inside.calls.items l c.self.invariant.2)

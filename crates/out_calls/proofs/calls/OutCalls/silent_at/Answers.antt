@@ -1,7 +1,8 @@
-use Rattle.std.proofs.Common.{sym, ap, [], ◌∷◌, ◌++◌, ◌∙◌}
+use Rattle.std.proofs.Common.{rules, sym, ap, [], ◌∷◌, ◌++◌, ◌∙◌}
 use Rattle.std.specs.List.{remove}
 use Rattle.definitions.specs.Outgoing.{Outgoing, is_numbered}
 use Rattle.blocked_list.proofs.Firsts.{same_at}
+use Rattle.out_calls.proofs.Order.{in_order-push}
 use Rattle.out_calls.proofs.Sendings.{after_silence-due, after_silence-again, after_silence-last}
 use Rattle.out_calls.proofs.calls.OutCalls.silent_at.Goals as goal
 
@@ -10,26 +11,34 @@ returns-then-is_due c =
     let at = rw c.self.view_is at c.index.ensures in
     after_silence-due c.args.number c.args.self.now c.args.place c.index.result.now c.requires at (sym c.if-is_due.ensures)
 
+pub invariant_of-self : goal.invariant_of-self
+invariant_of-self c =
+    let opened = c.self-then-sendings-lt-MOST_SENDINGS.inside in
+    let old = c.self-then-sendings-lt-MOST_SENDINGS.invariant in
+    let is_due = ap (λ (d : Outgoing). d.is_due) c.repeat.ensures in (
+      search rules,
+      search rules,
+      rw c.push_reserved.ensures.items (in_order-push opened.sent opened.calls.items c.repeat.result is_due old.2),
+    )
+
 pub returns-then-sendings-lt-MOST_SENDINGS : goal.returns-then-sendings-lt-MOST_SENDINGS
 returns-then-sendings-lt-MOST_SENDINGS c =
     let at = rw c.self.view_is at c.index.ensures in
     let at_two = rw c.self.view_is at c.index-2.ensures in
-    let taken = rw c.self.view_is at c.remove-call.ensures.value in
-    let gone = rw c.self.view_is at c.remove-call.ensures.items in
-    let one = same_at (is_numbered c.args.number) c.args.self.now c.args.place c.remove-call.result c.index.result.now c.requires taken at in
-    let two = same_at (is_numbered c.args.number) c.args.self.now c.args.place c.remove-call.result c.index-2.result.now c.requires taken at_two in
+    let taken = c.take_out-call.ensures.call in
+    let one = same_at (is_numbered c.args.number) c.args.self.now c.args.place c.take_out-call.result c.index.result.now c.requires taken at in
+    let two = same_at (is_numbered c.args.number) c.args.self.now c.args.place c.take_out-call.result c.index-2.result.now c.requires taken at_two in
     let rests = ap (λ (d : Outgoing). d.is_due) one ∙ sym c.if-is_due.ensures in
     let few = rw (c.sendings.ensures.sent, ← two) at c.if-sendings-lt-MOST_SENDINGS.true in
     c.push_reserved.ensures.items
-    ∙ ap (λ xs. xs ++ c.repeat.result ∷ []) gone
+    ∙ ap (λ xs. xs ++ c.repeat.result ∷ []) (c.self-then-sendings-lt-MOST_SENDINGS.view_is ∙ c.take_out-call.ensures.others)
     ∙ ap (λ d. remove c.args.self.now c.args.place ++ d ∷ []) c.repeat.ensures
-    ∙ after_silence-again c.args.number c.args.self.now c.args.place c.remove-call.result c.requires taken rests few
+    ∙ after_silence-again c.args.number c.args.self.now c.args.place c.take_out-call.result c.requires taken rests few
 
 pub returns-else-sendings-lt-MOST_SENDINGS : goal.returns-else-sendings-lt-MOST_SENDINGS
 returns-else-sendings-lt-MOST_SENDINGS c =
     let at = rw c.self.view_is at c.index.ensures in
     let at_two = rw c.self.view_is at c.index-2.ensures in
-    let gone = rw c.self.view_is at c.remove.ensures.items in
     let two = same_at (is_numbered c.args.number) c.args.self.now c.args.place c.index.result.now c.index-2.result.now c.requires at at_two in
     let many = rw (c.sendings.ensures.sent, ← two) at c.if-sendings-lt-MOST_SENDINGS.false in
-    gone ∙ after_silence-last c.args.number c.args.self.now c.args.place c.index.result.now c.requires at (sym c.if-is_due.ensures) many
+    c.take_out.ensures.others ∙ after_silence-last c.args.number c.args.self.now c.args.place c.index.result.now c.requires at (sym c.if-is_due.ensures) many
