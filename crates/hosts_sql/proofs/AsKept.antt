@@ -1,34 +1,43 @@
 -- What a call's statements make is what the call is to make.
-use Rattle.std.proofs.Common.{◌≡◌, ℕ, ℤ, pos, Bool, true, false, cond, List, [], ◌∷◌, Option, Some, IsTrue, refl, sym, ap, ◌∙◌, arith}
+use Rattle.std.proofs.Common.{◌≡◌, ℕ, ℤ, pos, Bool, true, false, cond, List, [], ◌∷◌, Option, Some, Result, IsTrue, is_err, refl, sym, ap, ◌∙◌, arith}
 use Rattle.std.proofs.lemmas.Map.Text.{is_eq-slice_cmp}
 use Rattle.sqlite_trees.specs.Tree.{Trees}
-use Rattle.sqlite.specs.State.{State, HasCleanDisk, Survives}
+use Rattle.sqlite.specs.State.{State, HasCleanDisk}
 use Rattle.sqlite.proofs.StateLemmas.{survives_weaker}
 use Rattle.definitions.specs.Bytes.{Bytes, IsAscending, bytes_cmp, same_bytes, first_that, put, without}
 use Rattle.definitions.specs.Nsm.{MyId}
 use Rattle.definitions.specs.Hosts.{HostRow, Hosts, row_cmp, watch_cmp, row_of, has_row, after_store, Seen, Acked, Watched, Quota}
-use Rattle.hosts_statements.specs.Wrote.{WroteHosts, MayWriteHosts, hosts_in}
+use Rattle.hosts_statements.specs.Maps.{listed}
+use Rattle.hosts_statements.specs.Shown.{shown}
+use Rattle.hosts_statements.specs.Wrote.{IsAsKept, MayLeave, MayWriteHosts, hosts_in}
+use Rattle.hosts_statements.proofs.Permuted.{gave, on_then}
+use Rattle.hosts_statements.proofs.Commits.{CommitsHosts}
 use Rattle.hosts_statements.proofs.Listed.{bytes_exact}
 use Rattle.hosts_statements.proofs.OwnIds.{eq_equal}
 use Rattle.hosts_statements.proofs.Changed.{put_changes, none_changes, seen_is, epoch_is, quota_is}
 
-pub wrote_as : (f g : Hosts → Hosts) (old new : State) → f (hosts_in old) ≡ g (hosts_in old) → WroteHosts f old new → WroteHosts g old new
-wrote_as f g old new same w = record { was_open = w.was_open; is_open = w.is_open; whole = w.whole; rows = w.rows ∙ same }
+-- the last commit shows the rows that are in memory, and of these both changes make the same
+pub hosts_as_kept : {X E : Type 0} {from : Hosts → Hosts} {old new : State} {r : Result X E} (to : Hosts → Hosts) (rows : Hosts) → IsAsKept old rows → from rows ≡ to rows → CommitsHosts from old new r → CommitsHosts to old new r
+hosts_as_kept {from = from} {old = old} {new = new} {r = r} to rows kept same w =
+    let alike = λ (clean : HasCleanDisk new) (is_open : IsTrue old.is_open).
+    let is : hosts_in old ≡ rows = kept (omega (arith, clean, w.crash.clean)) is_open in
+    let both : from (hosts_in old) ≡ to (hosts_in old) = ap from is ∙ same ∙ ap to (sym is) in both in
+    record {
+      ok = λ clean. on_then r (w.ok clean) (λ done. record { was_open = done.was_open; is_open = done.is_open; whole = done.whole; rows = done.rows ∙ alike clean done.was_open });
+      crash = survives_weaker old new (MayWriteHosts from old) (MayWriteHosts to old) (λ clean db may. (may.0, may.1 ∙ alike clean may.0)) w.crash;
+    }
 
-pub may_as : (f g : Hosts → Hosts) (old : State) (db : Trees) → (IsTrue old.is_open → f (hosts_in old) ≡ g (hosts_in old)) → MayWriteHosts f old db → MayWriteHosts g old db
-may_as f g old db same h = (h.0, h.1 ∙ same h.0)
+-- an open after a crash finds what the call that went through committed
+pub left_is : {X E : Type 0} {old new : State} {r : Result X E} (change : Hosts → Hosts) (rows left : Hosts) → IsAsKept old rows → ((db : Trees) → IsTrue new.is_open → new.may_leave db → db ≡ new.committed.trees)
+    → is_err r ≡ false → CommitsHosts change old new r → MayLeave new left → left ≡ change rows
+left_is {old = old} {r = r} change rows left kept settled went w may =
+    let wrote = gave r went (w.ok may.0) in
+    let early : HasCleanDisk old = omega (arith, may.0, w.crash.clean) in
+    sym may.3 ∙ ap (λ (db : Trees). listed (shown db)) (settled may.1 wrote.is_open may.2) ∙ wrote.rows ∙ ap change (kept early wrote.was_open)
 
--- the rows are those in memory
-pub at_kept : (f g : Hosts → Hosts) (old : State) (rows : Hosts) → hosts_in old ≡ rows → f rows ≡ g rows → f (hosts_in old) ≡ g (hosts_in old)
-at_kept f g old rows kept same = ap f kept ∙ same ∙ ap g (sym kept)
-
-module _ (f g : Hosts → Hosts) (old new : State) (rows : Hosts) (kept : HasCleanDisk old → IsTrue old.is_open → hosts_in old ≡ rows) (same : f rows ≡ g rows) where
-  pub kept_wrote : HasCleanDisk old → WroteHosts f old new → WroteHosts g old new
-  kept_wrote clean w = wrote_as f g old new (at_kept f g old rows (kept clean w.was_open) same) w
-
-  pub kept_survives : Survives old new (MayWriteHosts f old) → Survives old new (MayWriteHosts g old)
-  kept_survives s = survives_weaker old new (MayWriteHosts f old) (MayWriteHosts g old) (λ clean db may.
-      may_as f g old db (λ is_open. at_kept f g old rows (kept (omega (arith, s.clean, clean)) is_open) same) may) s
+-- a row that is put in the place of the one of its name
+abbrev pub with_row : HostRow → Hosts → Hosts
+with_row row h = record h { rows = put row_cmp row h.rows }
 
 pub watch_of_host : (h : Hosts) (mon : Bytes) (my : MyId) (private : Bytes) → has_row h mon ≡ true
     → ◌≡◌ {A = Hosts} (record h { watches = put watch_cmp (record { mon_name = mon; my_id = my; private_bytes = private }) h.watches }) (after_store h (Watched mon my private))

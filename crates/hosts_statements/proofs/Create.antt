@@ -1,5 +1,5 @@
 -- What making the three tables and the row of the own state does.
-use Rattle.std.proofs.Common.{◌≡◌, ℕ, pos, List, [], ◌∷◌, map, filter, Bool, false, None, Ok, refl, sym, ap, subst, ◌∙◌, arith}
+use Rattle.std.proofs.Common.{◌≡◌, ℕ, pos, List, [], ◌∷◌, map, filter, Bool, true, false, None, Ok, refl, sym, ap, subst, ◌∙◌, arith}
 use Rattle.std.specs.List.{AllZip}
 use Rattle.std.specs.FinMap.{empty}
 use Rattle.sqlite_value.specs.declared.value.Value.TheVariants.{Null, Int}
@@ -21,19 +21,19 @@ use Rattle.sqlite_tied.specs.Compute.{everything}
 use Rattle.sqlite.specs.Does.{Tally, Does, lacks_sequence}
 use Rattle.sqlite.specs.Rows.{Written}
 use Rattle.sqlite.specs.Effect.{Database, IsDatabase}
-use Rattle.sqlite.specs.State.{State, mode_of, Executes, Writes}
+use Rattle.sqlite.specs.State.{State, mode_of, Executes, Shows, Writes}
 use Rattle.sqlite.specs.Listing.{understood}
 use Rattle.sqlite.proofs.Callers.{IsPlain, command_of, statement_of, runs_as, one_step}
-use Rattle.hosts_statements.specs.Maps.{no_rows}
+use Rattle.hosts_statements.specs.Maps.{no_rows, with_own}
 use Rattle.hosts_statements.specs.Tables.{Fresh, own_text, hosts_text, watches_text, first_own_text, own_table, hosts_table, watches_table, own_checks, host_schema, no_schema}
 use Rattle.hosts_statements.specs.Shown.{number_at, shown, shown_if_listed}
-use Rattle.hosts_statements.specs.Wrote.{HasOwnRow, IsWhole, AreMade}
+use Rattle.hosts_statements.specs.Wrote.{HasMade, HasOwnRow, HasWorked, IsWhole, AreMade}
 use Rattle.hosts_statements.specs.declared.tables.Version.TheVariants.{Second}
 use Rattle.hosts_statements.proofs.Places.{IsSecond, whole_second}
 use Rattle.hosts_statements.specs.Own.{is_host, is_watched, AreOwn}
 use Rattle.hosts_statements.proofs.Texts.{own_is, hosts_is, watches_is}
 use Rattle.hosts_statements.proofs.Monitor.{cast_null, cast_number, went, same_value}
-use Rattle.hosts_statements.proofs.Rows.{version_is, listed_as_tables}
+use Rattle.hosts_statements.proofs.Rows.{Makes, version_is, listed_as_tables}
 
 -- the schema once the first table is made, and the second
 abbrev pub one_table : Schema
@@ -173,3 +173,14 @@ shown_first own a b count made h =
     let hosts = ap (λ all. Rattle.std.specs.FinMap.from_entries (map Rattle.hosts_statements.specs.Shown.host_of all)) (set.1.hosts ∙ made.hosts) in
     let watches = ap (λ all. Rattle.std.specs.FinMap.from_entries (map Rattle.hosts_statements.specs.Shown.watch_of all)) (set.1.watches ∙ made.watches) in
     (whole_second b.now after, listed ∙ (λ i. record { own = first i; hosts = hosts i; watches = watches i }))
+
+-- the tables that a transaction made, with the row of the own state
+pub started : (own : ℕ) (a b d : State) (count : ℕ) → a.now.schema ≡ no_schema → IsDatabase a.now → HasMade a b → Executes first_own_text (Int (pos own) ∷ []) b d (Ok count) → Shows b d d.now b.committed true → HasWorked (Makes (with_own own)) a d
+started own a b d count fresh sound has ran shows =
+    let first = shown_first own b d count has.made ran in
+    record {
+      was_open = has.was_open;
+      work = record { whole = first.0; rows = first.1 ∙ ap (with_own own) (sym (shown_fresh a.now fresh sound)) };
+      committed = shows.committed_is ∙ has.committed;
+      mode = shows.mode;
+    }

@@ -7,7 +7,9 @@ pub mod Monitor
 pub mod Watch
 pub mod Steps
 pub mod Ran
+pub mod Transactions
 pub mod Permuted
+pub mod Kept
 pub mod Gone
 pub mod OwnIds
 pub mod Delete
@@ -18,4 +20,5 @@ pub mod Update
 pub mod Create
 pub mod Reading
 pub mod Listed
+pub mod Commits
 pub mod Changed

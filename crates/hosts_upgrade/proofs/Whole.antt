@@ -20,7 +20,7 @@ use Rattle.hosts_statements.specs.Maps.{with_own}
 use Rattle.hosts_statements.specs.Tables.{Upgraded, first_hosts_table, hosts_table, host_schema, first_schema, hosts_text, copy_hosts_text, empty_hosts_text, second_own_text}
 use Rattle.hosts_statements.specs.Shown.{host_of, watch_of, number_at, upgraded_row, shown, shown_in_tables, shown_in_first}
 use Rattle.hosts_statements.specs.Own.{is_host, is_watched, AreOwn}
-use Rattle.hosts_statements.specs.Wrote.{checks_in, HasOwnRow, IsHostSchema, IsWhole, RanThree}
+use Rattle.hosts_statements.specs.Wrote.{checks_in, HasOwnRow, HasWorked, IsHostSchema, IsWhole, RanThree}
 use Rattle.hosts_statements.specs.declared.tables.Version.TheVariants.{First, Second}
 use Rattle.hosts_statements.proofs.Create.{create_step}
 use Rattle.hosts_statements.proofs.Delete.{delete_query, passes}
@@ -29,9 +29,9 @@ use Rattle.hosts_statements.proofs.Gone.{AreOwnIds}
 use Rattle.hosts_statements.proofs.OwnIds.{own_ids, own_of_map}
 use Rattle.hosts_statements.proofs.Places.{IsSecond, whole_second, stays, Stays}
 use Rattle.hosts_statements.proofs.Reading.{shows_hosts}
-use Rattle.hosts_statements.proofs.Rows.{version_is, listed_as_tables, did_at}
+use Rattle.hosts_statements.proofs.Rows.{Makes, version_is, listed_as_tables, did_at}
 use Rattle.hosts_statements.proofs.Update.{IsOwn, picked, first_row, does_put}
-use Rattle.hosts_upgrade.specs.Made.{HasHosts}
+use Rattle.hosts_upgrade.specs.Made.{HasHosts, HasMadeHosts}
 use Rattle.hosts_upgrade.proofs.Copied.{does_copy}
 use Rattle.hosts_upgrade.proofs.Meant.{copy_is, copy_plain, empty_is, empty_plain, own_query, own_is, own_plain, hosts_defines, all_tables}
 
@@ -85,6 +85,9 @@ pub record IsUpgraded (own : ℕ) (old new : Database) : Type 0 where
   pub rows : shown new.trees ≡ with_own own (shown old.trees)
   pub emptied : new.trees 1 ≡ []
 
+pub upgraded_makes : (own : ℕ) (old new : Database) → IsUpgraded own old new → Makes (with_own own) old new
+upgraded_makes own old new u = record { whole = u.whole; rows = u.rows }
+
 pub upgraded : (own : ℕ) (old made new : Database) → IsWhole First old → IsDatabase old → HasHosts old made → RanThree copy_hosts_text [] empty_hosts_text [] second_own_text (Int (pos own) ∷ []) made new → IsUpgraded own old new
 upgraded own old made new whole sound has ran =
     let checks = checks_in old.schema.tables in
@@ -118,3 +121,12 @@ upgraded own old made new whole sound has ran =
     let watched = ap (λ rows. from_entries (map watch_of rows)) watches in
     let same : shown_in_tables Upgraded new.trees ≡ with_own own (shown_in_first old.trees) = λ i. record { own = state i; hosts = hosts i; watches = watched i } in
     record { whole = whole_second new after; rows = late ∙ same ∙ ap (with_own own) (sym early); emptied = puts.1.first ∙ empties.1.none }
+
+-- the work of a transaction that made the table of the hosts with quotas, and moved them
+pub upgraded_inside : (own : ℕ) (a b d : State) → IsWhole First a.now → IsDatabase a.now → HasMadeHosts a b → HasWorked (RanThree copy_hosts_text [] empty_hosts_text [] second_own_text (Int (pos own) ∷ [])) b d → HasWorked (IsUpgraded own) a d
+upgraded_inside own a b d whole sound has work = record {
+  was_open = has.was_open;
+  work = upgraded own a.now b.now d.now whole sound has.made work.work;
+  committed = work.committed ∙ has.committed;
+  mode = work.mode;
+}

@@ -1,52 +1,22 @@
-use Rattle.std.proofs.Common.{w32, ◌≡◌, false, Some, sym, arith, rules}
+use Rattle.std.proofs.Common.{w32, ◌≡◌, false, sym, rules}
 use Rattle.std.proofs.lemmas.Int.{to_z-of_z}
-use Rattle.sqlite.specs.State.{HasCleanDisk}
 use Rattle.sqlite.specs.Held.{state}
-use Rattle.definitions.specs.Bytes.{IsAscending, put, same_bytes, without}
-use Rattle.definitions.specs.Hosts.{Hosts, HostRow, row_cmp, row_of, has_row, after_store, Seen}
-use Rattle.hosts_statements.specs.Wrote.{WroteHosts}
-use Rattle.hosts_statements.proofs.Permuted.{on_then}
-use Rattle.hosts_sql.proofs.AsKept.{kept_wrote, kept_survives, unseen, seen_at}
+use Rattle.definitions.specs.Hosts.{Hosts, HostRow, has_row, after_store, Seen}
+use Rattle.hosts_statements.proofs.Commits.{CommitsHosts, commits_hosts}
+use Rattle.hosts_sql.proofs.AsKept.{hosts_as_kept, with_row, unseen, seen_at}
 use Rattle.hosts_sql.proofs.calls.write_seen.Goals as goal
 
-pub returns-in_default-clause-ok : goal.returns-in_default-clause-ok
-returns-in_default-clause-ok g c clean =
-    let old = state g.S.Store c.args.conn.now in
-    let new = state g.S.Store c.delete_host.new.conn in
-    let from : Hosts → Hosts = λ h. record h { rows = without (λ (r : HostRow). same_bytes r.name c.args.name.now) h.rows } in
-    let to : Hosts → Hosts = λ (h : Hosts). after_store h (Seen c.args.name.now c.args.seen) in
-    let first : HasCleanDisk old = omega (arith, clean, c.delete_host.ensures.crash.clean) in
+pub returns-in_default : goal.returns-in_default
+returns-in_default g c =
     let none : has_row c.args.rows.now c.args.name.now ≡ false = search rules in
-    on_then {P = WroteHosts from old new} {Q = WroteHosts to old new} c.delete_host.result (c.delete_host.ensures.ok clean) (λ w. kept_wrote from to old new c.args.rows.now c.requires.kept (unseen c.args.rows.now c.args.name.now c.args.seen none) first w)
+    let wrote = hosts_as_kept (λ (h : Hosts). after_store h (Seen c.args.name.now c.args.seen)) c.args.rows.now c.requires.kept (unseen c.args.rows.now c.args.name.now c.args.seen none) (commits_hosts c.delete_host.result c.delete_host.ensures.ok c.delete_host.ensures.crash) in
+    record { ok = wrote.ok; err = search rules; crash = wrote.crash }
 
-pub returns-in_default-clause-crash : goal.returns-in_default-clause-crash
-returns-in_default-clause-crash g c =
-    let old = state g.S.Store c.args.conn.now in
-    let new = state g.S.Store c.delete_host.new.conn in
-    let from : Hosts → Hosts = λ h. record h { rows = without (λ (r : HostRow). same_bytes r.name c.args.name.now) h.rows } in
-    let to : Hosts → Hosts = λ (h : Hosts). after_store h (Seen c.args.name.now c.args.seen) in
-    let none : has_row c.args.rows.now c.args.name.now ≡ false = search rules in
-    kept_survives from to old new c.args.rows.now c.requires.kept (unseen c.args.rows.now c.args.name.now c.args.seen none) c.delete_host.ensures.crash
-
-pub returns-clause-ok : goal.returns-clause-ok
-returns-clause-ok g c clean =
-    let old = state g.S.Store c.args.conn.now in
-    let new = state g.S.Store c.replace_host.new.conn in
+pub returns : goal.returns
+returns g c =
     let row = c.in-Some.row.now in
-    let from : Hosts → Hosts = λ h. record h { rows = put row_cmp (record { name = c.args.name.now; epoch = row.epoch; seen = c.args.seen; quota = row.quota }) h.rows } in
-    let to : Hosts → Hosts = λ (h : Hosts). after_store h (Seen c.args.name.now c.args.seen) in
-    let first : HasCleanDisk old = omega (arith, clean, c.replace_host.ensures.crash.clean) in
-    let is : row_of c.args.rows.now c.args.name.now ≡ Some row = sym c.in-Some.ensures.value in
-    let rise : IsAscending row_cmp c.args.rows.now.rows = c.hosts-in_order.ensures.in_order.rows in
-    on_then {P = WroteHosts from old new} {Q = WroteHosts to old new} c.replace_host.result (rw (c.epoch.ensures, c.quota.ensures, to_z-of_z w32 c.args.seen c.ranges.seen) at (c.replace_host.ensures.ok clean)) (λ w. kept_wrote from to old new c.args.rows.now c.requires.kept (seen_at c.args.rows.now c.args.name.now rise row is c.args.seen) first w)
-
-pub returns-clause-crash : goal.returns-clause-crash
-returns-clause-crash g c =
-    let old = state g.S.Store c.args.conn.now in
-    let new = state g.S.Store c.replace_host.new.conn in
-    let row = c.in-Some.row.now in
-    let from : Hosts → Hosts = λ h. record h { rows = put row_cmp (record { name = c.args.name.now; epoch = row.epoch; seen = c.args.seen; quota = row.quota }) h.rows } in
-    let to : Hosts → Hosts = λ (h : Hosts). after_store h (Seen c.args.name.now c.args.seen) in
-    let is : row_of c.args.rows.now c.args.name.now ≡ Some row = sym c.in-Some.ensures.value in
-    let rise : IsAscending row_cmp c.args.rows.now.rows = c.hosts-in_order.ensures.in_order.rows in
-    kept_survives from to old new c.args.rows.now c.requires.kept (seen_at c.args.rows.now c.args.name.now rise row is c.args.seen) (rw (c.epoch.ensures, c.quota.ensures, to_z-of_z w32 c.args.seen c.ranges.seen) at c.replace_host.ensures.crash)
+    let new_row : HostRow = record { name = c.args.name.now; epoch = row.epoch; seen = c.args.seen; quota = row.quota } in
+    let same = seen_at c.args.rows.now c.args.name.now c.hosts-in_order.ensures.in_order.rows row (sym c.in-Some.ensures.value) c.args.seen in
+    let replaced : CommitsHosts (with_row new_row) (state g.S.Store c.args.conn.now) (state g.S.Store c.replace_host.new.conn) c.replace_host.result = rw (c.epoch.ensures, c.quota.ensures, to_z-of_z w32 c.args.seen c.ranges.seen) at (commits_hosts c.replace_host.result c.replace_host.ensures.ok c.replace_host.ensures.crash) in
+    let wrote = hosts_as_kept (λ (h : Hosts). after_store h (Seen c.args.name.now c.args.seen)) c.args.rows.now c.requires.kept same replaced in
+    record { ok = wrote.ok; err = search rules; crash = wrote.crash }

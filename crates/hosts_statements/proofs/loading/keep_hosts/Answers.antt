@@ -1,14 +1,12 @@
-use Rattle.std.proofs.Common.{◌≡◌, ◌≤◌, [], false, length, map, refl, sym, ap, subst, ◌∙◌, rules}
+use Rattle.std.proofs.Common.{◌≡◌, ◌≤◌, [], false, length, map, sym, ap, ◌∙◌, rules}
 use Rattle.std.specs.FinMap.{FinMap, entries, empty, insert}
 use Rattle.std.specs.Cmp.Lexicographic.{nat_list_cmp_total}
 use Rattle.definitions.specs.Bytes.{bytes_cmp, put}
 use Rattle.definitions.specs.Hosts.{Hosts, HostRow, row_cmp, has_row}
 use Rattle.hosts_statements.specs.Maps.{Host, host_row}
 use Rattle.hosts_statements.specs.Shown.{host_of}
-use Rattle.hosts_statements.specs.Reading.{KeepsAll}
-use Rattle.hosts_statements.proofs.Lists.{past_end, next_item}
 use Rattle.hosts_statements.proofs.Listed.{bytes_exact, no_host, host_put, none_kept}
-use Rattle.hosts_statements.proofs.Permuted.{keeps_rows}
+use Rattle.hosts_statements.proofs.Kept.{keeps_next, keeps_to_end}
 use Rattle.hosts_statements.proofs.loading.keep_hosts.Goals as goal
 
 pub loop-at-init : goal.loop-at-init
@@ -29,18 +27,11 @@ loop-at-preserved c =
       insert m e.0 e.1,
       c.put_host.ensures ∙ ap (λ (h : Hosts). record h { rows = put row_cmp c.in_ok-host.host h.rows }) kept ∙ ap (λ (x : HostRow). record c.args.kept.now { rows = put row_cmp x (map host_row (entries m)) }) is
           ∙ ap (λ rows. record c.args.kept.now { rows = rows }) (sym (host_put m e.0 e.1)),
-      λ after h. c.loop-at.invariant.2 after (subst (λ xs. KeepsAll host_of m xs after) (sym (next_item c.args.rows.now c.loop-at.at row c.loop-at-test.true c.index-rows-at.is)) (absent, h)),
+      keeps_next host_of c.args.rows.now c.loop-at.at m c.loop-at.invariant.2 row c.loop-at-test.true c.index-rows-at.is absent,
     )
 
-pub returns-clause-ok : goal.returns-clause-ok
-returns-clause-ok c =
+pub returns : goal.returns
+returns c =
     let end : length c.args.rows.now ≤ c.loop-at.at = search rules in
-    let m = c.loop-at.invariant.0 in
-    let all = keeps_rows nat_list_cmp_total bytes_exact host_of c.args.rows.now m (c.loop-at.invariant.2 m (subst (λ xs. KeepsAll host_of m xs m) (sym (past_end c.args.rows.now c.loop-at.at end)) refl)) in
-    c.loop-at.invariant.1 ∙ ap (λ (m : FinMap bytes_cmp Host). record c.args.kept.now { rows = map host_row (entries m) }) all.0
-
-pub returns-clause-apart : goal.returns-clause-apart
-returns-clause-apart c =
-    let end : length c.args.rows.now ≤ c.loop-at.at = search rules in
-    let m = c.loop-at.invariant.0 in
-    (keeps_rows nat_list_cmp_total bytes_exact host_of c.args.rows.now m (c.loop-at.invariant.2 m (subst (λ xs. KeepsAll host_of m xs m) (sym (past_end c.args.rows.now c.loop-at.at end)) refl))).1
+    let all = keeps_to_end host_of c.args.rows.now c.loop-at.at c.loop-at.invariant.0 c.loop-at.invariant.2 nat_list_cmp_total bytes_exact end in
+    record { ok = c.loop-at.invariant.1 ∙ ap (λ (m : FinMap bytes_cmp Host). record c.args.kept.now { rows = map host_row (entries m) }) all.0; apart = all.1 }

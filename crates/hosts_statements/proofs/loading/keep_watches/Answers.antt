@@ -1,14 +1,12 @@
-use Rattle.std.proofs.Common.{◌≡◌, ◌≤◌, [], false, Some, length, map, refl, sym, ap, subst, ◌∙◌, rules}
+use Rattle.std.proofs.Common.{◌≡◌, ◌≤◌, [], false, Some, length, map, sym, ap, ◌∙◌, rules}
 use Rattle.std.specs.FinMap.{FinMap, entries, empty, insert}
 use Rattle.hosts_statements.proofs.Watch.{watch_total, watch_exact}
 use Rattle.definitions.specs.Bytes.{Bytes, is_any, put}
 use Rattle.definitions.specs.Hosts.{Hosts, Watch, watch_cmp, is_watch}
 use Rattle.hosts_statements.specs.Maps.{key_cmp, watch_row}
 use Rattle.hosts_statements.specs.Shown.{watch_of}
-use Rattle.hosts_statements.specs.Reading.{KeepsAll}
-use Rattle.hosts_statements.proofs.Lists.{past_end, next_item}
 use Rattle.hosts_statements.proofs.Listed.{no_watch, watch_put, none_kept}
-use Rattle.hosts_statements.proofs.Permuted.{keeps_rows}
+use Rattle.hosts_statements.proofs.Kept.{keeps_next, keeps_to_end}
 use Rattle.hosts_statements.proofs.loading.keep_watches.Goals as goal
 
 pub loop-at-init : goal.loop-at-init
@@ -29,18 +27,11 @@ loop-at-preserved c =
       insert m e.0 e.1,
       c.put_watch.ensures ∙ ap (λ (h : Hosts). record h { watches = put watch_cmp c.in_ok-watch.watch h.watches }) kept ∙ ap (λ (x : Watch). record c.args.kept.now { watches = put watch_cmp x (map watch_row (entries m)) }) is
           ∙ ap (λ rows. record c.args.kept.now { watches = rows }) (sym (watch_put m e.0 e.1)),
-      λ after h. c.loop-at.invariant.2 after (subst (λ xs. KeepsAll watch_of m xs after) (sym (next_item c.args.rows.now c.loop-at.at row c.loop-at-test.true c.index-rows-at.is)) (absent, h)),
+      keeps_next watch_of c.args.rows.now c.loop-at.at m c.loop-at.invariant.2 row c.loop-at-test.true c.index-rows-at.is absent,
     )
 
-pub returns-clause-ok : goal.returns-clause-ok
-returns-clause-ok c =
+pub returns : goal.returns
+returns c =
     let end : length c.args.rows.now ≤ c.loop-at.at = search rules in
-    let m = c.loop-at.invariant.0 in
-    let all = keeps_rows watch_total watch_exact watch_of c.args.rows.now m (c.loop-at.invariant.2 m (subst (λ xs. KeepsAll watch_of m xs m) (sym (past_end c.args.rows.now c.loop-at.at end)) refl)) in
-    c.loop-at.invariant.1 ∙ ap (λ (m : FinMap key_cmp Bytes). record c.args.kept.now { watches = map watch_row (entries m) }) all.0
-
-pub returns-clause-apart : goal.returns-clause-apart
-returns-clause-apart c =
-    let end : length c.args.rows.now ≤ c.loop-at.at = search rules in
-    let m = c.loop-at.invariant.0 in
-    (keeps_rows watch_total watch_exact watch_of c.args.rows.now m (c.loop-at.invariant.2 m (subst (λ xs. KeepsAll watch_of m xs m) (sym (past_end c.args.rows.now c.loop-at.at end)) refl))).1
+    let all = keeps_to_end watch_of c.args.rows.now c.loop-at.at c.loop-at.invariant.0 c.loop-at.invariant.2 watch_total watch_exact end in
+    record { ok = c.loop-at.invariant.1 ∙ ap (λ (m : FinMap key_cmp Bytes). record c.args.kept.now { watches = map watch_row (entries m) }) all.0; apart = all.1 }

@@ -9,32 +9,32 @@ use Rattle.hosts_statements.specs.Maps.{listed}
 use Rattle.hosts_statements.specs.Reading.{hosts_of_tree, watches_of_tree}
 use Rattle.hosts_statements.proofs.Reading.{all_shown}
 use Rattle.hosts_statements.proofs.loading.load.Goals as goal
+use Rattle.hosts_statements.proofs.loading.load.Goals.{In_ok-read_watches}
+
+-- no read changed what the next one met
+unchanged : (g : _) (c : In_ok-read_watches g) → HasCleanDisk (state g.S.Store c.read_watches.new.conn) → HasCleanDisk (state g.S.Store c.read_own.new.conn) × HasCleanDisk (state g.S.Store c.read_hosts.new.conn)
+    × IsUnchanged (state g.S.Store c.args.conn.now) (state g.S.Store c.read_own.new.conn) × IsUnchanged (state g.S.Store c.read_own.new.conn) (state g.S.Store c.read_hosts.new.conn)
+unchanged g c clean =
+    let late : HasCleanDisk (state g.S.Store c.read_hosts.new.conn) = omega (arith, clean, c.read_watches.ensures.crash.clean) in
+    let early : HasCleanDisk (state g.S.Store c.read_own.new.conn) = omega (arith, late, c.read_hosts.ensures.crash.clean) in
+    (early, late, c.in_ok-own.ensures.same early, c.in_ok-read_hosts.ensures.same late)
 
 pub returns-clause-rows : goal.returns-clause-rows
 returns-clause-rows g c clean =
     let old = state g.S.Store c.args.conn.now in
-    let first = state g.S.Store c.read_own.new.conn in
-    let second = state g.S.Store c.read_hosts.new.conn in
-    let late : HasCleanDisk second = omega (arith, clean, c.read_watches.ensures.crash.clean) in
-    let early : HasCleanDisk first = omega (arith, late, c.read_hosts.ensures.crash.clean) in
-    let one : IsUnchanged old first = c.in_ok-own.ensures.same early in
-    let two : IsUnchanged first second = c.in_ok-read_hosts.ensures.same late in
-    let open_now = one.0.was_open in
-    let own = c.in_ok-own.ensures.state early in
-    let hosts = c.in_ok-read_hosts.ensures.ok late ∙ ap (λ (d : Database). record c.args.kept.now { rows = hosts_of_tree (hosts_of c.args.version d) }) one.0.committed_is in
-    let watches = c.in_ok-read_watches.ensures.ok clean ∙ ap (λ (d : Database). record c.read_hosts.new.kept { watches = watches_of_tree (d.trees 3) }) (two.0.committed_is ∙ one.0.committed_is) in
-    let shown = ap listed (all_shown c.args.version old.committed (c.requires.tables open_now) (c.requires.live open_now).1 (c.in_ok-own.ensures.row early) c.in_ok-own.own own) in
+    let same = unchanged g (goal.at.returns-clause-rows g c).In_ok-read_watches clean in
+    let committed = same.2.0.committed_is in
+    let open_now = same.2.0.was_open in
+    let own = c.in_ok-own.ensures.state same.0 in
+    let hosts = c.in_ok-read_hosts.ensures.ok same.1 ∙ ap (λ (d : Database). record c.args.kept.now { rows = hosts_of_tree (hosts_of c.args.version d) }) committed in
+    let watches = c.in_ok-read_watches.ensures.ok clean ∙ ap (λ (d : Database). record c.read_hosts.new.kept { watches = watches_of_tree (d.trees 3) }) (same.3.0.committed_is ∙ committed) in
+    let shown = ap listed (all_shown c.args.version old.committed (c.requires.tables open_now) (c.requires.live open_now).1 (c.in_ok-own.ensures.row same.0) c.in_ok-own.own own) in
     shown ∙ sym (c.set_own.ensures ∙ ap (λ (h : Hosts). record h { own = c.in_ok-own.own }) (watches ∙ ap (λ (h : Hosts). record h { watches = watches_of_tree (old.committed.trees 3) }) (hosts ∙ ap (λ (h : Hosts). record h { rows = hosts_of_tree (hosts_of c.args.version old.committed) }) c.requires.none)))
 
 pub returns-clause-whole : goal.returns-clause-whole
 returns-clause-whole g c clean =
-    let old = state g.S.Store c.args.conn.now in
-    let first = state g.S.Store c.read_own.new.conn in
-    let second = state g.S.Store c.read_hosts.new.conn in
-    let late : HasCleanDisk second = omega (arith, clean, c.read_watches.ensures.crash.clean) in
-    let early : HasCleanDisk first = omega (arith, late, c.read_hosts.ensures.crash.clean) in
-    let one : IsUnchanged old first = c.in_ok-own.ensures.same early in
-    let two : IsUnchanged first second = c.in_ok-read_hosts.ensures.same late in (
-      (c.requires.tables one.0.was_open, c.in_ok-own.ensures.row early),
-      (subst (λ (d : Database). AreOwn is_host (hosts_of c.args.version d)) one.0.committed_is (c.in_ok-read_hosts.ensures.own late), subst (λ (d : Database). AreOwn is_watched (d.trees 3)) (two.0.committed_is ∙ one.0.committed_is) (c.in_ok-read_watches.ensures.own clean)),
+    let same = unchanged g (goal.at.returns-clause-whole g c).In_ok-read_watches clean in
+    let committed = same.2.0.committed_is in (
+      (c.requires.tables same.2.0.was_open, c.in_ok-own.ensures.row same.0),
+      (subst (λ (d : Database). AreOwn is_host (hosts_of c.args.version d)) committed (c.in_ok-read_hosts.ensures.own same.1), subst (λ (d : Database). AreOwn is_watched (d.trees 3)) (same.3.0.committed_is ∙ committed) (c.in_ok-read_watches.ensures.own clean)),
     )

@@ -1,77 +1,24 @@
-use Rattle.std.proofs.Common.{◌≡◌, true, sym, subst, subst₂, ◌∙◌, arith, rules, IsTrue}
-use Rattle.sqlite_trees.specs.Tree.{Trees}
-use Rattle.sqlite.specs.Effect.{Database}
-use Rattle.sqlite.specs.State.{HasCleanDisk, KeepsCommit, Survives}
-use Rattle.sqlite.specs.Held.{state}
+use Rattle.std.proofs.Common.{◌≡◌, rules, IsTrue}
 use Rattle.sqlite.specs.Values.{bound}
-use Rattle.sqlite.proofs.StateLemmas.{survives_then}
-use Rattle.sqlite.proofs.Callers.{survives_begin}
-use Rattle.hosts_statements.proofs.Steps.{keeps_uncommitted}
-use Rattle.hosts_statements.specs.Wrote.{Committed, HasWorked, MayWork, RanTwo}
+use Rattle.hosts_statements.specs.Wrote.{RanTwo}
+use Rattle.hosts_statements.proofs.Transactions.{Transacts, transacts, work_committed, work_survives, work_undone}
 use Rattle.hosts_statements.proofs.running.run_two.Goals as goal
+use Rattle.hosts_statements.proofs.running.run_two.Goals.{After-branch-commit}
+
+transaction : (g : _) (c : After-branch-commit g) → Transacts g.S.Store (RanTwo c.args.first.now (bound c.args.given.now) c.args.second.now (bound c.args.more.now)) c.args.conn.now c.do_two.new.tx.conn.now c.commit.new.self.0 c.conn-2-1.given.0
+transaction g c =
+    let auto : IsTrue c.is_autocommit.result = search rules in
+    let same : c.commit.new.self.0 ≡ c.conn-2-1.given.0 = search rules in
+    transacts c.transaction-tx.ensures.begun (c.is_autocommit.ensures.settled auto) c.in_ok-do_two.ensures.ok c.do_two.ensures.survives c.commit.ensures.survives same
 
 pub returns-clause-ok : goal.returns-clause-ok
-returns-clause-ok g c clean =
-    let old = c.args.conn.now in
-    let last = c.do_two.new.tx.conn.now in
-    let end = c.commit.new.self.0 in
-    let same : end ≡ c.conn-2-1.given.0 = search rules in
-    let begun = c.transaction-tx.ensures.begun in
-    let auto : IsTrue c.is_autocommit.result = search rules in
-    let W : Database → Database → Type 0 = RanTwo c.args.first.now (bound c.args.given.now) c.args.second.now (bound c.args.more.now) in
-    let late : HasCleanDisk (state g.S.Store end) = search rules in
-    let inner : HasCleanDisk (state g.S.Store last) = omega (arith, late, c.commit.ensures.survives.clean) in
-    let has : HasWorked W (state g.S.Store (record old { in_transaction = true })) (state g.S.Store last) = rw begun at (c.in_ok-do_two.ensures.ok inner (rw begun)) in
-    let settled = c.is_autocommit.ensures.settled auto has.was_open in
-    let done = (c.in_ok-commit.ensures.ok late).1 in
-    subst (λ h. Committed W (state g.S.Store old) (state g.S.Store h)) same (record { was_open = has.was_open; is_open = done.is_open; work = subst₂ W settled (sym done.committed_is) has.work })
+returns-clause-ok g c clean = work_committed (transaction g (goal.at.returns-clause-ok g c).After-branch-commit) clean (λ late. (c.in_ok-commit.ensures.ok late).1)
 
 pub returns-clause-crash : goal.returns-clause-crash
-returns-clause-crash g c =
-    let old = c.args.conn.now in
-    let last = c.do_two.new.tx.conn.now in
-    let end = c.commit.new.self.0 in
-    let same : end ≡ c.conn-2-1.given.0 = search rules in
-    let begun = c.transaction-tx.ensures.begun in
-    let auto : IsTrue c.is_autocommit.result = search rules in
-    let W : Database → Database → Type 0 = RanTwo c.args.first.now (bound c.args.given.now) c.args.second.now (bound c.args.more.now) in
-    let P : Trees → Type 0 = MayWork W (state g.S.Store old) in
-    let whole = survives_then (state g.S.Store old) (state g.S.Store last) (state g.S.Store end) _ _ P (λ _ db none. absurd none) (λ clean db is.
-    let inner : HasCleanDisk (state g.S.Store last) = omega (arith, clean, c.commit.ensures.survives.clean) in
-    let has : HasWorked W (state g.S.Store (record old { in_transaction = true })) (state g.S.Store last) = rw begun at (c.in_ok-do_two.ensures.ok inner (rw begun)) in
-    let settled = c.is_autocommit.ensures.settled auto has.was_open in
-    (has.was_open, (state g.S.Store last).now, sym is, subst (λ d. W d (state g.S.Store last).now) settled has.work)) (survives_begin g.S.Store old (state g.S.Store last) _ (rw begun at c.do_two.ensures.survives)) c.commit.ensures.survives in
-    subst (λ h. Survives (state g.S.Store old) (state g.S.Store h) P) same whole
+returns-clause-crash g c = work_survives (transaction g (goal.at.returns-clause-crash g c).After-branch-commit)
 
 pub returns-in_err-commit-clause-crash : goal.returns-in_err-commit-clause-crash
-returns-in_err-commit-clause-crash g c =
-    let old = c.args.conn.now in
-    let last = c.do_two.new.tx.conn.now in
-    let end = c.commit.new.self.0 in
-    let same : end ≡ c.conn-2-1.given.0 = search rules in
-    let begun = c.transaction-tx.ensures.begun in
-    let auto : IsTrue c.is_autocommit.result = search rules in
-    let W : Database → Database → Type 0 = RanTwo c.args.first.now (bound c.args.given.now) c.args.second.now (bound c.args.more.now) in
-    let P : Trees → Type 0 = MayWork W (state g.S.Store old) in
-    let whole = survives_then (state g.S.Store old) (state g.S.Store last) (state g.S.Store end) _ _ P (λ _ db none. absurd none) (λ clean db is.
-    let inner : HasCleanDisk (state g.S.Store last) = omega (arith, clean, c.commit.ensures.survives.clean) in
-    let has : HasWorked W (state g.S.Store (record old { in_transaction = true })) (state g.S.Store last) = rw begun at (c.in_ok-do_two.ensures.ok inner (rw begun)) in
-    let settled = c.is_autocommit.ensures.settled auto has.was_open in
-    (has.was_open, (state g.S.Store last).now, sym is, subst (λ d. W d (state g.S.Store last).now) settled has.work)) (survives_begin g.S.Store old (state g.S.Store last) _ (rw begun at c.do_two.ensures.survives)) c.commit.ensures.survives in
-    subst (λ h. Survives (state g.S.Store old) (state g.S.Store h) P) same whole
+returns-in_err-commit-clause-crash g c = work_survives (transaction g (goal.at.returns-in_err-commit-clause-crash g c).After-branch-commit)
 
 pub returns-in_err-commit-clause-err : goal.returns-in_err-commit-clause-err
-returns-in_err-commit-clause-err g c clean =
-    let old = c.args.conn.now in
-    let last = c.do_two.new.tx.conn.now in
-    let end = c.commit.new.self.0 in
-    let same : end ≡ c.conn-2-1.given.0 = search rules in
-    let begun = c.transaction-tx.ensures.begun in
-    let W : Database → Database → Type 0 = RanTwo c.args.first.now (bound c.args.given.now) c.args.second.now (bound c.args.more.now) in
-    let late : HasCleanDisk (state g.S.Store end) = search rules in
-    let inner : HasCleanDisk (state g.S.Store last) = omega (arith, late, c.commit.ensures.survives.clean) in
-    let has : HasWorked W (state g.S.Store (record old { in_transaction = true })) (state g.S.Store last) = rw begun at (c.in_ok-do_two.ensures.ok inner (rw begun)) in
-    let failed : KeepsCommit (state g.S.Store last) (state g.S.Store end) = keeps_uncommitted _ _ _ (c.in_err-commit.ensures.err late) in
-    let kept : KeepsCommit (state g.S.Store old) (state g.S.Store end) = record { was_open = λ _. has.was_open; committed = λ h. failed.committed h ∙ has.committed } in
-    let whole = subst (λ h. KeepsCommit (state g.S.Store old) (state g.S.Store h)) same kept in
-    search (rules, whole)
+returns-in_err-commit-clause-err g c clean = let kept = work_undone (transaction g (goal.at.returns-in_err-commit-clause-err g c).After-branch-commit) _ clean c.in_err-commit.ensures.err in search (rules, kept)

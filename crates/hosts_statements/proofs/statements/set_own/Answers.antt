@@ -1,41 +1,17 @@
-use Rattle.std.proofs.Common.{pos, arith, [], ◌∷◌}
+use Rattle.std.proofs.Common.{pos, [], ◌∷◌, refl, rules}
 use Rattle.sqlite_value.specs.declared.value.Value.TheVariants.{Int}
-use Rattle.sqlite.specs.Effect.{Database}
-use Rattle.sqlite.specs.State.{HasCleanDisk}
 use Rattle.sqlite.specs.Held.{state}
-use Rattle.sqlite.proofs.StateLemmas.{survives_weaker}
 use Rattle.definitions.specs.Hosts.{Hosts}
 use Rattle.hosts_statements.specs.Maps.{with_own}
 use Rattle.hosts_statements.specs.Tables.{set_own_text}
-use Rattle.hosts_statements.specs.Wrote.{Committed, MayWork, Ran, WroteHosts, MayWriteHosts}
-use Rattle.hosts_statements.proofs.Permuted.{on_then}
+use Rattle.hosts_statements.specs.Wrote.{Ran}
 use Rattle.hosts_statements.proofs.Update.{made_own}
-use Rattle.hosts_statements.proofs.Listed.{wrote, may_write}
-use Rattle.std.proofs.Common.{refl}
+use Rattle.hosts_statements.proofs.Commits.{CommitsWork, commits_work, hosts_by_work}
 use Rattle.hosts_statements.proofs.statements.set_own.Goals as goal
 
-pub returns-clause-ok : goal.returns-clause-ok
-returns-clause-ok g c clean =
+pub returns : goal.returns
+returns g c =
     let old = state g.S.Store c.args.conn.now in
-    let new = state g.S.Store c.run_one.new.conn in
-    let W : Database → Database → Type 0 = Ran set_own_text (Int (pos c.args.own) ∷ []) in
-    let first : HasCleanDisk old = omega (arith, clean, c.run_one.ensures.crash.clean) in
-    on_then {P = Committed W old new} {Q = WroteHosts (λ (h : Hosts). record h { own = c.args.own }) old new} c.run_one.result (rw (c.params-to_sql.ensures) at (c.run_one.ensures.ok clean)) (λ done.
-    let whole = c.requires first done.was_open in
-    let open_now = done.was_open in
-    let to = new.committed in
-    let work = done.work in
-    wrote (with_own c.args.own) (λ (h : Hosts). record h { own = c.args.own }) W old new done (made_own c.args.own old.committed to whole work) (refl))
-
-pub returns-clause-crash : goal.returns-clause-crash
-returns-clause-crash g c =
-    let old = state g.S.Store c.args.conn.now in
-    let new = state g.S.Store c.run_one.new.conn in
-    let W : Database → Database → Type 0 = Ran set_own_text (Int (pos c.args.own) ∷ []) in
-    survives_weaker old new (MayWork W old) (MayWriteHosts (λ (h : Hosts). record h { own = c.args.own }) old) (λ clean db may.
-    let first : HasCleanDisk old = omega (arith, clean, c.run_one.ensures.crash.clean) in
-    let whole = c.requires first may.0 in
-    let open_now = may.0 in
-    let to = may.1 in
-    let work = may.3 in
-    may_write (with_own c.args.own) (λ (h : Hosts). record h { own = c.args.own }) W old db may (made_own c.args.own old.committed to whole work) (refl)) (rw (c.params-to_sql.ensures) at c.run_one.ensures.crash)
+    let ran : CommitsWork (Ran set_own_text (Int (pos c.args.own) ∷ [])) old (state g.S.Store c.run_one.new.conn) c.run_one.result = rw (c.params-to_sql.ensures) at (commits_work c.run_one.result c.run_one.ensures.ok c.run_one.ensures.crash) in
+    let wrote = hosts_by_work (with_own c.args.own) (λ (h : Hosts). record h { own = c.args.own }) (λ clean is_open to work. (made_own c.args.own old.committed to (c.requires clean is_open) work, refl)) ran in
+    record { ok = wrote.ok; err = search rules; crash = wrote.crash }

@@ -1,21 +1,10 @@
-use Rattle.std.proofs.Common.{w32, ◌≡◌, sym, ap, ◌∙◌, arith}
+use Rattle.std.proofs.Common.{w32, sym, ◌∙◌}
 use Rattle.std.proofs.lemmas.Int.{to_z-of_z}
-use Rattle.definitions.specs.Hosts.{Hosts, Monitor, after_store}
-use Rattle.sqlite_trees.specs.Tree.{Trees}
-use Rattle.sqlite.specs.State.{HasCleanDisk}
-use Rattle.sqlite.specs.Held.{state}
-use Rattle.hosts_statements.specs.Maps.{listed}
-use Rattle.hosts_statements.specs.Shown.{shown}
-use Rattle.hosts_statements.specs.Wrote.{WroteHosts}
-use Rattle.hosts_statements.proofs.Permuted.{gave}
+use Rattle.definitions.specs.Hosts.{Monitor, after_store}
+use Rattle.hosts_statements.proofs.Commits.{commits_hosts}
+use Rattle.hosts_sql.proofs.AsKept.{left_is}
 use Rattle.hosts_sql.proofs.store.SqlHostsHostStore.monitor.Goals as goal
 
 pub returns-clause-crash : goal.returns-clause-crash
 returns-clause-crash g c left may =
-    let old = c.args.self.now.conn in
-    let new = c.insert_host.new.conn in
-    let change : Hosts → Hosts = λ h. after_store h (Monitor c.args.name.now c.args.state) in
-    let wrote : WroteHosts change (state g.S.Store old) (state g.S.Store new) = gave c.insert_host.result (sym c.is_err.ensures.value ∙ c.if-is_err.false) (rw (to_z-of_z w32 c.args.state c.ranges.state) at (c.insert_host.ensures.ok may.0)) in
-    let same : may.1 ≡ (state g.S.Store new).committed.trees = g.met.S.Store.settled new.store may.1 wrote.is_open may.2 in
-    let early : HasCleanDisk (state g.S.Store old) = omega (arith, may.0, c.insert_host.ensures.crash.clean) in
-    sym may.3 ∙ ap (λ (db : Trees). listed (shown db)) same ∙ wrote.rows ∙ ap change (c.args.self.now.kept early wrote.was_open)
+    left_is (λ h. after_store h (Monitor c.args.name.now c.args.state)) c.args.self.now.rows left c.args.self.now.kept (g.met.S.Store.settled c.insert_host.new.conn.store) (sym c.is_err.ensures.value ∙ c.if-is_err.false) (rw (to_z-of_z w32 c.args.state c.ranges.state) at (commits_hosts c.insert_host.result c.insert_host.ensures.ok c.insert_host.ensures.crash)) may

@@ -1,21 +1,10 @@
-use Rattle.std.proofs.Common.{◌≡◌, sym, ap, ◌∙◌, arith}
+use Rattle.std.proofs.Common.{sym, ◌∙◌}
 use Rattle.std.specs.Option.{option_copied}
-use Rattle.definitions.specs.Hosts.{Hosts, Unwatched, after_store}
-use Rattle.sqlite_trees.specs.Tree.{Trees}
-use Rattle.sqlite.specs.State.{HasCleanDisk}
-use Rattle.sqlite.specs.Held.{state}
-use Rattle.hosts_statements.specs.Maps.{listed}
-use Rattle.hosts_statements.specs.Shown.{shown}
-use Rattle.hosts_statements.specs.Wrote.{WroteHosts}
-use Rattle.hosts_statements.proofs.Permuted.{gave}
+use Rattle.definitions.specs.Hosts.{Unwatched, after_store}
+use Rattle.hosts_statements.proofs.Commits.{commits_hosts}
+use Rattle.hosts_sql.proofs.AsKept.{left_is}
 use Rattle.hosts_sql.proofs.store.SqlHostsHostStore.unwatch.Goals as goal
 
 pub returns-clause-crash : goal.returns-clause-crash
 returns-clause-crash g c left may =
-    let old = c.args.self.now.conn in
-    let new = c.write_unwatch.new.conn in
-    let change : Hosts → Hosts = λ h. after_store h (Unwatched (option_copied c.args.mon_name) c.args.my_id.now) in
-    let wrote : WroteHosts change (state g.S.Store old) (state g.S.Store new) = gave c.write_unwatch.result (sym c.is_err.ensures.value ∙ c.if-is_err.false) (c.write_unwatch.ensures.ok may.0) in
-    let same : may.1 ≡ (state g.S.Store new).committed.trees = g.met.S.Store.settled new.store may.1 wrote.is_open may.2 in
-    let early : HasCleanDisk (state g.S.Store old) = omega (arith, may.0, c.write_unwatch.ensures.crash.clean) in
-    sym may.3 ∙ ap (λ (db : Trees). listed (shown db)) same ∙ wrote.rows ∙ ap change (c.args.self.now.kept early wrote.was_open)
+    left_is (λ h. after_store h (Unwatched (option_copied c.args.mon_name) c.args.my_id.now)) c.args.self.now.rows left c.args.self.now.kept (g.met.S.Store.settled c.write_unwatch.new.conn.store) (sym c.is_err.ensures.value ∙ c.if-is_err.false) (commits_hosts c.write_unwatch.result c.write_unwatch.ensures.ok c.write_unwatch.ensures.crash) may
