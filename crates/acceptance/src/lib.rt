@@ -12,8 +12,6 @@ mod events;
 #[cfg(test)]
 mod growths;
 #[cfg(test)]
-mod lent;
-#[cfg(test)]
 mod limits;
 #[cfg(test)]
 mod lines;

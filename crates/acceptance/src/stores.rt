@@ -1,9 +1,9 @@
 //! Stores that refuse, and stores that are lent: which rows they hold, and how often they are asked.
-use crate::lent::Lent;
 use crate::rows::{REFUSED_HOST, SHARE_CONFLICT};
 use crate::servers::{PIECE, all_hosts, database, memory, wrong_in_sql, wrong_over};
 use crate::state::are_rows;
 use hosts_db::HostStore;
+use hosts_lent::Lent;
 use std::alloc::Global;
 use std::test::*;
 
@@ -116,12 +116,7 @@ const BOTH_HOSTS: &[&str] = &[
 // What a server over the store that is lent to it plays wrong, and how often it asks the store.
 fn played<S: HostStore>(alloc: Global, store: &mut S, lines: &[&str]) -> (Option<usize>, usize) {
     let mut writes = 0;
-    let writer = &mut writes;
-    let lent = Lent {
-        store,
-        writes: writer,
-    };
-    let wrong = wrong_over(alloc, lent, PIECE, lines);
+    let wrong = wrong_over(alloc, Lent::new(store, &mut writes), PIECE, lines);
     (wrong, writes)
 }
 

@@ -6,6 +6,7 @@ use crate::stops::{Stop, Trial, after_crash, are_met, stopping};
 use crate::visits::{Work, visit_files};
 use daemon_core::Daemon;
 use hosts_db::HostStore;
+use hosts_lent::Lent;
 use range_table::RangeTable;
 use sqlite::Files;
 use sqlite_disk::{Fuse, Memory};
@@ -23,7 +24,8 @@ struct Play<'a> {
 
 impl Work for Play<'_> {
     fn work<S: HostStore>(&mut self, store: &mut S) {
-        self.done = match opened(self.alloc, store) {
+        let mut writes = 0;
+        self.done = match opened(self.alloc, Lent::new(store, &mut writes)) {
             Some(mut daemon) => played(self.alloc, &mut daemon, self.script),
             None => None,
         };
@@ -83,7 +85,8 @@ impl Work for Anew<'_> {
         if !self.has_rows(store) {
             return;
         }
-        if let Some(mut daemon) = opened(self.alloc, store) {
+        let mut writes = 0;
+        if let Some(mut daemon) = opened(self.alloc, Lent::new(store, &mut writes)) {
             self.is_so = self.begins(&mut daemon);
         }
     }

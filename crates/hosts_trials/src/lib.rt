@@ -11,8 +11,6 @@ mod daemons;
 #[cfg(test)]
 mod growths;
 #[cfg(test)]
-mod lent;
-#[cfg(test)]
 mod messages;
 #[cfg(test)]
 mod pairs;

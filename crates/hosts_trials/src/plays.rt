@@ -6,11 +6,11 @@
 //! - `2 lock-a`: this record comes, and is answered (`messages`).
 //! - `send`: the server's own call that is due is sent. `answer 1 agreed`: it is answered.
 //! - `local quota 61 5`: a local program's line.
-use crate::lent::Lent;
 use crate::messages::message;
 use callbacks::ShortBytes;
 use daemon_core::{Addressee, Daemon, Event, Outputs, Peer, StoreAnswer};
 use hosts_db::HostStore;
+use hosts_lent::Lent;
 use range_table::{FlatTable, RangeTable};
 use std::alloc::Global;
 use std::fmt::Write;
@@ -53,16 +53,16 @@ pub(crate) fn are_rows_after(script: &str, most: usize, rows: &str) -> bool {
     is_so
 }
 
-/// A daemon over a store that is lent to it.
-pub(crate) fn opened<S: HostStore>(
+/// A daemon over a store that is lent.
+pub(crate) fn opened<'a, S: HostStore>(
     alloc: Global,
-    store: &mut S,
-) -> Option<Daemon<FlatTable, Lent<'_, S>>> {
+    lent: Lent<'a, S>,
+) -> Option<Daemon<FlatTable, Lent<'a, S>>> {
     let name = ShortBytes::copy_of(alloc, b"server").ok()?;
     let Ok(table) = FlatTable::new(alloc) else {
         return None;
     };
-    Daemon::new(alloc, table, Lent { store }, name).ok()
+    Daemon::new(alloc, table, lent, name).ok()
 }
 
 // The event of a line. None where it can't be read.

@@ -1,10 +1,24 @@
 //! A store that is lent to a server, so that its rows can be read when the server is gone, and how often it was asked to write.
+#![tactic(auto)]
+
+ghost use Rattle.std.specs.Prelude.{◌≡◌};
+
 use hosts_db::{HostRow, HostStore, MyId, StoreError, Watch};
 
+/// A store that stays its owner's, and a count that grows by one with each call that may write a row, up to the last number.
 #[derive(Drop)]
-pub(crate) struct Lent<'a, S: HostStore> {
-    pub(crate) store: &'a mut S,
-    pub(crate) writes: &'a mut usize,
+pub struct Lent<'a, S: HostStore> {
+    store: &'a mut S,
+    writes: &'a mut usize,
+}
+
+impl<'a, S: HostStore> Lent<'a, S> {
+    pub fn new(store: &'a mut S, writes: &'a mut usize) -> Lent<'a, S>
+        ensures rows { ⟦<Lent<'a, S> as HostStore>⟧.rows result ≡ S.rows store.old }
+        ensures refusals { ⟦<Lent<'a, S> as HostStore>⟧.refusals result ≡ S.refusals store.old }
+    {
+        Lent { store, writes }
+    }
 }
 
 impl<'a, S: HostStore> HostStore for Lent<'a, S> {
