@@ -65,6 +65,7 @@ fn with_grace<'a>(alloc: Global, command: Command<'a>) -> Result<Command<'a>, Al
     ensures { IfOk result (λ r. app_of r ≡ with_grace (app_of command.entry)) }
 {
     let grace = flag(alloc, "grace", "Begin in the grace period, and stay in it");
+    let command = command.arg(grace)?;
     let name = defaulted(
         alloc,
         "name",
@@ -72,26 +73,28 @@ fn with_grace<'a>(alloc: Global, command: Command<'a>) -> Result<Command<'a>, Al
         "server",
         "The server's own name, 1 to 1,024 bytes",
     );
+    let command = command.arg(name)?;
     let db = value(
         alloc,
         "db",
         "FILE",
         "The file of stored hosts; without it they are in memory",
     );
-    command.arg(grace)?.arg(name)?.arg(db)
+    command.arg(db)
 }
 
 fn with_own_ports<'a>(alloc: Global, command: Command<'a>) -> Result<Command<'a>, AllocError>
     ensures { IfOk result (λ r. app_of r ≡ with_own_ports (app_of command.entry)) }
 {
     let port = needed(alloc, "port", "N", "The port for calls by record");
+    let command = command.arg(port)?;
     let local = needed(
         alloc,
         "local-port",
         "N",
         "The port for local programs, on loopback alone",
     );
-    command.arg(port)?.arg(local)
+    command.arg(local)
 }
 
 fn with_peer_ports<'a>(alloc: Global, command: Command<'a>) -> Result<Command<'a>, AllocError>
@@ -103,31 +106,35 @@ fn with_peer_ports<'a>(alloc: Global, command: Command<'a>) -> Result<Command<'a
         "N",
         "The peers' port for program 100021",
     );
+    let command = command.arg(nlm)?;
     let nsm = needed(
         alloc,
         "peer-nsm-port",
         "N",
         "The peers' port for program 100024",
     );
+    let command = command.arg(nsm)?;
     let watch = needed(
         alloc,
         "watch-port",
         "N",
         "The peers' port for other programs",
     );
-    command.arg(nlm)?.arg(nsm)?.arg(watch)
+    command.arg(watch)
 }
 
 fn with_places<'a>(alloc: Global, command: Command<'a>) -> Result<Command<'a>, AllocError>
     ensures { IfOk result (λ r. app_of r ≡ with_places (app_of command.entry)) }
 {
     let db = needed(alloc, "db", "FILE", "The file of stored hosts");
+    let command = command.arg(db)?;
     let peers = needed(
         alloc,
         "peers",
         "FILE",
         "The file of peers: lines of a name, a space and an IP address",
     );
+    let command = command.arg(peers)?;
     let name = defaulted(
         alloc,
         "name",
@@ -135,6 +142,7 @@ fn with_places<'a>(alloc: Global, command: Command<'a>) -> Result<Command<'a>, A
         "server",
         "The server's own name, 1 to 1,024 bytes",
     );
+    let command = command.arg(name)?;
     let bind = defaulted(
         alloc,
         "bind",
@@ -142,7 +150,7 @@ fn with_places<'a>(alloc: Global, command: Command<'a>) -> Result<Command<'a>, A
         "0.0.0.0",
         "The IP address at which calls by record come in",
     );
-    command.arg(db)?.arg(peers)?.arg(name)?.arg(bind)
+    command.arg(bind)
 }
 
 fn with_times<'a>(alloc: Global, command: Command<'a>) -> Result<Command<'a>, AllocError>
@@ -155,6 +163,7 @@ fn with_times<'a>(alloc: Global, command: Command<'a>) -> Result<Command<'a>, Al
         "45",
         "How long clients may reclaim after a start, 1 to 86400",
     );
+    let command = command.arg(grace)?;
     let silence = defaulted(
         alloc,
         "silence-seconds",
@@ -162,6 +171,7 @@ fn with_times<'a>(alloc: Global, command: Command<'a>) -> Result<Command<'a>, Al
         "5",
         "How long an answer is waited for, 1 to 86400",
     );
+    let command = command.arg(silence)?;
     let idle = defaulted(
         alloc,
         "idle-seconds",
@@ -169,7 +179,7 @@ fn with_times<'a>(alloc: Global, command: Command<'a>) -> Result<Command<'a>, Al
         "600",
         "How long a connection may be silent, 1 to 86400",
     );
-    command.arg(grace)?.arg(silence)?.arg(idle)
+    command.arg(idle)
 }
 
 fn with_work<'a>(alloc: Global, command: Command<'a>) -> Result<Command<'a>, AllocError>
@@ -182,8 +192,9 @@ fn with_work<'a>(alloc: Global, command: Command<'a>) -> Result<Command<'a>, All
         "4",
         "How many workers serve, 1 to 16",
     );
+    let command = command.arg(workers)?;
     let audit = flag(alloc, "audit", "Check the journal at the end");
-    command.arg(workers)?.arg(audit)
+    command.arg(audit)
 }
 
 /// `lockd pipe`.
@@ -224,24 +235,24 @@ pub(crate) fn serve_command<'a>(alloc: Global) -> Result<Command<'a>, AllocError
 
 /// `lockd` alone, which answers help, the version, and words that begin with no command.
 pub(crate) fn lockd_command<'a>(alloc: Global) -> Result<Command<'a>, AllocError> {
+    let command = Command::new(alloc, "lockd")
+        .about("The lock manager and status monitor of an NFS server")
+        .version(VERSION)
+        .no_binary_name(true)
+        .subcommand_required(true)
+        .disable_help_subcommand(true);
     let pipe = bare(
         alloc,
         "pipe",
         "Serve one record-marked stream on standard input",
     );
+    let command = command.subcommand(pipe)?;
     let table = bare(
         alloc,
         "table",
         "Serve the same, and print nothing but the locks at its end",
     );
+    let command = command.subcommand(table)?;
     let serve = bare(alloc, "serve", "Serve over TCP");
-    Command::new(alloc, "lockd")
-        .about("The lock manager and status monitor of an NFS server")
-        .version(VERSION)
-        .no_binary_name(true)
-        .subcommand_required(true)
-        .disable_help_subcommand(true)
-        .subcommand(pipe)?
-        .subcommand(table)?
-        .subcommand(serve)
+    command.subcommand(serve)
 }

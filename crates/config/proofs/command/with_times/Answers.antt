@@ -5,6 +5,6 @@ use Rattle.config.proofs.command.with_times.Goals as goal
 
 pub returns : goal.returns
 returns c =
-    let first = c.in_ok-arg.ensures.shape c.defaulted-grace.ensures.local ∙ ap (λ (r : Rule). with_rule (app_of c.args.command) r) c.defaulted-grace.ensures.rule in
-    let second = c.in_ok-arg-2.ensures.shape c.defaulted-silence.ensures.local ∙ ap₂ with_rule first c.defaulted-silence.ensures.rule in
+    let first = c.in_ok-command.ensures.shape c.defaulted-grace.ensures.local ∙ ap (λ (r : Rule). with_rule (app_of c.args.command) r) c.defaulted-grace.ensures.rule in
+    let second = c.in_ok-command-2.ensures.shape c.defaulted-silence.ensures.local ∙ ap₂ with_rule first c.defaulted-silence.ensures.rule in
     IfOk-weaker c.arg-3.result _ _ (λ made added. added.shape c.defaulted-idle.ensures.local ∙ ap₂ with_rule second c.defaulted-idle.ensures.rule) c.arg-3.ensures
