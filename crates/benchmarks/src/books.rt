@@ -1,19 +1,21 @@
 //! The book, in the midst of runs that are held: `test`, or `lock`: a LOCK and its UNLOCK. The answer is how many calls were
 //! granted.
+ghost use Rattle.std.specs.Prelude.{◌≡◌, []};
+
 use crate::asked::{Asked, Procedure, is_granted};
 use anyhow::{Result, anyhow};
 use book::{Book, BookEvent, Peer, Segment, Upshot};
 use bytes::Bytes;
 use callbacks::ShortBytes;
 use hosts_db::{HostStore, MemHosts};
-use range_arena::ArenaTable;
 use range_table::RangeTable;
 use std::alloc::Global;
 use xdr_core::Frame;
 
-fn opened(alloc: Global) -> Option<Book<ArenaTable, MemHosts>> {
+fn opened<T: RangeTable + Drop>(alloc: Global, table: T) -> Option<Book<T, MemHosts>>
+    requires { T.settings table ≡ [] }
+{
     let store = MemHosts::new(alloc, 0, Vec::new(alloc), Vec::new(alloc)).ok()?;
-    let table = ArenaTable::new(alloc).ok()?;
     let name = ShortBytes::copy_of(alloc, b"server").ok()?;
     Book::new(alloc, table, store, name).ok()
 }
@@ -97,13 +99,21 @@ fn run<T: RangeTable, S: HostStore>(
     Ok(granted)
 }
 
-/// So often, with so many runs over so many files.
-pub(crate) fn answered(alloc: Global, what: &str, held: (u32, u32), rounds: u32) -> Result<u32> {
+/// So often, with so many runs over so many files, over a table without runs.
+pub(crate) fn answered<T: RangeTable + Drop>(
+    alloc: Global,
+    table: T,
+    what: &str,
+    held: (u32, u32),
+    rounds: u32,
+) -> Result<u32>
+    requires { T.settings table ≡ [] }
+{
     let procedures: &[Procedure] = match what {
         "test" => &[Procedure::Test],
         _ => &[Procedure::Lock, Procedure::Unlock],
     };
-    let Some(mut book) = opened(alloc) else {
+    let Some(mut book) = opened(alloc, table) else {
         return Err(anyhow!("no memory"));
     };
     let granted = run(alloc, &mut book, procedures, held, rounds);

@@ -5,7 +5,8 @@
 //!   size and a number of rounds: the table of ranges and its owners; with the word `flat` in front, the flat table;
 //! - `change` or `come`, with `-none`, `-each` or `-one`, a size and a number of rounds: waiters;
 //! - `kept`, a size and a number of rounds: kept replies;
-//! - `book test` or `book lock`, a number of files, of runs that are held over them, and of rounds: the book;
+//! - `book test` or `book lock`, a number of files, of runs that are held over them, and of rounds: the book; with the word
+//!   `flat` in front, over the flat table;
 //! - `daemon null` or `daemon mixed`, and a number of calls: the daemon;
 //! - `growths`: no number but what a daemon sends in a script of events, the same whichever of its growths is refused.
 #![tactic(auto)]
@@ -29,7 +30,13 @@ fn done(alloc: Global, words: &[&str]) -> Result<u32> {
         ["daemon", what, calls] => daemons::answered(alloc, what, calls.parse()?),
         ["book", what, files, runs, rounds] => {
             let held = (files.parse()?, runs.parse()?);
-            books::answered(alloc, what, held, rounds.parse()?)
+            let table = ArenaTable::new(alloc)?;
+            books::answered(alloc, table, what, held, rounds.parse()?)
+        }
+        ["flat", "book", what, files, runs, rounds] => {
+            let held = (files.parse()?, runs.parse()?);
+            let table = FlatTable::new(alloc)?;
+            books::answered(alloc, table, what, held, rounds.parse()?)
         }
         ["kept", count, rounds] => replies::kept(alloc, count.parse()?, rounds.parse()?),
         [what, count, rounds] if what.starts_with("change") || what.starts_with("come") => {
