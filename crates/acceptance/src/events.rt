@@ -2,7 +2,7 @@
 use crate::messages::put_message;
 use crate::page::{CONNECTION, LOCAL, Page, read_xid};
 use crate::words::read_number;
-use daemon_core::{Event, Peer};
+use daemon_core::{Event, Peer, Posting};
 
 impl<'a> Page<'a> {
     /// The bytes of the stream, in pieces.
@@ -87,7 +87,7 @@ impl<'a> Page<'a> {
             "local" => self.local(rest),
             "sends" => self.sends(rest),
             "sends-line" => self.sends_line(rest),
-            "quiet" => Some(Event::Send),
+            "quiet" => self.send(),
             "answer" => self.answer(rest, usize::MAX),
             "answer-cut" => self.answer(rest, 3),
             "silent" => silent(rest),
@@ -123,12 +123,17 @@ impl<'a> Page<'a> {
         let (xid, call) = behind.split_once(" ")?;
         self.whom = whom;
         put_message(&mut self.told, read_xid(xid)?, call)?;
-        Some(Event::Send)
+        self.send()
     }
 
     fn sends_line(&mut self, line: &str) -> Option<Event> {
         self.put_line(line)?;
-        Some(Event::Send)
+        self.send()
+    }
+
+    fn send(&self) -> Option<Event> {
+        let posting = Box::new(self.alloc, Posting::new()).ok()?;
+        Some(Event::Send { posting })
     }
 
     // The xid and the answer, of which at most so many bytes come. It has no mark.

@@ -70,11 +70,11 @@ impl<'a> Page<'a> {
         self.is_theirs && self.refusal.is_none() && self.sent.as_slice() == self.told.as_slice()
     }
 
-    fn is_for(&self, to: &Addressee) -> bool {
+    fn is_for(&self, to: Addressee<'_>) -> bool {
         match to {
-            Addressee::Client(number) => *number == CONNECTION && self.whom == "client",
-            Addressee::Local(number) => *number == LOCAL && self.whom == "local",
-            Addressee::Host(name) => name.as_slice() == self.whom.as_bytes(),
+            Addressee::Client(number) => number == CONNECTION && self.whom == "client",
+            Addressee::Local(number) => number == LOCAL && self.whom == "local",
+            Addressee::Host(name) => name == self.whom.as_bytes(),
         }
     }
 

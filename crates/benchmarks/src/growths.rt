@@ -5,7 +5,7 @@
 //! The program's own memory is got before the daemon is made. Where that is refused the program ends in an error.
 use crate::daemons::opened;
 use anyhow::{Result, anyhow};
-use daemon_core::{Addressee, Daemon, Event, Outcome, Outputs, Peer};
+use daemon_core::{Addressee, Daemon, Event, Outcome, Outputs, Peer, Posting};
 use hosts_db::HostStore;
 use range_table::RangeTable;
 use std::alloc::Global;
@@ -77,13 +77,13 @@ impl Page {
         })
     }
 
-    fn put_whom(&mut self, to: &Addressee) -> Result<()> {
+    fn put_whom(&mut self, to: Addressee<'_>) -> Result<()> {
         match to {
             Addressee::Client(number) => write!(self.told, "client {number} ")?,
             Addressee::Local(number) => write!(self.told, "local {number} ")?,
             Addressee::Host(name) => {
                 self.told.push_str("host ")?;
-                put_hex(&mut self.told, name.as_slice())?;
+                put_hex(&mut self.told, name)?;
                 self.told.push_str(" ")?;
             }
         }
@@ -258,10 +258,16 @@ impl Steps {
             ("connect", _) => self.put_twice(connect(), connect()),
             ("call", record) => self.put_call(record),
             ("line", text) => self.put_line(text),
-            ("send", _) => self.put_twice(Event::Send, Event::Send),
+            ("send", _) => self.put_twice(send(self.alloc)?, send(self.alloc)?),
             (other, _) => Err(anyhow!("no event is named {other}")),
         }
     }
+}
+
+fn send(alloc: Global) -> Result<Event> {
+    Ok(Event::Send {
+        posting: Box::new(alloc, Posting::new())?,
+    })
 }
 
 fn script(alloc: Global) -> Result<Vec<Step>> {

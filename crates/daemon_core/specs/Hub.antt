@@ -131,13 +131,17 @@ pub record Happens (tell : Outcome → StoreAnswer → Given → Outputs) (event
   pub links : new.links ≡ links_after event out.store old.links
   pub outputs : out ≡ tell out.outcome out.store given
 
+-- the call that is due first is sent, if one is
+abbrev pub SendStep : Hub → Outputs → Hub → Type 0
+SendStep = Happens told_call SendsNext
+
 -- one event
 abbrev pub HubStep : Hub → Event → Outputs → Hub → Type 0
 HubStep old (Connect number peer) out new = Connects (place_of number old.links) out.outcome number peer old out new
 HubStep old (Piece number bytes) out new = Pieces (place_of number old.links) bytes.items old out new
 HubStep old (Disconnect number) out new = Disconnects (place_of number old.links) old out new
 HubStep old (Take number i) out new = TakesAt (place_of number old.links) i old out new
-HubStep old Send out new = Happens told_call SendsNext old out new
+HubStep old (Send posting) out new = SendStep old out new
 HubStep old (Answer bytes) out new = Happens told (HearsAnswer bytes.items) old out new
 HubStep old (Local l line) out new = Happens (told_line l) (AsksLine l line.items) old out new
 HubStep old (Silent number) out new = Happens told (FallsSilent number) old out new

@@ -1,5 +1,5 @@
 -- What became of an event, as the definitions have it.
-use Rattle.std.specs.Prelude.{◌≡◌, IsSome}
+use Rattle.std.specs.Prelude.{IsSome}
 use Rattle.definitions.specs.Outgoing.{next_due}
 use Rattle.definitions.specs.Step.{State, Doing, Applied, Starved}
 use Rattle.book.specs.declared.upshot.Doing.{Doing as Became}

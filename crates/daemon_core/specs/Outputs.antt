@@ -13,6 +13,8 @@ use Rattle.book.specs.Given.{Upshot, comes_to, record_of}
 use Rattle.daemon_core.specs.Sending.{Sending, ToClient, ToLocal, addressee, gets_records}
 use Rattle.daemon_core.specs.declared.outputs.Outputs.{Outputs}
 use Rattle.daemon_core.specs.declared.event.Refusal.{Refusal}
+use Rattle.daemon_core.specs.declared.posted.Posted.{Posted}
+use Rattle.daemon_core.specs.declared.posted.Posted.TheVariants as posted
 
 abbrev pub heard : Option Refusal → Outputs
 heard refusal = record { outcome = Applied; store = NotAsked; sent = None; refusal = refusal }
@@ -86,6 +88,12 @@ told_line l outcome store given = record { outcome = outcome; store = store; sen
 -- of a record that came on a connection
 abbrev pub told_to : ℕ → Outcome → StoreAnswer → Given → Outputs
 told_to number outcome store given = record { outcome = outcome; store = store; sent = reply_to number given; refusal = refusal_of given }
+
+-- of a sending to the place in which this stands now
+abbrev pub told_posted : Posted → Sending → Outputs
+told_posted posted.Nothing posting = quiet
+told_posted posted.NoSegment posting = unnoted
+told_posted posted.Sent posting = record { outcome = Applied; store = NotAsked; sent = Some posting; refusal = None }
 
 -- the bytes that are sent: a record as one fragment, and a line as it is
 abbrev pub bytes_sent : Option Sending → List ℕ

@@ -1,16 +1,16 @@
 //! The connections of a daemon, the state that they share, and what they are answered.
 
 ghost use Rattle.std.specs.Prelude.{◌≡◌, [], IfOk, OnErr};
-ghost use Rattle.book.specs.Notes.{SendsNext, HearsAnswer, AsksLine, FallsSilent, GraceEnds, BeginsAnew};
-ghost use Rattle.daemon_core.specs.Outputs.{told, told_call, told_line};
-ghost use Rattle.daemon_core.specs.Hub.{Hub, opening, place_of, Connects, Disconnects, Pieces, TakesAt, Happens, Waits, HubStep, Run};
+ghost use Rattle.book.specs.Notes.{HearsAnswer, AsksLine, FallsSilent, GraceEnds, BeginsAnew};
+ghost use Rattle.daemon_core.specs.Outputs.{told, told_line, told_posted};
+ghost use Rattle.daemon_core.specs.Hub.{Hub, opening, place_of, Connects, Disconnects, Pieces, TakesAt, Happens, Waits, SendStep, HubStep, Run};
 
 use crate::connection::Connection;
 use crate::event::Event;
 use crate::noted::{has_room, note};
-use crate::outputs::{
-    Outputs, make_quiet, make_sent, make_starved, make_unnoted, tell, tell_line, tell_to,
-};
+use crate::outputs::{Outputs, make_quiet, make_starved, tell, tell_line, tell_posted, tell_to};
+use crate::posted::Posted;
+use crate::posting::Posting;
 use book::{Book, BookEvent, StoreAnswer};
 use callbacks::ShortBytes;
 use held_locks::Locks;
@@ -107,21 +107,6 @@ impl<R: RangeTable, S: HostStore> Daemon<R, S> {
         tell_to(number, outcome, upshot)
     }
 
-    fn send(&mut self) -> Outputs
-        ensures { Happens told_call SendsNext self.old result self.new }
-    {
-        if !self.book.has_due() {
-            return make_quiet();
-        }
-        if !has_room(self.alloc, &mut self.book) {
-            return make_unnoted();
-        }
-        let Some((_, to, frame)) = self.book.next_call() else {
-            return make_quiet();
-        };
-        make_sent(to, frame)
-    }
-
     fn answer(&mut self, bytes: Vec<u8>) -> Outputs
         ensures { Happens told (HearsAnswer bytes.items) self.old result self.new }
     {
@@ -200,6 +185,24 @@ impl<R: RangeTable, S: HostStore> Daemon<R, S> {
         }
     }
 
+    /// The step of a `Send` to this place, which stays the caller's. It takes no memory but for a fresh segment of the journal.
+    #[inline(never)]
+    pub fn send(&mut self, posting: &mut Posting) -> Posted
+        ensures { SendStep self.old (told_posted result posting.new) self.new }
+    {
+        if !self.book.has_due() {
+            return Posted::Nothing;
+        }
+        if !has_room(self.alloc, &mut self.book) {
+            return Posted::NoSegment;
+        }
+        let Some((_, to, frame)) = self.book.next_call() else {
+            return Posted::Nothing;
+        };
+        posting.fill(to, frame);
+        Posted::Sent
+    }
+
     /// One event, and what comes of it.
     pub fn step(&mut self, event: Event) -> Outputs
         ensures { HubStep self.old event result self.new }
@@ -209,7 +212,10 @@ impl<R: RangeTable, S: HostStore> Daemon<R, S> {
             Event::Piece { connection, bytes } => self.receive(connection, &bytes),
             Event::Disconnect { connection } => self.disconnect(connection),
             Event::Take { connection, index } => self.take(connection, index),
-            Event::Send => self.send(),
+            Event::Send { mut posting } => {
+                let posted = self.send(&mut posting);
+                tell_posted(posted, posting)
+            }
             Event::Answer { bytes } => self.answer(bytes),
             Event::Local { connection, line } => self.local(connection, line),
             Event::Silent { number } => self.silent(number),

@@ -1,5 +1,6 @@
 //! What may happen.
 
+use crate::posting::Posting;
 use kept_replies::Peer;
 use thiserror::Error;
 
@@ -16,8 +17,8 @@ pub enum Event {
     Disconnect { connection: u64 },
     /// The record at this place among its whole records that were not yet taken is answered.
     Take { connection: u64, index: usize },
-    /// The server's own call that became due first is sent, if one is due.
-    Send,
+    /// The server's own call that became due first is sent, if one is due. It is written to this place, whatever stood there.
+    Send { posting: Box<Posting> },
     /// An answer came to one of the server's own calls. One that belongs to none changes nothing.
     Answer { bytes: Vec<u8> },
     /// A local program's line, without its line feed, on its connection of this number. It is answered there.

@@ -9,6 +9,8 @@ mod noted;
 mod outcome;
 mod output;
 mod outputs;
+mod posted;
+mod posting;
 mod sent;
 
 pub use crate::connection::Connection;
@@ -20,7 +22,9 @@ pub use crate::law::{
 };
 pub use crate::outcome::Outcome;
 pub use crate::outputs::Outputs;
+pub use crate::posted::Posted;
+pub use crate::posting::Posting;
 pub use crate::sent::{Addressee, Sent};
-pub use book::{HostName, StoreAnswer};
+pub use book::StoreAnswer;
 pub use kept_replies::Peer;
 pub use written::WriteFault;

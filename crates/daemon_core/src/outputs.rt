@@ -1,19 +1,16 @@
 //! What comes of an event.
 
-ghost use Rattle.std.specs.Prelude.{◌≡◌, Some, None};
-ghost use Rattle.call_records.specs.Dests.{dest_of};
+ghost use Rattle.std.specs.Prelude.{◌≡◌};
 ghost use Rattle.call_plans.specs.Planned.{view_of_stored};
-ghost use Rattle.daemon_core.specs.declared.outcome.Outcome.TheVariants.{Applied};
-ghost use Rattle.call_plans.specs.declared.plans.StoreAnswer.TheVariants.{NotAsked};
-ghost use Rattle.daemon_core.specs.Sending.{addressee};
 ghost use Rattle.book.specs.Given.{view_of_reply};
-ghost use Rattle.daemon_core.specs.Outputs.{quiet, starved, unnoted, heard, refusal_of, reply_to, line_to, told, told_line, told_to};
+ghost use Rattle.daemon_core.specs.Outputs.{quiet, starved, unnoted, heard, refusal_of, reply_to, line_to, told, told_line, told_posted, told_to};
 
 use crate::event::Refusal;
 use crate::outcome::Outcome;
+use crate::posted::Posted;
+use crate::posting::Posting;
 use crate::sent::Sent;
-use book::{Dest, Reply, StoreAnswer, Upshot};
-use xdr_core::Frame;
+use book::{Reply, StoreAnswer, Upshot};
 
 /// What comes of an event: what became of it, what the store answered it, what is sent, and the refusal of an event that
 /// has nobody to answer.
@@ -110,15 +107,19 @@ pub(crate) fn tell_line(connection: u64, outcome: Outcome, upshot: Upshot) -> Ou
     }
 }
 
-/// A call of the server's own was sent.
-pub(crate) fn make_sent(to: Dest, frame: Frame) -> Outputs
-    ensures { result ≡ record { outcome = Applied; store = NotAsked; sent = Some (record { to = addressee (dest_of to); bytes = frame }); refusal = None } }
+/// Of a sending to this place.
+pub(crate) fn tell_posted(posted: Posted, posting: Box<Posting>) -> Outputs
+    ensures { result ≡ told_posted posted posting.value }
 {
-    Outputs {
-        outcome: Outcome::Applied,
-        store: StoreAnswer::NotAsked,
-        sent: Some(Sent::call(to, frame)),
-        refusal: None,
+    match posted {
+        Posted::Nothing => make_quiet(),
+        Posted::NoSegment => make_unnoted(),
+        Posted::Sent => Outputs {
+            outcome: Outcome::Applied,
+            store: StoreAnswer::NotAsked,
+            sent: Some(Sent::call(posting)),
+            refusal: None,
+        },
     }
 }
 

@@ -8,7 +8,7 @@
 //! - `local quota 61 5`: a local program's line.
 use crate::messages::message;
 use callbacks::ShortBytes;
-use daemon_core::{Addressee, Daemon, Event, Outputs, Peer, StoreAnswer};
+use daemon_core::{Addressee, Daemon, Event, Outputs, Peer, Posting, StoreAnswer};
 use hosts_db::HostStore;
 use hosts_lent::Lent;
 use range_table::{FlatTable, RangeTable};
@@ -65,6 +65,11 @@ pub(crate) fn opened<'a, S: HostStore>(
     Daemon::new(alloc, table, lent, name).ok()
 }
 
+fn send(alloc: Global) -> Option<Event> {
+    let posting = Box::new(alloc, Posting::new()).ok()?;
+    Some(Event::Send { posting })
+}
+
 // The event of a line. None where it can't be read.
 fn event_of(alloc: Global, event: &str) -> Option<Event> {
     let (verb, rest) = event.split_once(" ").unwrap_or((event, ""));
@@ -75,7 +80,7 @@ fn event_of(alloc: Global, event: &str) -> Option<Event> {
             connection: CONNECTION,
             peer: Peer::PIPE,
         }),
-        "send" => Some(Event::Send),
+        "send" => send(alloc),
         "answer" => Some(Event::Answer {
             bytes: message(alloc, rest)?,
         }),
@@ -154,7 +159,7 @@ fn is_notice<T: RangeTable, S: HostStore>(
     daemon: &mut Daemon<T, S>,
     at: usize,
 ) -> Option<bool> {
-    let outputs = daemon.step(Event::Send);
+    let outputs = daemon.step(send(alloc)?);
     let mut text = String::new(alloc);
     write!(
         text,
@@ -166,7 +171,7 @@ fn is_notice<T: RangeTable, S: HostStore>(
     let is_notice = is_sent(alloc, &outputs, &text)?;
     let host = daemon.store().hosts().get(at)?;
     match outputs.sent.as_ref()?.to() {
-        Addressee::Host(name) => Some(is_notice && name.as_slice() == host.name()),
+        Addressee::Host(name) => Some(is_notice && name == host.name()),
         _ => None,
     }
 }
@@ -181,5 +186,8 @@ pub(crate) fn notifies<T: RangeTable, S: HostStore>(
             return false;
         }
     }
-    daemon.step(Event::Send).sent.is_none()
+    match send(alloc) {
+        None => false,
+        Some(event) => daemon.step(event).sent.is_none(),
+    }
 }

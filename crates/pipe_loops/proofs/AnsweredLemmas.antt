@@ -4,12 +4,12 @@ use Rattle.std.specs.Prelude.{is_some, IsSome, Result, Ok, Err}
 use Rattle.std.specs.Io.KnownBytes.{Appends}
 use Rattle.std.proofs.lemmas.Grind.{flat_map-append}
 use Rattle.std.proofs.lemmas.List.{append-nil}
-use Rattle.daemon_core.specs.declared.event.Event.TheVariants.{Take, Send}
+use Rattle.daemon_core.specs.declared.event.Event.TheVariants.{Take}
 use Rattle.daemon_core.specs.declared.event.Refusal.{Refusal}
 use Rattle.daemon_core.specs.declared.outputs.Outputs.{Outputs}
 use Rattle.daemon_core.specs.Sending.{Sending}
 use Rattle.daemon_core.specs.Outputs.{bytes_sent}
-use Rattle.daemon_core.specs.Hub.{Hub, HubStep, all_bytes_sent}
+use Rattle.daemon_core.specs.Hub.{Hub, HubStep, SendStep, all_bytes_sent}
 use Rattle.pipe_loops.specs.declared.fault.Fault.{Fault}
 use Rattle.pipe_loops.specs.FaultOf.{fault_of}
 use Rattle.written.specs.Written.{WroteFront}
@@ -24,7 +24,7 @@ Sends-append : (old mid new : Hub) (calls more : List Outputs) → Sends old cal
 Sends-append old mid new [] more h k = subst (λ (x : Hub). Sends x more new) h k
 Sends-append old mid new (c ∷ calls) more h k = (h.0, h.1, h.2, Sends-append h.0 mid new calls more h.3 k)
 
-module _ (old new : Hub) (before : Option (List ℕ)) (out : Outputs) (step : HubStep old Send out new) where
+module _ (old new : Hub) (before : Option (List ℕ)) (out : Outputs) (step : SendStep old out new) where
   pub send-starved : (r : Refusal) → out.refusal ≡ Some r → SendsSome (fault_of r) old new before before
   send-starved r met =
       let s = starves old new out step r met in
@@ -39,7 +39,7 @@ module _ (old new : Hub) (before : Option (List ℕ)) (out : Outputs) (step : Hu
   }
 
 module _ (old mid new : Hub) (before between after : Option (List ℕ)) (calls : List Outputs) (sends : Sends old calls mid) (wrote : Appends before between (all_bytes_sent calls)) where
-  pub due-more : (call : Outputs) × HubStep mid Send call new × IsSome call.sent × Appends between after (bytes_sent call.sent) → (more : List Outputs) × Sends old more new × Appends before after (all_bytes_sent more)
+  pub due-more : (call : Outputs) × SendStep mid call new × IsSome call.sent × Appends between after (bytes_sent call.sent) → (more : List Outputs) × Sends old more new × Appends before after (all_bytes_sent more)
   due-more s = (
     calls ++ s.0 ∷ [],
     Sends-append old mid new calls (s.0 ∷ []) sends (new, s.1, s.2, refl),
@@ -62,7 +62,7 @@ module _ (old mid new : Hub) (before between after : Option (List ℕ)) (calls :
     breaks = Breaks-after fault s.mid new before between after calls s.calls wrote s.breaks;
   }
 
-pub nothing-due : (old new : Hub) (out : Outputs) → HubStep old Send out new → out.refusal ≡ None → is_some out.sent ≡ false → (new ≡ old) × NothingDue new
+pub nothing-due : (old new : Hub) (out : Outputs) → SendStep old out new → out.refusal ≡ None → is_some out.sent ≡ false → (new ≡ old) × NothingDue new
 nothing-due old new out step agreed none = finds_none old new out step (absent out.sent none) agreed
   where
     absent : (s : Option Sending) → is_some s ≡ false → s ≡ None

@@ -8,7 +8,6 @@ use Rattle.book.specs.Given.{comes_to}
 use Rattle.book.specs.Notes.{IsStep}
 use Rattle.call_plans.specs.Planned.{view_of_stored, counted}
 use Rattle.call_plans.specs.declared.plans.StoreAnswer.{StoreAnswer as Answered}
-use Rattle.daemon_core.specs.declared.event.Event.TheVariants.{Send as Sending}
 use Rattle.daemon_core.specs.declared.event.Refusal.{Refusal}
 use Rattle.daemon_core.specs.declared.outcome.Outcome.{Outcome}
 use Rattle.daemon_core.specs.declared.outcome.Outcome.TheVariants as outcome
@@ -16,7 +15,7 @@ use Rattle.daemon_core.specs.Outcomes.{view_of_outcome}
 use Rattle.daemon_core.specs.declared.outputs.Outputs.{Outputs}
 use Rattle.daemon_core.specs.Sending.{Sending as Sent}
 use Rattle.daemon_core.specs.Outputs.{sent_on, refusal_of}
-use Rattle.daemon_core.specs.Hub.{Hub, HubStep}
+use Rattle.daemon_core.specs.Hub.{Hub, SendStep}
 use Rattle.pipe_loops.specs.Answered.{NothingDue, SendStarves}
 
 -- how many calls are due
@@ -70,7 +69,7 @@ unsegmented outcome.NoSegment e fed = refl
 asked-none : (store : Answered) (refusals : ℕ) → view_of_stored store ≡ NotAsked → counted (view_of_stored store) refusals ≡ refusals
 asked-none store refusals e = ap (λ (a : StoreAnswer). counted a refusals) e
 
-module _ (old new : Hub) (out : Outputs) (step : HubStep old Sending out new) where
+module _ (old new : Hub) (out : Outputs) (step : SendStep old out new) where
   gave_here : Gave old.state (view_of_outcome out.outcome) (view_of_stored out.store) step.given new.state
   gave_here =
       let P : Event → Type 0 = λ e. IsStep old.state e (comes_to (view_of_outcome out.outcome) (view_of_stored out.store) step.given) new.state in

@@ -1,12 +1,12 @@
 -- A record's reply, and the server's own calls that are sent behind it.
-use Rattle.std.specs.Prelude.{◌≡◌, ℕ, Bool, true, false, List, [], ◌∷◌, flat_map, IsSome, Option, Some, None, Result, Ok, Err}
+use Rattle.std.specs.Prelude.{◌≡◌, ℕ, Bool, true, false, List, [], ◌∷◌, flat_map, IsSome, Option, None, Result, Ok, Err}
 use Rattle.std.specs.Io.KnownBytes.{Appends}
 use Rattle.definitions.specs.Outgoing.{next_due}
-use Rattle.daemon_core.specs.declared.event.Event.TheVariants.{Take, Send}
+use Rattle.daemon_core.specs.declared.event.Event.TheVariants.{Take}
 use Rattle.daemon_core.specs.declared.outcome.Outcome.TheVariants.{NoSegment}
 use Rattle.daemon_core.specs.declared.outputs.Outputs.{Outputs}
 use Rattle.daemon_core.specs.Outputs.{bytes_sent}
-use Rattle.daemon_core.specs.Hub.{Hub, HubStep, all_bytes_sent}
+use Rattle.daemon_core.specs.Hub.{Hub, HubStep, SendStep, all_bytes_sent}
 use Rattle.pipe_loops.specs.declared.fault.Fault.{Fault}
 use Rattle.pipe_loops.specs.declared.fault.Fault.TheVariants.{Starved, RecordTooLong, StoreRefused, ReadFault, WriteFault}
 use Rattle.written.specs.Written.{WroteFront}
@@ -18,7 +18,7 @@ NothingDue hub = next_due hub.state.world.calls ≡ None
 -- calls of the server's own are sent, each the one that is due first then
 abbrev pub Sends : Hub → List Outputs → Hub → Type 0
 Sends old [] new = new ≡ old
-Sends old (call ∷ calls) new = (mid : Hub) × HubStep old Send call mid × IsSome call.sent × Sends mid calls new
+Sends old (call ∷ calls) new = (mid : Hub) × SendStep old call mid × IsSome call.sent × Sends mid calls new
 
 -- the oldest record that was not taken is answered, and then every call that is due is sent
 pub record AnswersRecord (old : Hub) (outs : List Outputs) (new : Hub) : Type 0 where
@@ -51,7 +51,7 @@ in_order answers = flat_map (λ (outs : List Outputs). outs) answers
 -- a call is due, and there is no segment for the entry of its sending
 pub record SendStarves (old new : Hub) : Type 0 where
   pub out : Outputs
-  pub step : HubStep old Send out new
+  pub step : SendStep old out new
   pub met : out.outcome ≡ NoSegment
 
 -- what ends it while this was sent: a write fails, and a front of what was sent is written; or there is no segment for the entry of the next sending, and all is
@@ -78,7 +78,7 @@ pub record SendsSome (fault : Fault) (old new : Hub) (before after : Option (Lis
 
 -- one call, where one is due
 abbrev pub SendsNext : Result Bool Fault → Hub → Hub → Option (List ℕ) → Option (List ℕ) → Type 0
-SendsNext (Ok true) old new before after = (call : Outputs) × HubStep old Send call new × IsSome call.sent × Appends before after (bytes_sent call.sent)
+SendsNext (Ok true) old new before after = (call : Outputs) × SendStep old call new × IsSome call.sent × Appends before after (bytes_sent call.sent)
 SendsNext (Ok false) old new before after = (new ≡ old) × NothingDue new × (after ≡ before)
 SendsNext (Err fault) old new before after = SendsSome fault old new before after
 

@@ -11,7 +11,7 @@ ghost use Rattle.pipe_loops.specs.Pipe.{beginning, AnswersWaiting, TurnEnds, IsS
 use crate::fault::{FailedRead, Fault};
 use crate::output::write_outputs;
 use crate::server::Server;
-use daemon_core::{Daemon, Event, Peer};
+use daemon_core::{Daemon, Event, Peer, Posted, Posting};
 use hosts_db::HostStore;
 use owner_ids::Starved;
 use range_table::RangeTable;
@@ -45,35 +45,37 @@ fn read_piece<R: Read>(reader: &mut R, place: &mut [u8]) -> Result<usize, Failed
 /// Sends the call of the server's own that is due first. Whether there was one.
 fn send_next<T: RangeTable, S: HostStore, W: Write>(
     daemon: &mut Daemon<T, S>,
+    posting: &mut Posting,
     writer: &mut W,
 ) -> Result<bool, Fault>
     ensures { SendsNext result daemon.old daemon.new (W.contents writer.old) (W.contents writer.new) }
 {
-    let outputs = daemon.step(Event::Send);
-    if let Some(refusal) = outputs.refusal {
-        return Err(Fault::from(refusal));
+    match daemon.send(posting) {
+        Posted::Nothing => Ok(false),
+        Posted::NoSegment => Err(Fault::Starved),
+        Posted::Sent => {
+            posting.write(writer)?;
+            Ok(true)
+        }
     }
-    if outputs.sent.is_none() {
-        return Ok(false);
-    }
-    write_outputs(writer, &outputs)?;
-    Ok(true)
 }
 
 /// Sends every call of the server's own that is due, in order.
 fn send_due<T: RangeTable, S: HostStore, W: Write>(
     daemon: &mut Daemon<T, S>,
+    posting: &mut Posting,
     writer: &mut W,
 ) -> Result<(), Fault>
     ensures { SendsDue result daemon.old daemon.new (W.contents writer.old) (W.contents writer.new) }
 {
-    while send_next(daemon, writer)? {}
+    while send_next(daemon, posting, writer)? {}
     Ok(())
 }
 
 /// Answers the oldest whole record, and sends every call that is due then.
 fn answer_next<T: RangeTable, S: HostStore, W: Write>(
     daemon: &mut Daemon<T, S>,
+    posting: &mut Posting,
     writer: &mut W,
 ) -> Result<(), Fault>
     ensures { AnswersNext result daemon.old daemon.new (W.contents writer.old) (W.contents writer.new) }
@@ -84,18 +86,19 @@ fn answer_next<T: RangeTable, S: HostStore, W: Write>(
     });
     write_outputs(writer, &outputs)?;
     drop(outputs);
-    send_due(daemon, writer)
+    send_due(daemon, posting, writer)
 }
 
 /// Answers each record that is whole, in order, with the calls that are due behind it.
 fn answer_waiting<T: RangeTable, S: HostStore, W: Write>(
     daemon: &mut Daemon<T, S>,
+    posting: &mut Posting,
     writer: &mut W,
 ) -> Result<(), Fault>
     ensures { AnswersWaiting result daemon.old daemon.new (W.contents writer.old) (W.contents writer.new) }
 {
     for _answered in 0..daemon.waiting(CONNECTION) {
-        answer_next(daemon, writer)?;
+        answer_next(daemon, posting, writer)?;
     }
     Ok(())
 }
@@ -104,6 +107,7 @@ fn answer_waiting<T: RangeTable, S: HostStore, W: Write>(
 /// the answers to the records before it.
 fn turn<T: RangeTable, S: HostStore, W: Write>(
     daemon: &mut Daemon<T, S>,
+    posting: &mut Posting,
     writer: &mut W,
     piece: &[u8],
 ) -> Result<(), Fault>
@@ -113,7 +117,7 @@ fn turn<T: RangeTable, S: HostStore, W: Write>(
     let heard = daemon.receive(CONNECTION, piece);
     let refused = heard.refusal;
     drop(heard);
-    let answered = answer_waiting(daemon, writer);
+    let answered = answer_waiting(daemon, posting, writer);
     // What was sent before a fault goes out, too.
     let flushed = writer.flush();
     answered?;
@@ -138,13 +142,14 @@ fn answer_pieces<T: RangeTable, S: HostStore, R: Read, W: Write>(
 {
     // The place is got first, so that no byte is lost.
     let mut place = make_place(alloc)?;
+    let mut posting = Posting::new();
     for _turn in 0..bound {
         let piece = place.as_mut_slice();
         let count = read_piece(reader, piece)?;
         if count == 0 {
             return Ok(());
         }
-        turn(daemon, writer, &piece[..count])?;
+        turn(daemon, &mut posting, writer, &piece[..count])?;
     }
     Err(Fault::ReadFault)
 }

@@ -57,7 +57,7 @@ moved old new (Connect number peer) out h = connects (place_of number old.links)
 moved old new (Piece number v) out h = IsStill (pieces (place_of number old.links) v.items old new out h)
 moved old new (Disconnect number) out h = IsStill (disconnects (place_of number old.links) old new out h)
 moved old new (Take number i) out h = takes (place_of number old.links) i old new out h
-moved old new Send out h = IsStep _ _ h.step
+moved old new (Send posting) out h = IsStep _ _ h.step
 moved old new (Answer bytes) out h = IsStep _ _ h.step
 moved old new (Local l line) out h = IsStep _ _ h.step
 moved old new (Silent number) out h = IsStep _ _ h.step
@@ -122,7 +122,7 @@ module _ (list : List Setting) where
   step_under old new (Piece number v) out h grace under honest = still_under old.state new.state (pieces (place_of number old.links) v.items old new out h) under
   step_under old new (Disconnect number) out h grace under honest = still_under old.state new.state (disconnects (place_of number old.links) old new out h) under
   step_under old new (Take number i) out h grace under honest = takes_under (place_of number old.links) number i old new out h grace under honest
-  step_under old new Send out h grace under honest = stays_under list old.state new.state _ _ h.step grace under (no_reclaim h.step.said said.Send h.step.reads (λ r k. k))
+  step_under old new (Send posting) out h grace under honest = stays_under list old.state new.state _ _ h.step grace under (no_reclaim h.step.said said.Send h.step.reads (λ r k. k))
   step_under old new (Answer bytes) out h grace under honest = stays_under list old.state new.state _ _ h.step grace under (no_reclaim h.step.said (said.Answer h.step.reads.0) h.step.reads.2 (λ r k. k))
   step_under old new (Local l line) out h grace under honest = stays_under list old.state new.state _ _ h.step grace under (no_reclaim h.step.said (said.Local l h.step.reads.0) h.step.reads.2 (λ r k. k))
   step_under old new (Silent number) out h grace under honest = stays_under list old.state new.state _ _ h.step grace under (no_reclaim h.step.said (said.Silent number) h.step.reads (λ r k. k))
