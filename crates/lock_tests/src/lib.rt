@@ -11,6 +11,8 @@ mod owners;
 #[cfg(test)]
 mod ranges;
 #[cfg(test)]
+mod row;
+#[cfg(test)]
 mod tiers;
 #[cfg(test)]
 mod waits;

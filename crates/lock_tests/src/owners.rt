@@ -1,57 +1,161 @@
-//! Owners and the numbers that they have.
-use crate::owner::remote;
-use owner_ids::{Host, HostOf, OneOwner, Owner, OwnerOrder, Owners};
-use std::test::Fail;
+//! Owners and the numbers that they have. The numbers that rows ask for have places, from 0 on. A row is a line:
+//!
+//! - `intern p42`: the owner gets a number, which has the next place.
+//! - `release 0`: the number at this place is used no longer.
+//! - `same 3 0`, `differ 1 2`: whether the numbers at two places are the same.
+//! - `is d7 2`: the number at this place is this owner's.
+//! - `behind 0 1`: the number at the first place stands behind that at the second, and as itself.
+//! - `host a 3`, `one 3 1`: so many of the numbers are of the host's owners, or are that at a place.
+//! - `nobody a 1000`: no owner of the host has this number.
+use crate::owner::{intern, read_owner};
+use crate::row::{Case, Row, wrong_in};
+use owner_ids::{Host, HostOf, OneOwner, OwnerId, OwnerOrder, Owners};
+use std::alloc::Global;
+use std::test::*;
 
-#[test]
-fn an_owner_has_one_number(rt: HostRuntime) -> Result<(), Fail> {
-    let mut owners = Owners::new(rt.alloc());
-    let a = remote(rt.alloc(), b"a", 7, b"A")?;
-    let first = owners.intern(&a)?;
-    let second = owners.intern(&Owner::Process(42))?;
-    let third = owners.intern(&Owner::Description(7_000_000_000))?;
-    assert!(rt; first != second && second != third && third != first);
-    assert_eq!(rt; owners.intern(&a)?, first);
-    assert!(rt; *owners.get(third) == Owner::Description(7_000_000_000));
-    Ok(())
+#[derive(Drop)]
+struct Play {
+    alloc: Global,
+    owners: Owners,
+    numbers: Vec<OwnerId>,
 }
 
-#[test]
-fn a_number_goes_with_its_owner(rt: HostRuntime) -> Result<(), Fail> {
-    let mut owners = Owners::new(rt.alloc());
-    let b = remote(rt.alloc(), b"b", -8, b"B")?;
-    let first = owners.intern(&b)?;
-    owners.release(first);
-    let second = owners.intern(&Owner::Process(42))?;
-    let third = owners.intern(&b)?;
-    assert!(rt; second != third);
-    assert!(rt; *owners.get(third) == b);
-    Ok(())
+fn count<H: Host>(numbers: &[OwnerId], host: &H) -> usize {
+    numbers.iter().filter(|number| host.has(**number)).count()
 }
 
-#[test]
-fn numbers_stand_as_their_owners(rt: HostRuntime) -> Result<(), Fail> {
-    let mut owners = Owners::new(rt.alloc());
-    let in_order = [
-        owners.intern(&Owner::Description(1))?,
-        owners.intern(&Owner::Process(2))?,
-        owners.intern(&remote(rt.alloc(), b"b", -1, b"")?)?,
-        owners.intern(&remote(rt.alloc(), b"a", 5, b"B")?)?,
-        owners.intern(&remote(rt.alloc(), b"a", 5, b"A")?)?,
-        owners.intern(&remote(rt.alloc(), b"a", -5, b"C")?)?,
-    ];
-    for i in 0..5 {
-        assert!(rt; owners.compare(in_order[i + 1], in_order[i]).is_lt());
-        assert!(rt; owners.compare(in_order[i], in_order[i + 1]).is_gt());
-        assert!(rt; owners.compare(in_order[i], in_order[i]).is_eq());
+impl Play {
+    fn number(&self, place: u64) -> Option<OwnerId> {
+        self.numbers.get(usize::try_from(place).ok()?).copied()
     }
-    let host = HostOf {
-        owners: &owners,
-        name: b"a",
+
+    fn intern(&mut self, who: &str) -> Option<bool> {
+        let number = intern(self.alloc, &mut self.owners, who)?;
+        self.numbers.push(number).ok()?;
+        Some(true)
+    }
+
+    fn release(&mut self, number: OwnerId) -> bool {
+        let is_used = self.owners.find(number).is_some();
+        if is_used {
+            self.owners.release(number);
+        }
+        is_used
+    }
+
+    fn is_of(&self, number: OwnerId, who: &str) -> Option<bool> {
+        let owner = read_owner(self.alloc, who)?;
+        Some(self.owners.find(number).is_some() && *self.owners.get(number) == owner)
+    }
+
+    fn is_behind(&self, last: OwnerId, first: OwnerId) -> bool {
+        self.owners.compare(first, last).is_lt()
+            && self.owners.compare(last, first).is_gt()
+            && self.owners.compare(last, last).is_eq()
+    }
+
+    fn host<'a>(&'a self, name: &'a str) -> HostOf<'a> {
+        HostOf {
+            owners: &self.owners,
+            name: name.as_bytes(),
+        }
+    }
+}
+
+impl Play {
+    fn compares(&self, verb: &str, first: OwnerId, second: OwnerId) -> Option<bool> {
+        match verb {
+            "same" => Some(first == second),
+            "differ" => Some(first != second),
+            "behind" => Some(self.is_behind(first, second)),
+            _ => None,
+        }
+    }
+
+    // What a number does, or is.
+    fn goes_of(&mut self, number: OwnerId, row: &Row<'_>) -> Option<bool> {
+        match row.verb {
+            "release" => Some(self.release(number)),
+            "is" => self.is_of(number, row.who),
+            "one" => {
+                let one = OneOwner { owner: number };
+                Some(count(&self.numbers, &one) as u64 == row.numbers[1])
+            }
+            _ => self.compares(row.verb, number, self.number(row.numbers[1])?),
+        }
+    }
+}
+
+impl Case for Play {
+    fn goes(&mut self, row: &Row<'_>) -> Option<bool> {
+        let [first, ..] = row.numbers;
+        match row.verb {
+            "intern" => self.intern(row.who),
+            "host" => Some(count(&self.numbers, &self.host(row.who)) as u64 == first),
+            "nobody" => Some(!self.host(row.who).has(u32::try_from(first).ok()?)),
+            _ => self.goes_of(self.number(first)?, row),
+        }
+    }
+}
+
+fn wrong(alloc: Global, rows: &[&str]) -> Option<usize> {
+    let play = Play {
+        alloc,
+        owners: Owners::new(alloc),
+        numbers: Vec::new(alloc),
     };
-    let one = OneOwner { owner: in_order[3] };
-    assert_eq!(rt; in_order.iter().filter(|n| host.has(**n)).count(), 3);
-    assert_eq!(rt; in_order.iter().filter(|n| one.has(**n)).count(), 1);
-    assert!(rt; !host.has(1000));
-    Ok(())
+    wrong_in(Some(play), rows)
+}
+
+const AN_OWNER_HAS_ONE_NUMBER: &[&str] = &[
+    "intern a/7/A",
+    "intern p42",
+    "intern d7000000000",
+    "differ 0 1",
+    "differ 1 2",
+    "differ 2 0",
+    "intern a/7/A",
+    "same 3 0",
+    "is d7000000000 2",
+];
+
+#[test]
+fn an_owner_has_one_number(rt: HostRuntime) {
+    assert_eq!(rt; wrong(rt.alloc(), AN_OWNER_HAS_ONE_NUMBER), None);
+}
+
+const A_NUMBER_GOES_WITH_ITS_OWNER: &[&str] = &[
+    "intern b/-8/B",
+    "release 0",
+    "intern p42",
+    "intern b/-8/B",
+    "differ 1 2",
+    "is b/-8/B 2",
+];
+
+#[test]
+fn a_number_goes_with_its_owner(rt: HostRuntime) {
+    assert_eq!(rt; wrong(rt.alloc(), A_NUMBER_GOES_WITH_ITS_OWNER), None);
+}
+
+const NUMBERS_STAND_AS_THEIR_OWNERS: &[&str] = &[
+    "intern d1",
+    "intern p2",
+    "intern b/-1/",
+    "intern a/5/B",
+    "intern a/5/A",
+    "intern a/-5/C",
+    "behind 0 1",
+    "behind 1 2",
+    "behind 2 3",
+    "behind 3 4",
+    "behind 4 5",
+    "host a 3",
+    "one 3 1",
+    "nobody a 1000",
+];
+
+#[test]
+fn numbers_stand_as_their_owners(rt: HostRuntime) {
+    assert_eq!(rt; wrong(rt.alloc(), NUMBERS_STAND_AS_THEIR_OWNERS), None);
 }

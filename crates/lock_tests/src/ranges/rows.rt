@@ -1,110 +1,113 @@
-//! What clients and processes ask, and what the table answers.
-use super::table::{Held, of};
-use owner_ids::{Owner, OwnerId, Owners};
-use range_owners::{clear, holds_nothing, intern, release, set};
-use range_table::{FlatTable, Mode};
-use std::test::Fail;
+//! What clients and processes ask, and what the table answers. A row is a line:
+//!
+//! - `owner p42`: the owner gets a number, which the rows below need.
+//! - `set p42 write 0 9`: it has set the bytes 0 to 9 to `write`, `read` or `none`. `refused p42 none 1 1`: it has not, since
+//!   the table is full. `refuses p42 none 1 1`: it would not.
+//! - `meets b/8/B 0 9 = p42 3 5`: in the way of its write lock on the bytes 0 to 9, the first lock is that of `p42` on the bytes
+//!   3 to 5. `passes b/8/B 0 9`: none is.
+//! - `makes a/7/A write 0 9 = 2`: then host `a` would have two runs.
+//! - `fill a/7/A`: it sets each second byte from the byte 4 on, until the table is full.
+//! - `close p42`: it closes the file. `clear`: nobody holds anything.
+//! - `idle p42`: it holds nothing. `leaves p42`, `stays p42`: its number goes out of use, or may not.
+//! - `used 2`, `host a 1`: so many runs there are, or are of the host. `run 0 0 2`: the run 0 is of the bytes 0 to 2.
+use super::table::wrong;
+use std::test::*;
 
-const END: u64 = 9_223_372_036_854_775_807;
-
-const WRITE: Option<Mode> = Some(Mode::Exclusive);
-
-#[test]
-fn test_after_lock(rt: HostRuntime) -> Result<(), Fail> {
-    let mut held = Held::new(rt.alloc())?;
-    let a = held.client(rt.alloc(), b"a", 7, b"A")?;
-    let b = held.client(rt.alloc(), b"b", 8, b"B")?;
-    assert!(rt; held.set(a, 0, 9, WRITE));
-    assert!(rt; held.in_the_way(b, 0, END) == Some((a, 0, 9)));
-    assert!(rt; held.set(a, 3, 5, None));
-    assert!(rt; held.in_the_way(b, 0, END) == Some((a, 0, 2)));
-    assert_eq!(rt; held.used(), 2);
-    assert_eq!(rt; held.nth(0), Some((0, 2)));
-    assert_eq!(rt; held.nth(1), Some((6, 9)));
-    Ok(())
-}
-
-#[test]
-fn ends_of_file(rt: HostRuntime) -> Result<(), Fail> {
-    let mut held = Held::new(rt.alloc())?;
-    let a = held.client(rt.alloc(), b"a", 7, b"A")?;
-    let b = held.client(rt.alloc(), b"b", 8, b"B")?;
-    assert!(rt; held.set(a, END, END, WRITE));
-    assert!(rt; held.set(a, END, END, WRITE));
-    assert!(rt; held.in_the_way(b, 0, END) == Some((a, END, END)));
-    assert_eq!(rt; held.used(), 1);
-    Ok(())
-}
+const TEST_AFTER_LOCK: &[&str] = &[
+    "owner a/7/A",
+    "owner b/8/B",
+    "set a/7/A write 0 9",
+    "meets b/8/B 0 9223372036854775807 = a/7/A 0 9",
+    "set a/7/A none 3 5",
+    "meets b/8/B 0 9223372036854775807 = a/7/A 0 2",
+    "used 2",
+    "run 0 0 2",
+    "run 1 6 9",
+];
 
 #[test]
-fn local_lines(rt: HostRuntime) -> Result<(), Fail> {
-    let mut held = Held::new(rt.alloc())?;
-    let process = held.local(Owner::Process(42))?;
-    let description = held.local(Owner::Description(7))?;
-    let b = held.client(rt.alloc(), b"b", 8, b"B")?;
-    assert!(rt; held.set(process, 3, 5, WRITE));
-    assert!(rt; held.in_the_way(b, 4, 4) == Some((process, 3, 5)));
-    assert!(rt; held.in_the_way(description, 0, END) == Some((process, 3, 5)));
-    held.closes(process);
-    assert!(rt; held.in_the_way(description, 0, END).is_none());
-    assert!(rt; held.set(description, 0, END, WRITE));
-    assert!(rt; held.in_the_way(b, 1, 1) == Some((description, 0, END)));
-    Ok(())
+fn test_after_lock(rt: HostRuntime) {
+    assert_eq!(rt; wrong(rt.alloc(), TEST_AFTER_LOCK), None);
 }
+
+const ENDS_OF_FILE: &[&str] = &[
+    "owner a/7/A",
+    "owner b/8/B",
+    "set a/7/A write 9223372036854775807 9223372036854775807",
+    "set a/7/A write 9223372036854775807 9223372036854775807",
+    "meets b/8/B 0 9223372036854775807 = a/7/A 9223372036854775807 9223372036854775807",
+    "used 1",
+];
 
 #[test]
-fn quota_of_runs(rt: HostRuntime) -> Result<(), Fail> {
-    let mut held = Held::new(rt.alloc())?;
-    let a = held.client(rt.alloc(), b"a", 7, b"A")?;
-    assert!(rt; held.set(a, 0, 9, WRITE));
-    assert_eq!(rt; held.used_of(b"a"), 1);
-    assert_eq!(rt; held.used_of(b"b"), 0);
-    assert_eq!(rt; held.after(a, 20, 20, WRITE), Some(2));
-    assert!(rt; held.set(a, 10, 14, WRITE));
-    assert_eq!(rt; held.after(a, 5, 5, None), Some(2));
-    assert_eq!(rt; held.after(a, 0, 4, None), Some(1));
-    Ok(())
+fn ends_of_file(rt: HostRuntime) {
+    assert_eq!(rt; wrong(rt.alloc(), ENDS_OF_FILE), None);
 }
 
-// Single bytes 4, 6, 8, .. of an owner. Whether all were set.
-fn fill(held: &mut Held, owner: OwnerId) -> bool {
-    for i in 2..65_536u64 {
-        if !held.set(owner, i * 2, i * 2, WRITE) {
-            return false;
-        }
-    }
-    true
-}
+const LOCAL_LINES: &[&str] = &[
+    "owner p42",
+    "owner d7",
+    "owner b/8/B",
+    "set p42 write 3 5",
+    "meets b/8/B 4 4 = p42 3 5",
+    "meets d7 0 9223372036854775807 = p42 3 5",
+    "close p42",
+    "passes d7 0 9223372036854775807",
+    "set d7 write 0 9223372036854775807",
+    "meets b/8/B 1 1 = d7 0 9223372036854775807",
+];
 
 #[test]
-fn table_full(rt: HostRuntime) -> Result<(), Fail> {
-    let mut held = Held::new(rt.alloc())?;
-    let a = held.client(rt.alloc(), b"a", 7, b"A")?;
-    let b = held.client(rt.alloc(), b"b", 8, b"B")?;
-    assert!(rt; held.set(a, 0, 2, WRITE));
-    assert!(rt; fill(&mut held, a));
-    assert_eq!(rt; held.used(), 65_535);
-    assert!(rt; !held.set(b, 200_000, 200_000, WRITE));
-    assert!(rt; held.refuses(a, 1));
-    assert!(rt; !held.set(a, 1, 1, None));
-    assert!(rt; held.in_the_way(b, 1, 1) == Some((a, 0, 2)));
-    assert!(rt; held.set(a, 4, 4, None));
-    assert!(rt; held.set(a, 1, 1, None));
-    assert_eq!(rt; held.used(), 65_535);
-    Ok(())
+fn local_lines(rt: HostRuntime) {
+    assert_eq!(rt; wrong(rt.alloc(), LOCAL_LINES), None);
 }
 
+const QUOTA_OF_RUNS: &[&str] = &[
+    "owner a/7/A",
+    "set a/7/A write 0 9",
+    "host a 1",
+    "host b 0",
+    "makes a/7/A write 20 20 = 2",
+    "set a/7/A write 10 14",
+    "makes a/7/A none 5 5 = 2",
+    "makes a/7/A none 0 4 = 1",
+];
+
 #[test]
-fn who_holds_nothing_may_go(rt: HostRuntime) -> Result<(), Fail> {
-    let mut owners = Owners::new(rt.alloc());
-    let mut table = FlatTable::new(rt.alloc())?;
-    let a = intern(&table, &mut owners, &Owner::Process(1))?;
-    set(&mut table, &owners, &of(a, 0, 9, WRITE))?;
-    if release(&table, &mut owners, a) {
-        panic!(rt; "who holds something went");
-    }
-    clear(&mut table, &owners);
-    assert!(rt; holds_nothing(&table, a));
-    assert!(rt; release(&table, &mut owners, a));
-    Ok(())
+fn quota_of_runs(rt: HostRuntime) {
+    assert_eq!(rt; wrong(rt.alloc(), QUOTA_OF_RUNS), None);
+}
+
+const TABLE_FULL: &[&str] = &[
+    "owner a/7/A",
+    "owner b/8/B",
+    "set a/7/A write 0 2",
+    "fill a/7/A",
+    "used 65535",
+    "refused b/8/B write 200000 200000",
+    "refuses a/7/A none 1 1",
+    "refused a/7/A none 1 1",
+    "meets b/8/B 1 1 = a/7/A 0 2",
+    "set a/7/A none 4 4",
+    "set a/7/A none 1 1",
+    "used 65535",
+];
+
+#[test]
+fn table_full(rt: HostRuntime) {
+    assert_eq!(rt; wrong(rt.alloc(), TABLE_FULL), None);
+}
+
+const WHO_HOLDS_NOTHING_MAY_GO: &[&str] = &[
+    "owner p1",
+    "set p1 write 0 9",
+    "stays p1",
+    "clear",
+    "idle p1",
+    "leaves p1",
+];
+
+#[test]
+fn who_holds_nothing_may_go(rt: HostRuntime) {
+    assert_eq!(rt; wrong(rt.alloc(), WHO_HOLDS_NOTHING_MAY_GO), None);
 }

@@ -3,12 +3,12 @@ ghost use Rattle.std.specs.Prelude.{◌≤◌, ◌<◌, ◌^◌};
 
 use super::plain::{first_against, nth_on, starts_on};
 use super::table::nth;
-use crate::owner::remote;
-use owner_ids::{Owner, OwnerId, Owners};
+use crate::owner::intern;
+use owner_ids::{OwnerId, Owners};
 use range_owners::{drop_host, drop_owner_on_file, first_conflict, set, used, used_of};
 use range_table::{FileId, FlatTable, Mode, Run, Setting};
 use std::alloc::Global;
-use std::test::Fail;
+use std::test::*;
 
 // A generator of numbers, as C's old one.
 #[derive(Drop)]
@@ -29,13 +29,14 @@ impl Numbers {
 // Those who take part, in their order. The first two are of host a.
 type Order = [OwnerId; 5];
 
-fn order_of(alloc: Global, owners: &mut Owners) -> Result<Order, Fail> {
-    let process = owners.intern(&Owner::Process(2))?;
-    let b = owners.intern(&remote(alloc, b"b", 1, b"")?)?;
-    let second = owners.intern(&remote(alloc, b"a", 9, b"x")?)?;
-    let description = owners.intern(&Owner::Description(1))?;
-    let first = owners.intern(&remote(alloc, b"a", -9, b"x")?)?;
-    Ok([first, second, b, process, description])
+// They get their numbers in another order.
+fn order_of(alloc: Global, owners: &mut Owners) -> Option<Order> {
+    let process = intern(alloc, owners, "p2")?;
+    let b = intern(alloc, owners, "b/1/")?;
+    let second = intern(alloc, owners, "a/9/x")?;
+    let description = intern(alloc, owners, "d1")?;
+    let first = intern(alloc, owners, "a/-9/x")?;
+    Some([first, second, b, process, description])
 }
 
 fn file_of(number: u32) -> FileId {
@@ -124,51 +125,90 @@ fn conflicts_agree(
     found == first_against(settings, asked, order)
 }
 
-// One random change on both sides.
-fn change(
-    numbers: &mut Numbers,
-    table: &mut FlatTable,
-    owners: &Owners,
-    settings: &mut Vec<Setting>,
-    order: &Order,
-) -> Result<(), Fail> {
-    let asked = setting_of(numbers, order);
-    match numbers.below(16) {
-        0 => {
-            drop_host(table, owners, b"a");
-            let (first, second) = (order[0], order[1]);
-            settings.retain(|s| s.owner != first && s.owner != second);
-        }
-        1 => {
-            drop_owner_on_file(table, owners, &asked.file, asked.owner);
-            settings.retain(|s| s.owner != asked.owner || !s.file.is_same(&asked.file));
-        }
-        _ => {
-            set(table, owners, &asked)?;
-            settings.push(asked)?;
-        }
+/// The table, and the same as a plain list.
+#[derive(Drop)]
+struct Sides {
+    owners: Owners,
+    table: FlatTable,
+    settings: Vec<Setting>,
+    order: Order,
+    numbers: Numbers,
+}
+
+impl Sides {
+    fn new(alloc: Global) -> Option<Sides> {
+        let table = FlatTable::new(alloc).ok()?;
+        let mut owners = Owners::new(alloc);
+        let order = order_of(alloc, &mut owners)?;
+        Some(Sides {
+            owners,
+            table,
+            settings: Vec::new(alloc),
+            order,
+            numbers: Numbers { state: 1 },
+        })
     }
-    Ok(())
+
+    fn drops_host(&mut self) {
+        drop_host(&mut self.table, &self.owners, b"a");
+        let (first, second) = (self.order[0], self.order[1]);
+        self.settings
+            .retain(|s| s.owner != first && s.owner != second);
+    }
+
+    fn closes(&mut self, file: &FileId, owner: OwnerId) {
+        drop_owner_on_file(&mut self.table, &self.owners, file, owner);
+        self.settings
+            .retain(|s| s.owner != owner || !s.file.is_same(file));
+    }
+
+    // One random change on both sides. None where there is no memory.
+    fn change(&mut self) -> Option<()> {
+        let asked = setting_of(&mut self.numbers, &self.order);
+        match self.numbers.below(16) {
+            0 => self.drops_host(),
+            1 => self.closes(&asked.file, asked.owner),
+            _ => {
+                set(&mut self.table, &self.owners, &asked).ok()?;
+                self.settings.push(asked).ok()?;
+            }
+        }
+        Some(())
+    }
+
+    // Whether both are alike after one more change.
+    fn round(&mut self) -> Option<bool> {
+        self.change()?;
+        let asked = setting_of(&mut self.numbers, &self.order);
+        Some(
+            counts_agree(&self.table, &self.owners, &self.settings, &self.order)
+                && conflicts_agree(
+                    &self.table,
+                    &self.owners,
+                    &self.settings,
+                    &self.order,
+                    &asked,
+                ),
+        )
+    }
+
+    fn wrong_round(&mut self) -> Option<u32> {
+        for round in 0..200u32 {
+            if self.round() != Some(true) {
+                return Some(round);
+            }
+        }
+        None
+    }
+}
+
+/// The first round after which they differ. The outer None: there is no memory to begin with.
+fn wrong_round(alloc: Global) -> Option<Option<u32>> {
+    let mut sides = Sides::new(alloc)?;
+    Some(sides.wrong_round())
 }
 
 #[test]
-fn scripts_agree_with_a_plain_list(rt: HostRuntime) -> Result<(), Fail> {
-    let mut owners = Owners::new(rt.alloc());
-    let order = order_of(rt.alloc(), &mut owners)?;
-    let mut table = FlatTable::new(rt.alloc())?;
-    let mut settings = Vec::new(rt.alloc());
-    let mut numbers = Numbers { state: 1 };
-    for round in 0..200u32 {
-        change(&mut numbers, &mut table, &owners, &mut settings, &order)?;
-        let asked = setting_of(&mut numbers, &order);
-        assert!(rt;
-            counts_agree(&table, &owners, &settings, &order),
-            "at {round}"
-        );
-        assert!(rt;
-            conflicts_agree(&table, &owners, &settings, &order, &asked),
-            "at {round}"
-        );
-    }
-    Ok(())
+fn scripts_agree_with_a_plain_list(rt: HostRuntime) {
+    assert_eq!(rt; wrong_round(rt.alloc()), Some(None));
 }

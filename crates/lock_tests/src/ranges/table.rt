@@ -1,29 +1,28 @@
-//! A table with its owners.
+//! A table with its owners, and the rows that it plays.
 ghost use Rattle.std.specs.Prelude.{◌≡◌, ◌≤◌, ◌<◌, ◌^◌};
-ghost use Rattle.range_table.specs.Settings.{setting};
 
-use crate::owner::remote;
-use owner_ids::{Host, HostOf, Owner, OwnerId, Owners};
+use crate::owner::{number, read_owner};
+use crate::row::{Case, Row, Span, wrong_in};
+use owner_ids::{Host, HostOf, OwnerId, Owners};
 use range_owners::{
-    drop_owner_on_file, first_conflict, refuses, runs, set, used, used_after, used_of,
+    clear, drop_owner_on_file, first_conflict, holds_nothing, intern, refuses, release, runs, set,
+    used, used_after, used_of,
 };
 use range_table::{FileId, FlatTable, Mode, RangeTable, Run, Setting};
 use std::alloc::Global;
-use std::test::Fail;
 
-pub(super) fn file() -> FileId {
+fn file() -> FileId {
     FileId::new(&[1, 2, 3, 4])
 }
 
 /// A setting of the file.
-pub(super) fn of(owner: OwnerId, first: u64, last: u64, mode: Option<Mode>) -> Setting
-    requires ordered { first ≤ last }
-    requires inside { last < 2 ^ 63 }
+fn of(owner: OwnerId, wanted: (Option<Mode>, Span)) -> Setting
     ensures ordered { result.first ≤ result.last }
     ensures inside { result.last < 2 ^ 63 }
     ensures owner { result.owner ≡ owner }
 {
-    Setting::new(&file(), owner, first, last, mode)
+    let (mode, span) = wanted;
+    Setting::new(&file(), owner, span.first, span.last, mode)
 }
 
 /// The i-th run.
@@ -36,98 +35,91 @@ pub(super) fn nth(table: &FlatTable, owners: &Owners, i: u32) -> Option<Run> {
 }
 
 #[derive(Drop)]
-pub(super) struct Held {
-    pub(super) owners: Owners,
-    pub(super) table: FlatTable,
+struct Held {
+    alloc: Global,
+    owners: Owners,
+    table: FlatTable,
 }
 
 impl Held {
-    pub(super) fn new(alloc: Global) -> Result<Held, Fail> {
-        Ok(Held {
+    fn new(alloc: Global) -> Option<Held> {
+        let table = FlatTable::new(alloc).ok()?;
+        Some(Held {
+            alloc,
             owners: Owners::new(alloc),
-            table: FlatTable::new(alloc)?,
+            table,
         })
     }
 
-    pub(super) fn client(
-        &mut self,
-        alloc: Global,
-        name: &[u8],
-        svid: i32,
-        oh: &[u8],
-    ) -> Result<OwnerId, Fail> {
-        Ok(self.owners.intern(&remote(alloc, name, svid, oh)?)?)
+    fn number(&self, who: &str) -> Option<OwnerId> {
+        number(self.alloc, &self.owners, who)
     }
 
-    pub(super) fn local(&mut self, owner: Owner) -> Result<OwnerId, Fail> {
-        Ok(self.owners.intern(&owner)?)
+    fn intern(&mut self, who: &str) -> Option<bool> {
+        let owner = read_owner(self.alloc, who)?;
+        Some(intern(&self.table, &mut self.owners, &owner).is_ok())
     }
 
-    /// Whether it was set.
-    pub(super) fn set(&mut self, owner: OwnerId, first: u64, last: u64, mode: Option<Mode>) -> bool
-        requires ordered { first ≤ last }
-        requires inside { last < 2 ^ 63 }
-    {
-        set(&mut self.table, &self.owners, &of(owner, first, last, mode)).is_ok()
+    // Whether it was set.
+    fn set(&mut self, owner: OwnerId, wanted: (Option<Mode>, Span)) -> bool {
+        set(&mut self.table, &self.owners, &of(owner, wanted)).is_ok()
     }
 
-    pub(super) fn refuses(&self, owner: OwnerId, byte: u64) -> bool
-        requires inside { byte < 2 ^ 63 }
-    {
-        refuses(&self.table, &self.owners, &of(owner, byte, byte, None))
+    fn refuses(&self, owner: OwnerId, wanted: (Option<Mode>, Span)) -> bool {
+        refuses(&self.table, &self.owners, &of(owner, wanted))
     }
 
-    pub(super) fn closes(&mut self, owner: OwnerId) {
-        drop_owner_on_file(&mut self.table, &self.owners, &file(), owner);
+    // Single bytes 4, 6, 8, .. of an owner. Whether all were set.
+    fn fill(&mut self, owner: OwnerId) -> bool {
+        for i in 2..65_536u64 {
+            let byte = i * 2;
+            let span = Span {
+                first: byte,
+                last: byte,
+            };
+            if !self.set(owner, (Some(Mode::Exclusive), span)) {
+                return false;
+            }
+        }
+        true
     }
 
-    /// The first and last byte of the first run in the way of an owner's write lock, and whose it is.
-    pub(super) fn in_the_way(
-        &self,
-        owner: OwnerId,
-        first: u64,
-        last: u64,
-    ) -> Option<(OwnerId, u64, u64)>
-        requires ordered { first ≤ last }
-        requires inside { last < 2 ^ 63 }
-    {
+    // The first run in the way of an owner's write lock.
+    fn in_the_way(&self, owner: OwnerId, span: Span) -> Option<Run> {
         let wanted = Run {
             file: file(),
             owner,
-            first,
-            last,
+            first: span.first,
+            last: span.last,
             mode: Mode::Exclusive,
         };
-        let run = first_conflict(&self.table, &self.owners, &wanted)?;
-        Some((run.owner, run.first, run.last))
+        first_conflict(&self.table, &self.owners, &wanted)
     }
 
-    pub(super) fn used(&self) -> u32 {
-        used(&self.table, &self.owners)
+    fn meets(&self, owner: OwnerId, span: Span, row: &Row<'_>) -> Option<bool> {
+        let run = self.in_the_way(owner, span)?;
+        let holder = self.number(row.whom)?;
+        let [_, _, first, last] = row.numbers;
+        Some(run.owner == holder && run.first == first && run.last == last)
     }
 
-    /// The i-th run's first and last byte.
-    pub(super) fn nth(&self, i: u32) -> Option<(u64, u64)> {
-        let run = nth(&self.table, &self.owners, i)?;
-        Some((run.first, run.last))
+    // The number is in use. Whether it went out of use.
+    fn release(&mut self, owner: OwnerId) -> Option<bool> {
+        if self.owners.find(owner).is_none() {
+            return None;
+        }
+        Some(release(&self.table, &mut self.owners, owner))
     }
 
-    pub(super) fn used_of(&self, name: &[u8]) -> u32 {
-        used_of(&self.table, &self.owners, name)
+    fn is_nth(&self, row: &Row<'_>) -> Option<bool> {
+        let [place, first, last, _] = row.numbers;
+        let run = nth(&self.table, &self.owners, u32::try_from(place).ok()?)?;
+        Some(run.first == first && run.last == last)
     }
 
-    /// How many runs host a would have.
-    pub(super) fn after(
-        &self,
-        owner: OwnerId,
-        first: u64,
-        last: u64,
-        mode: Option<Mode>,
-    ) -> Option<u32>
-        requires ordered { first ≤ last }
-        requires inside { last < 2 ^ 63 }
-    {
-        let setting = of(owner, first, last, mode);
+    // How many runs host a would have.
+    fn after(&self, owner: OwnerId, wanted: (Option<Mode>, Span)) -> Option<u32> {
+        let setting = of(owner, wanted);
         let host = HostOf {
             owners: &self.owners,
             name: b"a",
@@ -138,4 +130,58 @@ impl Held {
             None
         }
     }
+
+    // What an owner does, or is.
+    fn goes_by(&mut self, owner: OwnerId, row: &Row<'_>) -> Option<bool> {
+        match row.verb {
+            "fill" => Some(self.fill(owner)),
+            "idle" => Some(holds_nothing(&self.table, owner)),
+            "leaves" => self.release(owner),
+            "stays" => Some(!self.release(owner)?),
+            "close" => {
+                drop_owner_on_file(&mut self.table, &self.owners, &file(), owner);
+                Some(true)
+            }
+            _ => self.asks(owner, row.span()?, row),
+        }
+    }
+
+    // What an owner asks for.
+    fn asks(&mut self, owner: OwnerId, span: Span, row: &Row<'_>) -> Option<bool> {
+        let wanted = (row.mode, span);
+        match row.verb {
+            "set" => Some(self.set(owner, wanted)),
+            "refused" => Some(!self.set(owner, wanted)),
+            "refuses" => Some(self.refuses(owner, wanted)),
+            "makes" => Some(u64::from(self.after(owner, wanted)?) == row.numbers[2]),
+            "meets" => self.meets(owner, span, row),
+            "passes" => Some(self.in_the_way(owner, span).is_none()),
+            _ => None,
+        }
+    }
+}
+
+impl Case for Held {
+    fn goes(&mut self, row: &Row<'_>) -> Option<bool> {
+        let [count, ..] = row.numbers;
+        match row.verb {
+            "owner" => self.intern(row.who),
+            "used" => Some(u64::from(used(&self.table, &self.owners)) == count),
+            "host" => {
+                let used = used_of(&self.table, &self.owners, row.who.as_bytes());
+                Some(u64::from(used) == count)
+            }
+            "run" => self.is_nth(row),
+            "clear" => {
+                clear(&mut self.table, &self.owners);
+                Some(true)
+            }
+            _ => self.goes_by(self.number(row.who)?, row),
+        }
+    }
+}
+
+/// The place of the first row that goes otherwise than it says.
+pub(super) fn wrong(alloc: Global, rows: &[&str]) -> Option<usize> {
+    wrong_in(Held::new(alloc), rows)
 }

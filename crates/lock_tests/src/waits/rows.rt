@@ -1,167 +1,154 @@
-//! Worked rows over the flat table, and the limit.
-use super::tables::{Ask, EXCLUSIVE, SHARED, Tables, block, line};
-use blocked_list::{BlockError, MOST_SLOTS, NoSlots, NotWaiting, Slots};
-use owner_ids::{Owner, OwnerId};
-use range_table::FileId;
-use std::alloc::{AllocError, Global};
+//! Worked rows over the flat table, and the limit. A row is a line:
+//!
+//! - `owner a/7/`: the owner gets a number, which the rows below need.
+//! - `set a/7/ write 0 9`: it has set the bytes 0 to 9 of file 1 to `write`, `read` or `none`.
+//! - `block b/7/ read 0 0 = 12`: the waiter 12 waits for that lock. `full ..`: it can't, since no place is free.
+//! - `may-block b/7/ read 0 0`: one may wait for it. `deadlock ..`, `no-slots ..`: one may not.
+//! - `cancel b/7/ read 0 0`: who waits for it waits no longer. `absent ..`: nobody does.
+//! - `grants 12`: the waiter 12 is granted next, or none if 0. `grants-on 2 12`: the same after a change of file 2.
+//! - `fill a/7/ 14`: so many wait, one for each byte, on the files 0 to 6 by turns.
+//! - `close a/7/ 3`: it closes file 3. `drop-host a`, `clear`: the host's waiters go, or all.
+//! - `take 5`: so many places go to calls. `too-many 5`: fewer are free. `lend 5`: they come back.
+//! - `waits a/7/`, `waits-not a/7/`: whether it waits. `free 1`, `waiters 7`: so many places are free, so many wait.
+use super::tables::wrong;
+use blocked_list::{BlockError, NoSlots, NotWaiting};
+use std::alloc::AllocError;
 use std::test::*;
 
 /// a holds 0 to 9 and d 20, b waits for 0 and a for 0 to 20; then d unlocks.
-fn settled(alloc: Global) -> Result<[i32; 4], Fail> {
-    let mut tables = Tables::new(alloc)?;
-    let a = tables.remote(alloc, b'a', 7)?;
-    let b = tables.remote(alloc, b'b', 7)?;
-    let d = tables.remote(alloc, b'd', 7)?;
-    tables.set(line(a, 0, 9, EXCLUSIVE), Some(EXCLUSIVE));
-    tables.set(line(d, 20, 0, EXCLUSIVE), Some(EXCLUSIVE));
-    let _ = tables.block(alloc, line(b, 0, 0, SHARED), 12)?;
-    let _ = tables.block(alloc, line(a, 0, 20, SHARED), 13)?;
-    let before = tables.grants();
-    tables.set(line(d, 20, 0, EXCLUSIVE), None);
-    let elsewhere = tables.grants_on(2);
-    let first = tables.grants_on(1);
-    tables.set(line(a, 0, 20, SHARED), Some(SHARED));
-    Ok([before, elsewhere, first, tables.grants()])
-}
+const SETTLE_TWICE: &[&str] = &[
+    "owner a/7/",
+    "owner b/7/",
+    "owner d/7/",
+    "set a/7/ write 0 9",
+    "set d/7/ write 20 20",
+    "block b/7/ read 0 0 = 12",
+    "block a/7/ read 0 20 = 13",
+    "grants 0",
+    "set d/7/ none 20 20",
+    "grants-on 2 0",
+    "grants-on 1 13",
+    "set a/7/ read 0 20",
+    "grants 12",
+];
 
 #[test]
-fn settle_twice(rt: HostRuntime) -> Result<(), Fail> {
-    let granted = settled(rt.alloc())?;
-    assert_eq!(rt; granted, [0, 0, 13, 12]);
-    Ok(())
+fn settle_twice(rt: HostRuntime) {
+    assert_eq!(rt; wrong(rt.alloc(), SETTLE_TWICE), None);
 }
 
-/// a holds 1 and b, or a description, holds 2, for which a waits; then 1 is asked for.
-fn asked_back(alloc: Global, is_description: bool) -> Result<Result<(), BlockError>, Fail> {
-    let mut tables = Tables::new(alloc)?;
-    let a = tables.remote(alloc, b'a', 7)?;
-    let b = if is_description {
-        tables.local(Owner::Description(7))?
-    } else {
-        tables.remote(alloc, b'b', 7)?
-    };
-    tables.set(line(a, 1, 0, EXCLUSIVE), Some(EXCLUSIVE));
-    tables.set(line(b, 2, 0, EXCLUSIVE), Some(EXCLUSIVE));
-    let _ = tables.block(alloc, line(a, 2, 0, EXCLUSIVE), 17)?;
-    Ok(tables.may_block(line(b, 1, 0, EXCLUSIVE)))
-}
+/// a holds 1 and b holds 2, for which a waits; then b asks for 1.
+const DEADLOCK: &[&str] = &[
+    "owner a/7/",
+    "owner b/7/",
+    "set a/7/ write 1 1",
+    "set b/7/ write 2 2",
+    "block a/7/ write 2 2 = 17",
+    "deadlock b/7/ write 1 1",
+];
 
 #[test]
-fn deadlock(rt: HostRuntime) -> Result<(), Fail> {
-    let answer = asked_back(rt.alloc(), false)?;
-    assert_eq!(rt; answer, Err(BlockError::Deadlock));
-    Ok(())
+fn deadlock(rt: HostRuntime) {
+    assert_eq!(rt; wrong(rt.alloc(), DEADLOCK), None);
 }
 
+/// The same with a description.
+const DESCRIPTION_WAITS: &[&str] = &[
+    "owner a/7/",
+    "owner d7",
+    "set a/7/ write 1 1",
+    "set d7 write 2 2",
+    "block a/7/ write 2 2 = 17",
+    "may-block d7 write 1 1",
+];
+
 #[test]
-fn description_waits(rt: HostRuntime) -> Result<(), Fail> {
-    let answer = asked_back(rt.alloc(), true)?;
-    assert_eq!(rt; answer, Ok(()));
-    Ok(())
+fn description_waits(rt: HostRuntime) {
+    assert_eq!(rt; wrong(rt.alloc(), DESCRIPTION_WAITS), None);
 }
 
 /// a waits for b, and c for a; then b asks for what c holds, and c for what b holds.
-fn in_a_row(alloc: Global) -> Result<[Result<(), BlockError>; 2], Fail> {
-    let mut tables = Tables::new(alloc)?;
-    let a = tables.remote(alloc, b'a', 7)?;
-    let b = tables.remote(alloc, b'b', 7)?;
-    let c = tables.remote(alloc, b'c', 7)?;
-    for (owner, byte) in [(a, 1), (b, 2), (c, 4)] {
-        tables.set(line(owner, byte, 0, EXCLUSIVE), Some(EXCLUSIVE));
-    }
-    let _ = tables.block(alloc, line(a, 2, 0, EXCLUSIVE), 1)?;
-    let _ = tables.block(alloc, line(c, 1, 0, SHARED), 2)?;
-    let back = tables.may_block(line(b, 4, 0, SHARED));
-    Ok([back, tables.may_block(line(c, 2, 0, SHARED))])
-}
+const LONGER_CYCLE: &[&str] = &[
+    "owner a/7/",
+    "owner b/7/",
+    "owner c/7/",
+    "set a/7/ write 1 1",
+    "set b/7/ write 2 2",
+    "set c/7/ write 4 4",
+    "block a/7/ write 2 2 = 1",
+    "block c/7/ read 1 1 = 2",
+    "deadlock b/7/ read 4 4",
+    "may-block c/7/ read 2 2",
+];
 
 #[test]
-fn longer_cycle(rt: HostRuntime) -> Result<(), Fail> {
-    let answers = in_a_row(rt.alloc())?;
-    assert_eq!(rt; answers, [Err(BlockError::Deadlock), Ok(())]);
-    Ok(())
+fn longer_cycle(rt: HostRuntime) {
+    assert_eq!(rt; wrong(rt.alloc(), LONGER_CYCLE), None);
 }
 
-#[test]
-fn error_texts(rt: HostRuntime) -> Result<(), Fail> {
-    for (text, shown) in [
-        (BlockError::Deadlock.to_string(rt.alloc())?, "18 Deadlock"),
-        (BlockError::NoSlots.to_string(rt.alloc())?, "16 NoSlots"),
-        (NoSlots.to_string(rt.alloc())?, "16 NoSlots"),
-        (NotWaiting.to_string(rt.alloc())?, "17 NotWaiting"),
-    ] {
-        assert_eq!(rt; text.as_str(), shown);
-    }
-    Ok(())
-}
-
-/// So many wait, on files by turns.
-fn fill(alloc: Global, slots: &mut Slots, owner: OwnerId, count: u8) -> Result<(), AllocError> {
-    for number in 0..count {
-        let ask = Ask {
-            file: number % 7,
-            ..line(owner, number, 0, SHARED)
-        };
-        let _ = block(alloc, slots, ask, i32::from(number))?;
-    }
-    Ok(())
-}
-
-#[test]
-fn slots_full(rt: HostRuntime) -> Result<(), Fail> {
-    let mut slots = Slots::new(rt.alloc())?;
-    let taken = slots.take(8_000);
-    fill(rt.alloc(), &mut slots, 1, 191)?;
-    let left = slots.free();
-    let last = line(1, 250, 0, SHARED);
-    let fits = block(rt.alloc(), &mut slots, last, 191)?;
-    let too_many = block(rt.alloc(), &mut slots, last, 192)?;
-    let also = slots.take(1);
-    assert!(rt; taken.is_ok() && left == 1 && fits && !too_many && also == Err(NoSlots));
-    let gone = slots.cancel(&last.run());
-    let again = slots.cancel(&last.run());
-    assert!(rt; gone == Ok(()) && again == Err(NotWaiting) && slots.free() == 1);
-    Ok(())
-}
-
-#[test]
-fn no_place(rt: HostRuntime) -> Result<(), Fail> {
-    let mut tables = Tables::new(rt.alloc())?;
-    let a = tables.remote(rt.alloc(), b'a', 7)?;
-    let _ = tables.slots.take(MOST_SLOTS - 1);
-    let before = tables.may_block(line(a, 0, 0, SHARED));
-    let _ = tables.slots.take(1);
-    let after = tables.may_block(line(a, 0, 0, SHARED));
-    assert!(rt; before == Ok(()) && after == Err(BlockError::NoSlots));
-    Ok(())
-}
-
-/// Takes places and gives them back.
-fn lend(slots: &mut Slots) -> bool {
-    match slots.take(5) {
-        Ok(()) => {
-            slots.give(5);
-            true
-        }
-        Err(NoSlots) => false,
+fn reads(text: Result<String, AllocError>, shown: &str) -> bool {
+    match text {
+        Ok(text) => text.as_str() == shown,
+        Err(AllocError) => false,
     }
 }
 
 #[test]
-fn drops(rt: HostRuntime) -> Result<(), Fail> {
-    let mut tables = Tables::new(rt.alloc())?;
-    let a = tables.remote(rt.alloc(), b'a', 7)?;
-    let b = tables.remote(rt.alloc(), b'b', 7)?;
-    fill(rt.alloc(), &mut tables.slots, a, 14)?;
-    fill(rt.alloc(), &mut tables.slots, b, 7)?;
-    let had = tables.slots.has_owner(a);
-    tables.slots.drop_owner_on_file(&FileId::new(&[3]), a);
-    let some = tables.slots.waiters().len();
-    tables.slots.drop_host(&tables.owners, b"a");
-    let few = tables.slots.waiters().len();
-    assert!(rt; had && some == 19 && few == 7 && !tables.slots.has_owner(a));
-    let lent = lend(&mut tables.slots);
-    tables.slots.clear();
-    assert!(rt; lent && tables.slots.free() == MOST_SLOTS);
-    Ok(())
+fn error_texts(rt: HostRuntime) {
+    assert!(rt; reads(BlockError::Deadlock.to_string(rt.alloc()), "18 Deadlock"));
+    assert!(rt; reads(BlockError::NoSlots.to_string(rt.alloc()), "16 NoSlots"));
+    assert!(rt; reads(NoSlots.to_string(rt.alloc()), "16 NoSlots"));
+    assert!(rt; reads(NotWaiting.to_string(rt.alloc()), "17 NotWaiting"));
+}
+
+const SLOTS_FULL: &[&str] = &[
+    "owner a/7/",
+    "take 8000",
+    "fill a/7/ 191",
+    "free 1",
+    "block a/7/ read 250 250 = 191",
+    "full a/7/ read 250 250 = 192",
+    "too-many 1",
+    "cancel a/7/ read 250 250",
+    "absent a/7/ read 250 250",
+    "free 1",
+];
+
+#[test]
+fn slots_full(rt: HostRuntime) {
+    assert_eq!(rt; wrong(rt.alloc(), SLOTS_FULL), None);
+}
+
+const NO_PLACE: &[&str] = &[
+    "owner a/7/",
+    "take 8191",
+    "may-block a/7/ read 0 0",
+    "take 1",
+    "no-slots a/7/ read 0 0",
+];
+
+#[test]
+fn no_place(rt: HostRuntime) {
+    assert_eq!(rt; wrong(rt.alloc(), NO_PLACE), None);
+}
+
+const DROPS: &[&str] = &[
+    "owner a/7/",
+    "owner b/7/",
+    "fill a/7/ 14",
+    "fill b/7/ 7",
+    "waits a/7/",
+    "close a/7/ 3",
+    "waiters 19",
+    "drop-host a",
+    "waiters 7",
+    "waits-not a/7/",
+    "lend 5",
+    "clear",
+    "free 8192",
+];
+
+#[test]
+fn drops(rt: HostRuntime) {
+    assert_eq!(rt; wrong(rt.alloc(), DROPS), None);
 }

@@ -1,37 +1,26 @@
-//! The waiters beside the owners and the locks that they wait for.
+//! The waiters beside the owners and the locks that they wait for, and the rows that these play.
 ghost use Rattle.std.specs.Prelude.{◌≤◌, ◌<◌, ◌^◌, None};
 
-use crate::owner::remote;
-use blocked_list::{BlockError, Quotas, Slots, Waiter};
+use crate::owner::{intern, number};
+use crate::row::{Case, Row, Span, wrong_in};
+use blocked_list::{BlockError, NoSlots, NotWaiting, Quotas, Slots, Waiter};
 use callbacks::{Destination, Letter, Message, ShortBytes};
-use owner_ids::{Owner, OwnerId, Owners};
+use owner_ids::{OwnerId, Owners};
 use range_table::{FileId, FlatTable, Mode, RangeTable, Run};
 use std::alloc::{AllocError, Global};
-use std::test::*;
 
-/// A lock of some bytes of a file, whose handle is one byte.
-#[derive(Clone, Copy)]
-pub(super) struct Ask {
-    pub(super) file: u8,
-    pub(super) owner: OwnerId,
-    pub(super) first: u8,
-    pub(super) more: u8,
-    pub(super) mode: Mode,
-}
-
-impl Ask {
-    pub(super) fn run(self) -> Run
-        ensures ordered { result.first ≤ result.last }
-        ensures inside { result.last < 2 ^ 63 }
-    {
-        let first = u64::from(self.first);
-        Run {
-            file: FileId::new(&[self.file]),
-            owner: self.owner,
-            first,
-            last: first + u64::from(self.more),
-            mode: self.mode,
-        }
+/// A lock of a file, whose handle is one byte.
+fn run_on(file: u8, owner: OwnerId, wanted: (Mode, Span)) -> Run
+    ensures ordered { result.first ≤ result.last }
+    ensures inside { result.last < 2 ^ 63 }
+{
+    let (mode, span) = wanted;
+    Run {
+        file: FileId::new(&[file]),
+        owner,
+        first: span.first,
+        last: span.last,
+        mode,
     }
 }
 
@@ -43,21 +32,6 @@ impl Quotas for Unlimited {
 
     fn quota(&self, _host: &[u8]) -> Option<u32> {
         None
-    }
-}
-
-pub(super) const SHARED: Mode = Mode::Shared;
-
-pub(super) const EXCLUSIVE: Mode = Mode::Exclusive;
-
-/// A lock of file 1.
-pub(super) fn line(owner: OwnerId, first: u8, more: u8, mode: Mode) -> Ask {
-    Ask {
-        file: 1,
-        owner,
-        first,
-        more,
-        mode,
     }
 }
 
@@ -79,14 +53,13 @@ fn number_of(waiter: &Waiter) -> i32 {
     }
 }
 
-pub(super) fn block(
-    alloc: Global,
-    slots: &mut Slots,
-    ask: Ask,
-    number: i32,
-) -> Result<bool, AllocError> {
-    let waiter = Waiter::new(ask.run(), letter(alloc, number)?);
-    Ok(slots.block(waiter).is_ok())
+// Whether it waits then. None where there is no memory.
+fn block(alloc: Global, slots: &mut Slots, run: Run, number: i32) -> Option<bool>
+    requires ordered { run.first ≤ run.last }
+    requires inside { run.last < 2 ^ 63 }
+{
+    let waiter = Waiter::new(run, letter(alloc, number).ok()?);
+    Some(slots.block(waiter).is_ok())
 }
 
 /// Grants the waiter at a place, and gives its number.
@@ -99,66 +72,178 @@ fn grant(slots: &mut Slots, place: Option<usize>) -> i32 {
 
 /// The tables together.
 #[derive(Drop)]
-pub(super) struct Tables {
-    pub(super) owners: Owners,
-    pub(super) table: FlatTable,
-    pub(super) slots: Slots,
+struct Tables {
+    alloc: Global,
+    owners: Owners,
+    table: FlatTable,
+    slots: Slots,
 }
 
 impl Tables {
-    pub(super) fn new(alloc: Global) -> Result<Tables, Fail> {
-        Ok(Tables {
+    fn new(alloc: Global) -> Option<Tables> {
+        let table = FlatTable::new(alloc).ok()?;
+        let slots = Slots::new(alloc).ok()?;
+        Some(Tables {
+            alloc,
             owners: Owners::new(alloc),
-            table: FlatTable::new(alloc)?,
-            slots: Slots::new(alloc)?,
+            table,
+            slots,
         })
     }
 
-    pub(super) fn remote(&mut self, alloc: Global, name: u8, svid: i32) -> Result<OwnerId, Fail> {
-        let owner = remote(alloc, &[name], svid, &[])?;
-        Ok(self.owners.intern(&owner)?)
+    fn number(&self, who: &str) -> Option<OwnerId> {
+        number(self.alloc, &self.owners, who)
     }
 
-    pub(super) fn local(&mut self, owner: Owner) -> Result<OwnerId, Fail> {
-        Ok(self.owners.intern(&owner)?)
+    // Whether it was set.
+    fn set(&mut self, owner: OwnerId, (mode, span): (Option<Mode>, Span)) -> bool {
+        let file = FileId::new(&[1]);
+        self.table
+            .set(&file, owner, span.first, span.last, mode)
+            .is_ok()
     }
 
-    pub(super) fn set(&mut self, ask: Ask, mode: Option<Mode>) {
-        let run = ask.run();
-        let _ = self
-            .table
-            .set(&run.file, run.owner, run.first, run.last, mode);
+    fn block(&mut self, run: Run, number: u64) -> Option<bool>
+        requires ordered { run.first ≤ run.last }
+        requires inside { run.last < 2 ^ 63 }
+    {
+        block(
+            self.alloc,
+            &mut self.slots,
+            run,
+            i32::try_from(number).ok()?,
+        )
     }
 
-    pub(super) fn block(
-        &mut self,
-        alloc: Global,
-        ask: Ask,
-        number: i32,
-    ) -> Result<bool, AllocError> {
-        block(alloc, &mut self.slots, ask, number)
+    // Whether one may wait, with no place spoken for.
+    fn may_block(&self, run: &Run) -> Result<(), BlockError>
+        requires ordered { run.now.first ≤ run.now.last }
+        requires inside { run.now.last < 2 ^ 63 }
+    {
+        self.slots.may_block(&self.table, &self.owners, run, 0)
     }
 
-    /// Whether one may wait, with no place spoken for.
-    pub(super) fn may_block(&self, ask: Ask) -> Result<(), BlockError> {
-        self.slots
-            .may_block(&self.table, &self.owners, &ask.run(), 0)
+    // So many wait, on files by turns.
+    fn fill(&mut self, owner: OwnerId, count: u8) -> bool {
+        for number in 0..count {
+            let byte = u64::from(number);
+            let span = Span {
+                first: byte,
+                last: byte,
+            };
+            let run = run_on(number % 7, owner, (Mode::Shared, span));
+            if self.block(run, byte) != Some(true) {
+                return false;
+            }
+        }
+        true
     }
 
-    /// The number of the waiter that is granted next, or 0.
-    pub(super) fn grants(&mut self) -> i32 {
+    // The number of the waiter that is granted next, or 0.
+    fn grants(&mut self) -> i32 {
         let place = self
             .slots
             .next_grantable(&self.table, &self.owners, &Unlimited);
         grant(&mut self.slots, place)
     }
 
-    /// The same after a change of this file.
-    pub(super) fn grants_on(&mut self, file: u8) -> i32 {
+    // The same after a change of this file.
+    fn grants_on(&mut self, file: u8) -> i32 {
         let file = FileId::new(&[file]);
         let place = self
             .slots
             .next_grantable_on(&self.table, &self.owners, &Unlimited, &file);
         grant(&mut self.slots, place)
     }
+
+    // What an owner does, or is.
+    fn goes_by(&mut self, owner: OwnerId, row: &Row<'_>) -> Option<bool> {
+        let [number, ..] = row.numbers;
+        match row.verb {
+            "set" => Some(self.set(owner, (row.mode, row.span()?))),
+            "fill" => Some(self.fill(owner, u8::try_from(number).ok()?)),
+            "waits" => Some(self.slots.has_owner(owner)),
+            "waits-not" => Some(!self.slots.has_owner(owner)),
+            "close" => {
+                let file = FileId::new(&[u8::try_from(number).ok()?]);
+                self.slots.drop_owner_on_file(&file, owner);
+                Some(true)
+            }
+            _ => {
+                let run = run_on(1, owner, (row.mode?, row.span()?));
+                self.asks(run, row)
+            }
+        }
+    }
+
+    // What an owner asks for.
+    fn asks(&mut self, run: Run, row: &Row<'_>) -> Option<bool>
+        requires ordered { run.first ≤ run.last }
+        requires inside { run.last < 2 ^ 63 }
+    {
+        match row.verb {
+            "block" => self.block(run, row.numbers[2]),
+            "full" => Some(!self.block(run, row.numbers[2])?),
+            "may-block" => Some(self.may_block(&run) == Ok(())),
+            "deadlock" => Some(self.may_block(&run) == Err(BlockError::Deadlock)),
+            "no-slots" => Some(self.may_block(&run) == Err(BlockError::NoSlots)),
+            "cancel" => Some(self.slots.cancel(&run) == Ok(())),
+            "absent" => Some(self.slots.cancel(&run) == Err(NotWaiting)),
+            _ => None,
+        }
+    }
+
+    // What becomes of so many places.
+    fn goes_with(&mut self, verb: &str, count: usize) -> Option<bool> {
+        match verb {
+            "take" => Some(self.slots.take(count) == Ok(())),
+            "too-many" => Some(self.slots.take(count) == Err(NoSlots)),
+            "lend" => Some(lend(&mut self.slots, count)),
+            "free" => Some(self.slots.free() == count),
+            "waiters" => Some(self.slots.waiters().len() == count),
+            _ => None,
+        }
+    }
+}
+
+// Takes places and gives them back.
+fn lend(slots: &mut Slots, count: usize) -> bool {
+    match slots.take(count) {
+        Ok(()) => {
+            slots.give(count);
+            true
+        }
+        Err(NoSlots) => false,
+    }
+}
+
+impl Case for Tables {
+    fn goes(&mut self, row: &Row<'_>) -> Option<bool> {
+        let [first, second, ..] = row.numbers;
+        if let Some(owner) = self.number(row.who) {
+            return self.goes_by(owner, row);
+        }
+        match row.verb {
+            "owner" => Some(intern(self.alloc, &mut self.owners, row.who).is_some()),
+            "grants" => Some(self.grants() == i32::try_from(first).ok()?),
+            "grants-on" => {
+                let number = self.grants_on(u8::try_from(first).ok()?);
+                Some(number == i32::try_from(second).ok()?)
+            }
+            "drop-host" => {
+                self.slots.drop_host(&self.owners, row.who.as_bytes());
+                Some(true)
+            }
+            "clear" => {
+                self.slots.clear();
+                Some(true)
+            }
+            _ => self.goes_with(row.verb, usize::try_from(first).ok()?),
+        }
+    }
+}
+
+/// The place of the first row that goes otherwise than it says.
+pub(super) fn wrong(alloc: Global, rows: &[&str]) -> Option<usize> {
+    wrong_in(Tables::new(alloc), rows)
 }
