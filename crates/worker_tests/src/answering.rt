@@ -1,7 +1,7 @@
 //! A worker that answers what waits in a closed channel, and the audit of what it did.
 ghost use Rattle.std.specs.Prelude.{◌≡◌, []};
 
-use crate::parts::{Open, begun, is_in, job, segments};
+use crate::parts::{Open, Seated, are_in, begun, is_in, job, segments};
 use book::{Book, Closed, Receipt};
 use hosts_db::MemHosts;
 use jobs::{Channel, Opened, Place, Seat};
@@ -11,7 +11,7 @@ use std::marker::Brand;
 use std::sync::ledger::{Blank, Ledger};
 use std::sync::{Mutex, Wait};
 use std::test::*;
-use workers::{MemoryOutbox, Shared, Worker, audit};
+use workers::{Leaves, MemoryOutbox, Shared, Worker, audit};
 
 /// What was done with the NULLs of some connections: which were answered, in order, the segments and the receipts.
 #[derive(Drop)]
@@ -57,7 +57,71 @@ fn answered<P: Place, L: Ledger, R: Wait>(
     Some(connections)
 }
 
-// The first record of each of these connections is answered. None where a seat is out.
+// A second seat.
+fn with_second<P: Place>(mut seated: Seated<P>) -> Option<(Seated<P>, Seat<P>)> {
+    let second = seated.keeper.cut(&seated.channel)?;
+    Some((seated, second))
+}
+
+// All that was done, where everything is as it should be.
+fn whole(
+    is_whole: bool,
+    answered: Option<Vec<u64>>,
+    segments: Option<Vec<Closed<FlatTable, MemHosts>>>,
+    receipts: Option<Vec<Receipt>>,
+) -> Option<Done> {
+    match (segments, receipts) {
+        (Some(segments), Some(receipts)) if is_whole => Some(Done {
+            answered,
+            segments,
+            receipts,
+        }),
+        _ => None,
+    }
+}
+
+// The first record of each of these connections is answered.
+fn answer_seated<P: Place, L: Ledger, R: Wait>(
+    rt: &R,
+    alloc: Global,
+    seats: (Seated<P>, Seat<P>),
+    blank: Blank,
+    book: Book<FlatTable, MemHosts>,
+    connections: &[u32],
+) -> Option<Done>
+    requires name { blank.name ≡ L.name }
+    requires parts { (blank.parts ≡ L.parts) × (blank.parts ≡ 1) }
+    requires new { (book.journal.notes ≡ []) × (book.journal.first ≡ 1) }
+{
+    let (first, seat) = seats;
+    let Seated {
+        channel,
+        mut keeper,
+        seat: mut reader,
+    } = first;
+    let are_put = put_all(rt, alloc, &channel, &mut reader, connections);
+    channel.close();
+    let (total, share) = blank.open::<L>();
+    let shared = Mutex::new(Shared::new(alloc, book, total, true));
+    let mut worker = Worker::new(alloc, seat, share, true);
+    let answered = answered(rt, alloc, &channel, &shared, &mut worker);
+    let Leaves {
+        seat,
+        mut share,
+        receipts,
+    } = worker.leave();
+    let segments = segments(shared, &mut share);
+    let is_reader_in = is_in(&mut keeper, &channel, reader);
+    let are_in = are_in(keeper, &channel, seat);
+    whole(
+        are_put & is_reader_in & are_in,
+        answered,
+        segments,
+        receipts,
+    )
+}
+
+// The same at a channel that was just opened. None where a seat is out.
 fn answer_all<P: Place, L: Ledger, R: Wait>(
     rt: &R,
     alloc: Global,
@@ -72,27 +136,9 @@ fn answer_all<P: Place, L: Ledger, R: Wait>(
     requires parts { (blank.parts ≡ L.parts) × (blank.parts ≡ 1) }
     requires new { (book.journal.notes ≡ []) × (book.journal.first ≡ 1) }
 {
-    let (channel, mut keeper) = opened.named::<P>();
-    let mut reader = keeper.cut(&channel)?;
-    let seat = keeper.cut(&channel)?;
-    let are_put = put_all(rt, alloc, &channel, &mut reader, connections);
-    channel.close();
-    let (total, share) = blank.open::<L>();
-    let shared = Mutex::new(Shared::new(alloc, book, total, true));
-    let mut worker = Worker::new(alloc, seat, share, true);
-    let answered = answered(rt, alloc, &channel, &shared, &mut worker);
-    let mut left = worker.leave();
-    let segments = segments(shared, &mut left.share);
-    let is_first_in = is_in(&mut keeper, &channel, reader);
-    let is_second_in = is_in(&mut keeper, &channel, left.seat);
-    let are_in = is_first_in && is_second_in && keeper.settle(&channel);
-    match (segments, left.receipts) {
-        (Some(segments), Some(receipts)) if are_put && are_in => Some(Done {
-            answered,
-            segments,
-            receipts,
-        }),
-        _ => None,
+    match Seated::<P>::new(opened).and_then(with_second) {
+        Some(seats) => answer_seated::<P, L, R>(rt, alloc, seats, blank, book, connections),
+        None => None,
     }
 }
 

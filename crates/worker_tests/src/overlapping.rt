@@ -1,5 +1,5 @@
 //! Workers that are inside at once.
-ghost use Rattle.std.specs.Prelude.{◌≡◌, []};
+ghost use Rattle.std.specs.Prelude.{◌≡◌, ◌+◌, []};
 
 use crate::parts::{begun, job};
 use book::Book;
@@ -147,6 +147,15 @@ struct Plan {
     turns: u64,
 }
 
+impl Plan {
+    // The parts of the ledger: one for each worker, and one for whoever puts the jobs.
+    fn parts(self) -> u64
+        ensures { result ≡ self.workers + 1 }
+    {
+        u64::from(self.workers) + 1
+    }
+}
+
 // Workers, each in a place.
 fn placed<P: Place, L: Ledger>(
     alloc: Global,
@@ -159,40 +168,85 @@ fn placed<P: Place, L: Ledger>(
     Some(pool)
 }
 
+/// The workers in their places, who goes on cutting none, and who has put the jobs.
+#[derive(Drop)]
+struct Staff<P: Place, L: Ledger> {
+    cutter: Cutter<P, L>,
+    reader: Worker<P, L>,
+    pool: Vec<Option<Worker<P, L>>>,
+}
+
 // Beside the workers there is whoever puts the jobs.
+fn staff_of<P: Place, L: Ledger, R: Wait>(
+    rt: &R,
+    alloc: Global,
+    plan: Plan,
+    channel: &Channel<P>,
+    mut cutter: Cutter<P, L>,
+) -> Option<Staff<P, L>> {
+    let mut reader = cutter.cut(channel).ok()?;
+    if !put_all(rt, alloc, channel, &mut reader, plan.jobs) {
+        return None;
+    }
+    let workers = cutter.cut_all(channel, plan.workers).ok()?;
+    let pool = placed(alloc, workers)?;
+    Some(Staff {
+        cutter,
+        reader,
+        pool,
+    })
+}
+
+// All work to their ends.
+fn serve<P: Place + Send + Sync, L: Ledger + Send + Sync, R: Threads + Wait + Sync>(
+    rt: &R,
+    alloc: Global,
+    plan: Plan,
+    channel: Channel<P>,
+    shared: Mutex<Shared<FlatTable, MemHosts, L>>,
+    staff: Staff<P, L>,
+) -> Option<Round>
+    requires { plan.workers + 1 ≡ L.parts }
+{
+    let Staff {
+        cutter,
+        reader,
+        pool,
+    } = staff;
+    channel.close();
+    let floor = Floor {
+        channel,
+        shared,
+        pool: Mutex::new(pool),
+        hall: Hall::new(u64::from(plan.jobs), plan.turns),
+        answered: AtomicU64::new(0),
+    };
+    run_threads(rt, alloc, &floor, plan.workers);
+    ended(floor, cutter.into_gatherer(), reader, plan.parts())
+}
+
 fn serve_round<P: Place + Send + Sync, L: Ledger + Send + Sync, R: Threads + Wait + Sync>(
     rt: &R,
     alloc: Global,
     plan: Plan,
     opened: Opened,
     blank: Blank,
-    parts: u64,
     book: Book<FlatTable, MemHosts>,
 ) -> Option<Round>
     requires table { opened.slip.table_id ≡ P.table }
     requires key { opened.slip.me.0.of ≡ P.key }
     requires name { blank.name ≡ L.name }
-    requires parts { (blank.parts ≡ L.parts) × (blank.parts ≡ parts) }
+    requires parts { (blank.parts ≡ L.parts) × (blank.parts ≡ plan.workers + 1) }
     requires new { (book.journal.notes ≡ []) × (book.journal.first ≡ 1) }
 {
     let (channel, keeper) = opened.named::<P>();
     let (total, share) = blank.open::<L>();
-    let mut cutter = Cutter::new(alloc, keeper, share, parts, true);
-    let mut reader = cutter.cut(&channel).ok()?;
-    if !put_all(rt, alloc, &channel, &mut reader, plan.jobs) {
-        return None;
+    let cutter = Cutter::new(alloc, keeper, share, plan.parts(), true);
+    let shared = Mutex::new(Shared::new(alloc, book, total, true));
+    match staff_of(rt, alloc, plan, &channel, cutter) {
+        Some(staff) => serve(rt, alloc, plan, channel, shared, staff),
+        None => None,
     }
-    let workers = cutter.cut_all(&channel, plan.workers).ok()?;
-    channel.close();
-    let floor = Floor {
-        channel,
-        shared: Mutex::new(Shared::new(alloc, book, total, true)),
-        pool: Mutex::new(placed(alloc, workers)?),
-        hall: Hall::new(u64::from(plan.jobs), plan.turns),
-        answered: AtomicU64::new(0),
-    };
-    run_threads(rt, alloc, &floor, plan.workers);
-    ended(floor, cutter.into_gatherer(), reader, parts)
 }
 
 // Takes all workers in: whether none is out.
@@ -241,11 +295,10 @@ fn ended<P: Place, L: Ledger>(
 }
 
 fn round_of<R: Threads + Wait + Sync>(rt: &R, alloc: Global, plan: Plan) -> Option<Round> {
-    let parts = u64::from(plan.workers) + 1;
     match (begun(alloc), Opened::new(alloc)) {
         (Some(book), Ok(opened)) => {
-            let blank = Blank::new(parts);
-            serve_round::<Brand, Brand, _>(rt, alloc, plan, opened, blank, parts, book)
+            let blank = Blank::new(plan.parts());
+            serve_round::<Brand, Brand, _>(rt, alloc, plan, opened, blank, book)
         }
         _ => None,
     }

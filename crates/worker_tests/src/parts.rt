@@ -1,11 +1,12 @@
-//! A book, records to be answered, and what is left of a worker and its book.
+//! A book, records to be answered, seats at a channel, and what is left of a worker and its book. Whoever holds a book has no
+//! early ends: each would drop all that is alive, and is a proof of its own.
 ghost use Rattle.std.specs.Prelude.{◌≡◌, [], IfSome};
 
 use book::{Book, Closed};
 use bytes::Bytes;
 use callbacks::ShortBytes;
 use hosts_db::MemHosts;
-use jobs::{Channel, Job, Keeper, Place, Seat};
+use jobs::{Channel, Job, Keeper, Opened, Place, Seat};
 use kept_replies::Peer;
 use range_table::FlatTable;
 use std::alloc::{AllocError, Global};
@@ -62,6 +63,35 @@ pub(crate) fn segments<L: Ledger>(
         Ok(ends) => ends.segments,
         Err(_) => None,
     }
+}
+
+/// A channel, who keeps its seats, and a seat.
+#[derive(Drop)]
+pub(crate) struct Seated<P: Place> {
+    pub(crate) channel: Channel<P>,
+    pub(crate) keeper: Keeper<P>,
+    pub(crate) seat: Seat<P>,
+}
+
+impl<P: Place> Seated<P> {
+    /// None where no seat can be cut.
+    pub(crate) fn new(opened: Opened) -> Option<Seated<P>>
+        requires table { opened.slip.table_id ≡ P.table }
+        requires key { opened.slip.me.0.of ≡ P.key }
+    {
+        let (channel, mut keeper) = opened.named::<P>();
+        let seat = keeper.cut(&channel)?;
+        Some(Seated {
+            channel,
+            keeper,
+            seat,
+        })
+    }
+}
+
+/// Takes the last seat in: whether none is out.
+pub(crate) fn are_in<P: Place>(mut keeper: Keeper<P>, channel: &Channel<P>, last: Seat<P>) -> bool {
+    is_in(&mut keeper, channel, last) && keeper.settle(channel)
 }
 
 /// Takes a seat in.

@@ -1,7 +1,7 @@
 //! A connection's own thread over memory.
 ghost use Rattle.std.specs.Prelude.{◌≡◌, []};
 
-use crate::parts::{Open, begun, is_in, put_null};
+use crate::parts::{Open, Seated, are_in, begun, put_null};
 use book::Book;
 use hosts_db::MemHosts;
 use jobs::{Opened, Place};
@@ -13,7 +13,7 @@ use std::marker::Brand;
 use std::sync::ledger::{Blank, Ledger};
 use std::sync::{Mutex, Wait};
 use std::test::*;
-use workers::{Ending, MemoryOutbox, Origin, Shared, Source, Worker};
+use workers::{Ending, Leaves, MemoryOutbox, Origin, Shared, Source, Worker};
 
 /// The connection that is read.
 const CONNECTION: u64 = 300;
@@ -72,7 +72,65 @@ fn xids(alloc: Global, outbox: &MemoryOutbox) -> Option<Vec<u8>> {
     Some(all)
 }
 
+// What came, where all is in at the end.
+fn whole(
+    alloc: Global,
+    is_whole: bool,
+    ending: Ending,
+    put: u64,
+    outbox: &MemoryOutbox,
+) -> Option<Came> {
+    if !is_whole {
+        return None;
+    }
+    let xids = xids(alloc, outbox)?;
+    Some(Came { ending, put, xids })
+}
+
 // Reads the stream, where the channel may be closed before.
+fn read_seated<P: Place, L: Ledger, R: Wait>(
+    rt: &R,
+    alloc: Global,
+    seated: Seated<P>,
+    blank: Blank,
+    book: Book<FlatTable, MemHosts>,
+    stream: Pieces<'_>,
+    is_closed: bool,
+) -> Option<Came>
+    requires name { blank.name ≡ L.name }
+    requires parts { (blank.parts ≡ L.parts) × (blank.parts ≡ 1) }
+    requires new { (book.journal.notes ≡ []) × (book.journal.first ≡ 1) }
+{
+    let Seated {
+        channel,
+        keeper,
+        seat,
+    } = seated;
+    if is_closed {
+        channel.close();
+    }
+    let (total, share) = blank.open::<L>();
+    let shared = Mutex::new(Shared::new(alloc, book, total, false));
+    let mut reader = Worker::new(alloc, seat, share, false);
+    let mut outbox = MemoryOutbox::new(alloc);
+    let origin = Origin {
+        connection: CONNECTION,
+        peer: Peer::PIPE,
+        put: 0,
+    };
+    let mut source = Source { stream, origin };
+    let ending = reader.read(rt, &channel, &shared, &Open, &mut outbox, &mut source);
+    let Leaves {
+        seat,
+        mut share,
+        ..
+    } = reader.leave();
+    let is_finished = shared.into_inner().finish(&mut share).is_ok();
+    let is_whole = are_in(keeper, &channel, seat) & is_finished;
+    whole(alloc, is_whole, ending, source.origin.put, &outbox)
+}
+
+// The same at a channel that was just opened. None where no seat is cut.
 fn read_all<P: Place, L: Ledger, R: Wait>(
     rt: &R,
     alloc: Global,
@@ -88,32 +146,10 @@ fn read_all<P: Place, L: Ledger, R: Wait>(
     requires parts { (blank.parts ≡ L.parts) × (blank.parts ≡ 1) }
     requires new { (book.journal.notes ≡ []) × (book.journal.first ≡ 1) }
 {
-    let (channel, mut keeper) = opened.named::<P>();
-    let seat = keeper.cut(&channel)?;
-    if is_closed {
-        channel.close();
+    match Seated::<P>::new(opened) {
+        Some(seated) => read_seated::<P, L, R>(rt, alloc, seated, blank, book, stream, is_closed),
+        None => None,
     }
-    let (total, share) = blank.open::<L>();
-    let shared = Mutex::new(Shared::new(alloc, book, total, false));
-    let mut reader = Worker::new(alloc, seat, share, false);
-    let mut outbox = MemoryOutbox::new(alloc);
-    let origin = Origin {
-        connection: CONNECTION,
-        peer: Peer::PIPE,
-        put: 0,
-    };
-    let mut source = Source { stream, origin };
-    let ending = reader.read(rt, &channel, &shared, &Open, &mut outbox, &mut source);
-    let mut left = reader.leave();
-    let is_finished = shared.into_inner().finish(&mut left.share).is_ok();
-    if !is_in(&mut keeper, &channel, left.seat) || !keeper.settle(&channel) || !is_finished {
-        return None;
-    }
-    Some(Came {
-        ending,
-        put: source.origin.put,
-        xids: xids(alloc, &outbox)?,
-    })
 }
 
 fn came_of<R: Wait>(rt: &R, alloc: Global, stream: Pieces<'_>, is_closed: bool) -> Option<Came> {
