@@ -6,3 +6,4 @@ pub mod Firsts
 pub mod OwnersRuns
 pub mod Untouched
 pub mod OwnerInWay
+pub mod Settled

@@ -1,3 +1,4 @@
 pub mod Reaches
 pub mod Arena
 pub mod Indexed
+pub mod Quick

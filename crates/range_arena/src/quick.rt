@@ -1,13 +1,21 @@
 //! A sorted list of runs, set in place, where only the runs of one owner on one file are looked at.
-ghost use Rattle.std.specs.Prelude.{OnOk, OnErr, IsErr, IsTrue, IfSome, ◌↔◌, ◌≡◌, ◌+◌, ◌<◌, ◌≤◌, ◌^◌, length, map, not};
+ghost use Rattle.std.specs.Prelude.{OnOk, OnErr, IsErr, IsTrue, IfSome, ◌↔◌, ◌≡◌, ◌+◌, ◌<◌, ◌≤◌, ◌^◌, length, map, not, Some};
 ghost use Rattle.std.specs.List.{filter};
 ghost use Rattle.range_table.specs.Settings.{IsIn};
-ghost use Rattle.range_table.specs.Runs.{starts_in, trim, kept, right, cut, low, high, widened, joined, set_runs, is_split, is_full, IsRunList};
+ghost use Rattle.range_table.specs.Runs.{starts_in, trim, kept, right, cut, low, high, widened, joined, is_split, is_full, IsRunList};
 ghost use Rattle.range_table.specs.Parts.{last_started};
+ghost use Rattle.range_arena.specs.Quick.{HoldsAll, AreSet};
 
 use crate::indexed::Indexed;
 use range_table::run::{Mode, NoRuns, Run, Setting};
 use range_table::run_list::MOST_RUNS;
+
+// Whether the range's owner holds all of it in the mode by this run.
+fn holds_all(run: &Run, range: &Setting, mode: Mode) -> bool
+    ensures { IsTrue result ↔ HoldsAll range.now mode run.now }
+{
+    run.first <= range.first && range.last <= run.last && run.mode == mode && run.is_of(range)
+}
 
 // The last run of the range's owner that starts before it.
 fn last_before(runs: &Indexed, range: &Setting) -> Option<Run>
@@ -145,15 +153,34 @@ fn join_beside(runs: &mut Indexed, range: &Setting, mode: Mode)
     runs.insert(&wide.run(mode));
 }
 
+// Where the owner has a run that starts up to the byte behind the range: this one, the last of them.
+fn join_last(runs: &mut Indexed, range: &Setting, mode: Mode, last: &Run)
+    requires listed { IsRunList runs.old }
+    requires ordered { range.now.first ≤ range.now.last }
+    requires inside { range.now.last < 2 ^ 63 }
+    requires mode { range.now.mode ≡ Some mode }
+    requires few { length runs.old ≤ MOST_RUNS }
+    requires room { length (joined range.now mode runs.old) ≤ MOST_RUNS }
+    requires stands { IsIn last.now runs.old }
+    ensures { AreSet (Some mode) range.now runs.old runs.new }
+{
+    // What is held already isn't taken out to be put in again.
+    if !holds_all(last, range, mode) {
+        join_beside(runs, range, mode);
+    }
+}
+
 fn join(runs: &mut Indexed, range: &Setting, mode: Mode)
     requires listed { IsRunList runs.old }
     requires ordered { range.now.first ≤ range.now.last }
     requires inside { range.now.last < 2 ^ 63 }
+    requires mode { range.now.mode ≡ Some mode }
+    requires few { length runs.old ≤ MOST_RUNS }
     requires room { length (joined range.now mode runs.old) ≤ MOST_RUNS }
-    ensures { runs.new ≡ joined range.now mode runs.old }
+    ensures { AreSet (Some mode) range.now runs.old runs.new }
 {
     match runs.last_upto(range, range.last + 1) {
-        Some(_) => join_beside(runs, range, mode),
+        Some(last) => join_last(runs, range, mode, &last),
         None => runs.insert(&range.run(mode)),
     }
 }
@@ -176,9 +203,8 @@ pub(crate) fn set(runs: &mut Indexed, setting: &Setting) -> Result<(), NoRuns>
     requires listed { IsRunList runs.old }
     requires few { length runs.old ≤ MOST_RUNS }
     ensures refused { IsErr result ↔ IsTrue (is_full setting.now runs.old) }
-    ensures ok { OnOk result (runs.new ≡ set_runs setting.now runs.old) }
+    ensures ok { OnOk result (AreSet setting.now.mode setting.now runs.old runs.new) }
     ensures err { OnErr result (runs.new ≡ runs.old) }
-    ensures few { length runs.new ≤ MOST_RUNS }
 {
     if is_full(runs, setting) {
         return Err(NoRuns);

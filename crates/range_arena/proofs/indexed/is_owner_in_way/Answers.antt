@@ -1,5 +1,4 @@
-use Rattle.std.proofs.Common.{◌≡◌, ◌-◌, ◌+◌, ◌<◌, true, None, length, sym, ap, subst, ◌∙◌, arith}
-use Rattle.range_table.specs.Settings.{setting}
+use Rattle.std.proofs.Common.{◌≡◌, ◌-◌, ◌+◌, ◌<◌, true, sym, ap, subst, ◌∙◌, arith}
 use Rattle.range_table.specs.Runs.{is_of, IsPlace}
 use Rattle.range_arena.specs.Indexed.{owned_upto}
 use Rattle.range_table.specs.declared.run.Setting.{Setting}

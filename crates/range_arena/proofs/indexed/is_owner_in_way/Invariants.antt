@@ -1,4 +1,4 @@
-use Rattle.std.proofs.Common.{◌≡◌, ◌-◌}
+use Rattle.std.proofs.Common.{◌-◌}
 use Rattle.range_arena.proofs.OwnerInWay.{IsClearFrom}
 use Rattle.range_arena.proofs.indexed.is_owner_in_way.Given as goal
 

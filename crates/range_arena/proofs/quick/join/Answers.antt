@@ -1,4 +1,4 @@
-use Rattle.std.proofs.Common.{◌≡◌, ◌≤◌, ◌+◌, ◌∙◌, List, None, ap, arith, length, subst, sym}
+use Rattle.std.proofs.Common.{◌≡◌, ◌≤◌, ◌+◌, ◌∙◌, List, None, Some, ap, arith, length, subst, sym}
 use Rattle.range_table.specs.Runs.{IsRunList, insert_run, joined, run_of}
 use Rattle.range_table.specs.Parts.{last_started}
 use Rattle.range_table.specs.declared.run.Mode.{Mode}
@@ -7,6 +7,7 @@ use Rattle.range_table.specs.declared.run.Setting.{Setting}
 use Rattle.range_table.proofs.Inserting.{length-insert_run}
 use Rattle.range_table.proofs.Sets.{IsRunList-joined}
 use Rattle.range_arena.proofs.Untouched.{joined_alone}
+use Rattle.range_arena.proofs.Settled.{set_anew}
 use Rattle.range_arena.proofs.quick.join.Goals as goal
 
 -- the owner has nothing up to the byte behind the range, as a search said
@@ -29,5 +30,6 @@ insert-requires-clause-room c =
 
 pub returns-in-None : goal.returns-in-None
 returns-in-None c =
-    c.insert.ensures
-    ∙ alone c.args.range.now c.args.mode c.args.runs.now c.run.result c.requires.ordered (sym c.last_upto.ensures.last ∙ c.in-None.is) c.run.ensures
+    let range = c.args.range.now in
+    let e = c.insert.ensures ∙ alone range c.args.mode c.args.runs.now c.run.result c.requires.ordered (sym c.last_upto.ensures.last ∙ c.in-None.is) c.run.ensures in
+    set_anew (Some c.args.mode) range c.args.runs.now c.insert.new.self c.requires.mode c.requires.ordered c.requires.listed e (omega (arith, ap length e, c.requires.room))

@@ -1,9 +1,10 @@
 use Rattle.std.proofs.Common.{◌≡◌, true, refl, rules}
 use Rattle.range_table.specs.Settings.{setting}
-use Rattle.range_table.specs.Runs.{is_full, set_runs}
+use Rattle.range_table.specs.Runs.{is_full}
 use Rattle.range_table.specs.declared.run.Setting.{Setting}
-use Rattle.range_table.proofs.Sets.{IsRunList-set}
-use Rattle.range_table.proofs.Tables.{refused_if, full_if, mode_at-set}
+use Rattle.range_table.proofs.Tables.{refused_if, full_if}
+use Rattle.range_arena.specs.Quick.{AreSet}
+use Rattle.range_arena.proofs.Settled.{mode_at-after}
 use Rattle.range_arena.proofs.arena.ArenaTableRangeTable.set.Goals as goal
 
 pub returns-in_err-set-clause-refused : goal.returns-in_err-set-clause-refused
@@ -16,11 +17,11 @@ pub invariant_of-self-2 : goal.invariant_of-self-2
 invariant_of-self-2 c =
     let s : Setting = setting c.args.file.now c.args.owner c.args.first c.args.last c.args.mode in
     let k = c.self.invariant in
-    let e : c.set.new.runs ≡ set_runs s c.self.inside.runs = rw c.new-setting.ensures at c.in_ok-set.ensures.ok in
+    let e : AreSet s.mode s c.self.inside.runs c.set.new.runs = rw c.new-setting.ensures at c.in_ok-set.ensures.ok in
     record {
-      listed = rw e (IsRunList-set s c.self.inside.runs c.requires.ordered k.listed);
-      held = rw (e, c.after-self-inside.ensures, c.new-setting.ensures) (mode_at-set s c.self.inside.runs c.self.inside.history.items c.requires.ordered k.listed k.held);
-      few = c.in_ok-set.ensures.few;
+      listed = e.listed;
+      held = rw (c.after-self-inside.ensures, c.new-setting.ensures) (mode_at-after s c.self.inside.runs c.set.new.runs c.self.inside.history.items k.held e.held);
+      few = e.few;
     }
 
 pub returns-clause-refused : goal.returns-clause-refused
