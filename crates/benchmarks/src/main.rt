@@ -25,31 +25,71 @@ use range_table::FlatTable;
 use std::alloc::Global;
 use std::env;
 
+fn of_daemon(alloc: Global, what: &str, calls: &str) -> Result<u32> {
+    daemons::answered(alloc, what, calls.parse()?)
+}
+
+/// What is asked of the book: how many files, runs over them, and rounds.
+#[derive(Clone, Copy)]
+struct OfBook {
+    held: (u32, u32),
+    rounds: u32,
+}
+
+fn of_book(files: &str, runs: &str, rounds: &str) -> Result<OfBook> {
+    Ok(OfBook {
+        held: (files.parse()?, runs.parse()?),
+        rounds: rounds.parse()?,
+    })
+}
+
+fn in_arena(alloc: Global, what: &str, asked: OfBook) -> Result<u32> {
+    let table = ArenaTable::new(alloc)?;
+    books::answered(alloc, table, what, asked.held, asked.rounds)
+}
+
+fn in_flat(alloc: Global, what: &str, asked: OfBook) -> Result<u32> {
+    let table = FlatTable::new(alloc)?;
+    books::answered(alloc, table, what, asked.held, asked.rounds)
+}
+
+/// A size, and how often.
+fn sized(count: &str, rounds: &str) -> Result<(u32, u32)> {
+    Ok((count.parse()?, rounds.parse()?))
+}
+
+fn over_flat(alloc: Global, what: &str, (count, rounds): (u32, u32)) -> Result<u32> {
+    let mut table = FlatTable::new(alloc)?;
+    ranges::ranges(alloc, &mut table, what, count, rounds)
+}
+
+fn over_arena(alloc: Global, what: &str, (count, rounds): (u32, u32)) -> Result<u32> {
+    let mut table = ArenaTable::new(alloc)?;
+    ranges::ranges(alloc, &mut table, what, count, rounds)
+}
+
+fn counted(alloc: Global, what: &str, asked: (u32, u32)) -> Result<u32> {
+    let (count, rounds) = asked;
+    match what {
+        "kept" => replies::kept(alloc, count, rounds),
+        _ if what.starts_with("change") || what.starts_with("come") => {
+            waits::waits(alloc, what, count, rounds)
+        }
+        _ => over_arena(alloc, what, asked),
+    }
+}
+
 fn done(alloc: Global, words: &[&str]) -> Result<u32> {
     match words {
-        ["daemon", what, calls] => daemons::answered(alloc, what, calls.parse()?),
+        ["daemon", what, calls] => of_daemon(alloc, what, calls),
         ["book", what, files, runs, rounds] => {
-            let held = (files.parse()?, runs.parse()?);
-            let table = ArenaTable::new(alloc)?;
-            books::answered(alloc, table, what, held, rounds.parse()?)
+            in_arena(alloc, what, of_book(files, runs, rounds)?)
         }
         ["flat", "book", what, files, runs, rounds] => {
-            let held = (files.parse()?, runs.parse()?);
-            let table = FlatTable::new(alloc)?;
-            books::answered(alloc, table, what, held, rounds.parse()?)
+            in_flat(alloc, what, of_book(files, runs, rounds)?)
         }
-        ["kept", count, rounds] => replies::kept(alloc, count.parse()?, rounds.parse()?),
-        [what, count, rounds] if what.starts_with("change") || what.starts_with("come") => {
-            waits::waits(alloc, what, count.parse()?, rounds.parse()?)
-        }
-        ["flat", what, count, rounds] => {
-            let mut table = FlatTable::new(alloc)?;
-            ranges::ranges(alloc, &mut table, what, count.parse()?, rounds.parse()?)
-        }
-        [what, count, rounds] => {
-            let mut table = ArenaTable::new(alloc)?;
-            ranges::ranges(alloc, &mut table, what, count.parse()?, rounds.parse()?)
-        }
+        ["flat", what, count, rounds] => over_flat(alloc, what, sized(count, rounds)?),
+        [what, count, rounds] => counted(alloc, what, sized(count, rounds)?),
         _ => bail!("nothing is done by {} words", words.len()),
     }
 }
