@@ -9,6 +9,7 @@ use crate::seats::{callers, locals, take_back};
 use crate::settings::{Backing, Settings};
 use crate::signals::Bells;
 use book::{Book, BookEvent, Reply};
+use callbacks::ShortBytes;
 use connections::{Door, PLACES};
 use hosts_db::HostStore;
 use jobs::{Channel, Opened, Place};
@@ -23,7 +24,7 @@ use std::alloc::Global;
 use std::io::{self, Print};
 use std::marker::Brand;
 use std::net::{Ipv4Addr, Net, SocketAddr, SocketAddrV4, TcpListener, TcpStream};
-use std::sync::ledger::{Blank, Ledger};
+use std::sync::ledger::{Blank, Book as Total, Ledger};
 use std::sync::{Mutex, Wait};
 use std::thread::Threads;
 use std::time::Clock;
@@ -185,6 +186,87 @@ where
     run_threads(rt, &context, staff, sender)
 }
 
+// What all threads share: a book over the store, whose server has begun anew.
+fn shared_over<T: RangeTable + Drop, S: HostStore + Drop, L: Ledger>(
+    alloc: Global,
+    table: T,
+    store: S,
+    own_name: ShortBytes,
+    total: Total<L>,
+    is_audited: bool,
+) -> Result<Shared<T, S, L>, Fault>
+    requires empty { T.settings table ≡ [] }
+    requires total { total.total ≡ 0 }
+{
+    let book = Book::new(alloc, table, store, own_name).map_err(|_| Fault::Starved)?;
+    let mut shared = Shared::new(alloc, book, total, is_audited);
+    restart(&mut shared)?;
+    Ok(shared)
+}
+
+// What connections and workers have before the first comes.
+#[derive(Drop)]
+struct Seated<P: Place, L: Ledger> {
+    rosters: Rosters<P, L>,
+    workers: Vec<Worker<P, L>>,
+}
+
+fn seat_all<P: Place, L: Ledger>(
+    alloc: Global,
+    cutter: &mut Cutter<P, L>,
+    channel: &Channel<P>,
+    workers: u16,
+) -> Result<Seated<P, L>, Fault> {
+    let callers = callers(alloc, cutter, channel)?;
+    let workers = cutter.cut_all(channel, workers)?;
+    let locals = locals(alloc)?;
+    Ok(Seated {
+        rosters: Rosters {
+            callers: Mutex::new(callers),
+            locals: Mutex::new(locals),
+        },
+        workers,
+    })
+}
+
+// Everybody has what he works with, serves, and gives it back.
+fn serve_seated<P, L, T, S, G, R>(
+    rt: &R,
+    alloc: Global,
+    settings: &Settings,
+    gate: &G,
+    peers: Peers,
+    channel: Channel<P>,
+    shared: Shared<T, S, L>,
+    cutter: Cutter<P, L>,
+    parts: u64,
+) -> Result<u64, Fault>
+where
+    P: Place + Send + Sync,
+    L: Ledger + Send + Sync,
+    T: RangeTable + Drop + Send,
+    S: HostStore + Drop + Send,
+    G: Gate + Sync,
+    R: Net<Listener = TcpListener, Stream = TcpStream>
+        + Threads
+        + Wait
+        + Clock
+        + Print
+        + Log
+        + Sync,
+    requires { parts ≡ L.parts }
+{
+    let mut cutter = cutter;
+    let Seated { rosters, workers } = seat_all(alloc, &mut cutter, &channel, settings.workers)?;
+    let inside = Inside {
+        channel,
+        shared: Mutex::new(shared),
+        rosters,
+    };
+    let back = serve_inside(rt, alloc, settings, gate, peers, &inside, workers)?;
+    end(cutter.into_gatherer(), inside, back, parts)
+}
+
 // Everything is put together, served, and taken apart.
 fn serve_as<P, L, T, S, G, R>(
     rt: &R,
@@ -214,29 +296,19 @@ where
     requires place { (opened.slip.table_id ≡ P.table) × (opened.slip.me.0.of ≡ P.key) }
     requires ledger { (blank.name ≡ L.name) × (blank.parts ≡ L.parts) × (blank.parts ≡ parts) }
 {
+    let is_audited = settings.is_audited;
     let (channel, keeper) = opened.named::<P>();
     let (total, share) = blank.open::<L>();
+    let cutter = Cutter::new(alloc, keeper, share, parts, is_audited);
     let Backing {
         store,
         peers,
         own_name,
     } = backing;
-    let book = Book::new(alloc, table, store, own_name).map_err(|_| Fault::Starved)?;
-    let mut shared = Shared::new(alloc, book, total, settings.is_audited);
-    restart(&mut shared)?;
-    let mut cutter = Cutter::new(alloc, keeper, share, parts, settings.is_audited);
-    let callers = callers(alloc, &mut cutter, &channel)?;
-    let workers = cutter.cut_all(&channel, settings.workers)?;
-    let inside = Inside {
-        channel,
-        shared: Mutex::new(shared),
-        rosters: Rosters {
-            callers: Mutex::new(callers),
-            locals: Mutex::new(locals(alloc)?),
-        },
-    };
-    let back = serve_inside(rt, alloc, settings, gate, peers, &inside, workers)?;
-    end(cutter.into_gatherer(), inside, back, parts)
+    let shared = shared_over(alloc, table, store, own_name, total, is_audited)?;
+    serve_seated(
+        rt, alloc, settings, gate, peers, channel, shared, cutter, parts,
+    )
 }
 
 // What was cut is taken back, and the journal is checked.
