@@ -95,30 +95,50 @@ fn wanted(asked: &Setting) -> Run
     asked.run(asked.mode.unwrap_or(Mode::Exclusive))
 }
 
-// Whether both refuse the setting, or both make it.
+fn set<T: RangeTable>(table: &mut T, asked: &Setting) -> bool
+    requires ordered { asked.now.first ≤ asked.now.last }
+    requires inside { asked.now.last < 2 ^ 63 }
+{
+    table
+        .set(
+            &asked.file,
+            asked.owner,
+            asked.first,
+            asked.last,
+            asked.mode,
+        )
+        .is_ok()
+}
+
+fn used_after<T: RangeTable>(table: &T, asked: &Setting) -> u32
+    requires ordered { asked.now.first ≤ asked.now.last }
+    requires inside { asked.now.last < 2 ^ 63 }
+{
+    table.used_after(
+        &asked.file,
+        asked.owner,
+        asked.first,
+        asked.last,
+        asked.mode,
+    )
+}
+
+// Whether both count alike what the setting would make. The flat one goes over all its runs for it.
+fn count_alike<T: RangeTable, U: RangeTable>(table: &T, other: &U, asked: &Setting) -> bool
+    requires ordered { asked.now.first ≤ asked.now.last }
+    requires inside { asked.now.last < 2 ^ 63 }
+{
+    used_after(table, asked) == used_after(other, asked)
+}
+
+// Whether both refuse the setting, or both make it, and then have as many runs as the first one said.
 fn set_alike<T: RangeTable, U: RangeTable>(table: &mut T, other: &mut U, asked: &Setting) -> bool
     requires ordered { asked.now.first ≤ asked.now.last }
     requires inside { asked.now.last < 2 ^ 63 }
 {
-    let done = table
-        .set(
-            &asked.file,
-            asked.owner,
-            asked.first,
-            asked.last,
-            asked.mode,
-        )
-        .is_ok();
-    let also = other
-        .set(
-            &asked.file,
-            asked.owner,
-            asked.first,
-            asked.last,
-            asked.mode,
-        )
-        .is_ok();
-    done == also
+    let after = used_after(table, asked);
+    let done = set(table, asked);
+    done == set(other, asked) && (!done || table.used() == after && other.used() == after)
 }
 
 // Whether both find the same in the way, and say so of this owner alike.
@@ -149,7 +169,7 @@ fn hold_alike<T: RangeTable, U: RangeTable>(table: &T, other: &U, owners: &Owner
     table.used() == other.used()
 }
 
-// Mostly a setting; seldom a host or an owner on a file goes.
+// Mostly a setting; seldom it is counted alone, or a host or an owner on a file goes.
 fn step<T: RangeTable, U: RangeTable>(
     table: &mut T,
     other: &mut U,
@@ -170,6 +190,7 @@ fn step<T: RangeTable, U: RangeTable>(
             other.drop_owner_on_file(&asked.file, asked.owner);
             true
         }
+        10..100 => count_alike(table, other, &asked),
         _ => {
             let owner = asking[next_random(random, 4) as usize];
             find_alike(table, other, owners, owner, &wanted(&asked))

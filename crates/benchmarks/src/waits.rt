@@ -6,6 +6,7 @@ use crate::ranges::file_of;
 use anyhow::Result;
 use blocked_list::{Quotas, Slots, Waiter};
 use callbacks::{Destination, Letter, Message, ShortBytes};
+use host_runs::RunsOfHosts;
 use owner_ids::{Owner, OwnerId, Owners};
 use range_arena::ArenaTable;
 use range_table::{FileId, Mode, RangeTable, Run};
@@ -19,6 +20,15 @@ impl Quotas for Unlimited {
 
     fn quota(&self, _host: &[u8]) -> Option<u32> {
         None
+    }
+}
+
+// Nobody asks, since no host has a quota.
+impl RunsOfHosts for Unlimited {
+    ghost runs = { λ unlimited host. 0 };
+
+    fn runs_of(&self, _host: &[u8]) -> u32 {
+        0
     }
 }
 
@@ -90,7 +100,7 @@ fn change<T: RangeTable>(
         for mode in [Some(Mode::Exclusive), None] {
             let _ = table.set(&file, owner, 100, 109, mode);
             if slots
-                .next_grantable_on(table, owners, &Unlimited, &file)
+                .next_grantable_on(table, owners, &Unlimited, &Unlimited, &file)
                 .is_some()
             {
                 found = found.saturating_add(1);

@@ -1,7 +1,8 @@
 -- What is said of whatever settings and waiters the numbers stand for.
-use Rattle.std.specs.Prelude.{◌≡◌, false, List, IsSome}
+use Rattle.std.specs.Prelude.{◌≡◌, ℕ, false, List, IsSome}
+use Rattle.definitions.specs.Bytes.{Bytes}
 use Rattle.definitions.specs.Settings.{Setting, Request}
-use Rattle.definitions.specs.Starts.{is_short}
+use Rattle.definitions.specs.Starts.{is_short, used_of}
 use Rattle.definitions.specs.Waits.{Waiter}
 use Rattle.owner_ids.specs.Names.{Names}
 use Rattle.range_owners.specs.Stands.{WhereStands}
@@ -21,3 +22,7 @@ WhereWants names ns ws wanted Says =
 abbrev pub WhereFree : Names → List NumberSetting → Waiting → (List Setting → Waiter → Type 0) → Type 0
 WhereFree names ns w Says =
     WhereStands names ns (λ settings. IsSome (names w.wanted.owner) → is_short 65536 settings ≡ false → Says settings (waiter_by names w))
+
+-- so many runs each host has
+abbrev pub AreRunsOf : (Bytes → ℕ) → List Setting → Type 0
+AreRunsOf runs settings = (name : Bytes) → runs name ≡ used_of name settings

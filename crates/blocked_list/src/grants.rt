@@ -3,31 +3,33 @@ ghost use Rattle.std.specs.Prelude.{◌≡◌, ◌<◌, false, length, IfSome};
 ghost use Rattle.definitions.specs.Bytes.{is_any};
 ghost use Rattle.owner_ids.specs.Names.{named};
 ghost use Rattle.blocked_list.specs.First.{IsFirstPlace};
-ghost use Rattle.blocked_list.specs.Standing.{WhereWaits};
+ghost use Rattle.blocked_list.specs.Standing.{WhereWaits, AreRunsOf};
 ghost use Rattle.blocked_list.specs.Ready.{IsFirstReady, is_ready_on, is_ready_off};
 
 use crate::quotas::Quotas;
 use crate::slots::Slots;
+use host_runs::RunsOfHosts;
 use owner_ids::Owners;
 use range_table::{FileId, RangeTable};
 
 impl Slots {
     /// Where the first waiter stands whose lock nobody is in the way of, nor its host's quota, where 2 runs are free; then it
-    /// can be granted.
-    pub fn next_grantable<T: RangeTable, Q: Quotas>(
+    /// can be granted. How many runs the hosts have is told by `hosts`.
+    pub fn next_grantable<T: RangeTable, H: RunsOfHosts, Q: Quotas>(
         &self,
         table: &T,
         owners: &Owners,
+        hosts: &H,
         quotas: &Q,
     ) -> Option<usize>
         ensures bound { IfSome result (λ place. place < length self.now.waiters) }
-        ensures first { WhereWaits (named owners.now) (T.settings table.now) self.now.waiters (λ settings waiters. IsFirstReady (Q.by_host quotas.now) settings waiters result) }
+        ensures first { WhereWaits (named owners.now) (T.settings table.now) self.now.waiters (λ settings waiters. AreRunsOf (H.runs hosts.now) settings → IsFirstReady (Q.by_host quotas.now) settings waiters result) }
     {
         if range_owners::is_short(table, owners) {
             return None;
         }
         for place in 0..self.waiters.len() {
-            if self.waiters[place].is_free(table, owners, quotas) {
+            if self.waiters[place].is_free(table, owners, hosts, quotas) {
                 return Some(place);
             }
         }
@@ -37,36 +39,38 @@ impl Slots {
     /// The same after a change of this file alone, where nobody who waits for another file can be granted: only those who
     /// wait for this one are looked at, up to the one that is found. They are told by two binary searches, so others who
     /// wait cost a few comparisons of files.
-    pub fn next_grantable_on<T: RangeTable, Q: Quotas>(
+    pub fn next_grantable_on<T: RangeTable, H: RunsOfHosts, Q: Quotas>(
         &self,
         table: &T,
         owners: &Owners,
+        hosts: &H,
         quotas: &Q,
         file: &FileId,
     ) -> Option<usize>
         ensures bound { IfSome result (λ place. place < length self.now.waiters) }
-        ensures first { WhereWaits (named owners.now) (T.settings table.now) self.now.waiters (λ settings waiters. is_any (is_ready_off file.now (Q.by_host quotas.now) settings) waiters ≡ false → IsFirstReady (Q.by_host quotas.now) settings waiters result) }
+        ensures first { WhereWaits (named owners.now) (T.settings table.now) self.now.waiters (λ settings waiters. AreRunsOf (H.runs hosts.now) settings → is_any (is_ready_off file.now (Q.by_host quotas.now) settings) waiters ≡ false → IsFirstReady (Q.by_host quotas.now) settings waiters result) }
     {
-        self.first_on(table, owners, quotas, file)
+        self.first_on(table, owners, hosts, quotas, file)
     }
 
     // The first that is ready, of those on a file.
-    fn first_on<T: RangeTable, Q: Quotas>(
+    fn first_on<T: RangeTable, H: RunsOfHosts, Q: Quotas>(
         &self,
         table: &T,
         owners: &Owners,
+        hosts: &H,
         quotas: &Q,
         file: &FileId,
     ) -> Option<usize>
         ensures bound { IfSome result (λ place. place < length self.now.waiters) }
-        ensures first { WhereWaits (named owners.now) (T.settings table.now) self.now.waiters (λ settings waiters. IsFirstPlace (is_ready_on file.now (Q.by_host quotas.now) settings) waiters result) }
+        ensures first { WhereWaits (named owners.now) (T.settings table.now) self.now.waiters (λ settings waiters. AreRunsOf (H.runs hosts.now) settings → IsFirstPlace (is_ready_on file.now (Q.by_host quotas.now) settings) waiters result) }
     {
         if range_owners::is_short(table, owners) {
             return None;
         }
         for place in self.by_file.part(&self.waiters, file) {
             let place = usize::from(*place);
-            if self.waiters[place].is_free(table, owners, quotas) {
+            if self.waiters[place].is_free(table, owners, hosts, quotas) {
                 return Some(place);
             }
         }

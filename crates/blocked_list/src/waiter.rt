@@ -6,11 +6,13 @@ ghost use Rattle.definitions.specs.Quotas.{exceeds};
 ghost use Rattle.definitions.specs.World.{is_ready, the_limits};
 ghost use Rattle.owner_ids.specs.Names.{named};
 ghost use Rattle.blocked_list.specs.Waiting.{same_wanted, setting_wanted};
-ghost use Rattle.blocked_list.specs.Standing.{WhereFree};
+ghost use Rattle.blocked_list.specs.Standing.{WhereFree, AreRunsOf};
 
 use crate::quotas::{Quotas, limit_of};
 use callbacks::Letter;
+use host_runs::RunsOfHosts;
 use owner_ids::Owners;
+use range_owners::Allowance;
 use range_table::{FileId, RangeTable, Run, Setting};
 use std::marker::Model;
 
@@ -85,21 +87,28 @@ impl Waiter {
     }
 
     // Whether nobody is in the way, and its host's quota isn't, where 2 runs are free.
-    pub(crate) fn is_free<T: RangeTable, Q: Quotas>(
+    pub(crate) fn is_free<T: RangeTable, H: RunsOfHosts, Q: Quotas>(
         &self,
         table: &T,
         owners: &Owners,
+        hosts: &H,
         quotas: &Q,
     ) -> bool
-        ensures { WhereFree (named owners.now) (T.settings table.now) self.now (λ settings waiter. result ≡ is_ready the_limits (Q.by_host quotas.now) settings waiter) }
+        ensures { WhereFree (named owners.now) (T.settings table.now) self.now (λ settings waiter. AreRunsOf (H.runs hosts.now) settings → result ≡ is_ready the_limits (Q.by_host quotas.now) settings waiter) }
     {
         !range_owners::conflicts(table, owners, &self.wanted)
-            && !self.is_held_back(table, owners, quotas)
+            && !self.is_held_back(table, owners, hosts, quotas)
     }
 
     // Whether its host's quota holds it back, where 2 runs are free.
-    fn is_held_back<T: RangeTable, Q: Quotas>(&self, table: &T, owners: &Owners, quotas: &Q) -> bool
-        ensures { WhereFree (named owners.now) (T.settings table.now) self.now (λ settings waiter. result ≡ exceeds (Q.by_host quotas.now) settings (setting_of waiter.request)) }
+    fn is_held_back<T: RangeTable, H: RunsOfHosts, Q: Quotas>(
+        &self,
+        table: &T,
+        owners: &Owners,
+        hosts: &H,
+        quotas: &Q,
+    ) -> bool
+        ensures { WhereFree (named owners.now) (T.settings table.now) self.now (λ settings waiter. AreRunsOf (H.runs hosts.now) settings → result ≡ exceeds (Q.by_host quotas.now) settings (setting_of waiter.request)) }
     {
         let Some(owner) = owners.find(self.wanted.owner) else {
             return false;
@@ -107,7 +116,11 @@ impl Waiter {
         let Some(limit) = limit_of(quotas, owner) else {
             return false;
         };
-        range_owners::is_past(table, owners, limit.host, &self.setting(), limit.quota)
+        let allowance = Allowance {
+            used: hosts.runs_of(limit.host),
+            quota: limit.quota,
+        };
+        range_owners::is_past(table, owners, limit.host, allowance, &self.setting())
     }
 
     // What it sets once it is granted.

@@ -3,3 +3,4 @@ pub mod Counting
 pub mod Ties
 pub mod Sweeps
 pub mod Guests
+pub mod HostCounts

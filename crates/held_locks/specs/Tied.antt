@@ -1,9 +1,12 @@
 -- What a table holds by number, how many runs each number has, and whom each number names, beside the settings of owners.
-use Rattle.std.specs.Prelude.{ℕ, ◌≡◌, ◌<◌, ◌≤◌, ◌==◌, List, Option, Some, length, slice_index_or}
+use Rattle.std.specs.Prelude.{ℕ, ◌≡◌, ◌<◌, ◌≤◌, ◌==◌, true, List, Option, Some, length, slice_index_or}
+use Rattle.definitions.specs.Bytes.{Bytes}
 use Rattle.definitions.specs.Owners.{Owner}
 use Rattle.definitions.specs.Settings.{Setting}
 use Rattle.range_table.specs.declared.run.Setting.{Setting as NumberSetting}
-use Rattle.range_table.specs.Settings.{mode_at, held_by, IsUsed}
+use Rattle.definitions.specs.Starts.{used_of}
+use Rattle.host_runs.specs.HostRuns.{Counted, runs_of, IsRecounted}
+use Rattle.range_table.specs.Settings.{Held, mode_at, held_by, IsUsed}
 use Rattle.owner_ids.specs.Names.{named}
 use Rattle.range_owners.specs.Stands.{Stands}
 
@@ -16,3 +19,19 @@ pub record IsTied (ns : List NumberSetting) (counts : List ℕ) (names : List (O
   pub counted : AreCounts ns counts
   pub within : (n : ℕ) (x : Owner) → named names n ≡ Some x → n < length counts
   pub few : length counts ≤ 4294967296
+
+-- and how many each host has, where all are counted
+abbrev pub AreHostRuns : Counted → List Setting → Type 0
+AreHostRuns hosts settings = hosts.whole ≡ true → (name : Bytes) → runs_of hosts name ≡ used_of name settings
+
+pub record IsCounted (ns : List NumberSetting) (counts : List ℕ) (hosts : Counted) (names : List (Option Owner)) (settings : List Setting) : Type 0 where
+  pub tied : IsTied ns counts names settings
+  pub by_host : AreHostRuns hosts settings
+
+-- the runs of an owner's host are told by those of all, before and after a change of that owner
+pub record IsCountedAnew (x : Owner) (held after : Held) (old new : Counted) : Type 0 where
+  pub before : ℕ
+  pub left : ℕ
+  pub were : IsUsed held before
+  pub are : IsUsed after left
+  pub counted : IsRecounted x before left old new

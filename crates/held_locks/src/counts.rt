@@ -5,10 +5,12 @@ ghost use Rattle.definitions.specs.Owners.{Owner as SaidOwner};
 ghost use Rattle.owner_ids.specs.Names.{named, is_owned_by};
 ghost use Rattle.range_table.specs.Settings.{IsRefused, mode_at, is_by};
 ghost use Rattle.held_locks.specs.Asked.{change_by_number};
-ghost use Rattle.held_locks.specs.Tied.{AreCounts};
+ghost use Rattle.owner_ids.specs.Said.{view_of_owner};
+ghost use Rattle.held_locks.specs.Tied.{AreCounts, IsCountedAnew};
 
 use crate::asked::NewSetting;
-use owner_ids::{Host, HostOf, OwnerId, Owners, Starved};
+use host_runs::HostRuns;
+use owner_ids::{Host, HostOf, Owner, OwnerId, Owners, Starved};
 use range_table::{FileId, NoRuns, RangeTable};
 
 /// Room for the count of a number. The counts stay.
@@ -37,10 +39,11 @@ fn recount(counts: &mut Vec<u32>, number: OwnerId, before: u32, after: u32)
     counts[number as usize] = after - others;
 }
 
-/// Sets what a number holds, and counts its runs. Refused, nothing has changed.
+/// Sets what a number holds, and counts its runs and its host's. Refused, nothing has changed.
 pub(crate) fn set<R: RangeTable>(
     table: &mut R,
     counts: &mut Vec<u32>,
+    hosts: &mut HostRuns,
     number: OwnerId,
     change: &NewSetting<'_>,
 ) -> Result<(), NoRuns>
@@ -51,18 +54,24 @@ pub(crate) fn set<R: RangeTable>(
     ensures err { OnErr result (R.settings table.new ≡ R.settings table.old) }
     ensures counted { AreCounts (R.settings table.new) counts.new.items }
     ensures places { length counts.new.items ≡ length counts.old.items }
+    ensures hosts { OnOk result (IsCountedAnew (view_of_owner change.now.owner.now) (mode_at (R.settings table.old)) (mode_at (R.settings table.new)) hosts.old hosts.new) }
+    ensures hosts_stay { OnErr result (hosts.new ≡ hosts.old) }
 {
     let before = table.used();
     table.set(&change.file, number, change.first, change.last, change.mode)?;
-    recount(counts, number, before, table.used());
+    let after = table.used();
+    recount(counts, number, before, after);
+    hosts.recount(change.owner, before, after);
     Ok(())
 }
 
-/// Takes what a number holds of a file out, and counts its runs.
+/// Takes what an owner of this number holds of a file out, and counts its runs and its host's.
 pub(crate) fn drop_owner_on_file<R: RangeTable>(
     table: &mut R,
     counts: &mut Vec<u32>,
+    hosts: &mut HostRuns,
     file: &FileId,
+    owner: &Owner,
     number: OwnerId,
 )
     requires place { number < length counts.old.items }
@@ -70,10 +79,13 @@ pub(crate) fn drop_owner_on_file<R: RangeTable>(
     ensures settings { R.settings table.new ≡ filter (λ s. not (is_by file.now number s)) (R.settings table.old) }
     ensures counted { AreCounts (R.settings table.new) counts.new.items }
     ensures places { length counts.new.items ≡ length counts.old.items }
+    ensures hosts { IsCountedAnew (view_of_owner owner.now) (mode_at (R.settings table.old)) (mode_at (R.settings table.new)) hosts.old hosts.new }
 {
     let before = table.used();
     table.drop_owner_on_file(file, number);
-    recount(counts, number, before, table.used());
+    let after = table.used();
+    recount(counts, number, before, after);
+    hosts.recount(owner, before, after);
 }
 
 /// The numbers of some owners have no runs from now on.

@@ -3,7 +3,7 @@ ghost use Rattle.std.specs.Prelude.{◌≡◌, ◌≢◌, ◌≤◌, ◌<◌, �
 ghost use Rattle.definitions.specs.Owners.{Owner as SaidOwner, is_of_host};
 ghost use Rattle.definitions.specs.Settings.{without_host, without_owner_on};
 ghost use Rattle.definitions.specs.Conflict.{conflicts};
-ghost use Rattle.definitions.specs.Starts.{first_conflict, is_short, refuses, used, runs};
+ghost use Rattle.definitions.specs.Starts.{first_conflict, is_short, refuses, used, used_of, runs};
 ghost use Rattle.owner_ids.specs.Said.{view_of_owner};
 ghost use Rattle.owner_ids.specs.Names.{named};
 ghost use Rattle.range_owners.specs.Stands.{Stands};
@@ -17,6 +17,7 @@ use crate::asked::{Holder, NewSetting, Request};
 use crate::counts::{self, make_place};
 use crate::listing::Listing;
 use history::History;
+use host_runs::HostRuns;
 use owner_ids::{HostOf, NOBODY, Owner, OwnerId, Owners, Starved};
 use range_table::{FileId, NoRuns, RangeTable, Run};
 use std::alloc::Global;
@@ -50,18 +51,19 @@ pub struct Locks<R: RangeTable> {
     table: R,
     owners: Owners,
     counts: Vec<u32>,
+    hosts: HostRuns,
     settings: History<OwnerSetting>,
 }
 
 impl<R: RangeTable> Model for Locks<R> {
     ghost use Rattle.held_locks.specs.Held.{Held};
-    ghost use Rattle.held_locks.specs.Tied.{IsTied};
+    ghost use Rattle.held_locks.specs.Tied.{IsCounted};
 
     ghost Value = { Held };
 
     ghost view = { λ l. record { settings = l.settings.items; names = l.owners } };
 
-    ghost invariant = { λ l. IsTied (R.settings l.table) l.counts.items l.owners l.settings.items };
+    ghost invariant = { λ l. IsCounted (R.settings l.table) l.counts.items l.hosts l.owners l.settings.items };
 }
 
 impl<R: RangeTable> Locks<R> {
@@ -75,6 +77,7 @@ impl<R: RangeTable> Locks<R> {
             table,
             owners: Owners::new(alloc),
             counts: Vec::new(alloc),
+            hosts: HostRuns::new(alloc),
             settings: History::new(),
         }
     }
@@ -91,6 +94,25 @@ impl<R: RangeTable> Locks<R> {
         ensures { result ≡ used self.now.settings }
     {
         self.table.used()
+    }
+
+    /// How many runs the owners of a host have. Their count is asked, and the table only where there was no memory to count.
+    pub fn used_of(&self, host: &[u8]) -> u32
+        ensures { result ≡ used_of host.now self.now.settings }
+    {
+        if self.hosts.is_whole() {
+            return self.hosts.get(host);
+        }
+        let (table, owners) = self.parts();
+        range_owners::used_of(table, owners, host)
+    }
+
+    // How many there would be after a change, also by an owner who isn't known.
+    pub(crate) fn used_after(&self, change: &NewSetting<'_>) -> u32
+        ensures { result ≡ used (self.now.settings ++ changed change.now ∷ []) }
+    {
+        let asker = self.asker(change.owner);
+        self.table.used_after(&change.file, asker, change.first, change.last, change.mode)
     }
 
     // The asker's number, or nobody's.
@@ -174,7 +196,13 @@ impl<R: RangeTable> Locks<R> {
         ensures names { self.new.names ≡ self.old.names }
     {
         if let Some(number) = self.owners.number(change.owner) {
-            counts::set(&mut self.table, &mut self.counts, number, change)?;
+            counts::set(
+                &mut self.table,
+                &mut self.counts,
+                &mut self.hosts,
+                number,
+                change,
+            )?;
         }
         self.settings = self.settings.after(change);
         Ok(())
@@ -197,7 +225,13 @@ impl<R: RangeTable> Locks<R> {
             last: wanted.last,
             mode: Some(wanted.mode),
         };
-        counts::set(&mut self.table, &mut self.counts, wanted.owner, &change)?;
+        counts::set(
+            &mut self.table,
+            &mut self.counts,
+            &mut self.hosts,
+            wanted.owner,
+            &change,
+        )?;
         self.settings = self.settings.after(&change);
         Ok(())
     }
@@ -243,6 +277,7 @@ impl<R: RangeTable> Locks<R> {
         self.table.drop_host(&host);
         counts::clear_host(&mut self.counts, &host);
         counts::release_host(&mut self.owners, self.counts.len(), name);
+        self.hosts.put(name, 0);
         self.settings = self.settings.after(&name);
     }
 
@@ -252,19 +287,27 @@ impl<R: RangeTable> Locks<R> {
         ensures names { self.new.names ≡ self.old.names }
     {
         if let Some(number) = self.owners.number(owner) {
-            counts::drop_owner_on_file(&mut self.table, &mut self.counts, file, number);
+            counts::drop_owner_on_file(
+                &mut self.table,
+                &mut self.counts,
+                &mut self.hosts,
+                file,
+                owner,
+                number,
+            );
         }
         self.settings = self.settings.after(&(file, owner));
     }
 
     /// Leaves no setting, and nobody known.
-    #[tactic(auto, using(crate::proofs::Ties::tied_nothing))]
+    #[tactic(auto, using(crate::proofs::HostCounts::counted_nothing))]
     pub fn clear(&mut self)
         ensures { self.new ≡ record { settings = []; names = [] } }
     {
         self.table.clear();
         self.owners = Owners::new(self.alloc);
         self.counts.clear();
+        self.hosts = HostRuns::new(self.alloc);
         self.settings = History::new();
     }
 }

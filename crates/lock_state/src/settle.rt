@@ -59,8 +59,13 @@ impl<R: RangeTable, S: HostStore> World<R, S> {
         let quotas = Stored { store: &self.store };
         match &self.unsettled {
             Unsettled::Nowhere => None,
-            Unsettled::On(file) => self.slots.next_grantable_on(table, owners, &quotas, file),
-            Unsettled::Anywhere => self.slots.next_grantable(table, owners, &quotas),
+            Unsettled::On(file) => {
+                self.slots
+                    .next_grantable_on(table, owners, &self.locks, &quotas, file)
+            }
+            Unsettled::Anywhere => self
+                .slots
+                .next_grantable(table, owners, &self.locks, &quotas),
         }
     }
 }

@@ -4,6 +4,7 @@ pub mod Owned
 pub mod Seats
 pub mod Firsts
 pub mod OwnersRuns
+pub mod Started
 pub mod Untouched
 pub mod OwnerInWay
 pub mod Settled

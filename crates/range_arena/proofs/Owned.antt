@@ -93,7 +93,7 @@ upto_parted c byte = falls_by owned_cmp (owned_upto c byte) (upto_falls c byte)
 
 -- ---- which runs are the owner's
 
-number_cmp : (a b : ℕ) → (a == b) ≡ true → nat_cmp a b ≡ Equal
+pub number_cmp : (a b : ℕ) → (a == b) ≡ true → nat_cmp a b ≡ Equal
 number_cmp a b h = let e : a ≡ b = grind (arith, file_tests) in rw e (tied_itself nat_cmp_total b)
 
 upto_number : (a b : ℕ) → a < b + 1 → is_le (nat_cmp a b) ≡ true
@@ -127,7 +127,7 @@ starts c byte s h = record {
 pub starts_upto : (c : Setting) (byte : ℕ) (s : Run) → starts_before c (byte + 1) s ≡ true → owned_upto c byte s ≡ true
 starts_upto c byte s h = let k = starts c (byte + 1) s h in rw (k.file, k.owner) (upto_number s.first byte k.first)
 
-of_parts : (r : Run) (f : File) (o : ℕ) → is_of r f o ≡ true → (same_file r.file f ≡ true) × ((r.owner == o) ≡ true)
+pub of_parts : (r : Run) (f : File) (o : ℕ) → is_of r f o ≡ true → (same_file r.file f ≡ true) × ((r.owner == o) ≡ true)
 of_parts r f o h = (grind (arith, file_tests), grind (arith, file_tests))
 
 of_upto : (c : Setting) (byte : ℕ) (r : Run) → is_of r c.file c.owner ≡ true → owned_upto c byte r ≡ true → starts_before c (byte + 1) r ≡ true

@@ -109,20 +109,15 @@ impl RangeTable for ArenaTable {
         sorted::used_of(self.runs.list(), host)
     }
 
-    fn used_after<H: Host>(
+    fn used_after(
         &self,
-        host: &H,
         file: &FileId,
         owner: OwnerId,
         first: u64,
         last: u64,
         mode: Option<Mode>,
     ) -> u32 {
-        sorted::used_after(
-            self.runs.list(),
-            host,
-            &Setting::new(file, owner, first, last, mode),
-        )
+        quick::used_after(&self.runs, &Setting::new(file, owner, first, last, mode))
     }
 
     fn clear(&mut self) {

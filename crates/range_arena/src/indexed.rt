@@ -10,7 +10,7 @@ ghost use Rattle.range_table.specs.declared.run.Run.{Run};
 use crate::stretches::Stretches;
 use owner_ids::{Host, OwnerId, OwnerOrder};
 use range_table::places::{part_of, place_past};
-use range_table::run::{Run, Setting};
+use range_table::run::{Mode, Run, Setting};
 use range_table::run_list::{MOST_RUNS, RunList};
 use range_table::sorted;
 use std::alloc::{AllocError, Global};
@@ -276,6 +276,17 @@ impl Indexed {
         sorted::drop_started(&mut self.list, range);
         sorted::drop_started(&mut self.owned, range);
         self.stretches.rebuild(&self.list);
+    }
+
+    /// How many runs of the range's owner start in it.
+    pub(crate) fn started(&self, range: &Setting) -> usize
+        requires { IsRunList self.now }
+        ensures { result ≡ length (filter (starts_in range.now) self.now) }
+    {
+        let past = owned_past(&self.owned, range, range.last);
+        // The order looks at no mode.
+        let before = owned_seat(&self.owned, &range.run(Mode::Shared));
+        past.saturating_sub(before)
     }
 
     /// Takes the runs of a host's owners out.

@@ -2,7 +2,7 @@
 ghost use Rattle.std.specs.Prelude.{OnOk, OnErr, IsErr, IsTrue, IfSome, ◌↔◌, ◌≡◌, ◌+◌, ◌<◌, ◌≤◌, ◌^◌, length, map, not, Some};
 ghost use Rattle.std.specs.List.{filter};
 ghost use Rattle.range_table.specs.Settings.{IsIn};
-ghost use Rattle.range_table.specs.Runs.{starts_in, trim, kept, right, cut, low, high, widened, joined, is_split, is_full, IsRunList};
+ghost use Rattle.range_table.specs.Runs.{starts_in, trim, kept, right, cut, low, high, widened, joined, set_runs, is_split, is_full, IsRunList};
 ghost use Rattle.range_table.specs.Parts.{last_started};
 ghost use Rattle.range_arena.specs.Quick.{HoldsAll, AreSet};
 
@@ -214,4 +214,52 @@ pub(crate) fn set(runs: &mut Indexed, setting: &Setting) -> Result<(), NoRuns>
         None => cut(runs, setting),
     }
     Ok(())
+}
+
+// What is left of the run that reaches beyond the range's end.
+fn rest(runs: &Indexed, range: &Setting) -> Option<Run>
+    requires { IsRunList runs.now }
+    ensures { result ≡ right range.now runs.now }
+{
+    match runs.last_upto(range, range.last) {
+        Some(run) => run.rest(range),
+        None => None,
+    }
+}
+
+// How many runs start outside the range.
+fn used_beside(runs: &Indexed, range: &Setting) -> u32
+    requires listed { IsRunList runs.now }
+    requires few { length runs.now ≤ MOST_RUNS }
+    ensures count { result ≡ length (filter (λ r. not (starts_in range.now r)) runs.now) }
+    ensures few { result ≤ MOST_RUNS }
+{
+    (runs.list().len() - runs.started(range)) as u32
+}
+
+// How many there are without the range.
+fn used_cut(runs: &Indexed, range: &Setting) -> u32
+    requires listed { IsRunList runs.now }
+    requires few { length runs.now ≤ MOST_RUNS }
+    ensures count { result ≡ length (cut range.now runs.now) }
+    ensures few { result ≤ MOST_RUNS + 1 }
+{
+    let beside = used_beside(runs, range);
+    match rest(runs, range) {
+        Some(_) => beside + 1,
+        None => beside,
+    }
+}
+
+/// How many runs there would be after a setting.
+pub(crate) fn used_after(runs: &Indexed, setting: &Setting) -> u32
+    requires listed { IsRunList runs.now }
+    requires few { length runs.now ≤ MOST_RUNS }
+    requires inside { setting.now.last < 2 ^ 63 }
+    ensures { result ≡ length (set_runs setting.now runs.now) }
+{
+    match setting.mode {
+        Some(mode) => used_cut(runs, &widened(runs, setting, mode)) + 1,
+        None => used_cut(runs, setting),
+    }
 }

@@ -172,6 +172,9 @@ module _ (names : Names) (held : Held) (settings : List Setting) (h : Stands nam
 pub used_over : UsedLaw
 used_over names held settings count h u = used_once held count (used settings) u (used_is names held settings h)
 
+pub used_after_over : UsedAfterLaw
+used_after_over names ns settings s t count h e u = used_over names (held_after (held_at ns) s) (settings ++ t ∷ []) count (stands_set names (held_at ns) settings s t h e) u
+
 -- ---- how many runs of one host
 
 is_start_of : (has : ℕ → Bool) (held : Held) (s : NumberStart) → is_number_start (held_by has held) s ≡ (has s.owner && is_number_start held s)
@@ -200,9 +203,6 @@ module _ (names : Names) (held : Held) (settings : List Setting) (has : ℕ → 
 
 pub used_of_over : UsedOfLaw
 used_of_over names held settings has name count h of u = used_once (held_by has held) count (used_of name settings) u (used_of_is names held settings has name h of)
-
-pub used_after_over : UsedAfterLaw
-used_after_over names ns settings has name s t count h of e u = used_of_over names (held_after (held_at ns) s) (settings ++ t ∷ []) has name count (stands_set names (held_at ns) settings s t h e) of u
 
 -- ---- refusals
 

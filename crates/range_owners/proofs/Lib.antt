@@ -5,4 +5,4 @@ pub mod FirstConflicts
 pub mod Released
 pub mod RunOrders
 pub mod InWay
-pub mod Quotas
+pub mod Allowances

@@ -94,7 +94,7 @@ UsedOfLaw =
 
 abbrev pub UsedAfterLaw : Type 0
 UsedAfterLaw =
-    (names : Names) (ns : List NumberSetting) (settings : List Setting) (has : ℕ → Bool) (name : Bytes) (s : NumberSetting) (t : Setting) (count : ℕ) → Stands names (held_at ns) settings → AreOfHost names has name → IsSameSetting names s t → IsUsed (held_by has (held_after (held_at ns) s)) count → count ≡ used_of name (settings ++ t ∷ [])
+    (names : Names) (ns : List NumberSetting) (settings : List Setting) (s : NumberSetting) (t : Setting) (count : ℕ) → Stands names (held_at ns) settings → IsSameSetting names s t → IsUsed (held_after (held_at ns) s) count → count ≡ used (settings ++ t ∷ [])
 
 abbrev pub RefusalLaw : Type 0
 RefusalLaw =

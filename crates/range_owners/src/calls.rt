@@ -2,13 +2,15 @@
 ghost use Rattle.std.specs.Prelude.{◌≡◌, ◌≤◌, ◌<◌, ◌^◌, ◌++◌, ◌∷◌, ℕ, [], List, IsErr, OnOk, OnErr, ◌↔◌, true, Some, slice_get};
 ghost use Rattle.definitions.specs.Settings.{without_host, without_owner_on};
 ghost use Rattle.definitions.specs.Conflict.{conflicts, conflicts_with};
+ghost use Rattle.definitions.specs.Owners.{is_of_host};
 ghost use Rattle.definitions.specs.Quotas.{is_past};
 ghost use Rattle.definitions.specs.Starts.{is_short, first_conflict, used, used_of, refuses, runs, Run as OwnerRun};
-ghost use Rattle.owner_ids.specs.Names.{named, is_owned_by};
+ghost use Rattle.owner_ids.specs.Names.{named};
 ghost use Rattle.range_owners.specs.Same.{IsSameRun, IsSameFound};
 ghost use Rattle.range_owners.specs.Stands.{Stands, WhereStands, WhereSets, WhereAsks, WhereMeets, WhereOwns};
 ghost use Rattle.range_table.specs.Settings.{mode_at, IsUsed};
 
+use crate::allowance::Allowance;
 use owner_ids::{HostOf, OwnerId, Owners};
 use range_table::{FileId, NoRuns, RangeTable, Run, Setting};
 
@@ -27,16 +29,14 @@ pub fn used_of<T: RangeTable>(table: &T, owners: &Owners, host: &[u8]) -> u32
     table.used_of(&HostOf { owners, name: host })
 }
 
-/// How many they would have after a setting of one of them.
-pub fn used_after<T: RangeTable>(table: &T, owners: &Owners, host: &[u8], setting: &Setting) -> u32
+/// How many runs the owners would have after a setting.
+pub fn used_after<T: RangeTable>(table: &T, owners: &Owners, setting: &Setting) -> u32
     requires ordered { setting.now.first ≤ setting.now.last }
     requires inside { setting.now.last < 2 ^ 63 }
-    requires own { is_owned_by (named owners.now) host.now setting.now.owner ≡ true }
-    ensures { WhereSets (named owners.now) (T.settings table.now) setting.now (λ settings t. result ≡ used_of host.now (settings ++ t ∷ [])) }
+    ensures { WhereSets (named owners.now) (T.settings table.now) setting.now (λ settings t. result ≡ used (settings ++ t ∷ [])) }
 {
-    let host = HostOf { owners, name: host };
+    let _owners = owners;
     table.used_after(
-        &host,
         &setting.file,
         setting.owner,
         setting.first,
@@ -45,25 +45,24 @@ pub fn used_after<T: RangeTable>(table: &T, owners: &Owners, host: &[u8], settin
     )
 }
 
-/// Whether after a setting of one of them they would have more runs than so many, and more than before it.
+/// Whether after a setting of one of a host's owners, who have so many runs and may have so many, they would have more than they may,
+/// and more than they have. No runs of theirs are counted.
 pub fn is_past<T: RangeTable>(
     table: &T,
     owners: &Owners,
     host: &[u8],
+    allowance: Allowance,
     setting: &Setting,
-    quota: u32,
 ) -> bool
     requires ordered { setting.now.first ≤ setting.now.last }
     requires inside { setting.now.last < 2 ^ 63 }
-    requires own { is_owned_by (named owners.now) host.now setting.now.owner ≡ true }
-    ensures { WhereSets (named owners.now) (T.settings table.now) setting.now (λ settings t. result ≡ is_past settings t host.now quota) }
+    ensures { WhereSets (named owners.now) (T.settings table.now) setting.now (λ settings t. allowance.used ≡ used_of host.now settings → is_of_host host.now t.owner ≡ true → result ≡ is_past settings t host.now allowance.quota) }
 {
-    // A setting makes at most two runs more, so where all owners' fit nobody's are counted.
-    if used(table, owners) < quota.saturating_sub(1) {
+    let _host = host;
+    if !allowance.is_near() {
         return false;
     }
-    let after = used_after(table, owners, host, setting);
-    quota < after && used_of(table, owners, host) < after
+    allowance.is_past(used(table, owners), used_after(table, owners, setting))
 }
 
 /// The i-th of all runs, by file, first byte and owner.

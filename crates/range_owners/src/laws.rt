@@ -1,4 +1,5 @@
 //! What numbers hold and what owners hold, each law as the contract of a function that does nothing.
+ghost use Rattle.range_owners.specs.Allowances.{PastLaw};
 ghost use Rattle.range_owners.specs.Stands.{ClearLaw, ConflictsLaw, DropHostLaw, DropOwnerLaw, FirstConflictLaw, InternLaw, RefusalLaw, ReleaseLaw, ReleaseTestLaw, RunOrderLaw, RunsLaw, SettingLaw, UsedAfterLaw, UsedLaw, UsedOfLaw};
 
 /// A setting on both sides.
@@ -71,7 +72,12 @@ pub fn run_order_goes_over()
     ensures { RunOrderLaw }
 {}
 
-/// How many runs the owners of a host have after a setting.
+/// How many runs there are after a setting.
 pub fn used_after_goes_over()
     ensures { UsedAfterLaw }
+{}
+
+/// The number of all runs after a setting says whether it goes past a host's quota, and none does that is two runs away.
+pub fn past_is_told_by_all()
+    ensures { PastLaw }
 {}

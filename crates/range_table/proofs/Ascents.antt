@@ -1,14 +1,13 @@
 -- Runs that ascend, and runs that have changed places.
-use Rattle.std.proofs.Common.{◌≡◌, ℕ, zero, suc, ◌-◌, ◌<◌, ◌≤◌, true, false, ◌&&◌, List, [], ◌∷◌, refl, sym, subst, inl, inr, arith, length, take, drop, slice_index_or}
+use Rattle.std.proofs.Common.{◌≡◌, ℕ, zero, suc, ◌-◌, ◌<◌, ◌≤◌, true, List, [], ◌∷◌, refl, sym, subst, inl, inr, arith, length, take, drop, slice_index_or}
 use Rattle.std.specs.List.{All, AllByRecursion}
 use Rattle.std.specs.List.Sorted.{IsPermutation}
 use Rattle.std.specs.Cmp.{IsTotalOrder}
-use Rattle.std.specs.Ordering.{nat_cmp}
 use Rattle.std.specs.declared.cmp.Ordering.{Ordering}
 use Rattle.std.specs.declared.cmp.Ordering.TheVariants.{Equal}
 use Rattle.std.proofs.lemmas.List.{take_all}
 use Rattle.std.proofs.lemmas.List.Sorted.{All-permutation, IsPermutation-sym}
-use Rattle.range_table.specs.Settings.{Held, IsIn, IsOrdered, AreRuns, IsRun, comes_before}
+use Rattle.range_table.specs.Settings.{Held, IsIn, IsOrdered, AreRuns, comes_before}
 use Rattle.range_table.specs.Runs.{ascends}
 use Rattle.range_table.specs.declared.run.Run.{Run}
 use Rattle.range_table.proofs.Tests.{by_test}

@@ -18,6 +18,7 @@ pub mod Ranks
 pub mod FileParts
 pub mod Lasts
 pub mod Edits
+pub mod Lengths
 pub mod Once
 pub mod RunLists
 pub mod OneMore

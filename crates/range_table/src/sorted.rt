@@ -402,47 +402,46 @@ pub fn used_of<H: Host>(runs: &RunList, host: &H) -> u32
     count
 }
 
-// The runs that start outside the range.
-fn used_beside<H: Host>(runs: &RunList, host: &H, range: &Setting) -> u32
+// How many runs start outside the range.
+fn used_beside(runs: &RunList, range: &Setting) -> u32
     requires { length runs.now ≤ MOST_RUNS }
-    ensures count { result ≡ length (filter (λ r. H.has host.now r.owner && not (starts_in range.now r)) runs.now) }
+    ensures count { result ≡ length (filter (λ r. not (starts_in range.now r)) runs.now) }
     ensures few { result ≤ MOST_RUNS }
 {
     let mut count = 0;
     for at in 0..runs.len() {
-        let run = runs.get(at);
-        if host.has(run.owner) && !run.starts_in(range) {
+        if !runs.get(at).starts_in(range) {
             count += 1;
         }
     }
     count
 }
 
-fn used_cut<H: Host>(runs: &RunList, host: &H, part: Part, range: &Setting) -> u32
+// How many there are without the range.
+fn used_cut(runs: &RunList, part: Part, range: &Setting) -> u32
     requires listed { IsRunList runs.now }
     requires part { IsPart range.now.file runs.now part.begin part.end }
     requires few { length runs.now ≤ MOST_RUNS }
-    requires own { IsTrue (H.has host.now range.now.owner) }
-    ensures count { result ≡ length (filter (λ r. H.has host.now r.owner) (cut range.now runs.now)) }
+    ensures count { result ≡ length (cut range.now runs.now) }
     ensures few { result ≤ MOST_RUNS + 1 }
 {
-    let beside = used_beside(runs, host, range);
+    let beside = used_beside(runs, range);
     match right(runs, part, range) {
         Some(_) => beside + 1,
         None => beside,
     }
 }
 
-pub fn used_after<H: Host>(runs: &RunList, host: &H, setting: &Setting) -> u32
+/// How many runs there would be after a setting.
+pub fn used_after(runs: &RunList, setting: &Setting) -> u32
     requires listed { IsRunList runs.now }
     requires few { length runs.now ≤ MOST_RUNS }
     requires inside { setting.now.last < 2 ^ 63 }
-    requires own { IsTrue (H.has host.now setting.now.owner) }
-    ensures { result ≡ length (filter (λ r. H.has host.now r.owner) (set_runs setting.now runs.now)) }
+    ensures { result ≡ length (set_runs setting.now runs.now) }
 {
     let part = part_of(runs, &setting.file);
     match setting.mode {
-        Some(mode) => used_cut(runs, host, part, &widened(runs, part, setting, mode)) + 1,
-        None => used_cut(runs, host, part, setting),
+        Some(mode) => used_cut(runs, part, &widened(runs, part, setting, mode)) + 1,
+        None => used_cut(runs, part, setting),
     }
 }

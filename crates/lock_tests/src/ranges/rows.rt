@@ -5,7 +5,7 @@
 //!   the table is full. `refuses p42 none 1 1`: it would not.
 //! - `meets b/8/B 0 9 = p42 3 5`: in the way of its write lock on the bytes 0 to 9, the first lock is that of `p42` on the bytes
 //!   3 to 5. `passes b/8/B 0 9`: none is.
-//! - `makes a/7/A write 0 9 = 2`: then host `a` would have two runs.
+//! - `makes a/7/A write 0 9 = 2`: then there would be two runs.
 //! - `fill a/7/A`: it sets each second byte from the byte 4 on, until the table is full.
 //! - `close p42`: it closes the file. `clear`: nobody holds anything.
 //! - `idle p42`: it holds nothing. `leaves p42`, `stays p42`: its number goes out of use, or may not.

@@ -3,7 +3,7 @@ ghost use Rattle.std.specs.Prelude.{◌≡◌, ◌≤◌, ◌<◌, ◌^◌};
 
 use crate::owner::{number, read_owner};
 use crate::row::{Case, Row, Span, wrong_in};
-use owner_ids::{Host, HostOf, OwnerId, Owners};
+use owner_ids::{OwnerId, Owners};
 use range_owners::{
     clear, drop_owner_on_file, first_conflict, holds_nothing, intern, refuses, release, runs, set,
     used, used_after, used_of,
@@ -117,18 +117,9 @@ impl Held {
         Some(run.first == first && run.last == last)
     }
 
-    // How many runs host a would have.
-    fn after(&self, owner: OwnerId, wanted: (Option<Mode>, Span)) -> Option<u32> {
-        let setting = of(owner, wanted);
-        let host = HostOf {
-            owners: &self.owners,
-            name: b"a",
-        };
-        if host.has(setting.owner) {
-            Some(used_after(&self.table, &self.owners, b"a", &setting))
-        } else {
-            None
-        }
+    // How many runs there would be.
+    fn after(&self, owner: OwnerId, wanted: (Option<Mode>, Span)) -> u32 {
+        used_after(&self.table, &self.owners, &of(owner, wanted))
     }
 
     // What an owner does, or is.
@@ -153,7 +144,7 @@ impl Held {
             "set" => Some(self.set(owner, wanted)),
             "refused" => Some(!self.set(owner, wanted)),
             "refuses" => Some(self.refuses(owner, wanted)),
-            "makes" => Some(u64::from(self.after(owner, wanted)?) == row.numbers[2]),
+            "makes" => Some(u64::from(self.after(owner, wanted)) == row.numbers[2]),
             "meets" => self.meets(owner, span, row),
             "passes" => Some(self.in_the_way(owner, span).is_none()),
             _ => None,

@@ -5,6 +5,7 @@ use crate::owner::{intern, number};
 use crate::row::{Case, Row, Span, wrong_in};
 use blocked_list::{BlockError, NoSlots, NotWaiting, Quotas, Slots, Waiter};
 use callbacks::{Destination, Letter, Message, ShortBytes};
+use host_runs::RunsOfHosts;
 use owner_ids::{OwnerId, Owners};
 use range_table::{FileId, FlatTable, Mode, RangeTable, Run};
 use std::alloc::{AllocError, Global};
@@ -32,6 +33,15 @@ impl Quotas for Unlimited {
 
     fn quota(&self, _host: &[u8]) -> Option<u32> {
         None
+    }
+}
+
+// Nobody asks, since no host has a quota.
+impl RunsOfHosts for Unlimited {
+    ghost runs = { λ unlimited host. 0 };
+
+    fn runs_of(&self, _host: &[u8]) -> u32 {
+        0
     }
 }
 
@@ -143,7 +153,7 @@ impl Tables {
     fn grants(&mut self) -> i32 {
         let place = self
             .slots
-            .next_grantable(&self.table, &self.owners, &Unlimited);
+            .next_grantable(&self.table, &self.owners, &Unlimited, &Unlimited);
         grant(&mut self.slots, place)
     }
 
@@ -152,7 +162,7 @@ impl Tables {
         let file = FileId::new(&[file]);
         let place = self
             .slots
-            .next_grantable_on(&self.table, &self.owners, &Unlimited, &file);
+            .next_grantable_on(&self.table, &self.owners, &Unlimited, &Unlimited, &file);
         grant(&mut self.slots, place)
     }
 

@@ -10,7 +10,7 @@ recount-requires-clause-part g c =
     let ns = g.R.RangeTable.settings c.args.table.now in
     let left = g.R.RangeTable.settings c.drop_owner_on_file.new.self in
     let spares : Spares n (mode_at ns) (mode_at left) = subst (λ l. Spares n (mode_at ns) (mode_at l)) (sym c.drop_owner_on_file.ensures) (drop_spares ns c.args.file.now n) in
-    part_of_all (mode_at ns) (mode_at left) n c.used-before.result c.used.result (slice_index_or c.args.counts.now.items n 0) spares c.used-before.ensures c.used.ensures (c.requires.counted n)
+    part_of_all (mode_at ns) (mode_at left) n c.used-before.result c.used-after.result (slice_index_or c.args.counts.now.items n 0) spares c.used-before.ensures c.used-after.ensures (c.requires.counted n)
 
 pub recount-requires-clause-rest : goal.recount-requires-clause-rest
 recount-requires-clause-rest g c =
@@ -18,7 +18,7 @@ recount-requires-clause-rest g c =
     let ns = g.R.RangeTable.settings c.args.table.now in
     let left = g.R.RangeTable.settings c.drop_owner_on_file.new.self in
     let spares : Spares n (mode_at ns) (mode_at left) = subst (λ l. Spares n (mode_at ns) (mode_at l)) (sym c.drop_owner_on_file.ensures) (drop_spares ns c.args.file.now n) in
-    rest_of_left (mode_at ns) (mode_at left) n c.used-before.result c.used.result (slice_index_or c.args.counts.now.items n 0) spares c.used-before.ensures c.used.ensures (c.requires.counted n)
+    rest_of_left (mode_at ns) (mode_at left) n c.used-before.result c.used-after.result (slice_index_or c.args.counts.now.items n 0) spares c.used-before.ensures c.used-after.ensures (c.requires.counted n)
 
 pub returns-clause-counted : goal.returns-clause-counted
 returns-clause-counted g c =
@@ -26,4 +26,13 @@ returns-clause-counted g c =
     let ns = g.R.RangeTable.settings c.args.table.now in
     let left = g.R.RangeTable.settings c.drop_owner_on_file.new.self in
     let spares : Spares n (mode_at ns) (mode_at left) = subst (λ l. Spares n (mode_at ns) (mode_at l)) (sym c.drop_owner_on_file.ensures) (drop_spares ns c.args.file.now n) in
-    subst (AreCounts left) (sym c.recount.ensures) (counts_after ns left c.args.counts.now.items n c.used-before.result c.used.result spares c.used-before.ensures c.used.ensures c.requires.counted c.requires.place)
+    subst (AreCounts left) (sym c.recount.ensures) (counts_after ns left c.args.counts.now.items n c.used-before.result c.used-after.result spares c.used-before.ensures c.used-after.ensures c.requires.counted c.requires.place)
+
+pub returns-clause-hosts : goal.returns-clause-hosts
+returns-clause-hosts g c = record {
+  before = c.used-before.result;
+  left = c.used-after.result;
+  were = c.used-before.ensures;
+  are = c.used-after.ensures;
+  counted = c.recount-2.ensures;
+}

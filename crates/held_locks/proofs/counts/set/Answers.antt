@@ -11,7 +11,7 @@ recount-requires-clause-part g c =
     let ns = g.R.RangeTable.settings c.args.table.now in
     let left = g.R.RangeTable.settings c.set.new.self in
     let spares : Spares n (mode_at ns) (mode_at left) = subst (λ l. Spares n (mode_at ns) (mode_at l)) (sym c.in_ok-set.ensures.ok) (set_spares ns (change_by_number n c.args.change.now)) in
-    part_of_all (mode_at ns) (mode_at left) n c.used-before.result c.used.result (slice_index_or c.args.counts.now.items n 0) spares c.used-before.ensures c.used.ensures (c.requires.counted n)
+    part_of_all (mode_at ns) (mode_at left) n c.used-before.result c.used-after.result (slice_index_or c.args.counts.now.items n 0) spares c.used-before.ensures c.used-after.ensures (c.requires.counted n)
 
 pub recount-requires-clause-rest : goal.recount-requires-clause-rest
 recount-requires-clause-rest g c =
@@ -19,7 +19,7 @@ recount-requires-clause-rest g c =
     let ns = g.R.RangeTable.settings c.args.table.now in
     let left = g.R.RangeTable.settings c.set.new.self in
     let spares : Spares n (mode_at ns) (mode_at left) = subst (λ l. Spares n (mode_at ns) (mode_at l)) (sym c.in_ok-set.ensures.ok) (set_spares ns (change_by_number n c.args.change.now)) in
-    rest_of_left (mode_at ns) (mode_at left) n c.used-before.result c.used.result (slice_index_or c.args.counts.now.items n 0) spares c.used-before.ensures c.used.ensures (c.requires.counted n)
+    rest_of_left (mode_at ns) (mode_at left) n c.used-before.result c.used-after.result (slice_index_or c.args.counts.now.items n 0) spares c.used-before.ensures c.used-after.ensures (c.requires.counted n)
 
 pub returns-clause-counted : goal.returns-clause-counted
 returns-clause-counted g c =
@@ -27,4 +27,13 @@ returns-clause-counted g c =
     let ns = g.R.RangeTable.settings c.args.table.now in
     let left = g.R.RangeTable.settings c.set.new.self in
     let spares : Spares n (mode_at ns) (mode_at left) = subst (λ l. Spares n (mode_at ns) (mode_at l)) (sym c.in_ok-set.ensures.ok) (set_spares ns (change_by_number n c.args.change.now)) in
-    subst (AreCounts left) (sym c.recount.ensures) (counts_after ns left c.args.counts.now.items n c.used-before.result c.used.result spares c.used-before.ensures c.used.ensures c.requires.counted c.requires.place)
+    subst (AreCounts left) (sym c.recount.ensures) (counts_after ns left c.args.counts.now.items n c.used-before.result c.used-after.result spares c.used-before.ensures c.used-after.ensures c.requires.counted c.requires.place)
+
+pub returns-clause-hosts : goal.returns-clause-hosts
+returns-clause-hosts g c = record {
+  before = c.used-before.result;
+  left = c.used-after.result;
+  were = c.used-before.ensures;
+  are = c.used-after.ensures;
+  counted = c.recount-2.ensures;
+}

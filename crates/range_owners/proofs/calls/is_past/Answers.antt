@@ -1,10 +1,22 @@
-use Rattle.std.proofs.Common.{sym, arith}
-use Rattle.range_owners.proofs.Quotas.{within_quota}
+use Rattle.std.proofs.Common.{◌≡◌, ◌+◌, ◌++◌, ◌∷◌, [], false, ltb, sym, ap, ◌∙◌}
+use Rattle.definitions.specs.Starts.{used}
+use Rattle.range_owners.specs.Allowances.{allowance, goes_past}
+use Rattle.range_owners.proofs.Allowances.{past_by_all}
 use Rattle.range_owners.proofs.calls.is_past.Goals as goal
 
-pub returns-then-used-saturating_sub : goal.returns-then-used-saturating_sub
-returns-then-used-saturating_sub g c = λ settings t h e.
+pub returns-then-not-is_near : goal.returns-then-not-is_near
+returns-then-not-is_near g c = λ settings t h e has own.
+    let may = c.args.allowance.quota in
+    let far : ltb may (c.args.allowance.used + 2) ≡ false = sym c.is_near.ensures ∙ c.if-not-is_near.true in
+    sym ((past_by_all settings t c.args.host.now may own).far (ap (λ n. ltb may (n + 2)) (sym has) ∙ far))
+
+pub returns : goal.returns
+returns g c = λ settings t h e has own.
+    let may = c.args.allowance.quota in
     let all = c.used.ensures settings h in
-    let most = c.saturating_sub.ensures in
-    let few = c.if-used-saturating_sub.true in
-    sym (within_quota settings t c.args.host.now c.args.quota (omega (arith, all, most, few)))
+    let after = c.used_after.ensures settings t h e in
+    c.is_past.ensures
+    ∙ ap (λ n. goes_past c.args.allowance n c.used_after.result) all
+    ∙ ap (goes_past c.args.allowance (used settings)) after
+    ∙ ap (λ n. goes_past (allowance n may) (used settings) (used (settings ++ t ∷ []))) has
+    ∙ (past_by_all settings t c.args.host.now may own).by_all

@@ -5,10 +5,10 @@ use Rattle.blocked_list.proofs.Ready.{short_none, uses, kept_out_next, ready_fir
 use Rattle.blocked_list.proofs.slots.Slots.next_grantable.Goals as goal
 
 pub returns-then-is_short-clause-first : goal.returns-then-is_short-clause-first
-returns-then-is_short-clause-first g c = λ settings h known. short_none (g.Q.Quotas.by_host c.args.quotas.now) settings (sym (c.is_short.ensures settings h) ∙ c.if-is_short.true) (waiters_by (named c.args.owners.now) c.args.self.now.waiters)
+returns-then-is_short-clause-first g c = λ settings h known counts. short_none (g.Q.Quotas.by_host c.args.quotas.now) settings (sym (c.is_short.ensures settings h) ∙ c.if-is_short.true) (waiters_by (named c.args.owners.now) c.args.self.now.waiters)
 
 pub loop-place-preserved : goal.loop-place-preserved
-loop-place-preserved g c = λ settings h known.
+loop-place-preserved g c = λ settings h known counts.
     let names = named c.args.owners.now in
     let quotas = g.Q.Quotas.by_host c.args.quotas.now in
     let ws = ap (λ (s : Taken). s.waiters) c.self.view_is in
@@ -18,10 +18,10 @@ loop-place-preserved g c = λ settings h known.
     let enough = sym (c.is_short.ensures settings h) ∙ c.if-is_short.false in
     let w = c.index.result.now in
     let used = uses names quotas settings c.args.self.now.waiters c.loop-place.place w within at known.named in
-    kept_out_next names quotas settings c.args.self.now.waiters c.loop-place.place w within at (c.loop-place.invariant settings h known) (sym c.if-is_free.false ∙ c.is_free.ensures settings h used enough)
+    kept_out_next names quotas settings c.args.self.now.waiters c.loop-place.place w within at (c.loop-place.invariant settings h known counts) (sym c.if-is_free.false ∙ c.is_free.ensures settings h used enough counts)
 
 pub returns-then-is_free-clause-first : goal.returns-then-is_free-clause-first
-returns-then-is_free-clause-first g c = λ settings h known.
+returns-then-is_free-clause-first g c = λ settings h known counts.
     let names = named c.args.owners.now in
     let quotas = g.Q.Quotas.by_host c.args.quotas.now in
     let ws = ap (λ (s : Taken). s.waiters) c.self.view_is in
@@ -31,4 +31,4 @@ returns-then-is_free-clause-first g c = λ settings h known.
     let enough = sym (c.is_short.ensures settings h) ∙ c.if-is_short.false in
     let w = c.index.result.now in
     let used = uses names quotas settings c.args.self.now.waiters c.loop-place.place w within at known.named in
-    ready_first names quotas settings c.args.self.now.waiters c.loop-place.place w within at (c.loop-place.invariant settings h known) (sym c.if-is_free.true ∙ c.is_free.ensures settings h used enough)
+    ready_first names quotas settings c.args.self.now.waiters c.loop-place.place w within at (c.loop-place.invariant settings h known counts) (sym c.if-is_free.true ∙ c.is_free.ensures settings h used enough counts)

@@ -5,8 +5,9 @@ use Rattle.definitions.specs.World.{is_ready, the_limits}
 use Rattle.owner_ids.specs.Names.{named}
 use Rattle.range_owners.specs.Stands.{Stands}
 use Rattle.range_table.specs.Settings.{mode_at}
+use Rattle.blocked_list.specs.Standing.{AreRunsOf}
 use Rattle.blocked_list.specs.Waiting.{AreKnown, waiters_by}
 use Rattle.blocked_list.proofs.slots.Slots.next_grantable.Given as goal
 
 abbrev pub invariant-loop-place : goal.invariant-loop-place
-invariant-loop-place g l = (settings : List Setting) → Stands (named l.owners) (mode_at (g.T.RangeTable.settings l.table)) settings → AreKnown (named l.owners) l.self.waiters → is_any (is_ready the_limits (g.Q.Quotas.by_host l.quotas) settings) (take l.place (waiters_by (named l.owners) l.self.waiters)) ≡ false
+invariant-loop-place g l = (settings : List Setting) → Stands (named l.owners) (mode_at (g.T.RangeTable.settings l.table)) settings → AreKnown (named l.owners) l.self.waiters → AreRunsOf (g.H.RunsOfHosts.runs l.hosts) settings → is_any (is_ready the_limits (g.Q.Quotas.by_host l.quotas) settings) (take l.place (waiters_by (named l.owners) l.self.waiters)) ≡ false

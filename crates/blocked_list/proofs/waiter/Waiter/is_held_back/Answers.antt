@@ -8,7 +8,7 @@ use Rattle.blocked_list.proofs.Limits.{unlimited, not_short}
 use Rattle.blocked_list.proofs.waiter.Waiter.is_held_back.Goals as goal
 
 pub returns-in_default-limit_of : goal.returns-in_default-limit_of
-returns-in_default-limit_of g c = rw (← c.self.view_is) (λ settings h used enough.
+returns-in_default-limit_of g c = rw (← c.self.view_is) (λ settings h used enough counts.
     let names = named c.args.owners.now in
     let quotas = g.Q.Quotas.by_host c.args.quotas.now in
     let s = setting_of (request_by names c.self.inside.wanted) in

@@ -15,5 +15,5 @@ returns g c =
     let held = mode_at (g.R.RangeTable.settings c.self.inside.table) in
     let asker : IsAsker names c.asker-asker.result (view_of_owner c.args.wanted.now.owner.now) = subst (λ h. IsAsker (named h.names) c.asker-asker.result (view_of_owner c.args.wanted.now.owner.now)) (sym c.self.view_is) c.asker-asker.ensures in
     subst (λ h. c.is_blocked.result ≡ conflicts h.settings (asked c.args.wanted.now)) c.self.view_is
-    (conflicts_found names held c.self.inside.settings.items c.self.invariant.stands c.asker-asker.result c.args.wanted.now c.args.wanted.now.ordered c.is_blocked.result asker
+    (conflicts_found names held c.self.inside.settings.items c.self.invariant.tied.stands c.asker-asker.result c.args.wanted.now c.args.wanted.now.ordered c.is_blocked.result asker
     (subst (λ w. Decides c.is_blocked.result (IsConflict held w)) c.by_number.ensures c.is_blocked.ensures))

@@ -14,4 +14,4 @@ invariant_of-self g c =
     let x = view_of_owner c.args.owner.now in
     let nothing = subst (λ h. HoldsNothing h x) (sym c.self.view_is) c.in-Some.ensures.idle in
     let named_x = subst (λ h. named h.names n ≡ Some x) (sym c.self.view_is) c.in-Some.ensures.number in
-    tied_released ns c.self.inside.counts.items names c.release.new.self settings n c.self.invariant (number_holds_nothing ns c.self.inside.counts.items names settings n x c.self.invariant named_x nothing) c.release.ensures
+    record { tied = tied_released ns c.self.inside.counts.items names c.release.new.self settings n c.self.invariant.tied (number_holds_nothing ns c.self.inside.counts.items names settings n x c.self.invariant.tied named_x nothing) c.release.ensures; by_host = c.self.invariant.by_host }

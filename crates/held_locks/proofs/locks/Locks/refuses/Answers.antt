@@ -23,7 +23,7 @@ returns-in-Some g c =
     let n = c.in-Some.number in
     let change = c.args.change.now in
     let settings = c.self.inside.settings.items in
-    let over = refusal_over names (mode_at (g.R.RangeTable.settings c.self.inside.table)) settings (change_by_number n change) (changed change) c.self.invariant.stands (same_change c.self.inside.owners n change c.in-Some.ensures.found) in
+    let over = refusal_over names (mode_at (g.R.RangeTable.settings c.self.inside.table)) settings (change_by_number n change) (changed change) c.self.invariant.tied.stands (same_change c.self.inside.owners n change c.in-Some.ensures.found) in
     rw (← c.self.view_is) (both_ways c.refuses.result (refuses 65536 settings (changed change)) (λ t. over.0 (c.refuses.ensures.0 t)) (λ t. c.refuses.ensures.1 (over.1 t)))
 
 pub returns-else-is_some : goal.returns-else-is_some
@@ -33,4 +33,4 @@ returns-else-is_some g c =
     let fresh : (k : ℕ) → names k ≢ Some (view_of_owner change.owner.now) = λ k e. none_some k (c.in-None.ensures.known k e) in
     let none = no_mode change.mode (sym c.is_some.ensures ∙ c.if-is_some.false) in
     let held = mode_at (g.R.RangeTable.settings c.self.inside.table) in
-    rw (← c.self.view_is) (c.if-is_some.false ∙ sym (stranger_is_not_refused names held c.self.inside.settings.items c.self.invariant.stands (view_of_owner change.owner.now) fresh (changed change) refl (ap view_of_held_mode none)))
+    rw (← c.self.view_is) (c.if-is_some.false ∙ sym (stranger_is_not_refused names held c.self.inside.settings.items c.self.invariant.tied.stands (view_of_owner change.owner.now) fresh (changed change) refl (ap view_of_held_mode none)))

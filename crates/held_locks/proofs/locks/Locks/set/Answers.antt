@@ -1,4 +1,4 @@
-use Rattle.std.proofs.Common.{◌≡◌, ◌≢◌, ℕ, Some, None, sym, ap, ◌∙◌, subst, true, false, refl, ◌⊎◌}
+use Rattle.std.proofs.Common.{◌≡◌, ◌≢◌, ◌++◌, ◌∷◌, [], ℕ, Some, None, sym, ap, ◌∙◌, subst, true, false, refl, ◌⊎◌}
 use Rattle.owner_ids.specs.Said.{view_of_owner}
 use Rattle.owner_ids.specs.Names.{named}
 use Rattle.range_table.specs.Settings.{mode_at}
@@ -7,6 +7,7 @@ use Rattle.range_owners.specs.Same.{view_of_held_mode}
 use Rattle.held_locks.specs.Held.{IsKnown}
 use Rattle.held_locks.specs.Asked.{changed, change_by_number}
 use Rattle.held_locks.proofs.Ties.{tied_set, tied_stranger, stranger_mode, stranger_is_not_refused, same_change}
+use Rattle.held_locks.proofs.HostCounts.{hosts_changed, hosts_kept, set_alike}
 use Rattle.held_locks.proofs.locks.Locks.set.Goals as goal
 use Rattle.held_locks.proofs.locks.Locks.set.Goals.{in-Some+in_ok-set, in_default}
 
@@ -22,22 +23,36 @@ returns-in_err-set-clause-refused g c =
     let n = c.in-Some.number in
     let change = c.args.change.now in
     let held = mode_at (g.R.RangeTable.settings c.self.inside.table) in
-    let over = refusal_over (named names) held c.self.inside.settings.items (change_by_number n change) (changed change) c.self.invariant.stands (same_change names n change c.in-Some.ensures.found) in
+    let over = refusal_over (named names) held c.self.inside.settings.items (change_by_number n change) (changed change) c.self.invariant.tied.stands (same_change names n change c.in-Some.ensures.found) in
     rw (← c.self.view_is) ((λ e. over.0 (c.in_err-set.ensures.refused.0 refl)), λ t. c.from_residual.ensures.0)
 
 pub invariant_of-self-2 : goal.invariant_of-self-2
-invariant_of-self-2 g c = elim c.match-number.branch [
-  | in-Some+in_ok-set w ↦
-      rw (c.after-self-inside.ensures, w.self-inside-is)
-      (tied_set (g.R.RangeTable.settings c.self.inside.table) (g.R.RangeTable.settings w.set.new.table) c.self.inside.counts.items w.set.new.counts.items c.self.inside.owners c.self.inside.settings.items w.in-Some.number c.args.change.now
-      c.self.invariant w.in-Some.ensures.found w.in_ok-set.ensures.ok w.in_ok-set.ensures.counted w.in_ok-set.ensures.places)
-  | in_default w ↦
-      let change = c.args.change.now in
-      let fresh : (k : ℕ) → named c.self.inside.owners k ≢ Some (view_of_owner change.owner.now) = λ k e. none_some k (w.in_default.ensures.known k e) in
-      let known = subst (λ h. (change.mode ≡ None) ⊎ IsKnown h (view_of_owner change.owner.now)) (sym c.self.view_is) c.requires.known in
-      rw (c.after-self-inside.ensures, w.self-inside-is)
-      (tied_stranger (g.R.RangeTable.settings c.self.inside.table) c.self.inside.counts.items c.self.inside.owners c.self.inside.settings.items change c.self.invariant fresh (stranger_mode c.self.inside.owners change known fresh))
-]
+invariant_of-self-2 g c =
+    let ns = g.R.RangeTable.settings c.self.inside.table in
+    let counts = c.self.inside.counts.items in
+    let names = c.self.inside.owners in
+    let settings = c.self.inside.settings.items in
+    let change = c.args.change.now in
+    let next = settings ++ changed change ∷ [] in
+    let was = c.self.invariant.tied in
+    elim c.match-number.branch [
+      | in-Some+in_ok-set w ↦
+          let others = g.R.RangeTable.settings w.set.new.table in
+          let left = w.set.new.counts.items in
+          let done = w.in_ok-set.ensures in
+          let tied = tied_set ns others counts left names settings w.in-Some.number change was w.in-Some.ensures.found done.ok done.counted done.places in
+          rw (c.after-self-inside.ensures, w.self-inside-is)
+          (record {
+            tied = tied;
+            by_host = hosts_changed settings next (view_of_owner change.owner.now) (set_alike settings (changed change)) ns others counts left names c.self.inside.hosts w.set.new.hosts was tied c.self.invariant.by_host done.hosts;
+          })
+      | in_default w ↦
+          let fresh : (k : ℕ) → named names k ≢ Some (view_of_owner change.owner.now) = λ k e. none_some k (w.in_default.ensures.known k e) in
+          let known = subst (λ h. (change.mode ≡ None) ⊎ IsKnown h (view_of_owner change.owner.now)) (sym c.self.view_is) c.requires.known in
+          let tied = tied_stranger ns counts names settings change was fresh (stranger_mode names change known fresh) in
+          rw (c.after-self-inside.ensures, w.self-inside-is)
+          (record { tied = tied; by_host = hosts_kept ns names settings next c.self.inside.hosts was.stands tied.stands c.self.invariant.by_host })
+    ]
 
 pub returns-clause-refused : goal.returns-clause-refused
 returns-clause-refused g c = elim c.match-number.branch [
@@ -46,7 +61,7 @@ returns-clause-refused g c = elim c.match-number.branch [
       let n = w.in-Some.number in
       let change = c.args.change.now in
       let held = mode_at (g.R.RangeTable.settings c.self.inside.table) in
-      let over = refusal_over (named names) held c.self.inside.settings.items (change_by_number n change) (changed change) c.self.invariant.stands (same_change names n change w.in-Some.ensures.found) in
+      let over = refusal_over (named names) held c.self.inside.settings.items (change_by_number n change) (changed change) c.self.invariant.tied.stands (same_change names n change w.in-Some.ensures.found) in
       rw (← c.self.view_is) ((λ e. false_true e), λ t. w.in_ok-set.ensures.refused.1 (over.1 t))
   | in_default w ↦
       let change = c.args.change.now in
@@ -55,5 +70,5 @@ returns-clause-refused g c = elim c.match-number.branch [
       let known = subst (λ h. (change.mode ≡ None) ⊎ IsKnown h (view_of_owner change.owner.now)) (sym c.self.view_is) c.requires.known in
       let none = stranger_mode c.self.inside.owners change known fresh in
       let held = mode_at (g.R.RangeTable.settings c.self.inside.table) in
-      rw (← c.self.view_is) ((λ e. false_true e), λ t. sym (stranger_is_not_refused names held c.self.inside.settings.items c.self.invariant.stands (view_of_owner change.owner.now) fresh (changed change) refl (ap view_of_held_mode none)) ∙ t)
+      rw (← c.self.view_is) ((λ e. false_true e), λ t. sym (stranger_is_not_refused names held c.self.inside.settings.items c.self.invariant.tied.stands (view_of_owner change.owner.now) fresh (changed change) refl (ap view_of_held_mode none)) ∙ t)
 ]

@@ -5,4 +5,4 @@ use Rattle.held_locks.proofs.locks.Locks.used.Goals as goal
 
 pub returns : goal.returns
 returns g c =
-    rw (← c.self.view_is) (used_over (named c.self.inside.owners) (mode_at (g.R.RangeTable.settings c.self.inside.table)) c.self.inside.settings.items c.used.result c.self.invariant.stands c.used.ensures)
+    rw (← c.self.view_is) (used_over (named c.self.inside.owners) (mode_at (g.R.RangeTable.settings c.self.inside.table)) c.self.inside.settings.items c.used.result c.self.invariant.tied.stands c.used.ensures)

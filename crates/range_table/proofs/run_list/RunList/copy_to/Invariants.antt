@@ -1,4 +1,4 @@
-use Rattle.std.proofs.Common.{◌≡◌, ◌++◌, ◌+◌, take, length, vec_len, vec_capacity}
+use Rattle.std.proofs.Common.{◌≡◌, ◌++◌, ◌+◌, take, vec_len, vec_capacity}
 use Rattle.range_table.proofs.run_list.RunList.copy_to.Given as goal
 
 abbrev pub invariant-loop-at : goal.invariant-loop-at

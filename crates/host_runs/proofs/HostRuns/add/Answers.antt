@@ -1,0 +1,22 @@
+use Rattle.std.proofs.Common.{◌≡◌, Some, cond, sym, subst, ◌∙◌, OnOk, is_err, false}
+use Rattle.std.specs.declared.result.Result.{Result}
+use Rattle.std.specs.declared.result.Result.TheVariants.{Ok, Err}
+use Rattle.definitions.specs.Bytes.{same_bytes}
+use Rattle.host_runs.specs.HostRuns.{count_in}
+use Rattle.host_runs.proofs.Counts.{counts_in, puts}
+use Rattle.host_runs.proofs.HostRuns.add.Goals as goal
+
+when_ok : {V E P : Type 0} (r : Result V E) → is_err r ≡ false → OnOk r P → P
+when_ok (Ok v) e h = h
+when_ok (Err v) e h = absurd (cc)
+
+pub returns-else-is_err : goal.returns-else-is_err
+returns-else-is_err c =
+    let old = c.self.inside.by_host in
+    let new = c.insert.new.self in
+    let updates = when_ok c.insert.result (sym c.is_err.ensures.value ∙ c.if-is_err.false) c.insert.ensures.updates in
+    let same = c.in-Ok.ensures.items_if_clones_equal (λ x y e. e) in
+    rw (← c.self.view_is) (record {
+      was = λ e. e;
+      runs = λ e name. subst (λ l. count_in (counts_in new.entries) name ≡ cond (same_bytes l name) c.args.runs (count_in (counts_in old.entries) name)) same (puts c.in-Ok.name.items old new (Some c.args.runs) updates name);
+    })

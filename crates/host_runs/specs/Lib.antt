@@ -1,0 +1,2 @@
+pub mod HostRuns
+pub mod Kept
