@@ -1,7 +1,7 @@
 //! What comes to a server, what it is to send for that, and what it sends.
 use crate::messages::{put_message, put_terms};
 use crate::words::{Terms, put_words, read_number};
-use daemon_core::{Addressee, Outcome, Outputs, Refusal, StoreAnswer};
+use daemon_core::{Addressee, Frame, Outcome, Outputs, Refusal, StoreAnswer};
 use std::alloc::Global;
 use std::mem;
 
@@ -33,6 +33,8 @@ pub(crate) struct Page<'a> {
     /// Whether a growth was refused, and what was sent before the page was cleared.
     pub(crate) is_starved: bool,
     pub(crate) was_sent: Vec<u8>,
+    /// Where a reply is put together.
+    room: Frame,
 }
 
 impl<'a> Page<'a> {
@@ -51,6 +53,7 @@ impl<'a> Page<'a> {
             store: StoreAnswer::NotAsked,
             is_starved: false,
             was_sent: Vec::new(alloc),
+            room: Frame::new(),
         }
     }
 
@@ -89,7 +92,7 @@ impl<'a> Page<'a> {
             return Some(());
         };
         self.is_theirs = self.is_theirs && self.is_for(sent.to());
-        sent.write(&mut self.sent).ok()
+        sent.write(&mut self.room, &mut self.sent).ok()
     }
 
     /// Takes in a line of the stream. None where it is none of the stream; else whether it could be read.

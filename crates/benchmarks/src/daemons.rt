@@ -3,7 +3,7 @@
 use crate::asked::{Asked, Procedure, is_granted};
 use anyhow::{Result, anyhow};
 use callbacks::ShortBytes;
-use daemon_core::{Daemon, Event, Peer};
+use daemon_core::{Daemon, Event, Frame, Peer};
 use hosts_db::{HostStore, MemHosts};
 use range_arena::ArenaTable;
 use range_table::RangeTable;
@@ -38,6 +38,7 @@ fn call(is_null: bool, round: u32) -> Asked {
 fn is_answered<T: RangeTable, S: HostStore>(
     alloc: Global,
     daemon: &mut Daemon<T, S>,
+    room: &mut Frame,
     asked: Asked,
 ) -> Result<bool> {
     daemon.step(Event::Piece {
@@ -50,7 +51,7 @@ fn is_answered<T: RangeTable, S: HostStore>(
     });
     let mut reply = Vec::new(alloc);
     if let Some(sent) = &outputs.sent {
-        sent.write(&mut reply)?;
+        sent.write(room, &mut reply)?;
     }
     // The mark stands in front.
     Ok(is_granted(reply.as_slice().get(4..).unwrap_or(&[])))
@@ -67,9 +68,10 @@ fn run<T: RangeTable, S: HostStore>(
         connection: 0,
         peer: Peer::PIPE,
     });
+    let mut room = Frame::new();
     let mut granted = 0u32;
     for round in 0..calls {
-        if is_answered(alloc, daemon, call(is_null, round))? {
+        if is_answered(alloc, daemon, &mut room, call(is_null, round))? {
             granted = granted.wrapping_add(1);
         }
     }

@@ -5,7 +5,7 @@
 //! The program's own memory is got before the daemon is made. Where that is refused the program ends in an error.
 use crate::daemons::opened;
 use anyhow::{Result, anyhow};
-use daemon_core::{Addressee, Daemon, Event, Outcome, Outputs, Peer, Posting};
+use daemon_core::{Addressee, Daemon, Event, Frame, Outcome, Outputs, Peer, Posting};
 use hosts_db::HostStore;
 use range_table::RangeTable;
 use std::alloc::Global;
@@ -66,6 +66,8 @@ struct Page {
     sent: Vec<u8>,
     told: String,
     printed: String,
+    // Where a reply is put together.
+    room: Frame,
 }
 
 impl Page {
@@ -74,6 +76,7 @@ impl Page {
             sent: Vec::with_capacity(alloc, MOST_BYTES)?,
             told: String::with_capacity(alloc, MOST_PRINTED)?,
             printed: String::with_capacity(alloc, MOST_PRINTED)?,
+            room: Frame::new(),
         })
     }
 
@@ -98,7 +101,7 @@ impl Page {
         }
         if let Some(sent) = &outputs.sent {
             self.put_whom(sent.to())?;
-            sent.write(&mut self.sent)?;
+            sent.write(&mut self.room, &mut self.sent)?;
             put_hex(&mut self.told, self.sent.as_slice())?;
         }
         Ok(())

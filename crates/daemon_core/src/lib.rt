@@ -28,3 +28,4 @@ pub use crate::sent::{Addressee, Sent};
 pub use book::StoreAnswer;
 pub use kept_replies::Peer;
 pub use written::WriteFault;
+pub use xdr_core::Frame;

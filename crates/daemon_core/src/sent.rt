@@ -91,18 +91,18 @@ impl Sent {
     }
 
     /// Writes what is sent: a record as one fragment (RFC 5531, section 11), a line as it is. Where a write fails, a front of
-    /// it was written. It takes no memory.
-    pub fn write<W: Write>(&self, writer: &mut W) -> Result<(), WriteFault>
+    /// it was written. It takes no memory. The room is lent: what it held is gone, and what it holds afterwards means nothing.
+    pub fn write<W: Write>(&self, room: &mut Frame, writer: &mut W) -> Result<(), WriteFault>
         ensures { Wrote (W.contents writer.old) (W.contents writer.new) result (bytes_sent (Some self.now)) }
     {
         match &self.content {
             Content::Line { answer, .. } => answer.write(writer),
             Content::Call(posting) => posting.write(writer),
             Content::Reply { reply, .. } => {
-                let mut frame = Frame::new();
+                room.truncate(0);
                 // An empty frame has room for each reply.
-                let _ = reply.put(&mut frame);
-                write_record(writer, &frame)
+                let _ = reply.put(room);
+                write_record(writer, room)
             }
         }
     }

@@ -4,7 +4,7 @@ use crate::plays::{Line, are_rows_after, goes, notifies, opened, parted, played}
 use crate::shown::shown;
 use crate::stops::{Stop, Trial, after_crash, are_met, stopping};
 use crate::visits::{Work, visit_files};
-use daemon_core::Daemon;
+use daemon_core::{Daemon, Frame};
 use hosts_db::HostStore;
 use hosts_lent::Lent;
 use range_table::RangeTable;
@@ -25,8 +25,9 @@ struct Play<'a> {
 impl Work for Play<'_> {
     fn work<S: HostStore>(&mut self, store: &mut S) {
         let mut writes = 0;
+        let mut room = Frame::new();
         self.done = match opened(self.alloc, Lent::new(store, &mut writes)) {
-            Some(mut daemon) => played(self.alloc, &mut daemon, self.script),
+            Some(mut daemon) => played(self.alloc, &mut daemon, &mut room, self.script),
             None => None,
         };
     }
@@ -53,7 +54,12 @@ impl Anew<'_> {
     }
 
     // Whether a host whose lock was granted, or waited, has a row, and who had one granted is granted it again.
-    fn stands<T: RangeTable, S: HostStore>(&self, daemon: &mut Daemon<T, S>, line: &str) -> bool {
+    fn stands<T: RangeTable, S: HostStore>(
+        &self,
+        daemon: &mut Daemon<T, S>,
+        room: &mut Frame,
+        line: &str,
+    ) -> bool {
         let Line { event, answer, .. } = parted(line);
         let is_granted = answer.ends_with(" granted");
         if !is_granted && !answer.ends_with(" blocked") {
@@ -61,18 +67,20 @@ impl Anew<'_> {
         }
         let (_, name) = event.split_once("-").unwrap_or((event, ""));
         daemon.store().host(name.as_bytes()).is_some()
-            && (!is_granted || goes(self.alloc, daemon, "9 reclaim-a = 9 granted") == Some(true))
+            && (!is_granted
+                || goes(self.alloc, daemon, room, "9 reclaim-a = 9 granted") == Some(true))
     }
 
     // Whether the daemon begins anew, tells just the stored hosts of it, and leaves whoever had a lock its row and its lock.
     fn begins<T: RangeTable, S: HostStore>(&self, daemon: &mut Daemon<T, S>) -> bool {
-        if played(self.alloc, daemon, "restart\nconnect") != Some(2)
-            || !notifies(self.alloc, daemon)
+        let mut room = Frame::new();
+        if played(self.alloc, daemon, &mut room, "restart\nconnect") != Some(2)
+            || !notifies(self.alloc, daemon, &mut room)
         {
             return false;
         }
         for line in self.script.lines().take(self.done) {
-            if !self.stands(daemon, line) {
+            if !self.stands(daemon, &mut room, line) {
                 return false;
             }
         }

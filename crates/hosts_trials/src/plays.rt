@@ -8,7 +8,7 @@
 //! - `local quota 61 5`: a local program's line.
 use crate::messages::message;
 use callbacks::ShortBytes;
-use daemon_core::{Addressee, Daemon, Event, Outputs, Peer, Posting, StoreAnswer};
+use daemon_core::{Addressee, Daemon, Event, Frame, Outputs, Peer, Posting, StoreAnswer};
 use hosts_db::HostStore;
 use hosts_lent::Lent;
 use range_table::{FlatTable, RangeTable};
@@ -112,19 +112,21 @@ fn happens<T: RangeTable, S: HostStore>(
 }
 
 // Whether just this is sent.
-fn is_sent(alloc: Global, outputs: &Outputs, text: &str) -> Option<bool> {
+fn is_sent(alloc: Global, room: &mut Frame, outputs: &Outputs, text: &str) -> Option<bool> {
     let told = message(alloc, text)?;
     let mut bytes = Vec::new(alloc);
     if let Some(sent) = &outputs.sent {
-        sent.write(&mut bytes).ok()?;
+        sent.write(room, &mut bytes).ok()?;
     }
     Some(bytes.as_slice() == told.as_slice())
 }
 
-/// Whether a line goes well, or the store has refused. None where it goes otherwise than the line says.
+/// Whether a line goes well, or the store has refused. None where it goes otherwise than the line says. The room is lent for
+/// what is sent, as below.
 pub(crate) fn goes<T: RangeTable, S: HostStore>(
     alloc: Global,
     daemon: &mut Daemon<T, S>,
+    room: &mut Frame,
     line: &str,
 ) -> Option<bool> {
     let Line {
@@ -136,17 +138,18 @@ pub(crate) fn goes<T: RangeTable, S: HostStore>(
     let outputs = happens(alloc, daemon, event)?;
     let is_refused = outputs.store == StoreAnswer::Refused;
     let text = if is_refused { refusal } else { answer };
-    is_sent(alloc, &outputs, text)?.then_some(!is_refused)
+    is_sent(alloc, room, &outputs, text)?.then_some(!is_refused)
 }
 
 /// How many lines go well, up to the first that the store refuses. None where one goes otherwise than it says.
 pub(crate) fn played<T: RangeTable, S: HostStore>(
     alloc: Global,
     daemon: &mut Daemon<T, S>,
+    room: &mut Frame,
     script: &str,
 ) -> Option<usize> {
     for (at, line) in script.lines().enumerate() {
-        if !goes(alloc, daemon, line)? {
+        if !goes(alloc, daemon, room, line)? {
             return Some(at);
         }
     }
@@ -157,6 +160,7 @@ pub(crate) fn played<T: RangeTable, S: HostStore>(
 fn is_notice<T: RangeTable, S: HostStore>(
     alloc: Global,
     daemon: &mut Daemon<T, S>,
+    room: &mut Frame,
     at: usize,
 ) -> Option<bool> {
     let outputs = daemon.step(send(alloc)?);
@@ -168,7 +172,7 @@ fn is_notice<T: RangeTable, S: HostStore>(
         daemon.store().own()
     )
     .ok()?;
-    let is_notice = is_sent(alloc, &outputs, &text)?;
+    let is_notice = is_sent(alloc, room, &outputs, &text)?;
     let host = daemon.store().hosts().get(at)?;
     match outputs.sent.as_ref()?.to() {
         Addressee::Host(name) => Some(is_notice && name == host.name()),
@@ -180,9 +184,10 @@ fn is_notice<T: RangeTable, S: HostStore>(
 pub(crate) fn notifies<T: RangeTable, S: HostStore>(
     alloc: Global,
     daemon: &mut Daemon<T, S>,
+    room: &mut Frame,
 ) -> bool {
     for at in 0..daemon.store().hosts().len() {
-        if is_notice(alloc, daemon, at) != Some(true) {
+        if is_notice(alloc, daemon, room, at) != Some(true) {
             return false;
         }
     }

@@ -3,16 +3,38 @@
 ghost use Rattle.daemon_core.specs.Outputs.{bytes_sent};
 ghost use Rattle.written.specs.Written.{Wrote};
 
-use daemon_core::Outputs;
+use daemon_core::{Frame, Outputs, Posting};
 use std::io::Write;
 use written::WriteFault;
 
-/// Writes what an event sends.
-pub(crate) fn write_outputs<W: Write>(writer: &mut W, outputs: &Outputs) -> Result<(), WriteFault>
+/// The places of what is sent: of a reply's record, and of a call of the server's own. They have some 9 KiB, which are got and
+/// cleared once, and are lent to each sending.
+#[derive(Drop)]
+pub(crate) struct Places {
+    pub(crate) reply: Frame,
+    pub(crate) call: Posting,
+}
+
+impl Places {
+    /// With nothing in them.
+    pub(crate) fn new() -> Places {
+        Places {
+            reply: Frame::new(),
+            call: Posting::new(),
+        }
+    }
+}
+
+/// Writes what an event sends. The room is lent, as to `Sent::write`.
+pub(crate) fn write_outputs<W: Write>(
+    room: &mut Frame,
+    writer: &mut W,
+    outputs: &Outputs,
+) -> Result<(), WriteFault>
     ensures { Wrote (W.contents writer.old) (W.contents writer.new) result (bytes_sent outputs.now.sent) }
 {
     let Some(sent) = &outputs.sent else {
         return Ok(());
     };
-    sent.write(writer)
+    sent.write(room, writer)
 }

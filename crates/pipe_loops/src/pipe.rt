@@ -9,7 +9,7 @@ ghost use Rattle.daemon_core.specs.declared.event.Event.TheVariants.{Connect};
 ghost use Rattle.pipe_loops.specs.Pipe.{beginning, AnswersWaiting, TurnEnds, IsServed, Passes, Begins, StreamEnds, PipeEnds};
 
 use crate::fault::{FailedRead, Fault};
-use crate::output::write_outputs;
+use crate::output::{Places, write_outputs};
 use crate::server::Server;
 use daemon_core::{Daemon, Event, Peer, Posted, Posting};
 use hosts_db::HostStore;
@@ -75,7 +75,7 @@ fn send_due<T: RangeTable, S: HostStore, W: Write>(
 /// Answers the oldest whole record, and sends every call that is due then.
 fn answer_next<T: RangeTable, S: HostStore, W: Write>(
     daemon: &mut Daemon<T, S>,
-    posting: &mut Posting,
+    places: &mut Places,
     writer: &mut W,
 ) -> Result<(), Fault>
     ensures { AnswersNext result daemon.old daemon.new (W.contents writer.old) (W.contents writer.new) }
@@ -84,21 +84,21 @@ fn answer_next<T: RangeTable, S: HostStore, W: Write>(
         connection: CONNECTION,
         index: 0,
     });
-    write_outputs(writer, &outputs)?;
+    write_outputs(&mut places.reply, writer, &outputs)?;
     drop(outputs);
-    send_due(daemon, posting, writer)
+    send_due(daemon, &mut places.call, writer)
 }
 
 /// Answers each record that is whole, in order, with the calls that are due behind it.
 fn answer_waiting<T: RangeTable, S: HostStore, W: Write>(
     daemon: &mut Daemon<T, S>,
-    posting: &mut Posting,
+    places: &mut Places,
     writer: &mut W,
 ) -> Result<(), Fault>
     ensures { AnswersWaiting result daemon.old daemon.new (W.contents writer.old) (W.contents writer.new) }
 {
     for _answered in 0..daemon.waiting(CONNECTION) {
-        answer_next(daemon, posting, writer)?;
+        answer_next(daemon, places, writer)?;
     }
     Ok(())
 }
@@ -107,7 +107,7 @@ fn answer_waiting<T: RangeTable, S: HostStore, W: Write>(
 /// the answers to the records before it.
 fn turn<T: RangeTable, S: HostStore, W: Write>(
     daemon: &mut Daemon<T, S>,
-    posting: &mut Posting,
+    places: &mut Places,
     writer: &mut W,
     piece: &[u8],
 ) -> Result<(), Fault>
@@ -117,7 +117,7 @@ fn turn<T: RangeTable, S: HostStore, W: Write>(
     let heard = daemon.receive(CONNECTION, piece);
     let refused = heard.refusal;
     drop(heard);
-    let answered = answer_waiting(daemon, posting, writer);
+    let answered = answer_waiting(daemon, places, writer);
     // What was sent before a fault goes out, too.
     let flushed = writer.flush();
     answered?;
@@ -142,14 +142,14 @@ fn answer_pieces<T: RangeTable, S: HostStore, R: Read, W: Write>(
 {
     // The place is got first, so that no byte is lost.
     let mut place = make_place(alloc)?;
-    let mut posting = Posting::new();
+    let mut places = Places::new();
     for _turn in 0..bound {
         let piece = place.as_mut_slice();
         let count = read_piece(reader, piece)?;
         if count == 0 {
             return Ok(());
         }
-        turn(daemon, &mut posting, writer, &piece[..count])?;
+        turn(daemon, &mut places, writer, &piece[..count])?;
     }
     Err(Fault::ReadFault)
 }

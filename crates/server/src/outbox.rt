@@ -16,6 +16,8 @@ use xdr_core::Frame;
 pub(crate) struct SocketOutbox<'a, 'h, K, Q, R> {
     wire: Wire<'a, 'h, K, R>,
     signals: &'a Q,
+    // The place of each reply's record in turn.
+    parcel: Parcel,
     all: History<Parcel>,
 }
 
@@ -31,6 +33,10 @@ impl<'a, 'h, K: Drop, Q: Signals, R: Wait> SocketOutbox<'a, 'h, K, Q, R> {
         SocketOutbox {
             wire: Wire::new(alloc, rt, callers, home),
             signals,
+            parcel: Parcel {
+                connection: 0,
+                record: Frame::new(),
+            },
             all: History::new(),
         }
     }
@@ -44,13 +50,13 @@ impl<'a, 'h, K: Drop, Q: Signals, R: Wait> Outbox for SocketOutbox<'a, 'h, K, Q,
     ghost handed = { λ o. map (λ (p : Packed). record { connection = p.connection; reply = p.«record» }) o.all.items };
 
     fn hand(&mut self, connection: u64, reply: &Reply) {
-        let mut record = Frame::new();
+        self.parcel.connection = connection;
+        self.parcel.record.truncate(0);
         // An empty frame has room for each reply.
-        let _ = reply.put(&mut record);
-        let parcel = Parcel { connection, record };
-        self.all = self.all.and(&parcel);
+        let _ = reply.put(&mut self.parcel.record);
+        self.all = self.all.and(&self.parcel);
         self.wire.turn_to(connection);
-        self.wire.join(&parcel.record);
+        self.wire.join(&self.parcel.record);
     }
 
     fn turn_to(&mut self, connection: u64) {
