@@ -119,18 +119,18 @@ pulled_one xs i j x ys y n l e f =
       pulled = ap (λ zs. zs ++ x ∷ []) (part_one xs i l) ∙ ap (λ z. z ∷ x ∷ []) (sym f);
     })
 
-pub pushed_tier : (ts : List (List ℕ)) (b x : ℕ) (t u : List ℕ) (y : ℕ) → Long ts → b < length ts → t ≡ get_or ts b t → x ∷ t ≡ u ++ y ∷ [] → PushedIn (concat ts) (1024 * b) (1024 * (b + 1)) x (concat (set ts b u)) y
+pub pushed_tier : (ts : List (List ℕ)) (b x : ℕ) (t u : List ℕ) (y : ℕ) → Long ts → b < length ts → t ≡ get_or ts b t → x ∷ t ≡ u ++ y ∷ [] → PushedIn (concat ts) (256 * b) (256 * (b + 1)) x (concat (set ts b u)) y
 pushed_tier ts b x t u y h l e p = record {
   part = u;
   around = around_tier ts b u h l;
-  pushed = let n : 1024 * (b + 1) - 1024 * b ≡ 1024 = omega arith in ap (λ k. x ∷ take k (drop (1024 * b) (concat ts))) n ∙ ap (λ zs. x ∷ zs) (tier_of ts b t h l e) ∙ p;
+  pushed = let n : 256 * (b + 1) - 256 * b ≡ 256 = omega arith in ap (λ k. x ∷ take k (drop (256 * b) (concat ts))) n ∙ ap (λ zs. x ∷ zs) (tier_of ts b t h l e) ∙ p;
 }
 
-pub pulled_tier : (ts : List (List ℕ)) (b x : ℕ) (t u : List ℕ) (y : ℕ) → Long ts → b < length ts → t ≡ get_or ts b t → t ++ x ∷ [] ≡ y ∷ u → PulledIn (concat ts) (1024 * b) (1024 * (b + 1)) x (concat (set ts b u)) y
+pub pulled_tier : (ts : List (List ℕ)) (b x : ℕ) (t u : List ℕ) (y : ℕ) → Long ts → b < length ts → t ≡ get_or ts b t → t ++ x ∷ [] ≡ y ∷ u → PulledIn (concat ts) (256 * b) (256 * (b + 1)) x (concat (set ts b u)) y
 pulled_tier ts b x t u y h l e p = record {
   part = u;
   around = around_tier ts b u h l;
-  pulled = let n : 1024 * (b + 1) - 1024 * b ≡ 1024 = omega arith in ap (λ k. take k (drop (1024 * b) (concat ts)) ++ x ∷ []) n ∙ ap (λ zs. zs ++ x ∷ []) (tier_of ts b t h l e) ∙ p;
+  pulled = let n : 256 * (b + 1) - 256 * b ≡ 256 = omega arith in ap (λ k. take k (drop (256 * b) (concat ts)) ++ x ∷ []) n ∙ ap (λ zs. zs ++ x ∷ []) (tier_of ts b t h l e) ∙ p;
 }
 
 -- what is done in the middle of a list
@@ -232,24 +232,24 @@ pulled_sent xs from to ys y a l h =
     ∙ ap (λ m. take from xs ++ (take m (drop (from + 1) xs) ++ x ∷ drop (to + 1) xs)) n
 
 -- a part of a tier
-module _ (ts : List (List ℕ)) (b i j x : ℕ) (t u : List ℕ) (y : ℕ) (h : Long ts) (l : b < length ts) (e : t ≡ get_or ts b t) (o : i ≤ j) (m : j ≤ 1024) where
-  long_tier : length t ≡ 1024
+module _ (ts : List (List ℕ)) (b i j x : ℕ) (t u : List ℕ) (y : ℕ) (h : Long ts) (l : b < length ts) (e : t ≡ get_or ts b t) (o : i ≤ j) (m : j ≤ 256) where
+  long_tier : length t ≡ 256
   long_tier = ap length e ∙ long_at ts b t h l
 
-  pub pushed_in_tier : PushedIn t i j x u y → PushedIn (concat ts) (1024 * b + i) (1024 * b + j) x (concat (set ts b u)) y
+  pub pushed_in_tier : PushedIn t i j x u y → PushedIn (concat ts) (256 * b + i) (256 * b + j) x (concat (set ts b u)) y
   pushed_in_tier p =
       let n = long_tier in
       let f = length_front_tiers ts b h l in
-      subst (λ zs. PushedIn zs (1024 * b + i) (1024 * b + j) x (concat (set ts b u)) y) (whole_tiers ts b t h l e)
-      (subst (λ zs. PushedIn (concat (take b ts) ++ (t ++ concat (drop (b + 1) ts))) (1024 * b + i) (1024 * b + j) x zs y) (sym (set_tier ts b u h l))
+      subst (λ zs. PushedIn zs (256 * b + i) (256 * b + j) x (concat (set ts b u)) y) (whole_tiers ts b t h l e)
+      (subst (λ zs. PushedIn (concat (take b ts) ++ (t ++ concat (drop (b + 1) ts))) (256 * b + i) (256 * b + j) x zs y) (sym (set_tier ts b u h l))
       (subst (λ k. PushedIn (concat (take b ts) ++ (t ++ concat (drop (b + 1) ts))) (k + i) (k + j) x (concat (take b ts) ++ (u ++ concat (drop (b + 1) ts))) y) f
       (pushed_inside (concat (take b ts)) t (concat (drop (b + 1) ts)) i j x u y o (omega arith) p)))
 
-  pub pulled_in_tier : PulledIn t i j x u y → PulledIn (concat ts) (1024 * b + i) (1024 * b + j) x (concat (set ts b u)) y
+  pub pulled_in_tier : PulledIn t i j x u y → PulledIn (concat ts) (256 * b + i) (256 * b + j) x (concat (set ts b u)) y
   pulled_in_tier p =
       let n = long_tier in
       let f = length_front_tiers ts b h l in
-      subst (λ zs. PulledIn zs (1024 * b + i) (1024 * b + j) x (concat (set ts b u)) y) (whole_tiers ts b t h l e)
-      (subst (λ zs. PulledIn (concat (take b ts) ++ (t ++ concat (drop (b + 1) ts))) (1024 * b + i) (1024 * b + j) x zs y) (sym (set_tier ts b u h l))
+      subst (λ zs. PulledIn zs (256 * b + i) (256 * b + j) x (concat (set ts b u)) y) (whole_tiers ts b t h l e)
+      (subst (λ zs. PulledIn (concat (take b ts) ++ (t ++ concat (drop (b + 1) ts))) (256 * b + i) (256 * b + j) x zs y) (sym (set_tier ts b u h l))
       (subst (λ k. PulledIn (concat (take b ts) ++ (t ++ concat (drop (b + 1) ts))) (k + i) (k + j) x (concat (take b ts) ++ (u ++ concat (drop (b + 1) ts))) y) f
       (pulled_inside (concat (take b ts)) t (concat (drop (b + 1) ts)) i j x u y o (omega arith) p)))

@@ -10,10 +10,10 @@ module _ (h : ℕ) (cells : List ℕ) (ring : IsRing h cells) where
   length_low : length (take h cells) ≡ h
   length_low = let a = ring.inside in let n = ring.long in length-take-le h cells (omega arith)
 
-  length_high : length (drop h cells) ≡ 1024 - h
+  length_high : length (drop h cells) ≡ 256 - h
   length_high = let n = ring.long in let d = length-drop h cells in omega arith
 
-  pub high_part : (i j : ℕ) → i ≤ j → j ≤ 1024 - h → part_of (turned h cells) i j ≡ part_of cells (h + i) (h + j)
+  pub high_part : (i j : ℕ) → i ≤ j → j ≤ 256 - h → part_of (turned h cells) i j ≡ part_of cells (h + i) (h + j)
   high_part i j a b =
       let n = length_high in
       let e : h + j - (h + i) ≡ j - i = omega arith in
@@ -21,7 +21,7 @@ module _ (h : ℕ) (cells : List ℕ) (ring : IsRing h cells) where
       ∙ ap (take (j - i)) (drop-drop i h cells)
       ∙ sym (ap (λ k. take k (drop (h + i) cells)) e)
 
-  pub high_around : (i j : ℕ) (part new : List ℕ) → i ≤ j → j ≤ 1024 - h → new ≡ take (h + i) cells ++ (part ++ drop (h + j) cells) → turned h new ≡ take i (turned h cells) ++ (part ++ drop j (turned h cells))
+  pub high_around : (i j : ℕ) (part new : List ℕ) → i ≤ j → j ≤ 256 - h → new ≡ take (h + i) cells ++ (part ++ drop (h + j) cells) → turned h new ≡ take i (turned h cells) ++ (part ++ drop j (turned h cells))
   high_around i j part new a b e =
       let n = length_high in
       let hi = drop h cells in
@@ -36,15 +36,15 @@ module _ (h : ℕ) (cells : List ℕ) (ring : IsRing h cells) where
       ∙ ap (λ zs. zs ++ (part ++ (drop j hi ++ lo))) (sym (take-append-le i hi lo (omega arith)))
       ∙ ap (λ zs. take i (hi ++ lo) ++ (part ++ zs)) (sym (drop-append-le j hi lo (omega arith)))
 
-  pub low_part : (i j : ℕ) → 1024 - h ≤ i → i ≤ j → j ≤ 1024 → part_of (turned h cells) i j ≡ part_of cells (i - (1024 - h)) (j - (1024 - h))
+  pub low_part : (i j : ℕ) → 256 - h ≤ i → i ≤ j → j ≤ 256 → part_of (turned h cells) i j ≡ part_of cells (i - (256 - h)) (j - (256 - h))
   low_part i j l a b =
       let q = ring.inside in
       let n = length_high in
       let m = length_low in
       let hi = drop h cells in
       let lo = take h cells in
-      let k = i - (1024 - h) in
-      let r = j - (1024 - h) in
+      let k = i - (256 - h) in
+      let r = j - (256 - h) in
       let e : i ≡ length hi + k = omega arith in
       let f : j ≡ length hi + r = omega arith in
       ap (λ u. part_of (hi ++ lo) u j) e ∙ ap (λ u. part_of (hi ++ lo) (length hi + k) u) f
@@ -53,15 +53,15 @@ module _ (h : ℕ) (cells : List ℕ) (ring : IsRing h cells) where
       ∙ sym (part_front lo hi k r (omega arith) (omega arith))
       ∙ ap (λ zs. part_of zs k r) (take-append-drop h cells)
 
-  pub low_around : (i j : ℕ) (part new : List ℕ) → 1024 - h ≤ i → i ≤ j → j ≤ 1024 → length part ≡ j - i → new ≡ take (i - (1024 - h)) cells ++ (part ++ drop (j - (1024 - h)) cells) → turned h new ≡ take i (turned h cells) ++ (part ++ drop j (turned h cells))
+  pub low_around : (i j : ℕ) (part new : List ℕ) → 256 - h ≤ i → i ≤ j → j ≤ 256 → length part ≡ j - i → new ≡ take (i - (256 - h)) cells ++ (part ++ drop (j - (256 - h)) cells) → turned h new ≡ take i (turned h cells) ++ (part ++ drop j (turned h cells))
   low_around i j part new l a b z w =
       let q = ring.inside in
       let n = length_high in
       let m = length_low in
       let hi = drop h cells in
       let lo = take h cells in
-      let k = i - (1024 - h) in
-      let r = j - (1024 - h) in
+      let k = i - (256 - h) in
+      let r = j - (256 - h) in
       let e : i ≡ length hi + k = omega arith in
       let f : j ≡ length hi + r = omega arith in
       let low = take k lo ++ (part ++ drop r lo) in
@@ -83,64 +83,64 @@ module _ (h : ℕ) (cells : List ℕ) (ring : IsRing h cells) where
       ∙ ap (λ u. take u (hi ++ lo) ++ (part ++ drop (length hi + r) (hi ++ lo))) (sym e)
       ∙ ap (λ u. take i (hi ++ lo) ++ (part ++ drop u (hi ++ lo))) (sym f)
 
-  pub length_turned : length (turned h cells) ≡ 1024
+  pub length_turned : length (turned h cells) ≡ 256
   length_turned = let q = ring.inside in length-append (drop h cells) (take h cells) ∙ (let a = length_high in let b = length_low in omega arith)
 
-  pub push_high : (i j x : ℕ) (new : List ℕ) (y : ℕ) → i ≤ j → j ≤ 1024 - h → PushedIn cells (h + i) (h + j) x new y → PushedIn (turned h cells) i j x (turned h new) y
+  pub push_high : (i j x : ℕ) (new : List ℕ) (y : ℕ) → i ≤ j → j ≤ 256 - h → PushedIn cells (h + i) (h + j) x new y → PushedIn (turned h cells) i j x (turned h new) y
   push_high i j x new y a b p = record {
     part = p.part;
     around = high_around i j p.part new a b p.around;
     pushed = ap (λ zs. x ∷ zs) (high_part i j a b) ∙ p.pushed;
   }
 
-  pub pull_high : (i j x : ℕ) (new : List ℕ) (y : ℕ) → i ≤ j → j ≤ 1024 - h → PulledIn cells (h + i) (h + j) x new y → PulledIn (turned h cells) i j x (turned h new) y
+  pub pull_high : (i j x : ℕ) (new : List ℕ) (y : ℕ) → i ≤ j → j ≤ 256 - h → PulledIn cells (h + i) (h + j) x new y → PulledIn (turned h cells) i j x (turned h new) y
   pull_high i j x new y a b p = record {
     part = p.part;
     around = high_around i j p.part new a b p.around;
     pulled = ap (λ zs. zs ++ x ∷ []) (high_part i j a b) ∙ p.pulled;
   }
 
-  length_cells : (i j : ℕ) → 1024 - h ≤ i → i ≤ j → j ≤ 1024 → length (part_of cells (i - (1024 - h)) (j - (1024 - h))) ≡ j - i
+  length_cells : (i j : ℕ) → 256 - h ≤ i → i ≤ j → j ≤ 256 → length (part_of cells (i - (256 - h)) (j - (256 - h))) ≡ j - i
   length_cells i j l a b =
       let q = ring.inside in
       let n = ring.long in
-      length_part cells (i - (1024 - h)) (j - (1024 - h)) (omega arith) (omega arith) ∙ omega arith
+      length_part cells (i - (256 - h)) (j - (256 - h)) (omega arith) (omega arith) ∙ omega arith
 
-  pub push_low : (i j x : ℕ) (new : List ℕ) (y : ℕ) → 1024 - h ≤ i → i ≤ j → j ≤ 1024 → PushedIn cells (i - (1024 - h)) (j - (1024 - h)) x new y → PushedIn (turned h cells) i j x (turned h new) y
+  pub push_low : (i j x : ℕ) (new : List ℕ) (y : ℕ) → 256 - h ≤ i → i ≤ j → j ≤ 256 → PushedIn cells (i - (256 - h)) (j - (256 - h)) x new y → PushedIn (turned h cells) i j x (turned h new) y
   push_low i j x new y l a b p = record {
     part = p.part;
     around = low_around i j p.part new l a b (length_pushed x y _ p.part p.pushed ∙ length_cells i j l a b) p.around;
     pushed = ap (λ zs. x ∷ zs) (low_part i j l a b) ∙ p.pushed;
   }
 
-  pub pull_low : (i j x : ℕ) (new : List ℕ) (y : ℕ) → 1024 - h ≤ i → i ≤ j → j ≤ 1024 → PulledIn cells (i - (1024 - h)) (j - (1024 - h)) x new y → PulledIn (turned h cells) i j x (turned h new) y
+  pub pull_low : (i j x : ℕ) (new : List ℕ) (y : ℕ) → 256 - h ≤ i → i ≤ j → j ≤ 256 → PulledIn cells (i - (256 - h)) (j - (256 - h)) x new y → PulledIn (turned h cells) i j x (turned h new) y
   pull_low i j x new y l a b p = record {
     part = p.part;
-    around = low_around i j p.part new l a b (sym (length_pushed y x p.part (part_of cells (i - (1024 - h)) (j - (1024 - h))) (sym p.pulled)) ∙ length_cells i j l a b) p.around;
+    around = low_around i j p.part new l a b (sym (length_pushed y x p.part (part_of cells (i - (256 - h)) (j - (256 - h))) (sym p.pulled)) ∙ length_cells i j l a b) p.around;
     pulled = ap (λ zs. zs ++ x ∷ []) (low_part i j l a b) ∙ p.pulled;
   }
 
-module _ (h : ℕ) (cells : List ℕ) (ring : IsRing h cells) (i j x : ℕ) (l : i ≤ 1024 - h) (u : 1024 - h ≤ j) (b : j ≤ 1024) where
+module _ (h : ℕ) (cells : List ℕ) (ring : IsRing h cells) (i j x : ℕ) (l : i ≤ 256 - h) (u : 256 - h ≤ j) (b : j ≤ 256) where
   -- through the last cells and then the first ones
-  pub push_both : (new : List ℕ) (y : ℕ) (newer : List ℕ) (z : ℕ) → PushedIn cells (h + i) (h + (1024 - h)) x new y → PushedIn new 0 (j - (1024 - h)) y newer z → PushedIn (turned h cells) i j x (turned h newer) z
+  pub push_both : (new : List ℕ) (y : ℕ) (newer : List ℕ) (z : ℕ) → PushedIn cells (h + i) (h + (256 - h)) x new y → PushedIn new 0 (j - (256 - h)) y newer z → PushedIn (turned h cells) i j x (turned h newer) z
   push_both new y newer z p q =
       let a = ring.inside in
       let n = ring.long in
       let m = length_turned h cells ring in
-      let r : IsRing h new = record { inside = a; long = length-pushed cells (h + i) (h + (1024 - h)) x new y (omega arith) (omega arith) p ∙ n } in
-      let e : 0 ≡ 1024 - h - (1024 - h) = omega arith in
-      pushed_then (turned h cells) i (1024 - h) j x (turned h new) y (turned h newer) z l u (omega arith)
-      (push_high h cells ring i (1024 - h) x new y l (omega arith) p)
-      (push_low h new r (1024 - h) j y newer z (omega arith) u b (subst (λ k. PushedIn new k (j - (1024 - h)) y newer z) e q))
+      let r : IsRing h new = record { inside = a; long = length-pushed cells (h + i) (h + (256 - h)) x new y (omega arith) (omega arith) p ∙ n } in
+      let e : 0 ≡ 256 - h - (256 - h) = omega arith in
+      pushed_then (turned h cells) i (256 - h) j x (turned h new) y (turned h newer) z l u (omega arith)
+      (push_high h cells ring i (256 - h) x new y l (omega arith) p)
+      (push_low h new r (256 - h) j y newer z (omega arith) u b (subst (λ k. PushedIn new k (j - (256 - h)) y newer z) e q))
 
   -- through the first cells and then the last ones
-  pub pull_both : (new : List ℕ) (y : ℕ) (newer : List ℕ) (z : ℕ) → PulledIn cells 0 (j - (1024 - h)) x new y → PulledIn new (h + i) (h + (1024 - h)) y newer z → PulledIn (turned h cells) i j x (turned h newer) z
+  pub pull_both : (new : List ℕ) (y : ℕ) (newer : List ℕ) (z : ℕ) → PulledIn cells 0 (j - (256 - h)) x new y → PulledIn new (h + i) (h + (256 - h)) y newer z → PulledIn (turned h cells) i j x (turned h newer) z
   pull_both new y newer z p q =
       let a = ring.inside in
       let n = ring.long in
       let m = length_turned h cells ring in
-      let r : IsRing h new = record { inside = a; long = length-pulled cells 0 (j - (1024 - h)) x new y (omega arith) (omega arith) p ∙ n } in
-      let e : 0 ≡ 1024 - h - (1024 - h) = omega arith in
-      pulled_then (turned h cells) i (1024 - h) j x (turned h new) y (turned h newer) z l u (omega arith)
-      (pull_low h cells ring (1024 - h) j x new y (omega arith) u b (subst (λ k. PulledIn cells k (j - (1024 - h)) x new y) e p))
-      (pull_high h new r i (1024 - h) y newer z l (omega arith) q)
+      let r : IsRing h new = record { inside = a; long = length-pulled cells 0 (j - (256 - h)) x new y (omega arith) (omega arith) p ∙ n } in
+      let e : 0 ≡ 256 - h - (256 - h) = omega arith in
+      pulled_then (turned h cells) i (256 - h) j x (turned h new) y (turned h newer) z l u (omega arith)
+      (pull_low h cells ring (256 - h) j x new y (omega arith) u b (subst (λ k. PulledIn cells k (j - (256 - h)) x new y) e p))
+      (pull_high h new r i (256 - h) y newer z l (omega arith) q)

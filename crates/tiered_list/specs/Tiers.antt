@@ -1,4 +1,4 @@
--- Lists of 1,024 numbers, one behind the other.
+-- Lists of 256 numbers, one behind the other.
 use Rattle.std.specs.Prelude.{ℕ, ◌≡◌, ◌<◌, ◌++◌, List, length, take, drop}
 use Rattle.std.specs.List.{AllByRecursion}
 
@@ -7,10 +7,10 @@ abbrev pub turned : ℕ → List ℕ → List ℕ
 turned head cells = drop head cells ++ take head cells
 
 pub record IsRing (head : ℕ) (cells : List ℕ) : Type 0 where
-  pub inside : head < 1024
-  pub long : length cells ≡ 1024
+  pub inside : head < 256
+  pub long : length cells ≡ 256
 
--- 64 tiers of 1,024 numbers
+-- 256 tiers of 256 numbers
 pub record AreTiers (tiers : List (List ℕ)) : Type 0 where
-  pub count : length tiers ≡ 64
-  pub each : AllByRecursion (λ t. length t ≡ 1024) tiers
+  pub count : length tiers ≡ 256
+  pub each : AllByRecursion (λ t. length t ≡ 256) tiers

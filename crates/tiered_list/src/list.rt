@@ -1,4 +1,4 @@
-//! 64 tiers, one behind the other.
+//! 256 tiers, one behind the other.
 ghost use Rattle.std.specs.Prelude.{◌≡◌, ◌+◌, ◌*◌, ◌<◌, ◌≤◌, IfOk, length, slice_index_or};
 ghost use Rattle.std.specs.List.{range_with_len};
 ghost use Rattle.tiered_list.specs.Moves.{brought, sent, PushedIn, PulledIn};
@@ -30,9 +30,9 @@ impl TieredList {
     pub fn new(alloc: Global) -> Result<TieredList, AllocError>
         ensures { IfOk result (λ list. list ≡ range_with_len 0 65536) }
     {
-        let mut tiers = Vec::with_capacity(alloc, 64)?;
-        for i in 0..64u16 {
-            tiers.push(Tier::new(1024 * i))?;
+        let mut tiers = Vec::with_capacity(alloc, 256)?;
+        for i in 0..256u16 {
+            tiers.push(Tier::new(256 * i))?;
         }
         Ok(TieredList { tiers })
     }
@@ -87,8 +87,8 @@ impl TieredList {
     fn push_cells(&mut self, tier: usize, begin: usize, end: usize, number: u16) -> u16
         requires order { begin ≤ end }
         requires within { end ≤ TIER }
-        requires inside { 1024 * tier + end ≤ 65536 }
-        ensures pushed { PushedIn self.old (1024 * tier + begin) (1024 * tier + end) number self.new result }
+        requires inside { 256 * tier + end ≤ 65536 }
+        ensures pushed { PushedIn self.old (256 * tier + begin) (256 * tier + end) number self.new result }
         ensures long { length self.new ≡ length self.old }
     {
         if begin == end {
@@ -100,9 +100,9 @@ impl TieredList {
     // The same tier by tier.
     fn push_tiers(&mut self, begin: usize, end: usize, number: u16) -> u16
         requires order { begin ≤ end }
-        requires within { end ≤ 64 }
+        requires within { end ≤ 256 }
         requires long { length self.old ≡ 65536 }
-        ensures pushed { PushedIn self.old (1024 * begin) (1024 * end) number self.new result }
+        ensures pushed { PushedIn self.old (256 * begin) (256 * end) number self.new result }
         ensures long { length self.new ≡ 65536 }
     {
         let mut carried = number;
@@ -114,8 +114,8 @@ impl TieredList {
 
     // Puts a number in front of a tier and gives its last one back.
     fn push_front(&mut self, tier: usize, number: u16) -> u16
-        requires { tier < 64 }
-        ensures { PushedIn self.old (1024 * tier) (1024 * (tier + 1)) number self.new result }
+        requires { tier < 256 }
+        ensures { PushedIn self.old (256 * tier) (256 * (tier + 1)) number self.new result }
     {
         self.tiers[tier].push_front(number)
     }
@@ -142,8 +142,8 @@ impl TieredList {
     fn pull_cells(&mut self, tier: usize, begin: usize, end: usize, number: u16) -> u16
         requires order { begin ≤ end }
         requires within { end ≤ TIER }
-        requires inside { 1024 * tier + end ≤ 65536 }
-        ensures pulled { PulledIn self.old (1024 * tier + begin) (1024 * tier + end) number self.new result }
+        requires inside { 256 * tier + end ≤ 65536 }
+        ensures pulled { PulledIn self.old (256 * tier + begin) (256 * tier + end) number self.new result }
         ensures long { length self.new ≡ length self.old }
     {
         if begin == end {
@@ -155,9 +155,9 @@ impl TieredList {
     // The same tier by tier, the last one first.
     fn pull_tiers(&mut self, begin: usize, end: usize, number: u16) -> u16
         requires order { begin ≤ end }
-        requires within { end ≤ 64 }
+        requires within { end ≤ 256 }
         requires long { length self.old ≡ 65536 }
-        ensures pulled { PulledIn self.old (1024 * begin) (1024 * end) number self.new result }
+        ensures pulled { PulledIn self.old (256 * begin) (256 * end) number self.new result }
         ensures long { length self.new ≡ 65536 }
     {
         let mut carried = number;
@@ -169,8 +169,8 @@ impl TieredList {
 
     // Puts a number behind a tier and gives its first one back.
     fn push_back(&mut self, tier: usize, number: u16) -> u16
-        requires { tier < 64 }
-        ensures { PulledIn self.old (1024 * tier) (1024 * (tier + 1)) number self.new result }
+        requires { tier < 256 }
+        ensures { PulledIn self.old (256 * tier) (256 * (tier + 1)) number self.new result }
     {
         self.tiers[tier].push_back(number)
     }

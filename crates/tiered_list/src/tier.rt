@@ -1,4 +1,4 @@
-//! 1,024 numbers in a ring.
+//! 256 numbers in a ring.
 ghost use Rattle.std.specs.Prelude.{◌≡◌, ◌+◌, ◌<◌, ◌≤◌, [], ◌∷◌, ◌++◌, length, slice_index_or};
 ghost use Rattle.std.specs.List.{range_with_len};
 ghost use Rattle.tiered_list.specs.Moves.{PushedIn, PulledIn};
@@ -7,12 +7,12 @@ use crate::cells::{pull_in, push_in};
 use std::marker::Model;
 
 /// How many numbers a tier has.
-pub(crate) const TIER: usize = 1024;
+pub(crate) const TIER: usize = 256;
 
 /// A clause sees the numbers from the head on.
 #[derive(Drop)]
 pub(crate) struct Tier {
-    cells: [u16; 1024],
+    cells: [u16; 256],
     head: u16,
 }
 
@@ -30,11 +30,11 @@ impl Model for Tier {
 impl Tier {
     /// The numbers from one on.
     pub(crate) fn new(first: u16) -> Tier
-        requires { first + 1024 ≤ 65536 }
-        ensures { result ≡ range_with_len first 1024 }
+        requires { first + 256 ≤ 65536 }
+        ensures { result ≡ range_with_len first 256 }
     {
-        let mut cells = [0; 1024];
-        for i in 0..1024u16 {
+        let mut cells = [0; 256];
+        for i in 0..256u16 {
             cells[i as usize] = first + i;
         }
         Tier { cells, head: 0 }
@@ -51,7 +51,7 @@ impl Tier {
     pub(crate) fn push_front(&mut self, number: u16) -> u16
         ensures { number ∷ self.old ≡ self.new ++ result ∷ [] }
     {
-        let place = (self.head + 1023) % 1024;
+        let place = (self.head + 255) % 256;
         let last = self.cells[place as usize];
         self.cells[place as usize] = number;
         self.head = place;
@@ -65,7 +65,7 @@ impl Tier {
         let place = self.head;
         let first = self.cells[place as usize];
         self.cells[place as usize] = number;
-        self.head = (place + 1) % 1024;
+        self.head = (place + 1) % 256;
         first
     }
 }

@@ -11,10 +11,10 @@ loop-i-preserved c = first_more c.loop-i.tiers.items c.push.new.self.items c.new
 
 pub invariant_of-result : goal.invariant_of-result
 invariant_of-result c =
-    let e : c.loop-i.i ≡ 64 = (let f = c.loop-i-test.false in let a = c.loop-i.auto.i-end in omega arith) in
+    let e : c.loop-i.i ≡ 256 = (let f = c.loop-i-test.false in let a = c.loop-i.auto.i-end in omega arith) in
     record { count = c.loop-i.invariant.count ∙ e; each = c.loop-i.invariant.long }
 
 pub returns : goal.returns
 returns c =
-    let e : 1024 * c.loop-i.i ≡ 65536 = (let f = c.loop-i-test.false in let a = c.loop-i.auto.i-end in omega arith) in
+    let e : 256 * c.loop-i.i ≡ 65536 = (let f = c.loop-i-test.false in let a = c.loop-i.auto.i-end in omega arith) in
     c.loop-i.invariant.numbers ∙ ap (range_with_len 0) e

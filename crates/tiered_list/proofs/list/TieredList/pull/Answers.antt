@@ -8,7 +8,7 @@ returns-then-first-last c =
     let end = c.args.end in
     let e = c.if-first-last.true in
     let p = c.pull_cells in
-    pulled_at c.args.self.now (1024 * (begin / 1024) + begin % 1024) (1024 * (begin / 1024) + end % 1024) begin end c.args.number p.new.self p.result (omega arith) (omega arith) p.ensures.pulled
+    pulled_at c.args.self.now (256 * (begin / 256) + begin % 256) (256 * (begin / 256) + end % 256) begin end c.args.number p.new.self p.result (omega arith) (omega arith) p.ensures.pulled
 
 pub returns : goal.returns
 returns c =
@@ -18,13 +18,13 @@ returns c =
     let n = c.requires.long in
     let w = c.requires.within in
     let o = c.requires.order in
-    let j = 1024 * (begin / 1024 + 1) in
-    let k = 1024 * (end / 1024) in
+    let j = 256 * (begin / 256 + 1) in
+    let k = 256 * (end / 256) in
     let b : j ≤ k = (let f = c.if-first-last.false in omega arith) in
     let one = c.pull_cells-number in
     let two = c.pull_tiers-number in
     let three = c.pull_cells-2 in
     pulled_then xs begin j end c.args.number two.new.self two.result three.new.self three.result (omega arith) (omega arith) (omega arith)
     (pulled_then xs j k end c.args.number one.new.self one.result two.new.self two.result b (omega arith) (omega arith)
-    (pulled_at xs (k + 0) (k + end % 1024) k end c.args.number one.new.self one.result (omega arith) (omega arith) one.ensures.pulled) two.ensures.pulled)
-    (pulled_at two.new.self (1024 * (begin / 1024) + begin % 1024) (1024 * (begin / 1024) + 1024) begin j two.result three.new.self three.result (omega arith) (omega arith) three.ensures.pulled)
+    (pulled_at xs (k + 0) (k + end % 256) k end c.args.number one.new.self one.result (omega arith) (omega arith) one.ensures.pulled) two.ensures.pulled)
+    (pulled_at two.new.self (256 * (begin / 256) + begin % 256) (256 * (begin / 256) + 256) begin j two.result three.new.self three.result (omega arith) (omega arith) three.ensures.pulled)

@@ -13,7 +13,7 @@ returns-clause-pulled c =
     let o = c.requires.order in
     let f = c.if-begin-end.false in
     let l : c.args.tier < length ts = omega arith in
-    subst (λ xs. PulledIn xs (1024 * c.args.tier + c.args.begin) (1024 * c.args.tier + c.args.end) c.args.number (concat (set ts c.args.tier c.pull.new.self)) c.pull.result) c.self.view_is
+    subst (λ xs. PulledIn xs (256 * c.args.tier + c.args.begin) (256 * c.args.tier + c.args.end) c.args.number (concat (set ts c.args.tier c.pull.new.self)) c.pull.result) c.self.view_is
     (pulled_in_tier ts c.args.tier c.args.begin c.args.end c.args.number c.index_mut.result.now c.pull.new.self c.pull.result c.self.invariant.each l c.index_mut.ensures.value o c.requires.within c.pull.ensures)
 
 pub returns-clause-long : goal.returns-clause-long
@@ -22,4 +22,4 @@ returns-clause-long c =
     let m = ap length c.self.view_is in
     let r = c.requires.inside in
     let o = c.requires.order in
-    length-pulled c.args.self.now (1024 * c.args.tier + c.args.begin) (1024 * c.args.tier + c.args.end) c.args.number _ c.pull.result (omega arith) (omega arith) (returns-clause-pulled c)
+    length-pulled c.args.self.now (256 * c.args.tier + c.args.begin) (256 * c.args.tier + c.args.end) c.args.number _ c.pull.result (omega arith) (omega arith) (returns-clause-pulled c)

@@ -18,7 +18,7 @@ loop-back-preserved c =
     let e : end - (back + 1) + 1 ≡ end - back = omega arith in
     record {
       pulled =
-          pulled_then xs (1024 * (end - (back + 1))) (1024 * (end - back)) (1024 * end) c.args.number ys c.loop-back.carried zs z (omega arith) (omega arith) (omega arith) c.loop-back.invariant.pulled
-          (subst (λ k. PulledIn ys (1024 * (end - (back + 1))) (1024 * k) c.loop-back.carried zs z) e c.push_back-carried.ensures);
-      long = length-pulled ys (1024 * (end - (back + 1))) (1024 * (end - (back + 1) + 1)) c.loop-back.carried zs z (omega arith) (omega arith) c.push_back-carried.ensures ∙ n;
+          pulled_then xs (256 * (end - (back + 1))) (256 * (end - back)) (256 * end) c.args.number ys c.loop-back.carried zs z (omega arith) (omega arith) (omega arith) c.loop-back.invariant.pulled
+          (subst (λ k. PulledIn ys (256 * (end - (back + 1))) (256 * k) c.loop-back.carried zs z) e c.push_back-carried.ensures);
+      long = length-pulled ys (256 * (end - (back + 1))) (256 * (end - (back + 1) + 1)) c.loop-back.carried zs z (omega arith) (omega arith) c.push_back-carried.ensures ∙ n;
     }

@@ -9,5 +9,5 @@ returns c =
     let ts = c.self.inside.tiers.items in
     let n = c.self.invariant.count in
     let l : c.args.tier < length ts = (let r = c.requires in omega arith) in
-    subst (λ xs. PulledIn xs (1024 * c.args.tier) (1024 * (c.args.tier + 1)) c.args.number (concat (set ts c.args.tier c.push_back.new.self)) c.push_back.result) c.self.view_is
+    subst (λ xs. PulledIn xs (256 * c.args.tier) (256 * (c.args.tier + 1)) c.args.number (concat (set ts c.args.tier c.push_back.new.self)) c.push_back.result) c.self.view_is
     (pulled_tier ts c.args.tier c.args.number c.index_mut.result.now c.push_back.new.self c.push_back.result c.self.invariant.each l c.index_mut.ensures.value c.push_back.ensures)

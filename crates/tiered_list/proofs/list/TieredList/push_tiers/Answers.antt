@@ -16,7 +16,7 @@ loop-tier-preserved c =
     let o = c.loop-tier.auto.tier in
     record {
       pushed =
-          pushed_then xs (1024 * c.args.begin) (1024 * tier) (1024 * (tier + 1)) c.args.number ys c.loop-tier.carried zs z (omega arith) (omega arith) (omega arith) c.loop-tier.invariant.pushed
+          pushed_then xs (256 * c.args.begin) (256 * tier) (256 * (tier + 1)) c.args.number ys c.loop-tier.carried zs z (omega arith) (omega arith) (omega arith) c.loop-tier.invariant.pushed
           c.push_front-carried.ensures;
-      long = length-pushed ys (1024 * tier) (1024 * (tier + 1)) c.loop-tier.carried zs z (omega arith) (omega arith) c.push_front-carried.ensures ∙ n;
+      long = length-pushed ys (256 * tier) (256 * (tier + 1)) c.loop-tier.carried zs z (omega arith) (omega arith) c.push_front-carried.ensures ∙ n;
     }

@@ -9,5 +9,5 @@ returns c =
     let i = c.loop-i.invariant in
     let n = i.long in
     let e = c.loop-i-test.false in
-    append-nil c.loop-i.cells ∙ same_lists c.loop-i.cells (range_with_len c.args.first 1024) (n ∙ sym (length-range_with_len c.args.first 1024))
-    (λ k d l. get_or_default c.loop-i.cells k d 0 l ∙ i.filled k (omega arith) ∙ sym (get_or-range_with_len c.args.first 1024 k d (omega arith)))
+    append-nil c.loop-i.cells ∙ same_lists c.loop-i.cells (range_with_len c.args.first 256) (n ∙ sym (length-range_with_len c.args.first 256))
+    (λ k d l. get_or_default c.loop-i.cells k d 0 l ∙ i.filled k (omega arith) ∙ sym (get_or-range_with_len c.args.first 256 k d (omega arith)))
