@@ -8,7 +8,10 @@ use crate::slots::MOST_SLOTS;
 use crate::waiter::Waiter;
 use range_table::FileId;
 use std::alloc::{AllocError, Global};
+use std::cmp::Ordering;
 use std::marker::Model;
+
+const NO_BYTES: &[u8] = &[];
 
 /// The places of waiters, by file and then in the order of waiting, so that a file's are found by two binary searches.
 /// A clause sees the places.
@@ -130,26 +133,25 @@ fn moved_up(other: u16, place: usize) -> u16
     }
 }
 
-// The bytes of the file that the waiter at this place waits for, or none.
-fn file_of(waiters: &[Waiter], place: u16) -> &[u8]
-    ensures { result.now ≡ file_at waiters.now place }
+// How the file that the waiter at this place waits for stands to another. Where nobody stands it is no byte.
+#[tactic(auto, unfolding(range_table::specs::File::file_cmp))]
+fn order_at(waiters: &[Waiter], place: u16, file: &FileId) -> Ordering
+    ensures { result ≡ file_cmp (file_at waiters.now place) file.now }
 {
     match waiters.get(usize::from(place)) {
-        Some(waiter) => waiter.wanted().file.as_bytes(),
-        None => &[],
+        Some(waiter) => waiter.wanted().file.order(file),
+        None => NO_BYTES.cmp(file.as_bytes()),
     }
 }
 
-#[tactic(auto, unfolding(range_table::specs::File::file_cmp))]
 fn is_before(waiters: &[Waiter], place: u16, file: &FileId) -> bool
     ensures { result ≡ is_lt (file_cmp (file_at waiters.now place) file.now) }
 {
-    file_of(waiters, place).cmp(file.as_bytes()).is_lt()
+    order_at(waiters, place, file).is_lt()
 }
 
-#[tactic(auto, unfolding(range_table::specs::File::file_cmp))]
 fn is_upto(waiters: &[Waiter], place: u16, file: &FileId) -> bool
     ensures { result ≡ is_le (file_cmp (file_at waiters.now place) file.now) }
 {
-    file_of(waiters, place).cmp(file.as_bytes()).is_le()
+    order_at(waiters, place, file).is_le()
 }

@@ -27,3 +27,4 @@ pub mod Halves
 pub mod Splitting
 pub mod InWay
 pub mod Ascents
+pub mod Spelling

@@ -1,5 +1,6 @@
 pub mod File
 pub mod FileId
+pub mod Spelt
 pub mod Settings
 pub mod Runs
 pub mod Parts

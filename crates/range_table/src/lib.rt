@@ -10,6 +10,7 @@ pub mod run;
 pub mod run_list;
 pub mod sorted;
 mod table;
+mod words;
 
 pub use alike::{first_conflict_in_both, runs_in_both, used_in_both};
 pub use file::FileId;
