@@ -2,7 +2,7 @@
 //! over the table.
 #![tactic(auto)]
 
-ghost use Rattle.std.specs.Prelude.{◌≡◌, ◌-◌, ℕ, true, cond};
+ghost use Rattle.std.specs.Prelude.{◌≡◌, ◌≢◌, ◌-◌, ℕ, true, false, cond};
 ghost use Rattle.definitions.specs.Bytes.{Bytes, same_bytes};
 ghost use Rattle.definitions.specs.Owners.{is_of_host};
 ghost use Rattle.owner_ids.specs.Said.{view_of_owner};
@@ -75,6 +75,7 @@ impl HostRuns {
     // Writes a host's count over the one that it has. Whether it has one.
     fn write(&mut self, host: &[u8], runs: u32) -> bool
         ensures whole { self.new.whole ≡ self.old.whole }
+        ensures none { result ≡ false → runs_of self.old host.now ≡ 0 }
         ensures runs { (name : Bytes) → runs_of self.new name ≡ cond (same_bytes host.now name) (cond result runs (runs_of self.old name)) (runs_of self.old name) }
     {
         match self.by_host.get_mut(host) {
@@ -88,6 +89,8 @@ impl HostRuns {
 
     // Adds a host's count, or is no longer whole.
     fn add(&mut self, host: &[u8], runs: u32)
+        requires some { runs ≢ 0 }
+        requires none { runs_of self.old host.now ≡ 0 }
         ensures { Puts host.now runs self.old self.new }
     {
         let Ok(name) = host.to_vec(self.alloc) else {
@@ -99,7 +102,8 @@ impl HostRuns {
         }
     }
 
-    /// So many runs have a host's owners from now on. Where there is no memory for its name, it is no longer whole.
+    /// So many runs have a host's owners from now on. Where there is no memory for its name, it is no longer whole: that a host
+    /// that has runs already, or that has none from now on, does not need.
     pub fn put(&mut self, host: &[u8], runs: u32)
         ensures { Puts host.now runs self.old self.new }
     {
@@ -110,8 +114,8 @@ impl HostRuns {
         }
     }
 
-    /// What an owner has changed alone, and with it the runs of all owners, from so many to so many. Its host, if it has one, has what is left of all
-    /// without those of others.
+    /// An owner alone has changed, and with it the runs of all owners, from so many to so many. Its host, if it has one, has
+    /// what is left of all without those of others. Where there is no memory for its name, it is no longer whole.
     pub fn recount(&mut self, owner: &Owner, all: u32, after: u32)
         ensures { IsRecounted (view_of_owner owner.now) all after self.old self.new }
     {

@@ -1,4 +1,4 @@
-use Rattle.std.proofs.Common.{◌≡◌, Some, cond, sym, subst, ◌∙◌, OnOk, is_err, false}
+use Rattle.std.proofs.Common.{◌≡◌, Some, cond, refl, sym, subst, ◌∙◌, OnOk, is_err, false}
 use Rattle.std.specs.declared.result.Result.{Result}
 use Rattle.std.specs.declared.result.Result.TheVariants.{Ok, Err}
 use Rattle.definitions.specs.Bytes.{same_bytes}
@@ -18,5 +18,6 @@ returns-else-is_err c =
     let same = c.in-Ok.ensures.items_if_clones_equal (λ x y e. e) in
     rw (← c.self.view_is) (record {
       was = λ e. e;
+      stays = λ h. refl;
       runs = λ e name. subst (λ l. count_in (counts_in new.entries) name ≡ cond (same_bytes l name) c.args.runs (count_in (counts_in old.entries) name)) same (puts c.in-Ok.name.items old new (Some c.args.runs) updates name);
     })

@@ -1,4 +1,4 @@
-use Rattle.std.proofs.Common.{◌≡◌, None, cond, sym, subst}
+use Rattle.std.proofs.Common.{◌≡◌, None, cond, refl, sym, subst}
 use Rattle.definitions.specs.Bytes.{same_bytes}
 use Rattle.host_runs.specs.HostRuns.{count_in}
 use Rattle.host_runs.proofs.Counts.{counts_in, puts}
@@ -10,5 +10,6 @@ returns-then-runs-eq0 c =
     let new = c.remove.new.self in
     rw (← c.self.view_is) (record {
       was = λ e. e;
+      stays = λ h. refl;
       runs = λ e name. subst (λ z. count_in (counts_in new.entries) name ≡ cond (same_bytes c.args.host.now name) z (count_in (counts_in old.entries) name)) (sym c.if-runs-eq0.true) (puts c.args.host.now old new None c.remove.ensures.updates name);
     })

@@ -1,7 +1,9 @@
-use Rattle.std.proofs.Common.{◌≡◌, ℕ, Bool, true, false, cond, refl, Some, rules}
+use Rattle.std.proofs.Common.{◌≡◌, ◌∙◌, ℕ, Bool, true, false, cond, refl, sym, ap, Some, rules}
+use Rattle.std.specs.Prelude.{unwrap_or}
+use Rattle.std.proofs.lemmas.Bool.{true≢false}
 use Rattle.definitions.specs.Bytes.{same_bytes}
 use Rattle.host_runs.specs.HostRuns.{count_in}
-use Rattle.host_runs.proofs.Counts.{counts_in, puts}
+use Rattle.host_runs.proofs.Counts.{counts_in, counted, puts}
 use Rattle.host_runs.proofs.HostRuns.write.Goals as goal
 use Rattle.host_runs.proofs.HostRuns.write.Goals.{in-Some, in-None}
 
@@ -17,4 +19,10 @@ returns-clause-runs c = λ name. elim c.match-get_mut.branch [
   | in-None w ↦
       rw (w.self-inside-is, w.result-is, ← c.self.view_is, c.get_mut.follows.holds-at-none)
       (either_way (same_bytes c.args.host.now name) (count_in (counts_in c.self.inside.by_host.entries) name))
+]
+
+pub returns-clause-none : goal.returns-clause-none
+returns-clause-none c = elim c.match-get_mut.branch [
+  | in-Some w ↦ λ e. absurd (true≢false (sym w.result-is ∙ e))
+  | in-None w ↦ λ e. rw (← c.self.view_is) (counted c.self.inside.by_host c.args.host.now ∙ ap (λ o. unwrap_or o 0) (sym w.in-None.ensures.value))
 ]
