@@ -23,6 +23,10 @@ is_ready_on file quotas settings x = same_bytes x.request.file file && is_ready 
 abbrev pub is_ready_off : Bytes → Quotas → List Setting → Waiter → Bool
 is_ready_off file quotas settings x = not (same_bytes x.request.file file) && is_ready the_limits quotas settings x
 
+-- the same where nobody who waits for another file can be granted
+abbrev pub IsFirstReadyOn : Bytes → Quotas → List Setting → List Waiter → Option ℕ → Type 0
+IsFirstReadyOn file quotas settings waiters place = is_any (is_ready_off file quotas settings) waiters ≡ false → IsFirstReady quotas settings waiters place
+
 -- where nobody who waits for another file is ready, 2 runs are free, and the owner's quota holds nobody back
 abbrev pub WhereNoOther : Quotas → List Setting → Bytes → Owner → List Waiter → Type 0 → Type 0
 WhereNoOther quotas settings file owner waiters Says =

@@ -26,3 +26,7 @@ WhereFree names ns w Says =
 -- so many runs each host has
 abbrev pub AreRunsOf : (Bytes → ℕ) → List Setting → Type 0
 AreRunsOf runs settings = (name : Bytes) → runs name ≡ used_of name settings
+
+-- what is said where so many runs each host has
+abbrev pub WhereCounted : Names → List NumberSetting → List Waiting → (Bytes → ℕ) → (List Setting → List Waiter → Type 0) → Type 0
+WhereCounted names ns ws runs Says = WhereWaits names ns ws (λ settings waiters. AreRunsOf runs settings → Says settings waiters)

@@ -1,10 +1,9 @@
 //! Who is granted next.
-ghost use Rattle.std.specs.Prelude.{◌≡◌, ◌<◌, false, length, IfSome};
-ghost use Rattle.definitions.specs.Bytes.{is_any};
+ghost use Rattle.std.specs.Prelude.{◌<◌, length, IfSome};
 ghost use Rattle.owner_ids.specs.Names.{named};
 ghost use Rattle.blocked_list.specs.First.{IsFirstPlace};
-ghost use Rattle.blocked_list.specs.Standing.{WhereWaits, AreRunsOf};
-ghost use Rattle.blocked_list.specs.Ready.{IsFirstReady, is_ready_on, is_ready_off};
+ghost use Rattle.blocked_list.specs.Standing.{WhereCounted};
+ghost use Rattle.blocked_list.specs.Ready.{IsFirstReady, IsFirstReadyOn, is_ready_on};
 
 use crate::quotas::Quotas;
 use crate::slots::Slots;
@@ -23,7 +22,7 @@ impl Slots {
         quotas: &Q,
     ) -> Option<usize>
         ensures bound { IfSome result (λ place. place < length self.now.waiters) }
-        ensures first { WhereWaits (named owners.now) (T.settings table.now) self.now.waiters (λ settings waiters. AreRunsOf (H.runs hosts.now) settings → IsFirstReady (Q.by_host quotas.now) settings waiters result) }
+        ensures first { WhereCounted (named owners.now) (T.settings table.now) self.now.waiters (H.runs hosts.now) (λ settings waiters. IsFirstReady (Q.by_host quotas.now) settings waiters result) }
     {
         if range_owners::is_short(table, owners) {
             return None;
@@ -48,7 +47,7 @@ impl Slots {
         file: &FileId,
     ) -> Option<usize>
         ensures bound { IfSome result (λ place. place < length self.now.waiters) }
-        ensures first { WhereWaits (named owners.now) (T.settings table.now) self.now.waiters (λ settings waiters. AreRunsOf (H.runs hosts.now) settings → is_any (is_ready_off file.now (Q.by_host quotas.now) settings) waiters ≡ false → IsFirstReady (Q.by_host quotas.now) settings waiters result) }
+        ensures first { WhereCounted (named owners.now) (T.settings table.now) self.now.waiters (H.runs hosts.now) (λ settings waiters. IsFirstReadyOn file.now (Q.by_host quotas.now) settings waiters result) }
     {
         self.first_on(table, owners, hosts, quotas, file)
     }
@@ -63,7 +62,7 @@ impl Slots {
         file: &FileId,
     ) -> Option<usize>
         ensures bound { IfSome result (λ place. place < length self.now.waiters) }
-        ensures first { WhereWaits (named owners.now) (T.settings table.now) self.now.waiters (λ settings waiters. AreRunsOf (H.runs hosts.now) settings → IsFirstPlace (is_ready_on file.now (Q.by_host quotas.now) settings) waiters result) }
+        ensures first { WhereCounted (named owners.now) (T.settings table.now) self.now.waiters (H.runs hosts.now) (λ settings waiters. IsFirstPlace (is_ready_on file.now (Q.by_host quotas.now) settings) waiters result) }
     {
         if range_owners::is_short(table, owners) {
             return None;

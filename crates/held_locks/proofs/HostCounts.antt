@@ -12,7 +12,7 @@ use Rattle.definitions.proofs.RunCounts.{as_many_of}
 use Rattle.definitions.proofs.SettingLaws.{drop_owner, drop_host}
 use Rattle.owner_ids.specs.Names.{named, is_owned_by}
 use Rattle.host_runs.specs.HostRuns.{Counted, runs_of, IsRecounted, Puts}
-use Rattle.range_table.specs.Settings.{mode_at as held_at, held_by}
+use Rattle.range_table.specs.Settings.{Held, IsUsed, mode_at as held_at, held_by}
 use Rattle.range_table.specs.declared.run.Setting.{Setting as NumberSetting}
 use Rattle.range_table.proofs.Counts.{used_once}
 use Rattle.range_owners.specs.Stands.{Stands}
@@ -40,6 +40,9 @@ module _ (before after : List Setting) (x : Owner) (alike : (file : Bytes) (owne
       let b = used_over (named names) (held_at ns) before r.before h.stands r.were in
       let l = used_over (named names) (held_at others) after r.left k.stands r.are in
       hosts_after old new a (subst (λ n. IsRecounted x n (used after) old new) b (subst (λ n. IsRecounted x r.before n old new) l r.counted))
+
+pub counted_anew : (x : Owner) (held after : Held) (old new : Counted) (before left : ℕ) → IsUsed held before → IsUsed after left → IsRecounted x before left old new → IsCountedAnew x held after old new
+counted_anew x held after old new before left were are counted = record { before = before; left = left; were = were; are = are; counted = counted }
 
 pub set_alike : (settings : List Setting) (s : Setting) (file : Bytes) (owner : Owner) (byte : ℕ) → owner ≢ s.owner → mode_at (settings ++ s ∷ []) file owner byte ≡ mode_at settings file owner byte
 set_alike settings s file owner byte o = others_keep settings s file owner byte (λ k. o (sym k))

@@ -1,6 +1,7 @@
 use Rattle.std.proofs.Common.{sym, subst, slice_index_or}
 use Rattle.range_table.specs.Settings.{mode_at}
 use Rattle.held_locks.specs.Tied.{AreCounts}
+use Rattle.held_locks.proofs.HostCounts.{counted_anew}
 use Rattle.held_locks.proofs.Ties.{Spares, drop_spares, part_of_all, rest_of_left, counts_after}
 use Rattle.held_locks.proofs.counts.drop_owner_on_file.Goals as goal
 
@@ -29,10 +30,4 @@ returns-clause-counted g c =
     subst (AreCounts left) (sym c.recount.ensures) (counts_after ns left c.args.counts.now.items n c.used-before.result c.used-after.result spares c.used-before.ensures c.used-after.ensures c.requires.counted c.requires.place)
 
 pub returns-clause-hosts : goal.returns-clause-hosts
-returns-clause-hosts g c = record {
-  before = c.used-before.result;
-  left = c.used-after.result;
-  were = c.used-before.ensures;
-  are = c.used-after.ensures;
-  counted = c.recount-2.ensures;
-}
+returns-clause-hosts g c = counted_anew _ _ _ _ _ c.used-before.result c.used-after.result c.used-before.ensures c.used-after.ensures c.recount-2.ensures
