@@ -1,5 +1,5 @@
 //! The lines of a local program.
-use crate::runs::{run, tells};
+use crate::runs::{Told, run, tells};
 use crate::streams::Asked;
 use serve_loops::Ending;
 use std::alloc::Global;
@@ -9,10 +9,9 @@ use std::test::*;
 // Whether these lines get these answers, it ends so, and so many calls are due.
 fn answers<R: Wait>(rt: &R, alloc: Global, case: (&str, &str), ending: Ending, due: u64) -> bool {
     let (lines, text) = case;
-    match run(rt, alloc, Asked::plain(lines.as_bytes())) {
-        Some(told) => told.is(text.as_bytes(), ending) && told.has_due(due),
-        None => false,
-    }
+    let asked = Asked::plain(lines.as_bytes());
+    let mut told = Told::new(alloc, asked.room);
+    run(rt, alloc, asked, &mut told) && told.is(text.as_bytes(), ending) && told.has_due(due)
 }
 
 const LOCAL_LOOP: (&str, &str) = (
@@ -53,13 +52,13 @@ fn one_answer_a_line(rt: HostRuntime) {
 
 // Whether a line of so many bytes is bad, and the one behind it is answered.
 fn is_bad<R: Wait>(rt: &R, alloc: Global, count: usize) -> bool {
-    let Ok(mut lines) = vec![in alloc; b'x'; count] else {
-        return false;
-    };
-    if lines.extend_from_slice(b"\nsetlk p1 aa w 0 1\n").is_err() {
-        return false;
+    match vec![in alloc; b'x'; count] {
+        Ok(mut lines) => {
+            lines.extend_from_slice(b"\nsetlk p1 aa w 0 1\n").is_ok()
+                && tells(rt, alloc, Asked::plain(&lines), b"bad\nok\n", Ending::Over)
+        }
+        Err(_) => false,
     }
-    tells(rt, alloc, Asked::plain(&lines), b"bad\nok\n", Ending::Over)
 }
 
 #[test]

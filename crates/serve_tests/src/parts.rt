@@ -8,7 +8,7 @@ use range_table::FlatTable;
 use serve_loops::{Due, MemoryCourier, Parcel, Signals, send_due};
 use std::alloc::{AllocError, Global};
 use std::sync::atomic::{AtomicBool, AtomicU64, Ordering};
-use std::sync::ledger::Ledger;
+use std::sync::ledger::{Ledger, Share};
 use std::sync::{Mutex, Wait};
 use workers::Shared;
 
@@ -42,6 +42,13 @@ impl Signals for Bells {
     }
 }
 
+/// Ends a book, which nothing drops: that would be dear to prove. Whether there was room for its end.
+pub(crate) fn ends<L: Ledger>(shared: Mutex<Kept<L>>, share: &mut Share<L>) -> bool
+    requires { share.old.parts ≡ L.parts }
+{
+    shared.into_inner().finish(share).is_ok()
+}
+
 /// The book of a server named `server`, over a table without runs and no hosts. None where there is no memory.
 pub(crate) fn begun(alloc: Global) -> Option<Book<FlatTable, MemHosts>>
     ensures { IfSome result (λ book. (book.journal.notes ≡ []) × (book.journal.first ≡ 1)) }
@@ -52,8 +59,11 @@ pub(crate) fn begun(alloc: Global) -> Option<Book<FlatTable, MemHosts>>
     Book::new(alloc, table, store, name).ok()
 }
 
+/// What the book's lock keeps.
+pub(crate) type Kept<L> = Shared<FlatTable, MemHosts, L>;
+
 /// The server begins, and its grace period is over: whether there was room.
-pub(crate) fn opens<L: Ledger>(shared: &mut Shared<FlatTable, MemHosts, L>) -> bool {
+pub(crate) fn opens<L: Ledger>(shared: &mut Kept<L>) -> bool {
     shared.apply(BookEvent::Restart).is_ok() && shared.apply(BookEvent::GraceOver).is_ok()
 }
 
@@ -81,10 +91,13 @@ fn put_all(log: &mut Vec<u8>, parcels: &[Parcel]) -> Option<usize> {
 /// What a turn of the sender leaves, and how many calls and lines it hands over.
 pub(crate) type Turn = (Due, Option<usize>);
 
+/// Where no turn was had.
+pub(crate) const NO_TURNS: [Turn; 3] = [(Due::NoRoom, None); 3];
+
 fn turn<L: Ledger, R: Wait>(
     rt: &R,
     alloc: Global,
-    shared: &Mutex<Shared<FlatTable, MemHosts, L>>,
+    shared: &Mutex<Kept<L>>,
     log: &mut Vec<u8>,
 ) -> Turn {
     let mut courier = MemoryCourier::new(alloc);
@@ -96,10 +109,10 @@ fn turn<L: Ledger, R: Wait>(
 pub(crate) fn turns<L: Ledger, R: Wait>(
     rt: &R,
     alloc: Global,
-    shared: &Mutex<Shared<FlatTable, MemHosts, L>>,
+    shared: &Mutex<Kept<L>>,
     log: &mut Vec<u8>,
 ) -> [Turn; 3] {
-    let mut all = [(Due::NoRoom, None); 3];
+    let mut all = NO_TURNS;
     for place in all.iter_mut() {
         *place = turn(rt, alloc, shared, log);
     }

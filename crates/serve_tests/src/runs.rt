@@ -1,7 +1,7 @@
 //! One run of a local program's loop, and three turns of the sender behind it.
 ghost use Rattle.std.specs.Prelude.{◌≡◌, []};
 
-use crate::parts::{Bells, Turn, begun, opens, turns};
+use crate::parts::{Bells, Kept, NO_TURNS, Turn, begun, ends, opens, turns};
 use crate::streams::{Asked, Sink, Source};
 use book::Book;
 use hosts_db::MemHosts;
@@ -17,8 +17,8 @@ use workers::Shared;
 /// What was answered, how that ended, what the bells tell, and what the sender's turns told and handed over.
 #[derive(Drop)]
 pub(crate) struct Told {
-    text: Vec<u8>,
-    ending: Ending,
+    output: Sink,
+    ending: Option<Ending>,
     is_open: bool,
     is_stopping: bool,
     due: u64,
@@ -27,11 +27,27 @@ pub(crate) struct Told {
 }
 
 impl Told {
+    /// Of nothing yet, with room for so many bytes of answers.
+    pub(crate) fn new(alloc: Global, room: usize) -> Told {
+        Told {
+            output: Sink {
+                held: Vec::new(alloc),
+                room,
+            },
+            ending: None,
+            is_open: false,
+            is_stopping: false,
+            due: 0,
+            turns: NO_TURNS,
+            sent: Vec::new(alloc),
+        }
+    }
+
     /// Whether this was answered, and it ended so. A server that is told to stop is stopping, and no other.
     pub(crate) fn is(&self, text: &[u8], ending: Ending) -> bool {
         self.is_open
-            && self.text.as_slice() == text
-            && self.ending == ending
+            && self.output.held.as_slice() == text
+            && self.ending == Some(ending)
             && self.is_stopping == (ending == Ending::Stopped)
     }
 
@@ -48,46 +64,48 @@ impl Told {
     }
 }
 
+// Tells what comes of this.
+fn tell<L: Ledger, R: Wait>(
+    rt: &R,
+    alloc: Global,
+    shared: &Mutex<Kept<L>>,
+    asked: Asked<'_>,
+    told: &mut Told,
+) {
+    let bells = Bells::new();
+    let mut input = Source { asked };
+    let ending = serve_lines(alloc, rt, shared, &bells, 7, &mut input, &mut told.output);
+    told.ending = Some(ending);
+    told.is_stopping = bells.is_stopping.load(Ordering::SeqCst);
+    told.due = bells.due.load(Ordering::SeqCst);
+    told.turns = turns(rt, alloc, shared, &mut told.sent);
+}
+
 fn served<L: Ledger, R: Wait>(
     rt: &R,
     alloc: Global,
     blank: Blank,
     book: Book<FlatTable, MemHosts>,
     asked: Asked<'_>,
-) -> Told
+    told: &mut Told,
+) -> bool
     requires name { blank.name ≡ L.name }
     requires parts { blank.parts ≡ L.parts }
     requires new { (book.journal.notes ≡ []) × (book.journal.first ≡ 1) }
 {
-    let (total, _share) = blank.open::<L>();
+    let (total, mut share) = blank.open::<L>();
     let mut shared = Shared::new(alloc, book, total, true);
-    let is_open = opens(&mut shared);
+    told.is_open = opens(&mut shared);
     let shared = Mutex::new(shared);
-    let bells = Bells::new();
-    let mut input = Source { asked };
-    let mut output = Sink {
-        held: Vec::new(alloc),
-        room: asked.room,
-    };
-    let ending = serve_lines(alloc, rt, &shared, &bells, 7, &mut input, &mut output);
-    let mut sent = Vec::new(alloc);
-    let turns = turns(rt, alloc, &shared, &mut sent);
-    Told {
-        text: output.held,
-        ending,
-        is_open,
-        is_stopping: bells.is_stopping.load(Ordering::SeqCst),
-        due: bells.due.load(Ordering::SeqCst),
-        turns,
-        sent,
-    }
+    tell(rt, alloc, &shared, asked, told);
+    ends(shared, &mut share)
 }
 
-/// What comes of this. None where there is no memory.
-pub(crate) fn run<R: Wait>(rt: &R, alloc: Global, asked: Asked<'_>) -> Option<Told> {
+/// Tells what comes of this: whether there was memory for a book, and for its end.
+pub(crate) fn run<R: Wait>(rt: &R, alloc: Global, asked: Asked<'_>, told: &mut Told) -> bool {
     match begun(alloc) {
-        Some(book) => Some(served::<Brand, _>(rt, alloc, Blank::new(1), book, asked)),
-        None => None,
+        Some(book) => served::<Brand, _>(rt, alloc, Blank::new(1), book, asked, told),
+        None => false,
     }
 }
 
@@ -99,8 +117,6 @@ pub(crate) fn tells<R: Wait>(
     text: &[u8],
     ending: Ending,
 ) -> bool {
-    match run(rt, alloc, asked) {
-        Some(told) => told.is(text, ending),
-        None => false,
-    }
+    let mut told = Told::new(alloc, asked.room);
+    run(rt, alloc, asked, &mut told) && told.is(text, ending)
 }

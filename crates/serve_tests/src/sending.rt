@@ -9,29 +9,24 @@ use std::sync::Wait;
 use std::test::*;
 
 // So many waiters, of which each is granted when the lock goes.
-fn waiters(alloc: Global, count: u32) -> Result<String, AllocError> {
-    let mut lines = String::new(alloc);
+fn put_waiters(lines: &mut String, count: u32) -> Result<(), AllocError> {
     lines.push_str("setlk p1 aa w 0 1\n")?;
     for number in 0..count {
         write!(lines, "setlkw d{number} aa r 0 1\n")?;
     }
-    lines.push_str("close p1 aa\n")?;
-    Ok(lines)
+    lines.push_str("close p1 aa\n")
 }
 
-fn told_of<R: Wait>(rt: &R, alloc: Global, count: u32) -> Option<Told> {
-    match waiters(alloc, count) {
-        Ok(lines) => run(rt, alloc, Asked::plain(lines.as_bytes())),
-        Err(_) => None,
-    }
+// Tells what comes of so many waiters: whether there was memory for it.
+fn run_with<R: Wait>(rt: &R, alloc: Global, count: u32, told: &mut Told) -> bool {
+    let mut lines = String::new(alloc);
+    put_waiters(&mut lines, count).is_ok() && run(rt, alloc, Asked::plain(lines.as_bytes()), told)
 }
 
 // Whether the turns behind so many waiters are these.
 fn has_turns<R: Wait>(rt: &R, alloc: Global, count: u32, turns: [Turn; 3]) -> bool {
-    match told_of(rt, alloc, count) {
-        Some(told) => told.has_turns(turns),
-        None => false,
-    }
+    let mut told = Told::new(alloc, usize::MAX);
+    run_with(rt, alloc, count, &mut told) && told.has_turns(turns)
 }
 
 const FEW: [Turn; 3] = [
@@ -54,10 +49,8 @@ fn most_calls_of_a_turn(rt: HostRuntime) {
 
 // Whether this is sent behind so many waiters.
 fn sends<R: Wait>(rt: &R, alloc: Global, count: u32, bytes: &[u8]) -> bool {
-    match told_of(rt, alloc, count) {
-        Some(told) => told.has_sent(bytes),
-        None => false,
-    }
+    let mut told = Told::new(alloc, usize::MAX);
+    run_with(rt, alloc, count, &mut told) && told.has_sent(bytes)
 }
 
 const LINES: &str = "7: granted d0 aa r 0 1\n7: granted d1 aa r 0 1\n";

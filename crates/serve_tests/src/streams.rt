@@ -1,4 +1,6 @@
 //! What a program asks over streams in memory, which may fail.
+ghost use Rattle.std.specs.Prelude.{◌≤◌, length};
+
 use std::io::{self, Error, ErrorKind, Read, Write};
 
 /// Lines, which are read in pieces of at most so many bytes behind so many errors of this kind, and the room for the
@@ -31,12 +33,11 @@ pub(crate) struct Source<'a> {
     pub(crate) asked: Asked<'a>,
 }
 
-impl Read for Source<'_> {
-    fn read(&mut self, buf: &mut [u8]) -> io::Result<usize> {
-        if self.asked.faults > 0 {
-            self.asked.faults -= 1;
-            return Err(Error::from(self.asked.kind));
-        }
+impl Source<'_> {
+    // The next piece: how many bytes it has.
+    fn give(&mut self, buf: &mut [u8]) -> usize
+        ensures { result ≤ length buf.new }
+    {
         let left = self.asked.lines;
         let most = self.asked.most.min(buf.len()).min(left.len());
         let (now, later) = left.split_at(most);
@@ -44,7 +45,17 @@ impl Read for Source<'_> {
             *to = *from;
         }
         self.asked.lines = later;
-        Ok(most)
+        most
+    }
+}
+
+impl Read for Source<'_> {
+    fn read(&mut self, buf: &mut [u8]) -> io::Result<usize> {
+        if self.asked.faults > 0 {
+            self.asked.faults -= 1;
+            return Err(Error::from(self.asked.kind));
+        }
+        Ok(self.give(buf))
     }
 }
 

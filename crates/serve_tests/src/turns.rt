@@ -1,20 +1,17 @@
 //! A worker, and the turns of the sender behind it.
-ghost use Rattle.std.specs.Prelude.{◌≡◌, []};
+ghost use Rattle.std.specs.Prelude.{◌≡◌};
 
-use crate::parts::{Turn, begun, opens, turns};
-use book::Book;
+use crate::parts::{Kept, Turn, begun, ends, opens, turns};
 use bytes::Bytes;
-use hosts_db::MemHosts;
 use jobs::{Channel, Job, Keeper, Opened, Place, Seat};
 use kept_replies::Peer;
-use range_table::FlatTable;
 use serve_loops::Due;
 use std::alloc::{AllocError, Global};
 use std::marker::Brand;
 use std::sync::ledger::{Blank, Ledger};
 use std::sync::{Mutex, Wait};
 use std::test::*;
-use workers::{Gate, MemoryOutbox, Shared, Worker};
+use workers::{Gate, Leaves, MemoryOutbox, Shared, Worker};
 
 /// Holds nobody.
 #[derive(Drop)]
@@ -86,96 +83,137 @@ fn job(alloc: Global) -> Option<Job> {
     Some(Job::new(1, Peer::PIPE, 0, record))
 }
 
-/// What there is to be seen of a worker, where it gave one reply, and of the turns.
-#[derive(Drop)]
-struct Told {
-    is_open: bool,
-    reply: Option<Vec<u8>>,
-    turns: [Turn; 3],
-    sent: Vec<u8>,
-}
-
-fn two_seats<P: Place>(keeper: &mut Keeper<P>, channel: &Channel<P>) -> Option<(Seat<P>, Seat<P>)> {
-    Some((keeper.cut(channel)?, keeper.cut(channel)?))
-}
-
-// The one reply of a worker to what waits in the channel.
-fn reply<P: Place, L: Ledger, R: Wait>(
-    rt: &R,
-    alloc: Global,
-    channel: &Channel<P>,
-    shared: &Mutex<Shared<FlatTable, MemHosts, L>>,
-    mut worker: Worker<P, L>,
-) -> Option<Vec<u8>> {
-    let mut outbox = MemoryOutbox::new(alloc);
-    worker.work(rt, channel, shared, &Open, &mut outbox);
-    match outbox.kept() {
-        [parcel] => Vec::from_slice(alloc, parcel.record.as_slice()).ok(),
-        _ => None,
+// Whether the bytes are this head, and behind it these words.
+fn are(alloc: Global, bytes: &[u8], head: &[u8], words: &[u32]) -> bool {
+    match bytes_of(alloc, head, words) {
+        Ok(wanted) => bytes == wanted.as_slice(),
+        Err(_) => false,
     }
 }
 
-fn answered<P: Place, L: Ledger, R: Wait>(
+// Puts the call in the channel, and closes it: whether it was taken.
+fn puts<P: Place, R: Wait>(
+    rt: &R,
+    alloc: Global,
+    channel: &Channel<P>,
+    reader: &mut Seat<P>,
+) -> bool {
+    let is_sent = match job(alloc) {
+        Some(job) => reader.send(rt, channel, job).is_ok(),
+        None => false,
+    };
+    channel.close();
+    is_sent
+}
+
+// Whether a worker has one reply to what waits in the channel, which is as it should be.
+fn replies<P: Place, L: Ledger, R: Wait>(
+    rt: &R,
+    alloc: Global,
+    channel: &Channel<P>,
+    shared: &Mutex<Kept<L>>,
+    worker: &mut Worker<P, L>,
+) -> bool {
+    let mut outbox = MemoryOutbox::new(alloc);
+    worker.work(rt, channel, shared, &Open, &mut outbox);
+    match outbox.kept() {
+        [parcel] => are(alloc, parcel.record.as_slice(), b"", &REPLY),
+        _ => false,
+    }
+}
+
+// Whether the reply and the turns are as they should be, and there was room for the book's end.
+fn answers<P: Place, L: Ledger, R: Wait>(
+    rt: &R,
+    alloc: Global,
+    channel: &Channel<P>,
+    shared: Kept<L>,
+    mut worker: Worker<P, L>,
+    sent: &mut Vec<u8>,
+) -> bool
+    requires { L.parts ≡ 1 }
+{
+    let shared = Mutex::new(shared);
+    let has_replied = replies(rt, alloc, channel, &shared, &mut worker);
+    let turns = turns(rt, alloc, &shared, sent);
+    let Leaves { mut share, .. } = worker.leave();
+    ends(shared, &mut share) & has_replied & (turns == TURNS)
+}
+
+// The same of a worker in this seat, over a book that was just made.
+fn worked<P: Place, L: Ledger, R: Wait>(
+    rt: &R,
+    alloc: Global,
+    channel: &Channel<P>,
+    seat: Seat<P>,
+    blank: Blank,
+    sent: &mut Vec<u8>,
+) -> bool
+    requires name { blank.name ≡ L.name }
+    requires parts { (blank.parts ≡ L.parts) × (blank.parts ≡ 1) }
+{
+    let Some(book) = begun(alloc) else {
+        return false;
+    };
+    let (total, share) = blank.open::<L>();
+    let mut shared = Shared::new(alloc, book, total, true);
+    let is_open = opens(&mut shared);
+    let worker = Worker::new(alloc, seat, share, true);
+    answers(rt, alloc, channel, shared, worker, sent) && is_open
+}
+
+// The same, once the call is put by another seat.
+fn seated<P: Place, L: Ledger, R: Wait>(
+    rt: &R,
+    alloc: Global,
+    channel: &Channel<P>,
+    keeper: &mut Keeper<P>,
+    blank: Blank,
+    sent: &mut Vec<u8>,
+) -> bool
+    requires name { blank.name ≡ L.name }
+    requires parts { (blank.parts ≡ L.parts) × (blank.parts ≡ 1) }
+{
+    let Some(mut reader) = keeper.cut(channel) else {
+        return false;
+    };
+    let Some(seat) = keeper.cut(channel) else {
+        return false;
+    };
+    puts(rt, alloc, channel, &mut reader)
+        && worked::<P, L, R>(rt, alloc, channel, seat, blank, sent)
+}
+
+fn answer_all<P: Place, L: Ledger, R: Wait>(
     rt: &R,
     alloc: Global,
     opened: Opened,
     blank: Blank,
-    book: Book<FlatTable, MemHosts>,
-    job: Job,
-) -> Option<Told>
+    sent: &mut Vec<u8>,
+) -> bool
     requires table { opened.slip.table_id ≡ P.table }
     requires key { opened.slip.me.0.of ≡ P.key }
     requires name { blank.name ≡ L.name }
     requires parts { (blank.parts ≡ L.parts) × (blank.parts ≡ 1) }
-    requires new { (book.journal.notes ≡ []) × (book.journal.first ≡ 1) }
 {
     let (channel, mut keeper) = opened.named::<P>();
-    let (mut reader, seat) = two_seats(&mut keeper, &channel)?;
-    let is_sent = reader.send(rt, &channel, job).is_ok();
-    channel.close();
-    let (total, share) = blank.open::<L>();
-    let mut shared = Shared::new(alloc, book, total, true);
-    let is_open = opens(&mut shared) && is_sent;
-    let shared = Mutex::new(shared);
-    let worker = Worker::new(alloc, seat, share, true);
-    let reply = reply(rt, alloc, &channel, &shared, worker);
-    let mut sent = Vec::new(alloc);
-    let turns = turns(rt, alloc, &shared, &mut sent);
-    Some(Told {
-        is_open,
-        reply,
-        turns,
-        sent,
-    })
+    seated::<P, L, R>(rt, alloc, &channel, &mut keeper, blank, sent)
 }
 
-fn run<R: Wait>(rt: &R, alloc: Global) -> Option<Told> {
-    let book = begun(alloc)?;
-    let job = job(alloc)?;
-    let opened = Opened::new(alloc).ok()?;
-    answered::<Brand, Brand, _>(rt, alloc, opened, Blank::new(1), book, job)
+fn run<R: Wait>(rt: &R, alloc: Global, sent: &mut Vec<u8>) -> bool {
+    match Opened::new(alloc) {
+        Ok(opened) => answer_all::<Brand, Brand, _>(rt, alloc, opened, Blank::new(1), sent),
+        Err(_) => false,
+    }
 }
 
 // Whether the reply, the call and the turns are as they are to be.
-fn is_so(alloc: Global, told: &Told) -> bool {
-    let (Ok(reply), Ok(sent)) = (
-        bytes_of(alloc, b"", &REPLY),
-        bytes_of(alloc, b"a: ", &LOCK_RES),
-    ) else {
-        return false;
-    };
-    let has_replied = match &told.reply {
-        Some(bytes) => bytes.as_slice() == reply.as_slice(),
-        None => false,
-    };
-    told.is_open && has_replied && told.turns == TURNS && told.sent.as_slice() == sent.as_slice()
+fn is_so<R: Wait>(rt: &R, alloc: Global) -> bool {
+    let mut sent = Vec::new(alloc);
+    run(rt, alloc, &mut sent) && are(alloc, sent.as_slice(), b"a: ", &LOCK_RES)
 }
 
 #[test]
 fn sender_turns(rt: HostRuntime) {
-    let is_so = match run(&rt, rt.alloc()) {
-        Some(told) => is_so(rt.alloc(), &told),
-        None => false,
-    };
-    assert!(rt; is_so);
+    assert!(rt; is_so(&rt, rt.alloc()));
 }

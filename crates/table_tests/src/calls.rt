@@ -103,82 +103,160 @@ fn ends_grant_to_b(calls: &mut OutCalls, number: u64) -> bool {
     }
 }
 
+/// A grant that is answered once it was sent, and not twice.
+fn is_answered(alloc: Global, calls: &mut OutCalls) -> bool {
+    let is_added = add(calls, alloc, FIRST, (Kind::Granted, b'b')).is_ok();
+    let is_next = calls.of_xid(1).is_none() && next(calls) == FIRST;
+    calls.sent();
+    let is_sent = next(calls) == 0 && calls.of_xid(1).is_some() && calls.of_xid(2).is_none();
+    is_added && is_next && is_sent && ends_grant_to_b(calls, FIRST) && is_over(calls)
+}
+
+fn is_over(calls: &mut OutCalls) -> bool {
+    calls.is_empty() && calls.answered(FIRST).is_none()
+}
+
+/// A grant to `c`, which was sent so often, is sent once more, and then nothing is heard.
+fn is_sent_anew(calls: &mut OutCalls, sendings: u8) -> bool {
+    let is_due = is_to(calls, b'c') && calls.next_due().map_or(9, Call::sendings) == sendings;
+    calls.silent(FIRST + 1);
+    let stays_due = next(calls) == FIRST + 1;
+    calls.sent();
+    calls.silent(FIRST + 1);
+    is_due && stays_due
+}
+
+fn is_given_up(calls: &mut OutCalls) -> bool {
+    for sendings in 0..3 {
+        if !is_sent_anew(calls, sendings) {
+            return false;
+        }
+    }
+    calls.is_empty()
+}
+
 #[test]
 fn grant_refused(rt: HostRuntime) -> Result<(), Fail> {
     let mut calls = OutCalls::new(rt.alloc())?;
-    add(&mut calls, rt.alloc(), FIRST, (Kind::Granted, b'b'))?;
-    assert!(rt; calls.of_xid(1).is_none());
-    assert_eq!(rt; next(&calls), FIRST);
-    calls.sent();
-    assert_eq!(rt; next(&calls), 0);
-    assert!(rt; calls.of_xid(1).is_some() && calls.of_xid(2).is_none());
-    assert!(rt; ends_grant_to_b(&mut calls, FIRST));
-    assert!(rt; calls.is_empty());
-    assert!(rt; calls.answered(FIRST).is_none());
-    add(&mut calls, rt.alloc(), FIRST + 1, (Kind::Granted, b'c'))?;
-    for sendings in 0..3 {
-        assert!(rt; is_to(&calls, b'c'));
-        assert_eq!(rt; calls.next_due().map_or(9, Call::sendings), sendings);
-        calls.silent(FIRST + 1);
-        assert_eq!(rt; next(&calls), FIRST + 1);
-        calls.sent();
-        calls.silent(FIRST + 1);
-    }
-    assert!(rt; calls.is_empty());
+    let is_answered = is_answered(rt.alloc(), &mut calls);
+    let is_added = add(&mut calls, rt.alloc(), FIRST + 1, (Kind::Granted, b'c')).is_ok();
+    let is_given_up = is_given_up(&mut calls);
+    assert_eq!(rt; (is_answered, is_added, is_given_up), (true, true, true));
     Ok(())
+}
+
+/// As many notices as there is room for.
+fn fill(alloc: Global, calls: &mut OutCalls) -> bool {
+    for number in 0..8_192 {
+        if add(calls, alloc, number, (Kind::Notice, b'a')).is_err() {
+            return false;
+        }
+    }
+    calls.len() == MOST_SLOTS
+}
+
+fn sends_twenty(calls: &mut OutCalls) -> bool {
+    for number in 0..20 {
+        if next(calls) != number {
+            return false;
+        }
+        calls.sent();
+    }
+    true
+}
+
+/// Those behind the first twenty are answered.
+fn answer_others(calls: &mut OutCalls) {
+    for number in 20..8_192 {
+        calls.answered(number);
+    }
+}
+
+fn hear_nothing(calls: &mut OutCalls) {
+    for number in 0..20 {
+        calls.silent(number);
+    }
+}
+
+/// Twenty are sent three times, and never answered.
+fn are_given_up(calls: &mut OutCalls) -> bool {
+    for _ in 0..3 {
+        if !sends_twenty(calls) {
+            return false;
+        }
+        answer_others(calls);
+        hear_nothing(calls);
+    }
+    calls.is_empty()
 }
 
 #[test]
 fn silent_hosts(rt: HostRuntime) -> Result<(), Fail> {
     let mut calls = OutCalls::new(rt.alloc())?;
-    for number in 0..8_192 {
-        add(&mut calls, rt.alloc(), number, (Kind::Notice, b'a'))?;
-    }
-    assert_eq!(rt; calls.len(), MOST_SLOTS);
-    for _ in 0..3 {
-        for number in 0..20 {
-            assert_eq!(rt; next(&calls), number);
-            calls.sent();
-        }
-        for number in 20..8_192 {
-            calls.answered(number);
-        }
-        for number in 0..20 {
-            calls.silent(number);
-        }
-    }
-    assert!(rt; calls.is_empty());
+    let is_filled = fill(rt.alloc(), &mut calls);
+    assert_eq!(rt; (is_filled, are_given_up(&mut calls)), (true, true));
     Ok(())
+}
+
+const FIVE: [(Kind, u8); 5] = [
+    (Kind::Msg, b'a'),
+    (Kind::Granted, b'a'),
+    (Kind::Notice, b'a'),
+    (Kind::Line, b'a'),
+    (Kind::Msg, b'b'),
+];
+
+fn adds_five(alloc: Global, calls: &mut OutCalls) -> bool {
+    let mut number = FIRST;
+    for whose in FIVE {
+        if add(calls, alloc, number, whose).is_err() {
+            return false;
+        }
+        number = number.wrapping_add(1);
+    }
+    true
+}
+
+fn send_four(calls: &mut OutCalls) {
+    for _ in 0..4 {
+        calls.sent();
+    }
+}
+
+/// The number of the sent call that the fifth's cookie names.
+fn named_by_fifth(calls: &OutCalls) -> Option<u64> {
+    calls
+        .of_cookie(&(FIRST + 4).to_be_bytes())
+        .map(Call::number)
+}
+
+/// The message forms alone are known by their cookie, which is all eight bytes of the number.
+fn are_known(calls: &OutCalls) -> bool {
+    named_by_fifth(calls) == Some(FIRST + 4)
+        && calls.of_cookie(&FIRST.to_be_bytes()).is_some()
+        && calls.of_cookie(&(FIRST + 1).to_be_bytes()).is_none()
+        && calls.of_cookie(&[0, 0, 0, 1]).is_none()
 }
 
 #[test]
 fn drops_and_cookies(rt: HostRuntime) -> Result<(), Fail> {
     let mut calls = OutCalls::new(rt.alloc())?;
-    for (number, kind, name) in [
-        (0, Kind::Msg, b'a'),
-        (1, Kind::Granted, b'a'),
-        (2, Kind::Notice, b'a'),
-        (3, Kind::Line, b'a'),
-        (4, Kind::Msg, b'b'),
-    ] {
-        add(&mut calls, rt.alloc(), FIRST + number, (kind, name))?;
-    }
-    let cookie = (FIRST + 4).to_be_bytes();
-    for _ in 0..4 {
-        calls.sent();
-    }
-    assert_eq!(rt; calls.len(), 4);
-    assert!(rt; calls.of_cookie(&cookie).is_none());
+    let are_added = adds_five(rt.alloc(), &mut calls);
+    send_four(&mut calls);
+    let is_line_gone = calls.len() == 4 && named_by_fifth(&calls).is_none();
     calls.sent();
-    assert_eq!(rt; calls.of_cookie(&cookie).map_or(0, Call::number), FIRST + 4);
-    assert!(rt; calls.of_cookie(&FIRST.to_be_bytes()).is_some());
-    assert!(rt; calls.of_cookie(&(FIRST + 1).to_be_bytes()).is_none());
-    assert!(rt; calls.of_cookie(&[0, 0, 0, 1]).is_none());
+    let are_known = are_known(&calls);
     calls.drop_host(b"a");
-    assert_eq!(rt; calls.len(), 2);
-    assert!(rt; calls.of_cookie(&cookie).is_some());
+    let is_other_left = calls.len() == 2 && named_by_fifth(&calls).is_some();
     calls.clear();
-    assert!(rt; calls.is_empty());
+    let told = (
+        are_added,
+        is_line_gone,
+        are_known,
+        is_other_left,
+        calls.is_empty(),
+    );
+    assert_eq!(rt; told, (true, true, true, true, true));
     Ok(())
 }
 
@@ -306,16 +384,22 @@ impl Case {
     }
 }
 
-#[test]
-fn random_script(rt: HostRuntime) -> Result<(), Fail> {
-    let mut case = Case {
-        calls: OutCalls::new(rt.alloc())?,
-        list: Vec::new(rt.alloc()),
-    };
+/// The number of the first turn behind which they are not alike.
+fn wrong_turn(alloc: Global, case: &mut Case) -> Option<u32> {
     let mut seed: u64 = 5;
     for step in 0..2000u32 {
-        let is_same = case.turn(rt.alloc(), next_bits(&mut seed))?;
-        assert!(rt; is_same, "{step}");
+        if case.turn(alloc, next_bits(&mut seed)) != Ok(true) {
+            return Some(step);
+        }
     }
+    None
+}
+
+#[test]
+fn random_script(rt: HostRuntime) -> Result<(), Fail> {
+    let calls = OutCalls::new(rt.alloc())?;
+    let list = Vec::new(rt.alloc());
+    let mut case = Case { calls, list };
+    assert_eq!(rt; wrong_turn(rt.alloc(), &mut case), None);
     Ok(())
 }

@@ -7,7 +7,7 @@ use std::fmt::Write;
 use std::test::*;
 
 /// One call of a script. Names are numbers, of two bytes each.
-#[derive(Clone, Copy, Debug)]
+#[derive(Clone, Copy)]
 enum Call {
     Start,
     Monitor(u16, i32),
@@ -115,63 +115,78 @@ fn fresh(alloc: Global, own: u32) -> Result<MemHosts, StoreError>
     MemHosts::new(alloc, own, Vec::new(alloc), Vec::new(alloc))
 }
 
+/// A call, the own state behind it, and the rows and watches as text.
+type Line = (Call, u32, &'static str, &'static str);
+
+const SCRIPT: [Line; 13] = [
+    (Call::Start, 1, "", ""),
+    (Call::Monitor(2, -5), 1, "2 1 -5 65536; ", ""),
+    (Call::Start, 3, "2 1 -5 65536; ", ""),
+    (Call::Monitor(1, 0), 3, "1 3 0 65536; 2 1 -5 65536; ", ""),
+    (Call::Seen(2, 8), 3, "1 3 0 65536; 2 1 8 65536; ", ""),
+    (Call::Seen(9, 8), 3, "1 3 0 65536; 2 1 8 65536; ", ""),
+    (Call::Acked(2, 3), 3, "1 3 0 65536; 2 3 8 65536; ", ""),
+    (Call::Quota(1, 5), 3, "1 3 0 5; 2 3 8 65536; ", ""),
+    (
+        Call::Watch(2, 6, 4, SEVENS),
+        3,
+        "1 3 0 5; 2 3 8 65536; ",
+        "2 6 4 7; ",
+    ),
+    (
+        Call::Watch(3, 6, -4, SEVENS),
+        3,
+        "1 3 0 5; 2 3 8 65536; 3 3 0 65536; ",
+        "2 6 4 7; 3 6 -4 7; ",
+    ),
+    (
+        Call::Watch(2, 6, 4, NINES),
+        3,
+        "1 3 0 5; 2 3 8 65536; 3 3 0 65536; ",
+        "2 6 4 9; 3 6 -4 7; ",
+    ),
+    (
+        Call::Unwatch(Some(3), 6, 4),
+        3,
+        "1 3 0 5; 2 3 8 65536; 3 3 0 65536; ",
+        "2 6 4 9; 3 6 -4 7; ",
+    ),
+    (
+        Call::Unwatch(None, 6, -4),
+        3,
+        "1 3 0 5; 2 3 8 65536; 3 3 0 65536; ",
+        "2 6 4 9; ",
+    ),
+];
+
+fn is_text(text: Result<String, AllocError>, want: &str) -> bool {
+    match text {
+        Ok(text) => text.as_str() == want,
+        Err(_) => false,
+    }
+}
+
+fn makes(alloc: Global, store: &mut MemHosts, (call, own, hosts, watches): Line) -> bool {
+    run(store, call) == Ok(())
+        && store.own() == own
+        && is_text(hosts_text(alloc, store), hosts)
+        && is_text(watches_text(alloc, store), watches)
+}
+
+/// The place of the first call of the script that does anything else.
+fn wrong_line(alloc: Global, store: &mut MemHosts) -> Option<usize> {
+    for (place, line) in SCRIPT.into_iter().enumerate() {
+        if !makes(alloc, store, line) {
+            return Some(place);
+        }
+    }
+    None
+}
+
 #[test]
 fn script_of_all_calls(rt: HostRuntime) -> Result<(), Fail> {
-    let script = [
-        (Call::Start, 1, "", ""),
-        (Call::Monitor(2, -5), 1, "2 1 -5 65536; ", ""),
-        (Call::Start, 3, "2 1 -5 65536; ", ""),
-        (Call::Monitor(1, 0), 3, "1 3 0 65536; 2 1 -5 65536; ", ""),
-        (Call::Seen(2, 8), 3, "1 3 0 65536; 2 1 8 65536; ", ""),
-        (Call::Seen(9, 8), 3, "1 3 0 65536; 2 1 8 65536; ", ""),
-        (Call::Acked(2, 3), 3, "1 3 0 65536; 2 3 8 65536; ", ""),
-        (Call::Quota(1, 5), 3, "1 3 0 5; 2 3 8 65536; ", ""),
-        (
-            Call::Watch(2, 6, 4, SEVENS),
-            3,
-            "1 3 0 5; 2 3 8 65536; ",
-            "2 6 4 7; ",
-        ),
-        (
-            Call::Watch(3, 6, -4, SEVENS),
-            3,
-            "1 3 0 5; 2 3 8 65536; 3 3 0 65536; ",
-            "2 6 4 7; 3 6 -4 7; ",
-        ),
-        (
-            Call::Watch(2, 6, 4, NINES),
-            3,
-            "1 3 0 5; 2 3 8 65536; 3 3 0 65536; ",
-            "2 6 4 9; 3 6 -4 7; ",
-        ),
-        (
-            Call::Unwatch(Some(3), 6, 4),
-            3,
-            "1 3 0 5; 2 3 8 65536; 3 3 0 65536; ",
-            "2 6 4 9; 3 6 -4 7; ",
-        ),
-        (
-            Call::Unwatch(None, 6, -4),
-            3,
-            "1 3 0 5; 2 3 8 65536; 3 3 0 65536; ",
-            "2 6 4 9; ",
-        ),
-    ];
     let mut store = fresh(rt.alloc(), 0)?;
-    for (call, own, hosts, watches) in script {
-        assert_eq!(rt; run(&mut store, call), Ok(()), "{call:?}");
-        assert_eq!(rt; store.own(), own, "after {call:?}");
-        assert_eq!(rt;
-            hosts_text(rt.alloc(), &store)?.as_str(),
-            hosts,
-            "after {call:?}"
-        );
-        assert_eq!(rt;
-            watches_text(rt.alloc(), &store)?.as_str(),
-            watches,
-            "after {call:?}"
-        );
-    }
+    assert_eq!(rt; wrong_line(rt.alloc(), &mut store), None);
     Ok(())
 }
 
@@ -191,44 +206,67 @@ fn is_refused(alloc: Global, hosts: Vec<HostRow>) -> bool {
     )
 }
 
+const REFUSED: Result<(), StoreError> = Err(StoreError::StoreRefused);
+
+/// The place of the first call that is answered anything else.
+fn wrong_answer(store: &mut MemHosts, script: &[(Call, Result<(), StoreError>)]) -> Option<usize> {
+    for (place, (call, answer)) in script.iter().enumerate() {
+        if run(store, *call) != *answer {
+            return Some(place);
+        }
+    }
+    None
+}
+
+/// What a store of 4,095 hosts answers.
+const AT_THE_LAST_HOST: [(Call, Result<(), StoreError>); 5] = [
+    (Call::Monitor(4095, 0), Ok(())),
+    (Call::Monitor(4096, 0), REFUSED),
+    (Call::Watch(4096, 6, 1, SEVENS), REFUSED),
+    (Call::Watch(4095, 6, 1, SEVENS), Ok(())),
+    (Call::Seen(4095, 5), Ok(())),
+];
+
+fn has(store: &MemHosts, hosts: usize, watches: usize) -> bool {
+    store.hosts().len() == hosts && store.watches().len() == watches
+}
+
 #[test]
 fn hosts_full(rt: HostRuntime) -> Result<(), Fail> {
     assert!(rt; is_refused(rt.alloc(), rows(rt.alloc(), 4097)?));
-    let mut store = MemHosts::new(rt.alloc(), 1, rows(rt.alloc(), 4095)?, Vec::new(rt.alloc()))?;
-    let refused = Err(StoreError::StoreRefused);
-    let script = [
-        (Call::Monitor(4095, 0), Ok(())),
-        (Call::Monitor(4096, 0), refused),
-        (Call::Watch(4096, 6, 1, SEVENS), refused),
-        (Call::Watch(4095, 6, 1, SEVENS), Ok(())),
-        (Call::Seen(4095, 5), Ok(())),
-    ];
-    for (call, answer) in script {
-        assert_eq!(rt; run(&mut store, call), answer, "{call:?}");
-    }
-    assert_eq!(rt; (store.hosts().len(), store.watches().len()), (4096, 1));
+    let hosts = rows(rt.alloc(), 4095)?;
+    let mut store = MemHosts::new(rt.alloc(), 1, hosts, Vec::new(rt.alloc()))?;
+    let wrong = wrong_answer(&mut store, &AT_THE_LAST_HOST);
+    assert_eq!(rt; (wrong, has(&store, 4096, 1)), (None, true));
     Ok(())
+}
+
+/// What a store of 1,024 watches answers.
+const AT_THE_LAST_WATCH: [(Call, Result<(), StoreError>); 4] = [
+    (Call::Watch(1, 6, 1024, SEVENS), REFUSED),
+    (Call::Watch(1, 6, 1023, NINES), Ok(())),
+    (Call::Unwatch(None, 6, 0), Ok(())),
+    (Call::Watch(1, 6, 1024, SEVENS), Ok(())),
+];
+
+fn watches_each(store: &mut MemHosts) -> bool {
+    for prog in 0..1024 {
+        if run(store, Call::Watch(1, 6, prog, SEVENS)) != Ok(()) {
+            return false;
+        }
+    }
+    true
 }
 
 #[test]
 fn watches_full(rt: HostRuntime) -> Result<(), Fail> {
     let mut store = fresh(rt.alloc(), 1)?;
-    for prog in 0..1024 {
-        assert_eq!(rt; run(&mut store, Call::Watch(1, 6, prog, SEVENS)), Ok(()));
-    }
-    let script = [
-        (
-            Call::Watch(1, 6, 1024, SEVENS),
-            Err(StoreError::StoreRefused),
-        ),
-        (Call::Watch(1, 6, 1023, NINES), Ok(())),
-        (Call::Unwatch(None, 6, 0), Ok(())),
-        (Call::Watch(1, 6, 1024, SEVENS), Ok(())),
-    ];
-    for (call, answer) in script {
-        assert_eq!(rt; run(&mut store, call), answer, "{call:?}");
-    }
-    assert_eq!(rt; (store.hosts().len(), store.watches().len()), (1, 1024));
+    let are_watched = watches_each(&mut store);
+    let wrong = wrong_answer(&mut store, &AT_THE_LAST_WATCH);
+    assert_eq!(rt;
+        (are_watched, wrong, has(&store, 1, 1024)),
+        (true, None, true)
+    );
     Ok(())
 }
 

@@ -1,7 +1,6 @@
 //! Kept replies: a full table, keys that differ in one part, and a random script beside a plain list.
 use bytes::Bytes;
 use kept_replies::{Kept, KeptReplies, Key, MOST_KEPT, Peer};
-use owner_ids::Starved;
 use std::alloc::{AllocError, Global};
 use std::test::*;
 
@@ -25,6 +24,16 @@ const PEER: Peer = Peer {
     is_local: false,
 };
 
+const LOCAL: Peer = Peer {
+    address: *b"\0\0\0\0\0\0\0\0\0\0\xff\xff\x0a\0\0\x01",
+    is_local: true,
+};
+
+const OTHER: Peer = Peer {
+    address: *b"\0\0\0\0\0\0\0\0\0\0\xff\xff\x0a\0\0\x02",
+    is_local: false,
+};
+
 fn key(alloc: Global, peer: Peer, call: u32) -> Result<Key, AllocError> {
     let record = Bytes::from_vec(Vec::from_slice(alloc, call.to_be_bytes().as_slice())?)?;
     Ok(Key { peer, record })
@@ -39,68 +48,113 @@ fn is_kept(found: Option<&Noted>, call: Option<u32>) -> bool {
     }
 }
 
-/// Keeps the reply of a call under whose key nothing is kept. Whether it was so.
-fn keep_new(kept: &mut KeptReplies<Noted>, key: Key, reply: Noted) -> Result<bool, Starved> {
-    if kept.look(&key).is_some() {
-        return Ok(false);
+/// Whether a look tells this of a peer's call.
+fn looks(
+    alloc: Global,
+    kept: &KeptReplies<Noted>,
+    peer: Peer,
+    call: u32,
+    reply: Option<u32>,
+) -> bool {
+    match key(alloc, peer, call) {
+        Ok(key) => is_kept(kept.look(&key), reply),
+        Err(_) => false,
     }
-    kept.keep(key, reply)?;
-    Ok(true)
+}
+
+/// Whether the call's use tells this of it.
+fn finds(
+    alloc: Global,
+    kept: &mut KeptReplies<Noted>,
+    peer: Peer,
+    call: u32,
+    reply: Option<u32>,
+) -> bool {
+    match key(alloc, peer, call) {
+        Ok(key) => is_kept(kept.find(&key), reply),
+        Err(_) => false,
+    }
+}
+
+fn keep_new(kept: &mut KeptReplies<Noted>, key: Key, reply: u32) -> bool {
+    if kept.look(&key).is_some() {
+        return false;
+    }
+    kept.keep(key, Noted(reply)).is_ok()
+}
+
+/// Keeps the reply of a call under whose key nothing is kept. Whether it was so.
+fn keeps(alloc: Global, kept: &mut KeptReplies<Noted>, peer: Peer, call: u32, reply: u32) -> bool {
+    match key(alloc, peer, call) {
+        Ok(key) => keep_new(kept, key, reply),
+        Err(_) => false,
+    }
+}
+
+fn tells_each(alloc: Global, kept: &mut KeptReplies<Noted>) -> bool {
+    let asked = [
+        (PEER, 20, Some(20)),
+        (Peer::PIPE, 20, Some(21)),
+        (LOCAL, 20, None),
+        (OTHER, 20, None),
+        (PEER, 21, None),
+    ];
+    for (peer, call, reply) in asked {
+        if !looks(alloc, kept, peer, call, reply) || !finds(alloc, kept, peer, call, reply) {
+            return false;
+        }
+    }
+    true
+}
+
+fn tells_nothing(alloc: Global, kept: &KeptReplies<Noted>) -> bool {
+    kept.is_empty() && looks(alloc, kept, PEER, 20, None)
 }
 
 #[test]
 fn a_reply_is_its_peers_and_its_records(rt: HostRuntime) -> Result<(), Fail> {
     let mut kept = KeptReplies::new(rt.alloc())?;
-    let local = Peer {
-        is_local: true,
-        ..PEER
-    };
-    let mut address = PEER.address;
-    address[15] = 2;
-    let other = Peer { address, ..PEER };
-    let peers_key = key(rt.alloc(), PEER, 20)?;
-    let pipes_key = key(rt.alloc(), Peer::PIPE, 20)?;
-    assert!(rt; keep_new(&mut kept, peers_key, Noted(20))?);
-    assert!(rt; keep_new(&mut kept, pipes_key, Noted(21))?);
-    let asked = [
-        (PEER, 20, Some(20)),
-        (Peer::PIPE, 20, Some(21)),
-        (local, 20, None),
-        (other, 20, None),
-        (PEER, 21, None),
-    ];
-    for (peer, call, reply) in asked {
-        let key = key(rt.alloc(), peer, call)?;
-        assert!(rt; is_kept(kept.look(&key), reply));
-        assert!(rt; is_kept(kept.find(&key), reply));
-    }
+    let are_new = keeps(rt.alloc(), &mut kept, PEER, 20, 20)
+        && keeps(rt.alloc(), &mut kept, Peer::PIPE, 20, 21);
+    let are_told = tells_each(rt.alloc(), &mut kept);
     kept.clear();
-    assert!(rt; kept.is_empty());
-    assert!(rt; is_kept(kept.look(&key(rt.alloc(), PEER, 20)?), None));
+    let are_gone = tells_nothing(rt.alloc(), &kept);
+    assert_eq!(rt; (are_new, are_told, are_gone), (true, true, true));
     Ok(())
+}
+
+fn keeps_each(alloc: Global, kept: &mut KeptReplies<Noted>, first: u32, past: u32) -> bool {
+    for call in first..past {
+        if !keeps(alloc, kept, PEER, call, call) {
+            return false;
+        }
+    }
+    kept.len() == MOST_KEPT
+}
+
+/// The first call is used again, the second is looked at alone.
+fn uses_first(alloc: Global, kept: &mut KeptReplies<Noted>) -> bool {
+    looks(alloc, kept, PEER, 1, Some(1)) && finds(alloc, kept, PEER, 0, Some(0))
+}
+
+/// Of the first three calls that one alone is kept which was used again.
+fn leaves_used(alloc: Global, kept: &KeptReplies<Noted>) -> bool {
+    looks(alloc, kept, PEER, 0, Some(0))
+        && looks(alloc, kept, PEER, 1, None)
+        && looks(alloc, kept, PEER, 2, None)
 }
 
 #[test]
 fn kept_limit(rt: HostRuntime) -> Result<(), Fail> {
     let mut kept = KeptReplies::new(rt.alloc())?;
-    for call in 0..MOST_KEPT as u32 {
-        let key = key(rt.alloc(), PEER, call)?;
-        assert!(rt; keep_new(&mut kept, key, Noted(call))?);
-    }
-    assert_eq!(rt; kept.len(), MOST_KEPT);
-    let first = key(rt.alloc(), PEER, 0)?;
-    let second = key(rt.alloc(), PEER, 1)?;
-    let third = key(rt.alloc(), PEER, 2)?;
-    assert!(rt; is_kept(kept.look(&second), Some(1)));
-    assert!(rt; is_kept(kept.find(&first), Some(0)));
-    for call in [2_000, 2_001] {
-        let key = key(rt.alloc(), PEER, call)?;
-        assert!(rt; keep_new(&mut kept, key, Noted(call))?);
-    }
-    assert_eq!(rt; kept.len(), MOST_KEPT);
-    assert!(rt; is_kept(kept.look(&first), Some(0)));
-    assert!(rt; is_kept(kept.look(&second), None));
-    assert!(rt; is_kept(kept.look(&third), None));
+    let is_filled = keeps_each(rt.alloc(), &mut kept, 0, MOST_KEPT as u32);
+    let is_used = uses_first(rt.alloc(), &mut kept);
+    let is_full = keeps_each(rt.alloc(), &mut kept, 2_000, 2_002);
+    let is_left = leaves_used(rt.alloc(), &kept);
+    assert_eq!(rt;
+        (is_filled, is_used, is_full, is_left),
+        (true, true, true, true)
+    );
     Ok(())
 }
 
@@ -116,30 +170,51 @@ impl Plain {
         Some(found)
     }
 
-    fn keep(&mut self, call: u32) -> Result<(), Fail> {
-        self.0.insert(0, call)?;
+    fn keep(&mut self, call: u32) -> bool {
+        let is_there = self.0.insert(0, call).is_ok();
         self.0.truncate(MOST_KEPT);
-        Ok(())
+        is_there
+    }
+}
+
+/// Kept replies, and the same as a plain list.
+#[derive(Drop)]
+struct Both {
+    kept: KeptReplies<Noted>,
+    plain: Plain,
+}
+
+impl Both {
+    fn keeps(&mut self, alloc: Global, call: u32) -> bool {
+        keeps(alloc, &mut self.kept, PEER, call, call) && self.plain.keep(call)
+    }
+
+    /// One call. Whether both tell the same of it.
+    fn uses(&mut self, alloc: Global, call: u32) -> bool {
+        let found = self.plain.find(call);
+        looks(alloc, &self.kept, PEER, call, found)
+            && finds(alloc, &mut self.kept, PEER, call, found)
+            && (found.is_some() || self.keeps(alloc, call))
+    }
+
+    /// Random calls. Whether both told the same of each, and have as many.
+    fn are_alike(&mut self, alloc: Global) -> bool {
+        let mut random: u32 = 1;
+        for _ in 0..6_000 {
+            random = random.wrapping_mul(1_664_525).wrapping_add(1_013_904_223);
+            if !self.uses(alloc, random >> 16 & 2_047) {
+                return false;
+            }
+        }
+        self.kept.len() == self.plain.0.len()
     }
 }
 
 #[test]
 fn random_uses_beside_a_plain_list(rt: HostRuntime) -> Result<(), Fail> {
-    let mut kept = KeptReplies::new(rt.alloc())?;
-    let mut plain = Plain(Vec::new(rt.alloc()));
-    let mut random: u32 = 1;
-    for _ in 0..6_000 {
-        random = random.wrapping_mul(1_664_525).wrapping_add(1_013_904_223);
-        let call = random >> 16 & 2_047;
-        let found = plain.find(call);
-        let key = key(rt.alloc(), PEER, call)?;
-        assert!(rt; is_kept(kept.look(&key), found));
-        assert!(rt; is_kept(kept.find(&key), found));
-        if found.is_none() {
-            assert!(rt; keep_new(&mut kept, key, Noted(call))?);
-            plain.keep(call)?;
-        }
-    }
-    assert_eq!(rt; kept.len(), plain.0.len());
+    let kept = KeptReplies::new(rt.alloc())?;
+    let plain = Plain(Vec::new(rt.alloc()));
+    let mut both = Both { kept, plain };
+    assert!(rt; both.are_alike(rt.alloc()));
     Ok(())
 }

@@ -82,35 +82,49 @@ fn share(
     Ok(shares.share(plain.owned(alloc)?))
 }
 
+/// Whether each share, one behind the other, is answered so.
+fn answers_each(
+    alloc: Global,
+    shares: &mut Shares,
+    asked: &[(Plain, Result<(), ShareError>)],
+) -> bool {
+    for (plain, answer) in asked {
+        if share(shares, alloc, *plain) != Ok(*answer) {
+            return false;
+        }
+    }
+    true
+}
+
+const DENIED: Result<(), ShareError> = Err(ShareError::ShareDenied);
+
 #[test]
 fn share_conflict(rt: HostRuntime) -> Result<(), Fail> {
     let mut shares = Shares::new(rt.alloc())?;
     let held = of(b'a', WRITE, READ);
-    let writer = of(b'b', NONE, WRITE);
-    assert_eq!(rt; share(&mut shares, rt.alloc(), held)?, Ok(()));
-    assert_eq!(rt;
-        share(&mut shares, rt.alloc(), writer)?,
-        Err(ShareError::ShareDenied)
-    );
-    assert!(rt; is_all(&shares, &[held]));
+    let asked = [(held, Ok(())), (of(b'b', NONE, WRITE), DENIED)];
+    let are_answered = answers_each(rt.alloc(), &mut shares, &asked);
+    assert_eq!(rt; (are_answered, is_all(&shares, &[held])), (true, true));
     Ok(())
 }
 
 #[test]
 fn share_replaced(rt: HostRuntime) -> Result<(), Fail> {
     let mut shares = Shares::new(rt.alloc())?;
-    let first = of(b'a', NONE, READ);
     let second = of(b'a', WRITE, READ);
-    let writer = of(b'b', NONE, WRITE);
-    assert_eq!(rt; share(&mut shares, rt.alloc(), first)?, Ok(()));
-    assert_eq!(rt; share(&mut shares, rt.alloc(), second)?, Ok(()));
-    assert_eq!(rt;
-        share(&mut shares, rt.alloc(), writer)?,
-        Err(ShareError::ShareDenied)
-    );
-    assert!(rt; is_all(&shares, &[second]));
-    assert!(rt; texts_are_right(rt.alloc())?);
+    let asked = [
+        (of(b'a', NONE, READ), Ok(())),
+        (second, Ok(())),
+        (of(b'b', NONE, WRITE), DENIED),
+    ];
+    let are_answered = answers_each(rt.alloc(), &mut shares, &asked);
+    assert_eq!(rt; (are_answered, is_all(&shares, &[second])), (true, true));
     Ok(())
+}
+
+#[test]
+fn texts(rt: HostRuntime) {
+    assert_eq!(rt; texts_are_right(rt.alloc()), Ok(true));
 }
 
 fn texts_are_right(alloc: Global) -> Result<bool, AllocError> {
@@ -135,27 +149,48 @@ fn numbered(alloc: Global, number: u32, deny: (bool, bool)) -> Result<Share, All
     ))
 }
 
+/// What a share of the numbered owner is answered.
+fn share_numbered(
+    alloc: Global,
+    shares: &mut Shares,
+    number: u32,
+    deny: (bool, bool),
+) -> Option<Result<(), ShareError>> {
+    match numbered(alloc, number, deny) {
+        Ok(share) => Some(shares.share(share)),
+        Err(_) => None,
+    }
+}
+
+/// As many shares as there is room for.
+fn fill(alloc: Global, shares: &mut Shares) -> bool {
+    for number in 0..16_384 {
+        if share_numbered(alloc, shares, number, NONE) != Some(Ok(())) {
+            return false;
+        }
+    }
+    shares.len() == MOST_SHARES
+}
+
+/// One more is refused, by what it denies first; who has a share may replace it.
+fn is_full(alloc: Global, shares: &mut Shares) -> bool {
+    let past = 16_384;
+    share_numbered(alloc, shares, past, NONE) == Some(Err(ShareError::NoShares))
+        && share_numbered(alloc, shares, past, READ) == Some(Err(ShareError::ShareDenied))
+        && share_numbered(alloc, shares, 0, NONE) == Some(Ok(()))
+        && shares.len() == MOST_SHARES
+}
+
 #[test]
 fn shares_full(rt: HostRuntime) -> Result<(), Fail> {
     let mut shares = Shares::new(rt.alloc())?;
-    for number in 0..16_384 {
-        assert_eq!(rt; shares.share(numbered(rt.alloc(), number, NONE)?), Ok(()));
-    }
-    let past = 16_384;
-    assert_eq!(rt;
-        shares.share(numbered(rt.alloc(), past, NONE)?),
-        Err(ShareError::NoShares)
-    );
-    assert_eq!(rt;
-        shares.share(numbered(rt.alloc(), past, READ)?),
-        Err(ShareError::ShareDenied)
-    );
-    assert_eq!(rt; shares.share(numbered(rt.alloc(), 0, NONE)?), Ok(()));
-    assert_eq!(rt; shares.len(), MOST_SHARES);
+    let is_filled = fill(rt.alloc(), &mut shares);
+    let is_full = is_full(rt.alloc(), &mut shares);
     shares.drop_host(&[2]);
-    assert_eq!(rt; shares.len(), MOST_SHARES);
+    let keeps_others = shares.len() == MOST_SHARES;
     shares.drop_host(&[1]);
-    assert!(rt; shares.is_empty());
+    let told = (is_filled, is_full, keeps_others, shares.is_empty());
+    assert_eq!(rt; told, (true, true, true, true));
     Ok(())
 }
 
@@ -173,7 +208,7 @@ fn next(seed: &mut u64) -> (Plain, u64) {
 }
 
 /// A share into the plain list, or whether it is refused.
-fn share_plain(list: &mut Vec<Plain>, new: Plain) -> Result<bool, Fail> {
+fn share_plain(list: &mut Vec<Plain>, new: Plain) -> Result<bool, AllocError> {
     if list.iter().any(|held| new.is_refused_by(*held)) {
         return Ok(false);
     }
@@ -192,7 +227,7 @@ struct Case {
 
 impl Case {
     /// One turn of the script, and whether both did the same.
-    fn turn(&mut self, alloc: Global, (plain, call): (Plain, u64)) -> Result<bool, Fail> {
+    fn turn(&mut self, alloc: Global, (plain, call): (Plain, u64)) -> Result<bool, AllocError> {
         let mut is_same = true;
         match call {
             0 => {
@@ -219,6 +254,17 @@ impl Case {
     }
 }
 
+/// The number of the first turn in which they differ.
+fn wrong_turn(alloc: Global, case: &mut Case) -> Option<u32> {
+    let mut seed = 7;
+    for step in 0..4000u32 {
+        if case.turn(alloc, next(&mut seed)) != Ok(true) {
+            return Some(step);
+        }
+    }
+    None
+}
+
 #[test]
 fn random_script(rt: HostRuntime) -> Result<(), Fail> {
     let mut case = Case {
@@ -226,12 +272,10 @@ fn random_script(rt: HostRuntime) -> Result<(), Fail> {
         list: Vec::new(rt.alloc()),
         denied: 0,
     };
-    let mut seed = 7;
-    for step in 0..4000u32 {
-        let is_same = case.turn(rt.alloc(), next(&mut seed))?;
-        assert!(rt; is_same, "{step}");
-    }
-    let denied = case.denied;
-    assert!(rt; denied > 100 && denied < 3000, "{denied} denied");
+    let wrong = wrong_turn(rt.alloc(), &mut case);
+    assert_eq!(rt;
+        (wrong, case.denied > 100 && case.denied < 3000),
+        (None, true)
+    );
     Ok(())
 }

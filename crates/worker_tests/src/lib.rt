@@ -11,3 +11,5 @@ mod overlapping;
 mod parts;
 #[cfg(test)]
 mod reading;
+#[cfg(test)]
+mod rounds;

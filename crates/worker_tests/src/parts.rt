@@ -1,17 +1,15 @@
-//! A book, records to be answered, seats at a channel, and what is left of a worker and its book. Whoever holds a book has no
-//! early ends: each would drop all that is alive, and is a proof of its own.
+//! What the tests share: a book, records to be answered, and what goes through a seat.
 ghost use Rattle.std.specs.Prelude.{◌≡◌, [], IfSome};
 
-use book::{Book, Closed};
+use book::Book;
 use bytes::Bytes;
 use callbacks::ShortBytes;
 use hosts_db::MemHosts;
-use jobs::{Channel, Job, Keeper, Opened, Place, Seat};
+use jobs::{Channel, Job, Keeper, Place, Seat};
 use kept_replies::Peer;
 use range_table::FlatTable;
 use std::alloc::{AllocError, Global};
-use std::sync::Mutex;
-use std::sync::ledger::{Ledger, Share};
+use std::sync::Wait;
 use workers::{Gate, Shared};
 
 /// Holds nobody.
@@ -25,6 +23,9 @@ impl Gate for Open {
 
     fn before(&self, _job: &Job) {}
 }
+
+/// What the book's lock keeps.
+pub(crate) type Kept<L> = Shared<FlatTable, MemHosts, L>;
 
 /// The book of a server named `server`, over a table without runs and no hosts. None where there is no memory.
 pub(crate) fn begun(alloc: Global) -> Option<Book<FlatTable, MemHosts>>
@@ -52,46 +53,20 @@ pub(crate) fn job(alloc: Global, connection: u64, number: u64, xid: u32) -> Opti
     Some(Job::new(connection, Peer::PIPE, number, record))
 }
 
-/// All segments of a book. None where it kept none, or there is no memory.
-pub(crate) fn segments<L: Ledger>(
-    shared: Mutex<Shared<FlatTable, MemHosts, L>>,
-    share: &mut Share<L>,
-) -> Option<Vec<Closed<FlatTable, MemHosts>>>
-    requires { share.old.parts ≡ L.parts }
-{
-    match shared.into_inner().finish(share) {
-        Ok(ends) => ends.segments,
-        Err(_) => None,
+/// Sends the first record of this connection: 0 where it is taken, and else the connection of the job that comes back. None
+/// where there is no memory.
+pub(crate) fn sent<P: Place, R: Wait>(
+    rt: &R,
+    alloc: Global,
+    channel: &Channel<P>,
+    seat: &mut Seat<P>,
+    connection: u32,
+) -> Option<u64> {
+    let job = job(alloc, u64::from(connection), 0, connection)?;
+    match seat.send(rt, channel, job) {
+        Ok(()) => Some(0),
+        Err(closed) => Some(closed.job.connection()),
     }
-}
-
-/// A channel, who keeps its seats, and a seat.
-#[derive(Drop)]
-pub(crate) struct Seated<P: Place> {
-    pub(crate) channel: Channel<P>,
-    pub(crate) keeper: Keeper<P>,
-    pub(crate) seat: Seat<P>,
-}
-
-impl<P: Place> Seated<P> {
-    /// None where no seat can be cut.
-    pub(crate) fn new(opened: Opened) -> Option<Seated<P>>
-        requires table { opened.slip.table_id ≡ P.table }
-        requires key { opened.slip.me.0.of ≡ P.key }
-    {
-        let (channel, mut keeper) = opened.named::<P>();
-        let seat = keeper.cut(&channel)?;
-        Some(Seated {
-            channel,
-            keeper,
-            seat,
-        })
-    }
-}
-
-/// Takes the last seat in: whether none is out.
-pub(crate) fn are_in<P: Place>(mut keeper: Keeper<P>, channel: &Channel<P>, last: Seat<P>) -> bool {
-    is_in(&mut keeper, channel, last) && keeper.settle(channel)
 }
 
 /// Takes a seat in.

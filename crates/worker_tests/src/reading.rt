@@ -1,19 +1,17 @@
 //! A connection's own thread over memory.
-ghost use Rattle.std.specs.Prelude.{◌≡◌, []};
+ghost use Rattle.std.specs.Prelude.{◌≤◌, length};
 
-use crate::parts::{Open, Seated, are_in, begun, put_null};
-use book::Book;
-use hosts_db::MemHosts;
-use jobs::{Opened, Place};
+use crate::parts::{Kept, Open, put_null};
+use crate::rounds::{Crew, Turn, audited};
+use jobs::{Channel, Place};
 use kept_replies::Peer;
-use range_table::FlatTable;
 use std::alloc::{AllocError, Global};
 use std::io::{self, ErrorKind, Read};
-use std::marker::Brand;
-use std::sync::ledger::{Blank, Ledger};
+use std::sync::ledger::Ledger;
 use std::sync::{Mutex, Wait};
 use std::test::*;
-use workers::{Ending, Leaves, MemoryOutbox, Origin, Shared, Source, Worker};
+use std::thread::Threads;
+use workers::{Ending, MemoryOutbox, Origin, Parcel, Source, Worker};
 
 /// The connection that is read.
 const CONNECTION: u64 = 300;
@@ -34,131 +32,32 @@ struct Pieces<'a> {
     tail: Tail,
 }
 
-impl Read for Pieces<'_> {
-    fn read(&mut self, buf: &mut [u8]) -> io::Result<usize> {
-        self.is_interrupted = !self.is_interrupted;
-        if self.is_interrupted {
-            return Err(io::Error::from(ErrorKind::Interrupted));
-        }
+impl Pieces<'_> {
+    // The next piece: how many bytes it has.
+    fn give(&mut self, buf: &mut [u8]) -> usize
+        ensures { result ≤ length buf.new }
+    {
         let most = self.most.min(buf.len()).min(self.left.len());
         let (now, later) = self.left.split_at(most);
         for (to, from) in buf.iter_mut().zip(now) {
             *to = *from;
         }
         self.left = later;
+        most
+    }
+}
+
+impl Read for Pieces<'_> {
+    fn read(&mut self, buf: &mut [u8]) -> io::Result<usize> {
+        self.is_interrupted = !self.is_interrupted;
+        if self.is_interrupted {
+            return Err(io::Error::from(ErrorKind::Interrupted));
+        }
+        let count = self.give(buf);
         match self.tail {
-            Tail::Fails if most == 0 => Err(io::Error::from(ErrorKind::ConnectionReset)),
-            _ => Ok(most),
+            Tail::Fails if count == 0 => Err(io::Error::from(ErrorKind::ConnectionReset)),
+            _ => Ok(count),
         }
-    }
-}
-
-/// What came of a stream: how it ended, how many jobs were put, and the last byte of the xid of each answer.
-#[derive(Drop)]
-struct Came {
-    ending: Ending,
-    put: u64,
-    xids: Vec<u8>,
-}
-
-// The last byte of the xid of each record that was handed over.
-fn xids(alloc: Global, outbox: &MemoryOutbox) -> Option<Vec<u8>> {
-    let mut all = Vec::new(alloc);
-    for parcel in outbox.kept() {
-        if parcel.connection == CONNECTION {
-            all.push(*parcel.record.as_slice().get(3)?).ok()?;
-        }
-    }
-    Some(all)
-}
-
-// What came, where all is in at the end.
-fn whole(
-    alloc: Global,
-    is_whole: bool,
-    ending: Ending,
-    put: u64,
-    outbox: &MemoryOutbox,
-) -> Option<Came> {
-    if !is_whole {
-        return None;
-    }
-    let xids = xids(alloc, outbox)?;
-    Some(Came { ending, put, xids })
-}
-
-// Reads the stream, where the channel may be closed before.
-fn read_seated<P: Place, L: Ledger, R: Wait>(
-    rt: &R,
-    alloc: Global,
-    seated: Seated<P>,
-    blank: Blank,
-    book: Book<FlatTable, MemHosts>,
-    stream: Pieces<'_>,
-    is_closed: bool,
-) -> Option<Came>
-    requires name { blank.name ≡ L.name }
-    requires parts { (blank.parts ≡ L.parts) × (blank.parts ≡ 1) }
-    requires new { (book.journal.notes ≡ []) × (book.journal.first ≡ 1) }
-{
-    let Seated {
-        channel,
-        keeper,
-        seat,
-    } = seated;
-    if is_closed {
-        channel.close();
-    }
-    let (total, share) = blank.open::<L>();
-    let shared = Mutex::new(Shared::new(alloc, book, total, false));
-    let mut reader = Worker::new(alloc, seat, share, false);
-    let mut outbox = MemoryOutbox::new(alloc);
-    let origin = Origin {
-        connection: CONNECTION,
-        peer: Peer::PIPE,
-        put: 0,
-    };
-    let mut source = Source { stream, origin };
-    let ending = reader.read(rt, &channel, &shared, &Open, &mut outbox, &mut source);
-    let Leaves {
-        seat,
-        mut share,
-        ..
-    } = reader.leave();
-    let is_finished = shared.into_inner().finish(&mut share).is_ok();
-    let is_whole = are_in(keeper, &channel, seat) & is_finished;
-    whole(alloc, is_whole, ending, source.origin.put, &outbox)
-}
-
-// The same at a channel that was just opened. None where no seat is cut.
-fn read_all<P: Place, L: Ledger, R: Wait>(
-    rt: &R,
-    alloc: Global,
-    opened: Opened,
-    blank: Blank,
-    book: Book<FlatTable, MemHosts>,
-    stream: Pieces<'_>,
-    is_closed: bool,
-) -> Option<Came>
-    requires table { opened.slip.table_id ≡ P.table }
-    requires key { opened.slip.me.0.of ≡ P.key }
-    requires name { blank.name ≡ L.name }
-    requires parts { (blank.parts ≡ L.parts) × (blank.parts ≡ 1) }
-    requires new { (book.journal.notes ≡ []) × (book.journal.first ≡ 1) }
-{
-    match Seated::<P>::new(opened) {
-        Some(seated) => read_seated::<P, L, R>(rt, alloc, seated, blank, book, stream, is_closed),
-        None => None,
-    }
-}
-
-fn came_of<R: Wait>(rt: &R, alloc: Global, stream: Pieces<'_>, is_closed: bool) -> Option<Came> {
-    match (begun(alloc), Opened::new(alloc)) {
-        (Some(book), Ok(opened)) => {
-            let blank = Blank::new(1);
-            read_all::<Brand, Brand, _>(rt, alloc, opened, blank, book, stream, is_closed)
-        }
-        _ => None,
     }
 }
 
@@ -193,22 +92,82 @@ fn stream_of(alloc: Global, text: &str) -> Option<Vec<u8>> {
     Some(all)
 }
 
-// Whether this comes of the stream: as many jobs are put as are answered.
-fn is_so<R: Wait>(rt: &R, alloc: Global, case: Case<'_>) -> bool {
-    let Some(bytes) = stream_of(alloc, case.stream) else {
-        return false;
-    };
-    let stream = Pieces {
-        left: &bytes,
-        most: case.most,
-        is_interrupted: false,
-        tail: case.tail,
-    };
-    match came_of(rt, alloc, stream, case.is_closed) {
-        Some(came) => {
-            came.ending == case.ending
-                && came.put == case.xids.len() as u64
-                && came.xids.as_slice() == case.xids
+// Whether the records that were handed over are the answers to these xids, by their last bytes, in order.
+fn are_answers(parcels: &[Parcel], xids: &[u8]) -> bool {
+    let mut left = parcels;
+    for xid in xids {
+        match left.split_first() {
+            Some((parcel, rest)) if is_answer(parcel, *xid) => left = rest,
+            _ => return false,
+        }
+    }
+    left.is_empty()
+}
+
+fn is_answer(parcel: &Parcel, xid: u8) -> bool {
+    parcel.connection == CONNECTION && parcel.record.as_slice().get(3) == Some(&xid)
+}
+
+/// The bytes of a case's stream.
+#[derive(Clone, Copy)]
+pub(crate) struct Reading<'a> {
+    case: Case<'a>,
+    bytes: &'a [u8],
+}
+
+impl<'a> Reading<'a> {
+    fn source(&self) -> Source<Pieces<'a>> {
+        Source {
+            stream: Pieces {
+                left: self.bytes,
+                most: self.case.most,
+                is_interrupted: false,
+                tail: self.case.tail,
+            },
+            origin: Origin {
+                connection: CONNECTION,
+                peer: Peer::PIPE,
+                put: 0,
+            },
+        }
+    }
+
+    /// Whether this comes of it. The channel may be closed before. As many jobs are put as are answered.
+    pub(crate) fn goes<P: Place, L: Ledger, R: Wait>(
+        &self,
+        rt: &R,
+        alloc: Global,
+        channel: &Channel<P>,
+        shared: &Mutex<Kept<L>>,
+        workers: &mut [Worker<P, L>],
+    ) -> bool {
+        let [reader] = workers else {
+            return false;
+        };
+        if self.case.is_closed {
+            channel.close();
+        }
+        let mut outbox = MemoryOutbox::new(alloc);
+        let mut source = self.source();
+        let ending = reader.read(rt, channel, shared, &Open, &mut outbox, &mut source);
+        ending == self.case.ending
+            && source.origin.put == self.case.xids.len() as u64
+            && are_answers(outbox.kept(), self.case.xids)
+    }
+}
+
+/// Nothing is kept for the audit.
+const READER: Crew = Crew {
+    count: 1,
+    is_audited: false,
+};
+
+// Whether this comes of the stream.
+fn is_so<R: Threads + Wait + Sync>(rt: &R, alloc: Global, case: Case<'_>) -> bool {
+    match stream_of(alloc, case.stream) {
+        Some(bytes) => {
+            let bytes = bytes.as_slice();
+            audited(rt, alloc, READER, Turn::Reads(Reading { case, bytes })) == Some(0)
         }
         None => false,
     }
