@@ -64,13 +64,19 @@ module _ (xs ys : List ℕ) where
       ∙ appended (take k xs) (take k ys) (take n (drop k xs)) (take n (drop k ys)) (length-take-le k xs a ∙ sym (length-take-le k ys b))
 
   -- a word behind k bytes decides where those are alike
-  pub word_further : (k n : ℕ) → k + 8 ≡ n → n ≤ length xs → n ≤ length ys → AreBytes xs → AreBytes ys → bytes_cmp (take k xs) (take k ys) ≡ Equal
+  word_further : (k n : ℕ) → k + 8 ≡ n → n ≤ length xs → n ≤ length ys → AreBytes xs → AreBytes ys → bytes_cmp (take k xs) (take k ys) ≡ Equal
       → bytes_cmp (take n xs) (take n ys) ≡ nat_cmp (spelt 0 (take 8 (drop k xs))) (spelt 0 (take 8 (drop k ys)))
   word_further k n e a b h g level =
       ap (λ m. bytes_cmp (take m xs) (take m ys)) (sym e) ∙ further k 8 (omega arith) (omega arith)
       ∙ ap (λ o. ordering_then o (bytes_cmp (take 8 (drop k xs)) (take 8 (drop k ys)))) level
       ∙ sym (spelt_cmp 8 0 0 (drop k xs) (drop k ys) (omega (arith, length-drop k xs)) (omega (arith, length-drop k ys))
       (λ i. subst (λ x. x < 256) (sym (get_or-drop k xs i 0)) (h (k + i))) (λ i. subst (λ x. x < 256) (sym (get_or-drop k ys i 0)) (g (k + i))))
+
+  -- so it decides for all bytes up to its end
+  pub upto_word : (k n a b : ℕ) (found : Ordering) → k + 8 ≡ n → n ≤ length xs → n ≤ length ys → AreBytes xs → AreBytes ys → bytes_cmp (take k xs) (take k ys) ≡ Equal
+      → a ≡ spelt 0 (take 8 (drop k xs)) → b ≡ spelt 0 (take 8 (drop k ys)) → found ≡ nat_cmp a b → found ≡ bytes_cmp (take n xs) (take n ys)
+  upto_word k n a b found e l m h g level left right told =
+      told ∙ (λ i. nat_cmp (left i) (right i)) ∙ sym (word_further k n e l m h g level)
 
   -- bytes that are not alike decide for all behind them
   pub settled : (k n : ℕ) → k ≤ n → n ≤ length xs → n ≤ length ys → is_ne (bytes_cmp (take k xs) (take k ys)) ≡ true → bytes_cmp (take n xs) (take n ys) ≡ bytes_cmp (take k xs) (take k ys)

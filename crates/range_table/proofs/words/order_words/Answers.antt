@@ -1,6 +1,6 @@
 use Rattle.std.proofs.Common.{◌≡◌, ◌∙◌, sym, refl, ap, ◌+◌, ◌*◌, take, arith}
-use Rattle.std.specs.Ordering.{nat_cmp, is_ne}
-use Rattle.range_table.proofs.Spelling.{bytes_cmp, word_further, settled, tied}
+use Rattle.std.specs.Ordering.{is_ne}
+use Rattle.range_table.proofs.Spelling.{bytes_cmp, upto_word, settled, tied}
 use Rattle.range_table.proofs.words.order_words.Goals as goal
 
 pub loop-word-init : goal.loop-word-init
@@ -14,12 +14,9 @@ returns-then-is_ne c =
     let x = c.told-bytes in
     let y = c.told-others in
     let w = c.requires in
-    let e = c.cmp-found.ensures in
-    let a = c.word_at.ensures in
-    let b = c.word_at-in-loop-word.ensures in
     let t = c.loop-word-test.true in
-    let found : c.cmp-found.result ≡ bytes_cmp (take (k + 8) xs) (take (k + 8) ys) =
-    e ∙ (λ i. nat_cmp (a i) (b i)) ∙ sym (word_further xs ys k (k + 8) refl (omega arith) (omega arith) c.fits-bytes c.fits-others c.loop-word.invariant.level) in
+    let found = upto_word xs ys k (k + 8) c.word_at.result c.word_at-in-loop-word.result c.cmp-found.result refl (omega arith) (omega arith) c.fits-bytes c.fits-others c.loop-word.invariant.level
+    c.word_at.ensures c.word_at-in-loop-word.ensures c.cmp-found.ensures in
     found ∙ sym (settled xs ys (k + 8) (8 * c.args.words) (omega arith) (omega arith) (omega arith) (ap is_ne (sym found) ∙ sym c.is_ne.ensures ∙ c.if-is_ne.true))
 
 pub loop-word-preserved : goal.loop-word-preserved
@@ -30,13 +27,12 @@ loop-word-preserved c =
     let x = c.told-bytes in
     let y = c.told-others in
     let w = c.requires in
-    let a = c.word_at.ensures in
-    let b = c.word_at-in-loop-word.ensures in
     let t = c.loop-word-test.true in
     record {
       level =
-          word_further xs ys k (8 * (c.loop-word.word + 1)) (omega arith) (omega arith) (omega arith) c.fits-bytes c.fits-others c.loop-word.invariant.level
-          ∙ (λ i. nat_cmp (sym a i) (sym b i)) ∙ sym c.cmp-found.ensures ∙ tied c.cmp-found.result (sym c.is_ne.ensures ∙ c.if-is_ne.false);
+          sym (upto_word xs ys k (8 * (c.loop-word.word + 1)) c.word_at.result c.word_at-in-loop-word.result c.cmp-found.result (omega arith) (omega arith) (omega arith) c.fits-bytes c.fits-others c.loop-word.invariant.level
+          c.word_at.ensures c.word_at-in-loop-word.ensures c.cmp-found.ensures)
+          ∙ tied c.cmp-found.result (sym c.is_ne.ensures ∙ c.if-is_ne.false);
     }
 
 pub returns : goal.returns
