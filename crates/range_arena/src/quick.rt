@@ -9,6 +9,7 @@ ghost use Rattle.range_arena.specs.Quick.{HoldsAll, AreSet};
 use crate::indexed::Indexed;
 use range_table::run::{Mode, NoRuns, Run, Setting};
 use range_table::run_list::MOST_RUNS;
+use range_table::sorted;
 
 // Whether the range's owner holds all of it in the mode by this run.
 fn holds_all(run: &Run, range: &Setting, mode: Mode) -> bool
@@ -244,11 +245,7 @@ fn used_cut(runs: &Indexed, range: &Setting) -> u32
     ensures count { result ≡ length (cut range.now runs.now) }
     ensures few { result ≤ MOST_RUNS + 1 }
 {
-    let beside = used_beside(runs, range);
-    match rest(runs, range) {
-        Some(_) => beside + 1,
-        None => beside,
-    }
+    sorted::used_with(used_beside(runs, range), rest(runs, range))
 }
 
 /// How many runs there would be after a setting.

@@ -1,5 +1,5 @@
 //! A sorted list of runs, set and asked in place.
-ghost use Rattle.std.specs.Prelude.{OnOk, OnErr, IsErr, IsTrue, ◌↔◌, ◌≡◌, ◌+◌, ◌-◌, ◌<◌, ◌≤◌, ◌^◌, length, map, not, true, false, take, drop, ◌++◌, ◌&&◌};
+ghost use Rattle.std.specs.Prelude.{OnOk, OnErr, IsErr, IsTrue, ◌↔◌, ◌≡◌, ◌+◌, ◌-◌, ◌<◌, ◌≤◌, ◌^◌, length, map, not, true, false, take, drop, List, ◌++◌, ◌&&◌};
 ghost use Rattle.std.specs.List.{filter, list_any, position_or_len, AllByRecursion};
 ghost use Rattle.range_table.specs.Runs.{is_of, starts_in, trim, kept, right, insert_run, cut, low, high, widened, joined, set_runs, is_split, is_full, run_before, before_place, IsPlace, IsRunList, is_better, best_from};
 ghost use Rattle.range_table.specs.Settings.{conflicts, is_against};
@@ -417,7 +417,19 @@ fn used_beside(runs: &RunList, range: &Setting) -> u32
     count
 }
 
-// How many there are without the range.
+/// How many runs there are without a range: those that start beside it, and what is left of one behind it.
+pub fn used_with(beside: u32, rest: Option<Run>) -> u32
+    requires { beside ≤ MOST_RUNS }
+    ensures count { (range : Setting) (runs : List Run) → beside ≡ length (filter (λ r. not (starts_in range r)) runs) → rest ≡ right range runs → result ≡ length (cut range runs) }
+    ensures few { result ≤ MOST_RUNS + 1 }
+{
+    match rest {
+        Some(_) => beside + 1,
+        None => beside,
+    }
+}
+
+// The same of a list.
 fn used_cut(runs: &RunList, part: Part, range: &Setting) -> u32
     requires listed { IsRunList runs.now }
     requires part { IsPart range.now.file runs.now part.begin part.end }
@@ -425,11 +437,7 @@ fn used_cut(runs: &RunList, part: Part, range: &Setting) -> u32
     ensures count { result ≡ length (cut range.now runs.now) }
     ensures few { result ≤ MOST_RUNS + 1 }
 {
-    let beside = used_beside(runs, range);
-    match right(runs, part, range) {
-        Some(_) => beside + 1,
-        None => beside,
-    }
+    used_with(used_beside(runs, range), right(runs, part, range))
 }
 
 /// How many runs there would be after a setting.
