@@ -3,6 +3,7 @@ pub mod Sorts
 pub mod Owned
 pub mod Seats
 pub mod Firsts
+pub mod Uptos
 pub mod OwnersRuns
 pub mod Started
 pub mod Untouched

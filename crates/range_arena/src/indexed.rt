@@ -7,9 +7,10 @@ ghost use Rattle.range_table.specs.Parts.{last_started};
 ghost use Rattle.range_arena.specs.Indexed.{owned_cmp, owned_before, owned_upto, owned_by, IsSortedBy, AreSame};
 ghost use Rattle.range_table.specs.declared.run.Run.{Run};
 
+use crate::parts::part_upto;
 use crate::stretches::Stretches;
 use owner_ids::{Host, OwnerId, OwnerOrder};
-use range_table::places::{part_of, place_past};
+use range_table::places::place_between;
 use range_table::run::{Mode, Run, Setting};
 use range_table::run_list::{MOST_RUNS, RunList};
 use range_table::sorted;
@@ -206,17 +207,16 @@ impl Indexed {
         requires inside { wanted.now.first < 2 ^ 63 }
         ensures { result ≡ best_from (O.order owners.now) wanted.now None self.now }
     {
-        let part = part_of(&self.list, &wanted.file);
-        let past = place_past(&self.list, part, &wanted.file, wanted.last);
+        let part = part_upto(&self.list, &wanted.file, wanted.last);
         let first = self
             .stretches
-            .first_in_way(&self.list, part.begin, past, wanted);
-        if first == past {
+            .first_in_way(&self.list, part.begin, part.end, wanted);
+        if first == part.end {
             return None;
         }
         // Only among those that start with it may another owner come first.
         let start = self.list.get(first).first;
-        let tied = place_past(&self.list, part, &wanted.file, start);
+        let tied = place_between(&self.list, first, part.end, &wanted.file, start);
         sorted::best_of(&self.list, first, tied, owners, wanted)
     }
 }
@@ -228,11 +228,10 @@ impl Indexed {
         requires inside { wanted.now.first < 2 ^ 63 }
         ensures { result ≡ list_any (conflicts wanted.now) self.now }
     {
-        let part = part_of(&self.list, &wanted.file);
-        let past = place_past(&self.list, part, &wanted.file, wanted.last);
+        let part = part_upto(&self.list, &wanted.file, wanted.last);
         self.stretches
-            .first_in_way(&self.list, part.begin, past, wanted)
-            < past
+            .first_in_way(&self.list, part.begin, part.end, wanted)
+            < part.end
     }
 
     /// Whether a run of this owner is in the way of a lock.

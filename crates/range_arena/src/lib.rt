@@ -3,6 +3,7 @@
 
 mod arena;
 mod indexed;
+mod parts;
 mod quick;
 mod reach;
 mod stretch;

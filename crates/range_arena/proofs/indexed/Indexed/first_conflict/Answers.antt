@@ -1,40 +1,51 @@
-use Rattle.std.proofs.Common.{◌≡◌, ◌≢◌, ◌<◌, None, sym, ap, subst, ◌∙◌, arith}
-use Rattle.range_table.specs.Runs.{best_from}
-use Rattle.range_arena.proofs.Firsts.{none_first, first_tied, best_tied}
+use Rattle.std.proofs.Common.{◌≡◌, ◌≢◌, true, None, take, sym, ap, subst, ◌∙◌, arith}
+use Rattle.std.specs.List.{AllByRecursion}
+use Rattle.range_table.specs.Runs.{upto_place, best_from, IsRunList}
+use Rattle.range_arena.proofs.Firsts.{none_first, same_there, best_tied, starts_upto}
+use Rattle.range_arena.proofs.Uptos.{in_front, behind_less}
 use Rattle.range_arena.proofs.indexed.Indexed.first_conflict.Goals as goal
 
-pub returns-then-first-past : goal.returns-then-first-past
-returns-then-first-past g c =
+pub returns-then-first-part : goal.returns-then-first-part
+returns-then-first-part g c =
     let i = c.self.inside in
     let order = g.O.OwnerOrder.order c.args.owners.now in
+    let part = c.part_upto-part in
+    let first = c.first_in_way-first in
     subst (λ rs. None ≡ best_from order c.args.wanted.now None rs) c.self.view_is
-    (sym (none_first order c.args.wanted.now i.list c.part_of-part.result.begin c.part_of-part.result.end c.first_in_way-first.result c.place_past-past.result c.part_of-part.ensures c.first_in_way-first.ensures.from c.first_in_way-first.ensures.clear c.if-first-past.true c.place_past-past.ensures.place))
+    (sym (none_first order c.args.wanted.now i.list part.result.begin first.result part.result.end part.ensures.front first.ensures.from first.ensures.clear c.if-first-part.true part.ensures.place))
 
-pub best_of-requires-clause-order : goal.best_of-requires-clause-order
-best_of-requires-clause-order g c =
+pub place_between-tied-requires-clause-front : goal.place_between-tied-requires-clause-front
+place_between-tied-requires-clause-front g c =
     let i = c.self.inside in
-    let order = g.O.OwnerOrder.order c.args.owners.now in
-    let first = c.first_in_way-first.result in
-    let past = c.place_past-past.result in
-    let u = c.first_in_way-first.ensures.upto in
-    let ne : first ≢ past = c.if-first-past.false in
-    let l : first < past = omega arith in
-    let w = c.place_past-past.ensures.within in
-    let t = first_tied order c.args.wanted.now i.list c.part_of-part.result.begin c.part_of-part.result.end first past c.part_of-part.ensures c.first_in_way-first.ensures.from c.first_in_way-first.ensures.clear
-    c.get.result.now (omega arith) c.get.ensures (c.first_in_way-first.ensures.found c.get.result.now l c.get.ensures) c.place_past-tied.result c.place_past-tied.ensures.place in
-    omega arith
+    let wanted = c.args.wanted.now in
+    let r = c.get.result.now in
+    let first = c.first_in_way-first in
+    let u = first.ensures.upto in
+    let w = c.part_upto-part.ensures.within in
+    let ne : first.result ≢ c.part_upto-part.result.end = c.if-first-part.false in
+    let h = subst IsRunList (sym c.self.view_is) c.requires.listed in
+    subst (λ f. AllByRecursion (λ s. upto_place f r.first s ≡ true) (take first.result i.list)) (same_there wanted r (first.ensures.found r (omega arith) c.get.ensures)) (in_front i.list h first.result r (omega arith) c.get.ensures)
+
+pub place_between-tied-requires-clause-behind : goal.place_between-tied-requires-clause-behind
+place_between-tied-requires-clause-behind g c =
+    let wanted = c.args.wanted.now in
+    let r = c.get.result.now in
+    let first = c.first_in_way-first in
+    let u = first.ensures.upto in
+    let ne : first.result ≢ c.part_upto-part.result.end = c.if-first-part.false in
+    behind_less wanted.file wanted.last r.first c.self.inside.list c.part_upto-part.result.end (starts_upto wanted r (first.ensures.found r (omega arith) c.get.ensures)) c.part_upto-part.ensures.place.above
 
 pub returns : goal.returns
 returns g c =
     let i = c.self.inside in
     let order = g.O.OwnerOrder.order c.args.owners.now in
-    let first = c.first_in_way-first.result in
-    let past = c.place_past-past.result in
-    let u = c.first_in_way-first.ensures.upto in
-    let ne : first ≢ past = c.if-first-past.false in
-    let l : first < past = omega arith in
-    let w = c.place_past-past.ensures.within in
+    let part = c.part_upto-part in
+    let first = c.first_in_way-first in
+    let r = c.get.result.now in
+    let tied = c.place_between-tied in
+    let u = first.ensures.upto in
+    let w = part.ensures.within in
+    let ne : first.result ≢ part.result.end = c.if-first-part.false in
     c.best_of.ensures
-    ∙ best_tied order c.args.wanted.now i.list c.part_of-part.result.begin c.part_of-part.result.end first past c.part_of-part.ensures c.first_in_way-first.ensures.from c.first_in_way-first.ensures.clear
-    c.get.result.now (omega arith) c.get.ensures (c.first_in_way-first.ensures.found c.get.result.now l c.get.ensures) c.place_past-tied.result c.place_past-tied.ensures.place
+    ∙ best_tied order c.args.wanted.now i.list part.result.begin first.result part.result.end part.ensures.front first.ensures.from first.ensures.clear r (omega arith) c.get.ensures (first.ensures.found r (omega arith) c.get.ensures) tied.result tied.ensures.place
     ∙ ap (best_from order c.args.wanted.now None) c.self.view_is

@@ -8,8 +8,7 @@ pub returns : goal.returns
 returns c =
     let i = c.self.inside in
     let wanted = c.args.wanted.now in
-    let part = c.part_of-part in
-    let past = c.place_past-past in
+    let part = c.part_upto-part in
     let first = c.first_in_way in
-    first_blocks wanted i.list part.result.begin part.result.end first.result past.result part.ensures first.ensures.from first.ensures.clear first.ensures.upto past.ensures.within past.ensures.place first.ensures.found
+    first_blocks wanted i.list part.result.begin first.result part.result.end part.ensures.front first.ensures.from first.ensures.clear first.ensures.upto part.ensures.within part.ensures.place first.ensures.found
     ∙ ap (list_any (conflicts wanted)) c.self.view_is
