@@ -5,6 +5,7 @@ pub mod Seats
 pub mod Firsts
 pub mod Uptos
 pub mod OwnersRuns
+pub mod Filled
 pub mod Started
 pub mod Untouched
 pub mod OwnerInWay

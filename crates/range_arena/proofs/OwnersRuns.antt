@@ -121,18 +121,21 @@ none_starts_last c rs x h f l = sym (all_stay c rs (each rs (last_most c (c.last
   each [] a = tt
   each (r ∷ rs) a = (by_test (starts_in c r) (λ u. absurd (let z = starts_in_before c r u in let m = a.0 z.0 in let n = z.1 in omega arith)) (λ u. u), each rs a.1)
 
+units : (rs : List Run) → AllByRecursion (λ r. Unit {0}) rs
+units [] = tt
+units (r ∷ rs) = (tt, units rs)
+
+pub last_is : (c : Setting) (b : ℕ) (rs : List Run) (x : Run) → last_started c b rs ≡ Some x → starts_before c b x ≡ true
+last_is c b rs x f = (last_in c b (λ r. Unit {0}) rs x (units rs) f).1
+
 pub last_starts : (c : Setting) (rs : List Run) (x : Run) → IsRunList rs → last_started c (c.last + 1) rs ≡ Some x → c.first ≤ x.first → starts_in c x ≡ true
 last_starts c rs x h f l =
-    let t = (last_in c (c.last + 1) (λ r. Unit {0}) rs x (units rs) f).1 in
-    let k = starts c (c.last + 1) x t in
+    let k = starts c (c.last + 1) x (last_is c (c.last + 1) rs x f) in
     let o = k.of in
     let m : leb c.first x.first ≡ true = grind (arith, file_tests) in
     let g = k.first in
     let n : leb x.first c.last ≡ true = grind (arith, file_tests) in
-    rw (o, m, n) refl where
-      units : (rs : List Run) → AllByRecursion (λ r. Unit {0}) rs
-      units [] = tt
-      units (r ∷ rs) = (tt, units rs)
+    rw (o, m, n) refl
 
 pub filter_gone : (c : Setting) (rs : List Run) (at : ℕ) (x : Run) → at < length rs → x ≡ get_or rs at x → starts_in c x ≡ true → filter (stays c) (remove rs at) ≡ filter (stays c) rs
 filter_gone c [] at x l e t = absurd (omega arith)

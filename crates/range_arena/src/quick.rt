@@ -136,7 +136,13 @@ fn cut(runs: &mut Indexed, range: &Setting)
     ensures { runs.new ≡ cut range.now runs.old }
 {
     // Where the owner has nothing up to the range's end, nothing more is searched.
-    if let Some(run) = runs.last_upto(range, range.last) {
+    let Some(run) = runs.last_upto(range, range.last) else {
+        return;
+    };
+    // A run that starts with the range and ends in it is all that the range meets.
+    if run.first == range.first && run.last <= range.last {
+        runs.remove(&run);
+    } else {
         cut_to(runs, range, run.rest(range));
     }
 }
