@@ -1,14 +1,14 @@
 -- An index stays one.
-use Rattle.std.proofs.Common.{◌≡◌, ◌<◌, Bool, true, false, cond, not, ℕ, zero, suc, eqb, List, [], ◌∷◌, ◌++◌, length, map, take, drop, refl, sym, ap, subst, arith, ◌∙◌}
+use Rattle.std.proofs.Common.{◌≡◌, ◌<◌, ◌-◌, Bool, true, false, cond, not, ℕ, zero, suc, eqb, List, [], ◌∷◌, ◌++◌, length, map, take, drop, get_or, refl, sym, ap, subst, arith, ◌∙◌}
 use Rattle.std.proofs.lemmas.Bool.{false≢true}
 use Rattle.std.proofs.lemmas.Bool.Decides.{nat_tests}
 use Rattle.std.proofs.lemmas.Cmp.{upto}
-use Rattle.std.proofs.lemmas.List.{append-nil, length-append, length-map, take-append-drop}
+use Rattle.std.proofs.lemmas.List.{append-nil, length-append, length-drop, length-map, take-append-drop, take_all}
 use Rattle.std.proofs.lemmas.List.Elements.{filter-append}
 use Rattle.std.proofs.lemmas.List.Filters.{length-filter_both}
 use Rattle.std.proofs.lemmas.Slice.Eq.{bytes_eq-Decides}
 use Rattle.std.specs.List.{AllByRecursion, filter}
-use Rattle.std.specs.List.Sorted.{IsPartitionedBy, IsPartitionPoint}
+use Rattle.std.specs.List.Sorted.{IsPartitionedBy}
 use Rattle.std.specs.Ordering.{is_lt, is_le, is_gt, ordering_reverse}
 use Rattle.std.specs.declared.cmp.Ordering.{Ordering}
 use Rattle.std.specs.declared.cmp.Ordering.TheVariants.{Less, Equal, Greater}
@@ -16,7 +16,7 @@ use Rattle.definitions.specs.Bytes.{Bytes, same_bytes}
 use Rattle.range_table.specs.File.{file_cmp}
 use Rattle.range_table.proofs.Files.{file_same_cmp, file_cmp_total, file_cmp_exact}
 use Rattle.range_owners.proofs.Words.{file_same}
-use Rattle.blocked_list.specs.ByFile.{below, places_of, AreByFile, IsIndex, moved_up, without_place}
+use Rattle.blocked_list.specs.ByFile.{below, places_of, AreByFile, IsIndex, IsPoint, moved_up, without_place}
 use Rattle.blocked_list.proofs.Places.{by_test, all_by, all_both, all_first, all_between, all_filter, all_kept, all_map, all_at, take_each, drop_each, kept_same, kept_all, kept_none, kept_twice, kept_within, kept_map, all_below, one_below, without_below}
 
 -- ---- files
@@ -71,6 +71,10 @@ not_back a b h = go (file_cmp a b) refl h (file_cmp_total.antisymm b a)
 
 -- ---- tests that hold in front
 
+-- a part up to the end
+pub to_end : (ps : List ℕ) (begin : ℕ) → take (length ps - begin) (drop begin ps) ≡ drop begin ps
+to_end ps begin = take_all (length ps - begin) (drop begin ps) (let d = length-drop begin ps in omega arith)
+
 abbrev pub Falls : (ℕ → Bool) → List ℕ → Type 0
 Falls test [] = Unit {0}
 Falls test (p ∷ ps) = AllByRecursion (λ q. test q ≡ true → test p ≡ true) ps × Falls test ps
@@ -117,8 +121,17 @@ module _ (file : ℕ → Bytes) where
   by_file_drop (suc n) [] h = h
   by_file_drop (suc n) (p ∷ ps) h = by_file_drop n ps h.1
 
-  abbrev pub IsPoint : (ℕ → Bool) → List ℕ → ℕ → Type 0
-  IsPoint test ps at = IsPartitionPoint (λ p. test p ≡ true) (λ p. test p ≡ false) ps at
+  -- where it fails of the first, it fails of all
+  pub none_upto : (f : Bytes) (ps : List ℕ) → AreByFile file ps → ((p : ℕ) (qs : List ℕ) → ps ≡ p ∷ qs → is_upto f p ≡ false) → IsPoint (is_upto f) ps 0
+  none_upto f ps h n = (λ k d l u. absurd (omega (arith, u)), λ k d l u. none f ps h n k d (omega (arith, u)))
+    where
+      none : (f : Bytes) (ps : List ℕ) → AreByFile file ps → ((p : ℕ) (qs : List ℕ) → ps ≡ p ∷ qs → is_upto f p ≡ false) → (k d : ℕ) → k < length ps → is_upto f (get_or ps k d) ≡ false
+      none f [] h n k d l = absurd (omega (arith, l))
+      none f (p ∷ ps) h n zero d l = n p ps refl
+      none f (p ∷ ps) h n (suc k) d l =
+          by_test (is_upto f (get_or ps k d))
+          (λ t. absurd (false≢true (sym (n p ps refl) ∙ upto_falls f p (get_or ps k d) (all_at (λ q. is_gt (file_cmp (file p) (file q)) ≡ false) ps k d h.0 (omega (arith, l))) t)))
+          (λ t. t)
 
   -- the places of a file are those between the two
   pub part_is : (n : ℕ) (ps : List ℕ) (f : Bytes) (begin size : ℕ) → IsIndex file n ps → IsPoint (is_before f) ps begin → IsPoint (is_upto f) (drop begin ps) size → take size (drop begin ps) ≡ places_of file f (below n)

@@ -1,6 +1,7 @@
 -- An index of a list by file: places, those of one file together and in order.
-use Rattle.std.specs.Prelude.{◌≡◌, ◌<◌, ◌-◌, ℕ, zero, suc, false, not, cond, eqb, ltb, List, [], ◌∷◌, ◌++◌, length, map, slice_index_or}
+use Rattle.std.specs.Prelude.{◌≡◌, ◌<◌, ◌-◌, ℕ, Bool, zero, suc, true, false, not, cond, eqb, ltb, List, [], ◌∷◌, ◌++◌, length, map, slice_index_or}
 use Rattle.std.specs.List.{AllByRecursion, filter}
+use Rattle.std.specs.List.Sorted.{IsPartitionPoint}
 use Rattle.std.specs.Ordering.{is_gt}
 use Rattle.definitions.specs.Bytes.{Bytes, same_bytes}
 use Rattle.range_table.specs.File.{file_cmp}
@@ -23,6 +24,10 @@ places_of file f ps = filter (λ p. same_bytes (file p) f) ps
 abbrev pub AreByFile : (ℕ → Bytes) → List ℕ → Type 0
 AreByFile file [] = Unit {0}
 AreByFile file (p ∷ ps) = AllByRecursion (λ q. is_gt (file_cmp (file p) (file q)) ≡ false) ps × AreByFile file ps
+
+-- the test holds of the first so many places, and of no other
+abbrev pub IsPoint : (ℕ → Bool) → List ℕ → ℕ → Type 0
+IsPoint test ps at = IsPartitionPoint (λ p. test p ≡ true) (λ p. test p ≡ false) ps at
 
 -- each place below n stands in it once
 pub record IsIndex (file : ℕ → Bytes) (n : ℕ) (ps : List ℕ) : Type 0 where

@@ -2,7 +2,7 @@
 ghost use Rattle.std.specs.Prelude.{◌≡◌, ◌<◌, ◌≤◌, ◌+◌, ◌∷◌, ◌++◌, ℕ, List, [], length, map, take, drop, IfOk};
 ghost use Rattle.std.specs.Ordering.{is_lt, is_le};
 ghost use Rattle.range_table.specs.File.{file_cmp};
-ghost use Rattle.blocked_list.specs.ByFile.{IsIndex, below, file_at, moved_up, places_of, without_place};
+ghost use Rattle.blocked_list.specs.ByFile.{AreByFile, IsIndex, IsPoint, below, file_at, moved_up, places_of, without_place};
 
 use crate::slots::MOST_SLOTS;
 use crate::waiter::Waiter;
@@ -50,8 +50,7 @@ impl ByFile {
         let places = self.places.as_slice();
         let begin = places.partition_point(|place| is_before(waiters, *place, file));
         let rest = &places[begin..];
-        let size = rest.partition_point(|place| is_upto(waiters, *place, file));
-        &rest[..size]
+        &rest[..count_upto(rest, waiters, file)]
     }
 
     /// The waiter at this place, behind all that are known, is known too.
@@ -62,10 +61,7 @@ impl ByFile {
         ensures { IsIndex (file_at waiters.now) (place + 1) self.new }
     {
         let file = &waiters[place].wanted().file;
-        let at = self
-            .places
-            .as_slice()
-            .partition_point(|other| is_upto(waiters, *other, file));
+        let at = count_upto(self.places.as_slice(), waiters, file);
         self.places.push_reserved(place as u16);
         bring_last(self.places.as_mut_slice(), at);
     }
@@ -133,7 +129,7 @@ fn moved_up(other: u16, place: usize) -> u16
     }
 }
 
-// How the file that the waiter at this place waits for stands to another. Where nobody stands it is no byte.
+// How the file that the waiter at this place waits for stands to another. Where nobody stands, as one of no bytes.
 #[tactic(auto, unfolding(range_table::specs::File::file_cmp))]
 fn order_at(waiters: &[Waiter], place: u16, file: &FileId) -> Ordering
     ensures { result ≡ file_cmp (file_at waiters.now place) file.now }
@@ -154,4 +150,18 @@ fn is_upto(waiters: &[Waiter], place: u16, file: &FileId) -> bool
     ensures { result ≡ is_le (file_cmp (file_at waiters.now place) file.now) }
 {
     order_at(waiters, place, file).is_le()
+}
+
+// How many in front wait for this file or for one before it. Often nobody does, and then only the first is looked at.
+fn count_upto(places: &[u16], waiters: &[Waiter], file: &FileId) -> usize
+    requires { AreByFile (file_at waiters.now) places.now }
+    ensures bound { result ≤ length places.now }
+    ensures point { IsPoint (λ p. is_le (file_cmp (file_at waiters.now p) file.now)) places.now result }
+{
+    match places.first() {
+        Some(place) if is_upto(waiters, *place, file) => {
+            places.partition_point(|place| is_upto(waiters, *place, file))
+        }
+        _ => 0,
+    }
 }
