@@ -151,15 +151,10 @@ fn put_all_hosts(alloc: Global, hosts: &mut Vec<HostRow>) -> Option<()> {
     Some(())
 }
 
-// It is generic, so that the proof of a call sees no more of a database than its trait.
-fn wrong_in<S: Alter + Drop>(alloc: Global, store: SqlHosts<S>, lines: &[&str]) -> Option<usize> {
-    wrong_over(alloc, store, PIECE, lines)
-}
-
 /// Of a server over a database in memory that these statements have changed, once it was started, if it was.
 pub(crate) fn wrong_in_sql(alloc: Global, changes: Option<&str>, lines: &[&str]) -> Option<usize> {
     match database(alloc, changes) {
-        Some(store) => wrong_in(alloc, store, lines),
+        Some(store) => wrong_over(alloc, store, PIECE, lines),
         None => NO_SERVER,
     }
 }
@@ -173,20 +168,25 @@ pub(crate) fn wrong_in_both(alloc: Global, lines: &[&str]) -> Option<usize> {
     wrong_in_sql(alloc, None, lines)
 }
 
-fn adopted(alloc: Global, conn: Connection<MemStore>) -> Option<SqlHosts<MemStore>> {
-    SqlHosts::adopt(alloc, conn).ok()
-}
-
 /// A fresh database; or one that was started, and then changed by these statements.
 pub(crate) fn database(alloc: Global, changes: Option<&str>) -> Option<SqlHosts<MemStore>> {
-    let store = adopted(alloc, Connection::open_in_memory(alloc).ok()?)?;
+    adopted(alloc, Connection::open_in_memory(alloc).ok()?, changes)
+}
+
+// The same of a connection. This and the next are generic, so that their proofs see no more of a database than its trait.
+fn adopted<S: Alter + Drop>(
+    alloc: Global,
+    conn: Connection<S>,
+    changes: Option<&str>,
+) -> Option<SqlHosts<S>> {
+    let store = SqlHosts::adopt(alloc, conn).ok()?;
     match changes {
-        Some(statements) => adopted(alloc, changed(store, statements)?),
+        Some(statements) => SqlHosts::adopt(alloc, changed(store, statements)?).ok(),
         None => Some(store),
     }
 }
 
-fn changed(mut store: SqlHosts<MemStore>, statements: &str) -> Option<Connection<MemStore>> {
+fn changed<S: Alter + Drop>(mut store: SqlHosts<S>, statements: &str) -> Option<Connection<S>> {
     if store.start().is_err() {
         return None;
     }

@@ -124,56 +124,94 @@ fn holds<S: HostStore>(store: &S, own: u32, rows: &str) -> bool {
     store.own() == own && are_rows(store, rows)
 }
 
-// The rows of a store that begins without any are those of the hosts that had a LOCK granted, and a restart keeps them.
-fn stores_hosts<S: HostStore>(alloc: Global, store: &mut S) -> bool {
-    played(alloc, store, FIRST_HOST) == (None, 2)
-        && holds(store, 1, "a 1 3")
-        && played(alloc, store, SECOND_HOST) == (None, 2)
-        && holds(store, 3, "a 1 3 b 3 3")
+/// What is to hold of a store that begins without rows.
+trait Trial {
+    fn holds<S: HostStore>(&self, alloc: Global, store: &mut S) -> bool;
 }
 
-fn keeps_hosts<S: HostStore>(alloc: Global, store: &mut S) -> bool {
-    played(alloc, store, BOTH_HOSTS) == (None, 4) && holds(store, 3, "a 1 3 b 3 3")
+/// The rows are those of the hosts that had a LOCK granted, and a new server keeps them.
+#[derive(Clone, Copy)]
+struct TwoServers;
+
+impl Trial for TwoServers {
+    fn holds<S: HostStore>(&self, alloc: Global, store: &mut S) -> bool {
+        played(alloc, store, FIRST_HOST) == (None, 2)
+            && holds(store, 1, "a 1 3")
+            && played(alloc, store, SECOND_HOST) == (None, 2)
+            && holds(store, 3, "a 1 3 b 3 3")
+    }
+}
+
+/// The same of one server that begins anew.
+#[derive(Clone, Copy)]
+struct OneServer;
+
+impl Trial for OneServer {
+    fn holds<S: HostStore>(&self, alloc: Global, store: &mut S) -> bool {
+        played(alloc, store, BOTH_HOSTS) == (None, 4) && holds(store, 3, "a 1 3 b 3 3")
+    }
+}
+
+/// A database that was never started refuses each row.
+#[derive(Clone, Copy)]
+struct Unstarted;
+
+impl Trial for Unstarted {
+    fn holds<S: HostStore>(&self, alloc: Global, store: &mut S) -> bool {
+        played(alloc, store, HOST_REFUSED) == (None, 1) && holds(store, 0, "")
+    }
+}
+
+/// A restart is all that a server asks for where no host locks.
+#[derive(Clone, Copy)]
+struct NoLock;
+
+impl Trial for NoLock {
+    fn holds<S: HostStore>(&self, alloc: Global, store: &mut S) -> bool {
+        played(alloc, store, SHARE_CONFLICT) == (None, 1)
+    }
+}
+
+fn in_memory<T: Trial>(alloc: Global, trial: &T) -> bool {
+    match memory(alloc, 0, Vec::new(alloc)) {
+        Some(mut store) => trial.holds(alloc, &mut store),
+        None => false,
+    }
+}
+
+fn in_sql<T: Trial>(alloc: Global, trial: &T) -> bool {
+    match database(alloc, None) {
+        Some(mut store) => trial.holds(alloc, &mut store),
+        None => false,
+    }
 }
 
 #[test]
-fn hosts_of_locks(rt: HostRuntime) -> Result<(), Fail> {
-    let alloc = rt.alloc();
-    let mut in_memory = memory(alloc, 0, Vec::new(alloc)).ok_or("no store")?;
-    assert!(rt; stores_hosts(alloc, &mut in_memory));
-    let mut in_sql = database(alloc, None).ok_or("no store")?;
-    assert!(rt; stores_hosts(alloc, &mut in_sql));
-    Ok(())
+fn hosts_of_locks(rt: HostRuntime) {
+    assert!(rt; in_memory(rt.alloc(), &TwoServers));
+    assert!(rt; in_sql(rt.alloc(), &TwoServers));
 }
 
 #[test]
-fn hosts_after_a_restart(rt: HostRuntime) -> Result<(), Fail> {
-    let alloc = rt.alloc();
-    let mut in_memory = memory(alloc, 0, Vec::new(alloc)).ok_or("no store")?;
-    assert!(rt; keeps_hosts(alloc, &mut in_memory));
-    let mut in_sql = database(alloc, None).ok_or("no store")?;
-    assert!(rt; keeps_hosts(alloc, &mut in_sql));
-    Ok(())
+fn hosts_after_a_restart(rt: HostRuntime) {
+    assert!(rt; in_memory(rt.alloc(), &OneServer));
+    assert!(rt; in_sql(rt.alloc(), &OneServer));
 }
 
-// A database that was never started refuses each row.
 #[test]
-fn refused_host(rt: HostRuntime) -> Result<(), Fail> {
-    let alloc = rt.alloc();
-    let mut in_sql = database(alloc, None).ok_or("no store")?;
-    assert_eq!(rt; played(alloc, &mut in_sql, HOST_REFUSED), (None, 1));
-    assert!(rt; holds(&in_sql, 0, ""));
-    Ok(())
+fn refused_host(rt: HostRuntime) {
+    assert!(rt; in_sql(rt.alloc(), &Unstarted));
 }
 
-// A restart is all that a server asks for where no host locks; and a full store is asked for one row, and stays.
+// A full store is asked for one row, and stays.
+fn stays_full(alloc: Global) -> Option<bool> {
+    let mut full = memory(alloc, 0, all_hosts(alloc)?)?;
+    let told = played(alloc, &mut full, REFUSED_HOST);
+    Some(told == (None, 2) && full.hosts().len() == 4_096)
+}
+
 #[test]
-fn share_conflict(rt: HostRuntime) -> Result<(), Fail> {
-    let alloc = rt.alloc();
-    let mut fresh = memory(alloc, 0, Vec::new(alloc)).ok_or("no store")?;
-    assert_eq!(rt; played(alloc, &mut fresh, SHARE_CONFLICT), (None, 1));
-    let mut full = memory(alloc, 0, all_hosts(alloc).ok_or("hosts")?).ok_or("no store")?;
-    assert_eq!(rt; played(alloc, &mut full, REFUSED_HOST), (None, 2));
-    assert_eq!(rt; full.hosts().len(), 4_096);
-    Ok(())
+fn share_conflict(rt: HostRuntime) {
+    assert!(rt; in_memory(rt.alloc(), &NoLock));
+    assert_eq!(rt; stays_full(rt.alloc()), Some(true));
 }
