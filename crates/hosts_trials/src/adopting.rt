@@ -1,9 +1,7 @@
 //! Files that the store refuses, beside the nearest ones that it takes.
 use crate::tables::{FIRST, SECOND};
-use crate::visits::{Came, Work, fresh, visit_files};
+use crate::visits::{Came, Trials, Work, fresh, visit_files};
 use hosts_db::HostStore;
-use sqlite::Files;
-use sqlite_disk::Memory;
 use std::alloc::{AllocError, Global};
 use std::test::*;
 
@@ -34,7 +32,7 @@ impl Work for Start {
 }
 
 // Files with these tables and rows, where the SQL ran. They are opened once more, since that begins the log anew.
-fn made(alloc: Global, sql: [&str; 2]) -> Option<Files<Memory>> {
+fn made(alloc: Global, sql: [&str; 2]) -> Option<Trials> {
     let mut look = Look((0, 0, 0));
     let (came, files) = visit_files(alloc, fresh(alloc), sql, &mut look);
     let (_, files) = visit_files(alloc, files, ["", ""], &mut look);
@@ -45,7 +43,7 @@ fn made(alloc: Global, sql: [&str; 2]) -> Option<Files<Memory>> {
 }
 
 // Makes a store, and then starts one: whether the files are refused, or show this and start.
-fn shows(alloc: Global, files: Files<Memory>, want: Option<Shown>) -> (bool, Files<Memory>) {
+fn shows(alloc: Global, files: Trials, want: Option<Shown>) -> (bool, Trials) {
     let mut look = Look((0, 0, 0));
     let (came, files) = visit_files(alloc, files, ["", ""], &mut look);
     let is_so = match want {
@@ -55,7 +53,7 @@ fn shows(alloc: Global, files: Files<Memory>, want: Option<Shown>) -> (bool, Fil
     (is_so, files)
 }
 
-fn starts(alloc: Global, files: Files<Memory>) -> bool {
+fn starts(alloc: Global, files: Trials) -> bool {
     let mut start = Start(false);
     visit_files(alloc, files, ["", ""], &mut start);
     start.0
@@ -64,10 +62,11 @@ fn starts(alloc: Global, files: Files<Memory>) -> bool {
 // Whether the store takes these tables and rows as is wanted, and leaves each byte of the files.
 fn adopts(alloc: Global, sql: [&str; 2], want: Option<Shown>) -> Option<bool> {
     let files = made(alloc, sql)?;
-    let log = Vec::from_slice(alloc, files.log.bytes()).ok()?;
-    let db = Vec::from_slice(alloc, files.db.bytes()).ok()?;
+    let log = Vec::from_slice(alloc, files.log.inner().bytes()).ok()?;
+    let db = Vec::from_slice(alloc, files.db.inner().bytes()).ok()?;
     let (is_so, files) = shows(alloc, files, want);
-    let is_left = files.log.bytes() == log.as_slice() && files.db.bytes() == db.as_slice();
+    let is_left = files.log.inner().bytes() == log.as_slice()
+        && files.db.inner().bytes() == db.as_slice();
     Some(is_so && is_left && starts(alloc, files) == want.is_some())
 }
 
@@ -103,7 +102,7 @@ fn is_so(alloc: Global, tables: &str, row: Row) -> bool {
 }
 
 // The first row that isn't so.
-fn wrong(alloc: Global, tables: &str, rows: &[Row]) -> Option<&'static str> {
+fn wrong_in(alloc: Global, tables: &str, rows: &[Row]) -> Option<&'static str> {
     for row in rows {
         if !is_so(alloc, tables, *row) {
             return Some(row.0);
@@ -133,11 +132,6 @@ const TABLES: [Row; 11] = [
     ),
 ];
 
-#[test]
-fn some_but_not_all_tables(rt: HostRuntime) {
-    assert_eq!(rt; wrong(rt.alloc(), SECOND, &TABLES), None);
-}
-
 /// No row of its own, another version, and numbers that are no state.
 const OWN: [Row; 9] = [
     ("DELETE FROM own", None),
@@ -153,11 +147,6 @@ const OWN: [Row; 9] = [
     ("UPDATE own SET state = 2147483648", None),
     ("UPDATE own SET state = 4294967301", None),
 ];
-
-#[test]
-fn own_out_of_range(rt: HostRuntime) {
-    assert_eq!(rt; wrong(rt.alloc(), SECOND, &OWN), None);
-}
 
 /// A name, and the epoch, the state seen and the quota.
 const HOSTS: [Row; 12] = [
@@ -180,11 +169,6 @@ const HOSTS: [Row; 12] = [
     ("INSERT INTO hosts2 VALUES (<1>, 0, 0, 65537)", None),
     ("INSERT INTO hosts2 VALUES (<1>, 0, 0, 4294967296)", None),
 ];
-
-#[test]
-fn host_out_of_range(rt: HostRuntime) {
-    assert_eq!(rt; wrong(rt.alloc(), SECOND, &HOSTS), None);
-}
 
 /// Two names, the program, version and procedure, and the private bytes.
 const WATCHES: [Row; 9] = [
@@ -220,11 +204,6 @@ const WATCHES: [Row; 9] = [
     ("INSERT INTO watches VALUES (<1>, <1>, 0, 0, 0, <17>)", None),
 ];
 
-#[test]
-fn watch_out_of_range(rt: HostRuntime) {
-    assert_eq!(rt; wrong(rt.alloc(), SECOND, &WATCHES), None);
-}
-
 /// Rows that fit, and the nearest ones that don't.
 const ROWS: [Row; 11] = [
     ("", Some((5, 0, 0))),
@@ -249,11 +228,6 @@ const ROWS: [Row; 11] = [
     ("DROP TABLE watches", None),
 ];
 
-#[test]
-fn adopts_what_fits(rt: HostRuntime) {
-    assert_eq!(rt; wrong(rt.alloc(), SECOND, &ROWS), None);
-}
-
 /// Files of schema 1.
 const FIRST_ROWS: [Row; 7] = [
     ("INSERT INTO own VALUES (1, 1, 3)", Some((3, 0, 0))),
@@ -271,7 +245,18 @@ const FIRST_ROWS: [Row; 7] = [
     ("INSERT INTO own VALUES (1, 1, 3); DROP TABLE hosts", None),
 ];
 
+// The first row of all that isn't so.
+fn wrong(alloc: Global) -> Option<&'static str> {
+    for rows in [&TABLES[..], &OWN, &HOSTS, &WATCHES, &ROWS] {
+        let wrong = wrong_in(alloc, SECOND, rows);
+        if wrong.is_some() {
+            return wrong;
+        }
+    }
+    wrong_in(alloc, FIRST, &FIRST_ROWS)
+}
+
 #[test]
-fn refuses_what_does_not_fit(rt: HostRuntime) {
-    assert_eq!(rt; wrong(rt.alloc(), FIRST, &FIRST_ROWS), None);
+fn adopts_just_what_fits(rt: HostRuntime) {
+    assert_eq!(rt; wrong(rt.alloc()), None);
 }

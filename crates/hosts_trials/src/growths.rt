@@ -59,7 +59,8 @@ impl Work for Growths {
     }
 }
 
-// The line at which it goes wrong. Where a growth is refused before there is a store, nothing does.
+// The line at which it goes wrong. Where a growth is refused before there is a store, nothing does. The database is in memory,
+// since a file that wants memory fails, and then the store refuses until it is opened again.
 fn wrong(alloc: Global) -> Option<&'static str> {
     let mut growths = Growths {
         alloc,
@@ -67,7 +68,7 @@ fn wrong(alloc: Global) -> Option<&'static str> {
         wrong: None,
     };
     let conn = Connection::open_in_memory(alloc).ok()?;
-    let (came, _conn) = visit(alloc, conn, ["", ""], &mut growths);
+    let (came, _store) = visit(alloc, conn, ["", ""], &mut growths);
     match came {
         Came::Unopened | Came::Unfilled => Some("no database"),
         _ => growths.wrong,

@@ -3,9 +3,8 @@
 use crate::calls::{answers, call, run};
 use crate::shown::{are_same, model, shown};
 use crate::tables::FIRST;
-use crate::visits::{Came, Work, visit};
+use crate::visits::{Came, Work, fresh, visit_files};
 use hosts_db::{HostStore, MemHosts};
-use sqlite::{Connection, MemStore};
 use std::alloc::{AllocError, Global};
 use std::fmt::Write;
 use std::test::*;
@@ -60,7 +59,7 @@ impl Work for Both<'_> {
     }
 }
 
-/// Visits of a database in memory.
+/// Visits of one database.
 #[derive(Clone, Copy)]
 struct Story<'a> {
     // What it holds, and the calls after which a store in memory holds the same.
@@ -78,18 +77,13 @@ struct Story<'a> {
 
 // What goes wrong.
 fn wrong<'a>(alloc: Global, story: Story<'a>) -> Option<&'a str> {
-    match (model(alloc), Connection::open_in_memory(alloc)) {
-        (Some(model), Ok(conn)) => wrong_from(alloc, model, conn, story),
-        _ => Some("no memory"),
+    match model(alloc) {
+        Some(model) => wrong_from(alloc, model, story),
+        None => Some("no memory"),
     }
 }
 
-fn wrong_from<'a>(
-    alloc: Global,
-    mut model: MemHosts,
-    conn: Connection<MemStore>,
-    story: Story<'a>,
-) -> Option<&'a str> {
+fn wrong_from<'a>(alloc: Global, mut model: MemHosts, story: Story<'a>) -> Option<&'a str> {
     run(&mut model, story.past, usize::MAX);
     let mut both = Both {
         alloc,
@@ -98,17 +92,17 @@ fn wrong_from<'a>(
         script: story.script,
         wrong: None,
     };
-    let (came, conn) = visit(alloc, conn, story.sql, &mut both);
+    let (came, files) = visit_files(alloc, fresh(alloc), story.sql, &mut both);
     if came != Came::Worked || both.wrong.is_some() {
         return both.wrong.or(Some("the first visit"));
     }
     both.first = "";
     both.script = story.again;
-    let (came, conn) = visit(alloc, conn, ["", story.found], &mut both);
+    let (came, files) = visit_files(alloc, files, ["", story.found], &mut both);
     if came != Came::Worked || both.wrong.is_some() {
         return both.wrong.or(Some("the second visit"));
     }
-    let (came, _conn) = visit(alloc, conn, ["", story.more], &mut both);
+    let (came, _files) = visit_files(alloc, files, ["", story.more], &mut both);
     if came != Came::Refused {
         return Some("one row more");
     }

@@ -9,7 +9,7 @@
 use crate::messages::message;
 use callbacks::ShortBytes;
 use daemon_core::{Addressee, Daemon, Event, Frame, Outputs, Peer, Posting, StoreAnswer};
-use hosts_db::HostStore;
+use hosts_db::{HostRow, HostStore};
 use hosts_lent::Lent;
 use range_table::{FlatTable, RangeTable};
 use std::alloc::Global;
@@ -111,14 +111,20 @@ fn happens<T: RangeTable, S: HostStore>(
     }))
 }
 
-// Whether just this is sent.
-fn is_sent(alloc: Global, room: &mut Frame, outputs: &Outputs, text: &str) -> Option<bool> {
-    let told = message(alloc, text)?;
-    let mut bytes = Vec::new(alloc);
-    if let Some(sent) = &outputs.sent {
-        sent.write(room, &mut bytes).ok()?;
+fn put_sent(room: &mut Frame, outputs: &Outputs, bytes: &mut Vec<u8>) -> bool {
+    match &outputs.sent {
+        Some(sent) => sent.write(room, bytes).is_ok(),
+        None => true,
     }
-    Some(bytes.as_slice() == told.as_slice())
+}
+
+// Whether just this is sent.
+fn is_sent(alloc: Global, room: &mut Frame, outputs: &Outputs, text: &str) -> bool {
+    let Some(told) = message(alloc, text) else {
+        return false;
+    };
+    let mut bytes = Vec::new(alloc);
+    put_sent(room, outputs, &mut bytes) && bytes.as_slice() == told.as_slice()
 }
 
 /// Whether a line goes well, or the store has refused. None where it goes otherwise than the line says. The room is lent for
@@ -138,7 +144,7 @@ pub(crate) fn goes<T: RangeTable, S: HostStore>(
     let outputs = happens(alloc, daemon, event)?;
     let is_refused = outputs.store == StoreAnswer::Refused;
     let text = if is_refused { refusal } else { answer };
-    is_sent(alloc, room, &outputs, text)?.then_some(!is_refused)
+    is_sent(alloc, room, &outputs, text).then_some(!is_refused)
 }
 
 /// How many lines go well, up to the first that the store refuses. None where one goes otherwise than it says.
@@ -156,27 +162,50 @@ pub(crate) fn played<T: RangeTable, S: HostStore>(
     Some(script.lines().count())
 }
 
-// Whether the call that is due is the notice to the host at this place.
-fn is_notice<T: RangeTable, S: HostStore>(
+fn notice(alloc: Global, at: usize, own: u32) -> Option<String> {
+    let mut text = String::new(alloc);
+    match write!(text, "{} notice {own}", at.saturating_add(1)) {
+        Ok(()) => Some(text),
+        Err(_) => None,
+    }
+}
+
+fn is_to(outputs: &Outputs, host: &HostRow) -> bool {
+    match &outputs.sent {
+        Some(sent) => match sent.to() {
+            Addressee::Host(name) => name == host.name(),
+            _ => false,
+        },
+        None => false,
+    }
+}
+
+// Whether this is the notice to the host at this place.
+fn is_notice<S: HostStore>(
+    alloc: Global,
+    store: &S,
+    room: &mut Frame,
+    outputs: &Outputs,
+    at: usize,
+) -> bool {
+    match (notice(alloc, at, store.own()), store.hosts().get(at)) {
+        (Some(text), Some(host)) => { is_to(outputs, host) && is_sent(alloc, room, outputs, &text) }
+        _ => false,
+    }
+}
+
+fn notifies_one<T: RangeTable, S: HostStore>(
     alloc: Global,
     daemon: &mut Daemon<T, S>,
     room: &mut Frame,
     at: usize,
-) -> Option<bool> {
-    let outputs = daemon.step(send(alloc)?);
-    let mut text = String::new(alloc);
-    write!(
-        text,
-        "{} notice {}",
-        at.saturating_add(1),
-        daemon.store().own()
-    )
-    .ok()?;
-    let is_notice = is_sent(alloc, room, &outputs, &text)?;
-    let host = daemon.store().hosts().get(at)?;
-    match outputs.sent.as_ref()?.to() {
-        Addressee::Host(name) => Some(is_notice && name == host.name()),
-        _ => None,
+) -> bool {
+    match send(alloc) {
+        Some(event) => {
+            let outputs = daemon.step(event);
+            is_notice(alloc, daemon.store(), room, &outputs, at)
+        }
+        None => false,
     }
 }
 
@@ -187,12 +216,12 @@ pub(crate) fn notifies<T: RangeTable, S: HostStore>(
     room: &mut Frame,
 ) -> bool {
     for at in 0..daemon.store().hosts().len() {
-        if is_notice(alloc, daemon, room, at) != Some(true) {
+        if !notifies_one(alloc, daemon, room, at) {
             return false;
         }
     }
     match send(alloc) {
-        None => false,
         Some(event) => daemon.step(event).sent.is_none(),
+        None => false,
     }
 }

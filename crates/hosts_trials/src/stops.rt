@@ -2,10 +2,10 @@
 use crate::calls::run;
 use crate::shown::{shown, shown_after};
 use crate::tables::FIRST;
-use crate::visits::{Came, Work, fresh, visit_files};
+use crate::visits::{Trials, Work, fresh, visit_files};
 use hosts_db::HostStore;
 use sqlite::Files;
-use sqlite_disk::{Crash, Fuse, Memory};
+use sqlite_disk::{Crash, Disk, Fuse, Memory};
 use std::alloc::Global;
 use std::test::*;
 
@@ -66,13 +66,16 @@ impl Work for Look {
     }
 }
 
+// A copy of a file that answers so many calls.
+fn copied(alloc: Global, file: &Fuse<Memory>, calls: u64) -> Option<Fuse<Memory>> {
+    let mut copy = Memory::new(alloc);
+    copy.write_at(0, file.inner().bytes()).ok()?;
+    copy.sync().ok()?;
+    Some(Fuse::new(copy, calls))
+}
+
 /// Files that hold these tables and rows, of which one answers so many calls more.
-pub(crate) fn stopping(
-    alloc: Global,
-    sql: [&str; 2],
-    stop: Stop,
-    calls: u64,
-) -> Files<Fuse<Memory>> {
+pub(crate) fn stopping(alloc: Global, sql: [&str; 2], stop: Stop, calls: u64) -> Option<Trials> {
     let mut files = fresh(alloc);
     if !sql[0].is_empty() {
         let mut look = Look { alloc, text: None };
@@ -82,14 +85,14 @@ pub(crate) fn stopping(
         Stop::Log => (calls, u64::MAX),
         Stop::Database => (u64::MAX, calls),
     };
-    Files {
-        log: Fuse::new(files.log, log),
-        db: Fuse::new(files.db, db),
-    }
+    Some(Files {
+        log: copied(alloc, &files.log, log)?,
+        db: copied(alloc, &files.db, db)?,
+    })
 }
 
 /// Has a store over these files do the work after a crash, which takes what no sync has kept.
-pub(crate) fn after_crash<W: Work>(alloc: Global, mut files: Files<Fuse<Memory>>, work: &mut W) {
+pub(crate) fn after_crash<W: Work>(alloc: Global, mut files: Trials, work: &mut W) {
     files.log.crash();
     files.db.crash();
     visit_files(alloc, files, ["", ""], work);
@@ -110,7 +113,7 @@ impl Trial for Script<'_> {
             script: self.script,
             done: 0,
         };
-        let files = stopping(alloc, self.sql, stop, calls);
+        let files = stopping(alloc, self.sql, stop, calls)?;
         let (_, left) = visit_files(alloc, files, ["", ""], &mut made);
         let mut look = Look { alloc, text: None };
         after_crash(alloc, left, &mut look);
@@ -155,37 +158,6 @@ fn are_met_by(alloc: Global, script: &str) -> bool {
     are_met(alloc, &trial)
 }
 
-#[test]
-fn stop_at_each_write_of_start(rt: HostRuntime) {
-    assert!(rt; are_met_by(rt.alloc(), "start\nstart"));
-}
-
-#[test]
-fn stop_at_each_write_of_monitor(rt: HostRuntime) {
-    assert!(rt; are_met_by(rt.alloc(), "start\nmonitor b -5"));
-}
-
-#[test]
-fn stop_at_each_write_of_seen(rt: HostRuntime) {
-    assert!(rt; are_met_by(rt.alloc(), "start\nmonitor b -5\nseen b 8"));
-}
-
-#[test]
-fn stop_at_each_write_of_acked(rt: HostRuntime) {
-    assert!(rt; are_met_by(rt.alloc(), "start\nmonitor b -5\nstart\nacked b 3"));
-}
-
-#[test]
-fn stop_at_each_write_of_quota(rt: HostRuntime) {
-    assert!(rt; are_met_by(rt.alloc(), "start\nmonitor b -5\nquota b 5"));
-}
-
-// A watch of a new host, the same with other bytes, and one of a stored host.
-#[test]
-fn stop_at_each_write_of_watch(rt: HostRuntime) {
-    assert!(rt; are_met_by(rt.alloc(), "start\nwatch b f 7\nwatch b f 9\nwatch b e 8"));
-}
-
 /// Of one host, and of all.
 const UNWATCHED: &str = "\
 start
@@ -196,9 +168,29 @@ unwatch b f
 unwatch * f
 ";
 
+/// Each call that writes, as the last one. A watch is of a new host, the same with other bytes, and of a stored host.
+const SCRIPTS: [&str; 7] = [
+    "start\nstart",
+    "start\nmonitor b -5",
+    "start\nmonitor b -5\nseen b 8",
+    "start\nmonitor b -5\nstart\nacked b 3",
+    "start\nmonitor b -5\nquota b 5",
+    "start\nwatch b f 7\nwatch b f 9\nwatch b e 8",
+    UNWATCHED,
+];
+
+fn wrong(alloc: Global) -> Option<&'static str> {
+    for script in SCRIPTS {
+        if !are_met_by(alloc, script) {
+            return Some(script);
+        }
+    }
+    None
+}
+
 #[test]
-fn stop_at_each_write_of_unwatch(rt: HostRuntime) {
-    assert!(rt; are_met_by(rt.alloc(), UNWATCHED));
+fn stop_at_each_write(rt: HostRuntime) {
+    assert_eq!(rt; wrong(rt.alloc()), None);
 }
 
 /// The own state 3, and two hosts of schema 1.

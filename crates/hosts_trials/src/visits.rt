@@ -1,8 +1,8 @@
 //! A database that has a store made over it; one in two files is opened before, and closed again.
 use hosts_db::{HostStore, StoreError};
 use hosts_sql::SqlHosts;
-use sqlite::{Alter, Connection, Files, Options};
-use sqlite_disk::{Disk, Memory};
+use sqlite::{Alter, Connection, FileStore, Files, Options};
+use sqlite_disk::{Disk, Fuse, Memory};
 use std::alloc::Global;
 
 // Few pages in memory, and each commit is copied into the database file, so that a call writes both files.
@@ -51,23 +51,37 @@ fn all_hold<S: Alter + Drop>(conn: &mut Connection<S>, sql: &str) -> bool {
     true
 }
 
-/// Runs the lines of both texts of SQL, makes a store, and has it do the work. The connection comes back.
+/// Runs the lines of both texts of SQL, makes a store, and has it do the work. What the database is kept in comes back.
 pub(crate) fn visit<S: Alter + Drop, W: Work>(
     alloc: Global,
     mut conn: Connection<S>,
     sql: [&str; 2],
     work: &mut W,
-) -> (Came, Connection<S>) {
+) -> (Came, S) {
     if !all_hold(&mut conn, sql[0]) || !all_hold(&mut conn, sql[1]) {
-        return (Came::Unfilled, conn);
+        return (Came::Unfilled, conn.into_store());
     }
     match SqlHosts::adopt(alloc, conn) {
         Ok(mut store) => {
             work.work(&mut store);
-            (Came::Worked, store.into_connection())
+            (Came::Worked, store.into_connection().into_store())
         }
-        Err((StoreError::StoreRefused, conn)) => (Came::Refused, conn),
-        Err((StoreError::Starved, conn)) => (Came::Starved, conn),
+        Err((StoreError::StoreRefused, conn)) => (Came::Refused, conn.into_store()),
+        Err((StoreError::Starved, conn)) => (Came::Starved, conn.into_store()),
+    }
+}
+
+// The database in these files. Where it can't be opened, they come back.
+fn opened<D: Disk + Drop>(
+    alloc: Global,
+    files: Files<D>,
+) -> Result<Connection<FileStore<D>>, Files<D>> {
+    if !files.may_be_used() {
+        return Err(files);
+    }
+    match Connection::open_files(alloc, files, OPTIONS) {
+        Ok(conn) => Ok(conn),
+        Err((_, left)) => Err(left.into_files()),
     }
 }
 
@@ -78,22 +92,22 @@ pub(crate) fn visit_files<D: Disk + Drop, W: Work>(
     sql: [&str; 2],
     work: &mut W,
 ) -> (Came, Files<D>) {
-    if !files.may_be_used() {
-        return (Came::Unopened, files);
-    }
-    match Connection::open_files(alloc, files, OPTIONS) {
+    match opened(alloc, files) {
         Ok(conn) => {
-            let (came, conn) = visit(alloc, conn, sql, work);
-            (came, conn.into_store().close())
+            let (came, store) = visit(alloc, conn, sql, work);
+            (came, store.close())
         }
-        Err((_, left)) => (Came::Unopened, left.into_files()),
+        Err(files) => (Came::Unopened, files),
     }
 }
 
-/// Fresh files.
-pub(crate) fn fresh(alloc: Global) -> Files<Memory> {
+/// Files that may stop. All trials but that of growths have these: of each kind the compiler builds a database of its own.
+pub(crate) type Trials = Files<Fuse<Memory>>;
+
+/// Fresh files that never stop.
+pub(crate) fn fresh(alloc: Global) -> Trials {
     Files {
-        log: Memory::new(alloc),
-        db: Memory::new(alloc),
+        log: Fuse::new(Memory::new(alloc), u64::MAX),
+        db: Fuse::new(Memory::new(alloc), u64::MAX),
     }
 }
