@@ -9,12 +9,8 @@ use Rattle.std.specs.Ordering.{is_eq, is_lt, ordering_reverse}
 use Rattle.std.specs.declared.cmp.Ordering.{Ordering}
 use Rattle.std.specs.declared.cmp.Ordering.TheVariants.{Less, Equal, Greater}
 use Rattle.definitions.specs.Bytes.{is_any, first_that, put, placed, IsBelowAll, IsAscending}
+use Rattle.hosts_db.specs.Changes.{change}
 use Rattle.hosts_db.specs.Places.{IsPlace}
-
--- the element of the list that passes is changed
-abbrev pub change : {X : Type 0} → (X → Bool) → (X → X) → List X → List X
-change p g [] = []
-change p g (y ∷ ys) = cond (p y) (g y ∷ ys) (y ∷ change p g ys)
 
 module _ {X : Type 0} (cmp : X → X → Ordering) (total : IsTotalOrder cmp) where
   below_at : (y : X) (ys : List X) → IsBelowAll cmp y ys → (k : ℕ) (d : X) → k < length ys → cmp y (get_or ys k d) ≡ Less

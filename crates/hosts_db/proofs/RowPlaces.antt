@@ -6,12 +6,12 @@ use Rattle.std.specs.List.{filter, insert}
 use Rattle.definitions.specs.Bytes.{Bytes, same_bytes, is_any, first_that, put, without, IsAscending}
 use Rattle.definitions.specs.Nsm.{MyId}
 use Rattle.definitions.specs.Hosts.{HostRow, Watch, row_cmp, watch_cmp, is_watch, with_seen, with_epoch, with_quota}
+use Rattle.hosts_db.specs.Changes.{is_named, change, changed}
+use Rattle.hosts_db.specs.declared.rows.RowChange.{RowChange}
+use Rattle.hosts_db.specs.declared.rows.RowChange.TheVariants as to
 use Rattle.hosts_db.specs.Places.{IsAt, IsGap, IsPlace, IsInside, put_at_place, len_after, row_named, watch_keyed}
 use Rattle.hosts_db.proofs.Orders.{row_total, watch_total, row_agrees, watch_agrees}
-use Rattle.hosts_db.proofs.Places.{change, any_at, first_at, change_at, put_at, none_gap, first_none, change_none, put_gap, change_ascends}
-
-abbrev pub is_named : Bytes → HostRow → Bool
-is_named name r = same_bytes r.name name
+use Rattle.hosts_db.proofs.Places.{any_at, first_at, change_at, put_at, none_gap, first_none, change_none, put_gap, change_ascends}
 
 module _ (rows : List HostRow) (name : Bytes) (rise : IsAscending row_cmp rows) where
   pub row_at : (at : ℕ) (d : HostRow) → IsAt row_cmp (row_named name) rows at → first_that (is_named name) rows ≡ Some (get_or rows at d)
@@ -53,22 +53,27 @@ watch_put_gap watches w at h = sym (put_gap watch_cmp watch_total w (is_watch (S
 
 -- ---- the changes of one row
 
-pub seen_is_change : (name : Bytes) (seen : ℤ) (rows : List HostRow) → change (is_named name) (λ r. record r { seen = seen }) rows ≡ with_seen name seen rows
+pub seen_is_change : (name : Bytes) (seen : ℤ) (rows : List HostRow) → change (is_named name) (changed (to.Seen seen)) rows ≡ with_seen name seen rows
 seen_is_change name seen [] = refl
 seen_is_change name seen (r ∷ rows) = ap (λ rs. cond (same_bytes r.name name) (record r { seen = seen } ∷ rows) (r ∷ rs)) (seen_is_change name seen rows)
 
-pub epoch_is_change : (name : Bytes) (epoch : ℕ) (rows : List HostRow) → change (is_named name) (λ r. record r { epoch = epoch }) rows ≡ with_epoch name epoch rows
+pub epoch_is_change : (name : Bytes) (epoch : ℕ) (rows : List HostRow) → change (is_named name) (changed (to.Epoch epoch)) rows ≡ with_epoch name epoch rows
 epoch_is_change name epoch [] = refl
 epoch_is_change name epoch (r ∷ rows) = ap (λ rs. cond (same_bytes r.name name) (record r { epoch = epoch } ∷ rows) (r ∷ rs)) (epoch_is_change name epoch rows)
 
-pub quota_is_change : (name : Bytes) (runs : ℕ) (rows : List HostRow) → change (is_named name) (λ r. record r { quota = runs }) rows ≡ with_quota name runs rows
+pub quota_is_change : (name : Bytes) (runs : ℕ) (rows : List HostRow) → change (is_named name) (changed (to.Quota runs)) rows ≡ with_quota name runs rows
 quota_is_change name runs [] = refl
 quota_is_change name runs (r ∷ rows) = ap (λ rs. cond (same_bytes r.name name) (record r { quota = runs } ∷ rows) (r ∷ rs)) (quota_is_change name runs rows)
 
--- a change that keeps names keeps the order
-pub keeps_order : (name : Bytes) (g : HostRow → HostRow) → ((r : HostRow) → (g r).name ≡ r.name) → (rows : List HostRow) → IsAscending row_cmp rows → IsAscending row_cmp (change (is_named name) g rows)
-keeps_order name g same rows h =
-    change_ascends row_cmp (is_named name) g (λ r s. ap (λ n. row_cmp (row_named n) s) (same r)) (λ r s. ap (λ n. row_cmp s (row_named n)) (same r)) rows h
+-- names stay, and so does the order
+keeps_name : (k : RowChange) (r : HostRow) → (changed k r).name ≡ r.name
+keeps_name (to.Seen seen) r = refl
+keeps_name (to.Epoch epoch) r = refl
+keeps_name (to.Quota quota) r = refl
+
+pub keeps_order : (name : Bytes) (k : RowChange) (rows : List HostRow) → IsAscending row_cmp rows → IsAscending row_cmp (change (is_named name) (changed k) rows)
+keeps_order name k rows h =
+    change_ascends row_cmp (is_named name) (changed k) (λ r s. ap (λ n. row_cmp (row_named n) s) (keeps_name k r)) (λ r s. ap (λ n. row_cmp s (row_named n)) (keeps_name k r)) rows h
 
 -- ---- an item that is put in its place
 

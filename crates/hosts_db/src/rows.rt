@@ -2,6 +2,7 @@
 ghost use Rattle.std.specs.Prelude.{◌≡◌, ◌≤◌, length, IfOk};
 ghost use Rattle.definitions.specs.Bytes.{bytes_cmp, same_bytes};
 ghost use Rattle.definitions.specs.Hosts.{my_id_cmp, is_watch};
+ghost use Rattle.hosts_db.specs.Changes.{changed};
 ghost use Rattle.std.specs.Ordering.{ordering_then};
 ghost use Rattle.std.specs.Option.{option_copied};
 
@@ -22,6 +23,14 @@ pub struct HostRow {
     epoch: u32,
     seen: i32,
     quota: u32,
+}
+
+/// What of a row changes, and what to.
+#[derive(Clone, Copy)]
+pub(crate) enum RowChange {
+    Seen(i32),
+    Epoch(u32),
+    Quota(u32),
 }
 
 impl Model for HostRow {
@@ -78,22 +87,14 @@ impl HostRow {
         self.quota
     }
 
-    pub(crate) fn set_epoch(&mut self, epoch: u32)
-        ensures { self.new ≡ record self.old { epoch = epoch } }
+    pub(crate) fn change(&mut self, change: RowChange)
+        ensures { self.new ≡ changed change self.old }
     {
-        self.epoch = epoch;
-    }
-
-    pub(crate) fn set_seen(&mut self, seen: i32)
-        ensures { self.new ≡ record self.old { seen = seen } }
-    {
-        self.seen = seen;
-    }
-
-    pub(crate) fn set_quota(&mut self, quota: u32)
-        ensures { self.new ≡ record self.old { quota = quota } }
-    {
-        self.quota = quota;
+        match change {
+            RowChange::Seen(seen) => self.seen = seen,
+            RowChange::Epoch(epoch) => self.epoch = epoch,
+            RowChange::Quota(quota) => self.quota = quota,
+        }
     }
 
     // How the row's name compares with another.
