@@ -8,7 +8,7 @@ use Rattle.record_reading.specs.Readings.{IsReading}
 use Rattle.record_reading.specs.Answers.{IsAnswerReading}
 use Rattle.local_ops.specs.Grammar.{Reads as LineReads}
 use Rattle.book.specs.Given.{starved_reading, comes_to}
-use Rattle.book.specs.Notes.{Takes, HearsAnswer, AsksLine, FallsSilent, GraceEnds, BeginsAnew, IsStep, Steps}
+use Rattle.book.specs.Notes.{Takes, HearsAnswer, AsksLine, FallsSilent, GraceEnds, BeginsAnew, Steps}
 use Rattle.book.proofs.Calls.{starved_early}
 
 module _ (s : State) (peer : Peer) (bytes : Bytes) where

@@ -1,5 +1,5 @@
 -- What a plan says: what the store is asked, and what follows.
-use Rattle.std.specs.Prelude.{◌≡◌, ◌≢◌, ◌⊎◌, ◌<◌, ◌≤◌, ℕ, ◌+◌, Bool, true, false, List, [], ◌∷◌, length, Some, None}
+use Rattle.std.specs.Prelude.{◌≡◌, ◌≢◌, ◌⊎◌, ◌<◌, ◌≤◌, ℕ, ◌+◌, Bool, true, false, List, length, Some, None}
 use Rattle.definitions.specs.Owners.{Owner, is_of_host}
 use Rattle.definitions.specs.Settings.{Setting, Request}
 use Rattle.definitions.specs.Starts.{refuses}
@@ -8,7 +8,7 @@ use Rattle.definitions.specs.Hosts as hosts
 use Rattle.definitions.specs.Hosts.{StoreCall, StoreAnswer, NotAsked, Yes, Refused, has_row, after_store, is_past_limit}
 use Rattle.definitions.specs.Outgoing.{Letter}
 use Rattle.definitions.specs.Waits.{is_waiting, without_waiter}
-use Rattle.definitions.specs.World.{World, the_limits, slots_free, with_setting, with_waiter, with_hosts, with_due, with_all_due, without_host_of, opening}
+use Rattle.definitions.specs.World.{World, the_limits, slots_free, with_setting, with_waiter, with_hosts, with_all_due, without_host_of, opening}
 use Rattle.definitions.specs.Grants.{granted_res_rules}
 use Rattle.definitions.specs.Replies.{Outcome}
 use Rattle.definitions.specs.Rulings.{Ruling, decided, ruled}

@@ -1,9 +1,7 @@
 -- Parts, digits and pieces of a line.
-use Rattle.std.proofs.Common.{◌≡◌, ℕ, zero, suc, ◌-◌, ◌<◌, get_or, subst, arith, ◌/◌, ◌%◌, List, [], ◌∷◌, ◌++◌, Option, Some, None, take, drop, length, slice_index, refl, sym, ◌∙◌, ap, append_assoc}
-use Rattle.std.proofs.lemmas.Grind.{common_steps}
-use Rattle.std.proofs.lemmas.List.{append-nil, take-append-drop}
+use Rattle.std.proofs.Common.{◌≡◌, ℕ, zero, suc, ◌-◌, ◌<◌, get_or, subst, arith, ◌/◌, ◌%◌, List, [], ◌∷◌, ◌++◌, Option, take, drop, length, slice_index, refl, sym, ◌∙◌, ap, append_assoc}
 use Rattle.std.specs.Io.KnownBytes.{Appends}
-use Rattle.std.specs.Prelude.{Result, Ok, Err, IsErr, codes}
+use Rattle.std.specs.Prelude.{Result, IsErr, codes}
 use Rattle.std.specs.List.{flat_map}
 use Rattle.hex.specs.Hex.{encode_with}
 use Rattle.local_ops.specs.Texts.{spaced, line}

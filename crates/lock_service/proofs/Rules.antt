@@ -7,12 +7,11 @@ use Rattle.definitions.specs.Bytes.{Bytes, without_first}
 use Rattle.definitions.specs.Owners.{Owner}
 use Rattle.definitions.specs.Settings.{Mode, Request, Setting, setting_of}
 use Rattle.definitions.specs.Conflict.{conflicts}
-use Rattle.definitions.specs.Starts.{is_short}
-use Rattle.definitions.specs.Phases.{Cancelling, Locking, CallKind}
+use Rattle.definitions.specs.Phases.{Cancelling, Locking}
 use Rattle.definitions.specs.Quotas.{quotas_of, lacks_room}
 use Rattle.definitions.specs.Hosts.{Hosts, StoreCall, Monitor, has_row, after_store}
 use Rattle.definitions.specs.Nlm as nlm
-use Rattle.definitions.specs.Nlm.{Stat, STALE_FH, FBIG}
+use Rattle.definitions.specs.Nlm.{Stat}
 use Rattle.definitions.specs.Waits.{Waiter, is_waiting, without_waiter, same_request as is_same_request, closes_cycle}
 use Rattle.definitions.specs.World.{World, the_limits, slots_free, with_hosts, with_setting, with_waiter}
 use Rattle.definitions.specs.Ranges.{range_refusal, request_of}

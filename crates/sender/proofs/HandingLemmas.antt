@@ -1,5 +1,5 @@
 -- Turns of the sender, one behind another.
-use Rattle.std.proofs.Common.{◌≡◌, ℕ, ◌+◌, List, subst, sym}
+use Rattle.std.proofs.Common.{◌≡◌, ◌+◌, List, subst, sym}
 use Rattle.serve_loops.specs.Calls.{Call}
 use Rattle.serve_loops.proofs.CallLemmas.{Hands-none, Hands-more}
 use Rattle.sender.specs.Handing.{HandsOn}

@@ -1,11 +1,8 @@
 use Rattle.std.proofs.Common.{subst, ℕ, List, inl, inr}
-use Rattle.kept_replies.specs.Pairs.{view_of_peer}
-use Rattle.record_reading.specs.Values.{view_of_reading}
-use Rattle.record_reading.specs.Readings.{IsReading}
 use Rattle.record_reading.specs.Answers.{IsAnswerReading, view_of_answer}
 use Rattle.local_ops.specs.Calls.{line_read}
 use Rattle.local_ops.specs.Grammar.{Reads as LineReads}
-use Rattle.book.proofs.Early.{taken, answer, line, silent, grace, anew}
+use Rattle.book.proofs.Early.{answer, line, silent, grace, anew}
 use Rattle.book.proofs.event.BookEvent.starved_reply.Goals as goal
 
 pub returns-in-Take : goal.returns-in-Take

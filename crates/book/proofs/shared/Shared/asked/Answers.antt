@@ -1,4 +1,4 @@
-use Rattle.std.proofs.Common.{refl, inl, inr}
+use Rattle.std.proofs.Common.{refl}
 use Rattle.definitions.specs.Hosts.{NotAsked}
 use Rattle.definitions.specs.Replies.{Close, SetQuota, LineOk}
 use Rattle.definitions.specs.Step.{State}
