@@ -1,4 +1,5 @@
-//! Worked rows over the flat table and real owners, and random scripts beside a plain list of settings.
+//! Worked rows over the flat table and real owners, random scripts beside a plain list of settings, and one through both tables.
+mod beside;
 mod plain;
 mod rows;
 mod scripts;

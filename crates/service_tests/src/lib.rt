@@ -1,0 +1,11 @@
+//! Tests of the book apart from the daemon above it, where a segment of its journal is full and where its store is begun, and of
+//! the loops of `lockd pipe`. There is nothing in it but tests; the book's other rows are played from bytes to bytes in
+//! `acceptance`.
+#![tactic(auto)]
+
+#[cfg(test)]
+mod lasting;
+#[cfg(test)]
+mod pipe;
+#[cfg(test)]
+mod rotation;

@@ -1,0 +1,4 @@
+//! The worked rows of `lockd pipe`, over readers and writers in memory.
+mod ends;
+mod loops;
+mod rows;

@@ -1,0 +1,172 @@
+//! A stream through the loops of `lockd`, and what they write for it. Bytes are text: words of 4 bytes in hexadecimal, the first
+//! of a record its mark; `00*9` is nine bytes 00.
+ghost use Rattle.std.specs.Prelude.{◌≡◌, [], IfOk};
+
+use super::ends::{Sink, Source};
+use callbacks::ShortBytes;
+use hosts_db::{FULL_QUOTA, HostRow, MemHosts};
+use pipe_loops::{Fault, Server, pipe_loop, table_loop};
+use range_table::FlatTable;
+use std::alloc::Global;
+
+/// What serves the stream.
+#[derive(Clone, Copy, PartialEq, Eq)]
+pub(crate) enum Loop {
+    /// Replies, of a server of no hosts.
+    Replies,
+    /// The same in the grace period, which goes on.
+    RepliesInGrace,
+    /// The same of a server in the own state 1 that knows `a` and `b`.
+    RepliesToHosts,
+    /// The table of locks at the stream's end.
+    Table,
+}
+
+/// How the stream comes, and what can be written.
+#[derive(Clone, Copy)]
+pub(crate) struct Ends {
+    /// The most bytes that one read gives, and how many reads go well.
+    pub(crate) most: usize,
+    pub(crate) reads: usize,
+    /// The bytes of the stream that come before its end, and those for which the writer has room.
+    pub(crate) bytes: usize,
+    pub(crate) room: usize,
+    /// The bytes that are to be written, of all that is told.
+    pub(crate) told: usize,
+}
+
+/// All at once, with room for all.
+pub(crate) const AMPLE: Ends = Ends {
+    most: 8_192,
+    reads: 1_000,
+    bytes: usize::MAX,
+    room: 4_096,
+    told: usize::MAX,
+};
+
+/// A stream, what is told for it, and how the loop ends.
+#[derive(Clone, Copy)]
+pub(crate) struct Stream {
+    pub(crate) which: Loop,
+    pub(crate) comes: &'static str,
+    /// Words, or the text of the table.
+    pub(crate) told: &'static str,
+    pub(crate) ended: Result<(), Fault>,
+}
+
+/// Of `lockd`, which gives up behind so many reads.
+const MOST_READS: u64 = 1_000;
+
+fn put_repeated(bytes: &mut Vec<u8>, byte: &str, count: &str) -> Option<()> {
+    let byte = u8::from_str_radix(byte, 16).ok()?;
+    let count: u32 = count.parse().ok()?;
+    for _ in 0..count {
+        bytes.push(byte).ok()?;
+    }
+    Some(())
+}
+
+fn put_word(bytes: &mut Vec<u8>, word: &str) -> Option<()> {
+    match word.split_once("*") {
+        Some((byte, count)) => put_repeated(bytes, byte, count),
+        None => {
+            let word = u32::from_str_radix(word, 16).ok()?;
+            bytes.extend_from_slice(word.to_be_bytes().as_slice()).ok()
+        }
+    }
+}
+
+// Appends the bytes of these words.
+fn put_words(bytes: &mut Vec<u8>, words: &str) -> bool {
+    for word in words.split_whitespace() {
+        if put_word(bytes, word).is_none() {
+            return false;
+        }
+    }
+    true
+}
+
+fn put_hosts(alloc: Global, hosts: &mut Vec<HostRow>) -> Option<()> {
+    for letter in [b'b', b'a'] {
+        let name = Vec::from_slice(alloc, [letter].as_slice()).ok()?;
+        hosts.push(HostRow::new(name, 1, 3, FULL_QUOTA)).ok()?;
+    }
+    Some(())
+}
+
+fn store(alloc: Global, which: Loop) -> Result<MemHosts, Fault> {
+    let knows = which == Loop::RepliesToHosts;
+    let mut hosts = Vec::new(alloc);
+    if knows && put_hosts(alloc, &mut hosts).is_none() {
+        return Err(Fault::Starved);
+    }
+    match MemHosts::new(alloc, u32::from(knows), hosts, Vec::new(alloc)) {
+        Ok(store) => Ok(store),
+        Err(_) => Err(Fault::StoreRefused),
+    }
+}
+
+// It is named `server`.
+fn server(alloc: Global, which: Loop) -> Result<Server<FlatTable, MemHosts>, Fault>
+    ensures { IfOk result (λ server. server.table ≡ []) }
+{
+    let Ok(own_name) = ShortBytes::copy_of(alloc, b"server") else {
+        return Err(Fault::Starved);
+    };
+    Ok(Server {
+        table: FlatTable::new(alloc)?,
+        store: store(alloc, which)?,
+        own_name,
+        is_grace: which == Loop::RepliesInGrace,
+    })
+}
+
+fn serve(
+    alloc: Global,
+    which: Loop,
+    source: &mut Source<'_>,
+    sink: &mut Sink,
+) -> Result<(), Fault> {
+    let server = server(alloc, which)?;
+    if which == Loop::Table {
+        table_loop(alloc, server, source, sink, MOST_READS)
+    } else {
+        pipe_loop(alloc, server, source, sink, MOST_READS)
+    }
+}
+
+// What is written for the bytes, and how the loop ends.
+fn written(alloc: Global, which: Loop, comes: &[u8], ends: Ends) -> (Vec<u8>, Result<(), Fault>) {
+    let mut source = Source {
+        rest: front(comes, ends.bytes),
+        most: ends.most,
+        reads_left: ends.reads,
+    };
+    let mut sink = Sink {
+        held: Vec::new(alloc),
+        room: ends.room,
+    };
+    let ended = serve(alloc, which, &mut source, &mut sink);
+    (sink.held, ended)
+}
+
+fn front(bytes: &[u8], most: usize) -> &[u8] {
+    bytes.get(..most).unwrap_or(bytes)
+}
+
+fn put_told(bytes: &mut Vec<u8>, stream: &Stream) -> bool {
+    if stream.which == Loop::Table {
+        bytes.extend_from_slice(stream.told.as_bytes()).is_ok()
+    } else {
+        put_words(bytes, stream.told)
+    }
+}
+
+/// Whether just that is written for the stream, and the loop ends so.
+pub(crate) fn is_served(alloc: Global, stream: &Stream, ends: Ends) -> bool {
+    let mut comes = Vec::new(alloc);
+    let mut told = Vec::new(alloc);
+    let is_put = put_words(&mut comes, stream.comes) && put_told(&mut told, stream);
+    let (held, ended) = written(alloc, stream.which, &comes, ends);
+    is_put && ended == stream.ended && held.as_slice() == front(&told, ends.told)
+}
