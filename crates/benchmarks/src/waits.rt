@@ -123,18 +123,46 @@ fn come_and_go(alloc: Global, slots: &mut Slots, owner: OwnerId, rounds: u32) ->
     Ok(found)
 }
 
+/// A table and its owners, and those who wait.
+#[derive(Drop)]
+struct Stand {
+    owners: Owners,
+    table: ArenaTable,
+    slots: Slots,
+}
+
+impl Stand {
+    fn new(alloc: Global) -> Result<Stand> {
+        let owners = Owners::new(alloc);
+        let table = ArenaTable::new(alloc)?;
+        let slots = Slots::new(alloc)?;
+        Ok(Stand {
+            owners,
+            table,
+            slots,
+        })
+    }
+
+    fn answer(&mut self, alloc: Global, what: &str, count: u32, rounds: u32) -> Result<u32> {
+        let a = self.owners.intern(&Owner::Process(1))?;
+        let b = self.owners.intern(&Owner::Process(2))?;
+        fill(&mut self.table, a, count);
+        wait(alloc, &mut self.slots, b, what, count)?;
+        let found = match what {
+            _ if what.starts_with("change") => {
+                change(&mut self.table, &self.owners, &self.slots, a, rounds)
+            }
+            _ => come_and_go(alloc, &mut self.slots, b, rounds)?,
+        };
+        let waiters = u32::try_from(self.slots.waiters().len()).unwrap_or(u32::MAX);
+        Ok(found.saturating_add(waiters))
+    }
+}
+
 /// Does what is asked beside so many other files, so often.
 pub(crate) fn waits(alloc: Global, what: &str, count: u32, rounds: u32) -> Result<u32> {
-    let mut owners = Owners::new(alloc);
-    let a = owners.intern(&Owner::Process(1))?;
-    let b = owners.intern(&Owner::Process(2))?;
-    let mut table = ArenaTable::new(alloc)?;
-    let mut slots = Slots::new(alloc)?;
-    fill(&mut table, a, count);
-    wait(alloc, &mut slots, b, what, count)?;
-    let found = match what {
-        _ if what.starts_with("change") => change(&mut table, &owners, &slots, a, rounds),
-        _ => come_and_go(alloc, &mut slots, b, rounds)?,
-    };
-    Ok(found.saturating_add(slots.waiters().len() as u32))
+    let mut stand = Stand::new(alloc)?;
+    let answer = stand.answer(alloc, what, count, rounds);
+    drop(stand);
+    answer
 }
