@@ -35,7 +35,7 @@ fn passed<P: Place, R: Wait>(
     ]
 }
 
-// The same by a seat that is taken in, where none is out then.
+// The same by a seat that is taken in then.
 fn seated<P: Place, R: Wait>(
     rt: &R,
     alloc: Global,
@@ -44,10 +44,10 @@ fn seated<P: Place, R: Wait>(
 ) -> Option<Passed> {
     let mut seat = keeper.cut(channel)?;
     let passed = passed(rt, alloc, channel, &mut seat);
-    (is_in(keeper, channel, seat) && keeper.settle(channel)).then_some(passed)
+    is_in(keeper, channel, seat).then_some(passed)
 }
 
-// The same at a channel that was just opened.
+// The same at a channel that was just opened, where no seat is out at the end.
 fn sends<P: Place, R: Wait>(rt: &R, alloc: Global, opened: Opened) -> Option<Passed>
     requires table { opened.slip.table_id ≡ P.table }
     requires key { opened.slip.me.0.of ≡ P.key }
