@@ -1,6 +1,5 @@
 //! The message forms: an empty reply at once, and the result in a call of the server's own (XNFS, NLM_TEST_MSG and NLM_LOCK_MSG).
-use crate::servers::{wrong, wrong_in_both};
-use std::test::*;
+use crate::servers::{Misplayed, play, play_in_both};
 
 const TEST_MESSAGE: &[&str] = &[
     "begins",
@@ -11,8 +10,8 @@ const TEST_MESSAGE: &[&str] = &[
 ];
 
 #[test]
-fn test_message(rt: HostRuntime) {
-    assert_eq!(rt; wrong(rt.alloc(), TEST_MESSAGE), None);
+fn test_message(rt: HostRuntime) -> Result<(), Misplayed> {
+    play(rt.alloc(), TEST_MESSAGE)
 }
 
 /// The result is told, and once the server begins anew each host is told of that.
@@ -30,8 +29,8 @@ const MESSAGE_LOCK_AND_RESTART: &[&str] = &[
 ];
 
 #[test]
-fn message_lock_and_restart(rt: HostRuntime) {
-    assert_eq!(rt; wrong_in_both(rt.alloc(), MESSAGE_LOCK_AND_RESTART), None);
+fn message_lock_and_restart(rt: HostRuntime) -> Result<(), Misplayed> {
+    play_in_both(rt.alloc(), MESSAGE_LOCK_AND_RESTART)
 }
 
 /// A repeat gets the kept reply, and the kept result in a call under the next number.
@@ -46,6 +45,6 @@ const MESSAGE_LOCK_REPEATED: &[&str] = &[
 ];
 
 #[test]
-fn message_lock_repeated(rt: HostRuntime) {
-    assert_eq!(rt; wrong(rt.alloc(), MESSAGE_LOCK_REPEATED), None);
+fn message_lock_repeated(rt: HostRuntime) -> Result<(), Misplayed> {
+    play(rt.alloc(), MESSAGE_LOCK_REPEATED)
 }

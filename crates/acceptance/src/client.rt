@@ -2,7 +2,7 @@
 //! the rules.
 use crate::messages::put_message;
 use crate::page::read_xid;
-use crate::servers::wrong;
+use crate::servers::{Misplayed, play};
 use crate::words::Terms;
 use nlm4_types::{Lock, Netobj, NlmCall, Version, WIDE};
 use record_reading::{Call, Reading};
@@ -45,8 +45,8 @@ const SCRIPT: &[&str] = &[
 ];
 
 #[test]
-fn client_calls_are_answered(rt: HostRuntime) {
-    assert_eq!(rt; wrong(rt.alloc(), SCRIPT), None);
+fn client_calls_are_answered(rt: HostRuntime) -> Result<(), Misplayed> {
+    play(rt.alloc(), SCRIPT)
 }
 
 /// The FNV-1a hash of the 20 records as they came, one behind the other.

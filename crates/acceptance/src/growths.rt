@@ -4,14 +4,13 @@
 use crate::messages::put_message;
 use crate::page::{Page, read_xid};
 use crate::script::{goes, is_answered};
-use crate::servers::{NO_SERVER, PIECE, memory, opened};
+use crate::servers::{Misplayed, PIECE, memory, opened, told};
 use crate::state::known;
 use daemon_core::Daemon;
 use hosts_db::{HostStore, MemHosts};
 use range_arena::ArenaTable;
 use range_table::RangeTable;
 use std::alloc::{AllocError, Global};
-use std::test::*;
 
 /// As many bytes as any line needs, which are got before the script begins.
 const ROOM: usize = 1_024;
@@ -149,9 +148,9 @@ fn reserve_at_last(bytes: &mut Vec<u8>) -> bool {
     }
 }
 
-fn wrong_in_want(alloc: Global, lines: &[&str]) -> Option<usize> {
+fn play_in_want(alloc: Global, lines: &[&str]) -> Result<(), Misplayed> {
     let Some(mut daemon) = server_at_last(alloc) else {
-        return NO_SERVER;
+        return Err(Misplayed::NoServer);
     };
     let mut page = Page::new(alloc, PIECE);
     let has_room = reserve_at_last(&mut page.come)
@@ -161,7 +160,11 @@ fn wrong_in_want(alloc: Global, lines: &[&str]) -> Option<usize> {
     let wrong = wrong_at_last(&mut daemon, &mut page, lines);
     drop(page);
     drop(daemon);
-    if has_room { wrong } else { NO_SERVER }
+    if has_room {
+        told(wrong)
+    } else {
+        Err(Misplayed::NoServer)
+    }
 }
 
 const A_WAITS: &str = "101 test a 0 0 = in-grace";
@@ -285,16 +288,13 @@ const GROWTHS_REFUSED_WHILE_ONE_WAITS: &[&str] = &[
 ];
 
 #[test]
-fn growths_refused(rt: HostRuntime) {
-    assert_eq!(rt; wrong_in_want(rt.alloc(), GROWTHS_REFUSED), None);
+fn growths_refused(rt: HostRuntime) -> Result<(), Misplayed> {
+    play_in_want(rt.alloc(), GROWTHS_REFUSED)
 }
 
 #[test]
-fn growths_refused_while_one_waits(rt: HostRuntime) {
-    assert_eq!(rt;
-        wrong_in_want(rt.alloc(), GROWTHS_REFUSED_WHILE_ONE_WAITS),
-        None
-    );
+fn growths_refused_while_one_waits(rt: HostRuntime) -> Result<(), Misplayed> {
+    play_in_want(rt.alloc(), GROWTHS_REFUSED_WHILE_ONE_WAITS)
 }
 
 /// Whoever waits, cancels, and says something of a grant.
@@ -324,8 +324,8 @@ const STARVED_CHANGES_NOTHING: &[&str] = &[
 ];
 
 #[test]
-fn starved_changes_nothing(rt: HostRuntime) {
-    assert_eq!(rt; wrong_in_want(rt.alloc(), STARVED_CHANGES_NOTHING), None);
+fn starved_changes_nothing(rt: HostRuntime) -> Result<(), Misplayed> {
+    play_in_want(rt.alloc(), STARVED_CHANGES_NOTHING)
 }
 
 /// The same of the status monitor.
@@ -346,6 +346,6 @@ const STARVED_MONITOR: &[&str] = &[
 ];
 
 #[test]
-fn starved_monitor_changes_nothing(rt: HostRuntime) {
-    assert_eq!(rt; wrong_in_want(rt.alloc(), STARVED_MONITOR), None);
+fn starved_monitor_changes_nothing(rt: HostRuntime) -> Result<(), Misplayed> {
+    play_in_want(rt.alloc(), STARVED_MONITOR)
 }

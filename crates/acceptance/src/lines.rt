@@ -1,7 +1,6 @@
 //! Lines of local programs, beside the calls of clients: all share one table.
-use crate::servers::{PIECE, wrong, wrong_by};
+use crate::servers::{Misplayed, PIECE, play, play_by};
 use std::alloc::{AllocError, Global};
-use std::test::*;
 
 const LOCAL_LINES: &[&str] = &[
     "begins",
@@ -27,8 +26,8 @@ const LOCAL_LINES: &[&str] = &[
 ];
 
 #[test]
-fn local_lines(rt: HostRuntime) {
-    assert_eq!(rt; wrong(rt.alloc(), LOCAL_LINES), None);
+fn local_lines(rt: HostRuntime) -> Result<(), Misplayed> {
+    play(rt.alloc(), LOCAL_LINES)
 }
 
 const LOCAL_LINES_AND_CALLS: &[&str] = &[
@@ -44,8 +43,8 @@ const LOCAL_LINES_AND_CALLS: &[&str] = &[
 ];
 
 #[test]
-fn local_lines_and_calls(rt: HostRuntime) {
-    assert_eq!(rt; wrong(rt.alloc(), LOCAL_LINES_AND_CALLS), None);
+fn local_lines_and_calls(rt: HostRuntime) -> Result<(), Misplayed> {
+    play(rt.alloc(), LOCAL_LINES_AND_CALLS)
 }
 
 /// An answer that lists has a line for each lock or host, and `end` behind them.
@@ -61,8 +60,8 @@ const HOSTS_LINE: &[&str] = &[
 ];
 
 #[test]
-fn hosts_line(rt: HostRuntime) {
-    assert_eq!(rt; wrong(rt.alloc(), HOSTS_LINE), None);
+fn hosts_line(rt: HostRuntime) -> Result<(), Misplayed> {
+    play(rt.alloc(), HOSTS_LINE)
 }
 
 /// In grace nothing is locked or asked about, but `close` acts.
@@ -81,8 +80,8 @@ const LINES_IN_GRACE: &[&str] = &[
 ];
 
 #[test]
-fn lines_in_grace(rt: HostRuntime) {
-    assert_eq!(rt; wrong(rt.alloc(), LINES_IN_GRACE), None);
+fn lines_in_grace(rt: HostRuntime) -> Result<(), Misplayed> {
+    play(rt.alloc(), LINES_IN_GRACE)
 }
 
 /// Whatever is none of the protocol.
@@ -97,8 +96,8 @@ const BAD_LINES: &[&str] = &[
 ];
 
 #[test]
-fn bad_lines(rt: HostRuntime) {
-    assert_eq!(rt; wrong(rt.alloc(), BAD_LINES), None);
+fn bad_lines(rt: HostRuntime) -> Result<(), Misplayed> {
+    play(rt.alloc(), BAD_LINES)
 }
 
 /// How many owners have a number after each line.
@@ -131,8 +130,8 @@ const KNOWN_BY_LINES: &[&str] = &[
 ];
 
 #[test]
-fn known_by_lines(rt: HostRuntime) {
-    assert_eq!(rt; wrong(rt.alloc(), KNOWN_BY_LINES), None);
+fn known_by_lines(rt: HostRuntime) -> Result<(), Misplayed> {
+    play(rt.alloc(), KNOWN_BY_LINES)
 }
 
 /// A LOCK of ten bytes by an owner whose host's name and own bytes are as long as can be: 1,024.
@@ -151,22 +150,22 @@ fn put_long_holder(line: &mut String) -> Result<(), AllocError> {
     Ok(())
 }
 
-fn wrong_of_long_owner(alloc: Global) -> Option<usize> {
+fn play_long_owner(alloc: Global) -> Result<(), Misplayed> {
     let mut line = String::new(alloc);
-    let wrong = match put_long_holder(&mut line) {
+    let played = match put_long_holder(&mut line) {
         Ok(()) => {
             let granted = "out 80000024 35 1 0 0 0 0 4 35 0";
             let lines = ["begins", LONG_LOCK, granted, line.as_str()];
-            wrong_by(alloc, 128 * PIECE, &lines)
+            play_by(alloc, 128 * PIECE, &lines)
         }
-        Err(AllocError) => Some(0),
+        Err(AllocError) => Err(Misplayed::NoServer),
     };
     drop(line);
-    wrong
+    played
 }
 
 // A line that fits no record.
 #[test]
-fn longest_line(rt: HostRuntime) {
-    assert_eq!(rt; wrong_of_long_owner(rt.alloc()), None);
+fn longest_line(rt: HostRuntime) -> Result<(), Misplayed> {
+    play_long_owner(rt.alloc())
 }

@@ -1,6 +1,5 @@
 //! The status monitor: what hosts tell, who is called then, and how the server begins anew (XNFS, NSM).
-use crate::servers::{wrong, wrong_in_both, wrong_in_sql, wrong_of_hosts};
-use std::test::*;
+use crate::servers::{Misplayed, play, play_in_both, play_in_sql, play_with_hosts};
 
 /// A state that was seen changes nothing; another drops the host, once.
 const NOTIFY: &[&str] = &[
@@ -19,8 +18,8 @@ const NOTIFY: &[&str] = &[
 ];
 
 #[test]
-fn notify(rt: HostRuntime) {
-    assert_eq!(rt; wrong_in_both(rt.alloc(), NOTIFY), None);
+fn notify(rt: HostRuntime) -> Result<(), Misplayed> {
+    play_in_both(rt.alloc(), NOTIFY)
 }
 
 /// Only a local peer may have a host watched and the server begin anew, which keeps the connections.
@@ -53,11 +52,8 @@ const MONITOR_AND_SIMULATED_CRASH: &[&str] = &[
 ];
 
 #[test]
-fn monitor_and_simulated_crash(rt: HostRuntime) {
-    assert_eq!(rt;
-        wrong_in_both(rt.alloc(), MONITOR_AND_SIMULATED_CRASH),
-        None
-    );
+fn monitor_and_simulated_crash(rt: HostRuntime) -> Result<(), Misplayed> {
+    play_in_both(rt.alloc(), MONITOR_AND_SIMULATED_CRASH)
 }
 
 const STATE_WRAPS: &[&str] = &["begins", "12 stat a = monitored 1"];
@@ -81,21 +77,18 @@ const EPOCH_NOTED: &[&str] = &[
 ];
 
 #[test]
-fn state_wraps(rt: HostRuntime) {
+fn state_wraps(rt: HostRuntime) -> Result<(), Misplayed> {
     let alloc = rt.alloc();
-    assert_eq!(rt;
-        wrong_of_hosts(alloc, 2_147_483_647, b"", STATE_WRAPS),
-        None
-    );
-    assert_eq!(rt; wrong_in_sql(alloc, Some(HIGHEST), STATE_WRAPS), None);
-    assert_eq!(rt; wrong_in_both(alloc, EPOCH_NOTED), None);
+    play_with_hosts(alloc, 2_147_483_647, b"", STATE_WRAPS)?;
+    play_in_sql(alloc, Some(HIGHEST), STATE_WRAPS)?;
+    play_in_both(alloc, EPOCH_NOTED)
 }
 
 const STAT_CALL: &[&str] = &["begins", "1 sm-null = done", "2 stat a = monitored 1"];
 
 #[test]
-fn stat_call(rt: HostRuntime) {
-    assert_eq!(rt; wrong(rt.alloc(), STAT_CALL), None);
+fn stat_call(rt: HostRuntime) -> Result<(), Misplayed> {
+    play(rt.alloc(), STAT_CALL)
 }
 
 /// Each watcher of the host is told, in order of its procedure, with the bytes that it gave last.
@@ -116,8 +109,8 @@ const WATCHERS_TOLD: &[&str] = &[
 ];
 
 #[test]
-fn watchers_told(rt: HostRuntime) {
-    assert_eq!(rt; wrong(rt.alloc(), WATCHERS_TOLD), None);
+fn watchers_told(rt: HostRuntime) -> Result<(), Misplayed> {
+    play(rt.alloc(), WATCHERS_TOLD)
 }
 
 const WATCHES_DROPPED: &[&str] = &[
@@ -140,8 +133,8 @@ const WATCHES_DROPPED: &[&str] = &[
 ];
 
 #[test]
-fn watches_dropped(rt: HostRuntime) {
-    assert_eq!(rt; wrong(rt.alloc(), WATCHES_DROPPED), None);
+fn watches_dropped(rt: HostRuntime) -> Result<(), Misplayed> {
+    play(rt.alloc(), WATCHES_DROPPED)
 }
 
 /// Each TEST by message takes a place until its result is sent and answered. With one place too few the state that was seen
@@ -163,8 +156,8 @@ const NO_PLACE_FOR_A_WATCHER: &[&str] = &[
 ];
 
 #[test]
-fn no_place_for_a_watcher(rt: HostRuntime) {
-    assert_eq!(rt; wrong(rt.alloc(), NO_PLACE_FOR_A_WATCHER), None);
+fn no_place_for_a_watcher(rt: HostRuntime) -> Result<(), Misplayed> {
+    play(rt.alloc(), NO_PLACE_FOR_A_WATCHER)
 }
 
 /// As many watches as a store has, and none more.
@@ -181,6 +174,6 @@ const WATCHES_FULL: &[&str] = &[
 ];
 
 #[test]
-fn watches_full(rt: HostRuntime) {
-    assert_eq!(rt; wrong(rt.alloc(), WATCHES_FULL), None);
+fn watches_full(rt: HostRuntime) -> Result<(), Misplayed> {
+    play(rt.alloc(), WATCHES_FULL)
 }

@@ -1,6 +1,5 @@
 //! What the server itself calls once it has begun anew.
-use crate::servers::{wrong_in_both, wrong_of_hosts};
-use std::test::*;
+use crate::servers::{Misplayed, play_in_both, play_with_hosts};
 
 /// Each host is told once, in order of name, and then nothing is due. A notice that nobody answers is sent three times, with
 /// the same bytes, and then forgotten. A silence of no call changes nothing.
@@ -20,8 +19,8 @@ const NOTICES: &[&str] = &[
 ];
 
 #[test]
-fn notices(rt: HostRuntime) {
-    assert_eq!(rt; wrong_of_hosts(rt.alloc(), 1, b"ab", NOTICES), None);
+fn notices(rt: HostRuntime) -> Result<(), Misplayed> {
+    play_with_hosts(rt.alloc(), 1, b"ab", NOTICES)
 }
 
 /// An answer that belongs to no call that was sent changes nothing; one that does ends its call.
@@ -40,8 +39,8 @@ const ANSWERS: &[&str] = &[
 ];
 
 #[test]
-fn answers(rt: HostRuntime) {
-    assert_eq!(rt; wrong_of_hosts(rt.alloc(), 1, b"ab", ANSWERS), None);
+fn answers(rt: HostRuntime) -> Result<(), Misplayed> {
+    play_with_hosts(rt.alloc(), 1, b"ab", ANSWERS)
 }
 
 /// An answer to no call, one of 3 bytes, and the silence of a call that isn't there: nothing, three times.
@@ -57,8 +56,8 @@ const STRAY_ANSWERS: &[&str] = &[
 ];
 
 #[test]
-fn stray_answers(rt: HostRuntime) {
-    assert_eq!(rt; wrong_in_both(rt.alloc(), STRAY_ANSWERS), None);
+fn stray_answers(rt: HostRuntime) -> Result<(), Misplayed> {
+    play_in_both(rt.alloc(), STRAY_ANSWERS)
 }
 
 /// A call that was not sent yet can't be answered. Who answers has the new own state as its epoch, who refuses has not.
@@ -85,6 +84,6 @@ const NOTICE_ANSWERED: &[&str] = &[
 ];
 
 #[test]
-fn notice_answered(rt: HostRuntime) {
-    assert_eq!(rt; wrong_of_hosts(rt.alloc(), 1, b"ab", NOTICE_ANSWERED), None);
+fn notice_answered(rt: HostRuntime) -> Result<(), Misplayed> {
+    play_with_hosts(rt.alloc(), 1, b"ab", NOTICE_ANSWERED)
 }

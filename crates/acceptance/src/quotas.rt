@@ -1,6 +1,5 @@
 //! Quotas of runs, from bytes to bytes: what a host is refused, and who is granted once its quota is raised.
-use crate::servers::wrong;
-use std::test::*;
+use crate::servers::{Misplayed, play};
 
 /// One run of `a`, which may not become two. Who waits for `b`'s quota alone is granted once it is raised.
 const QUOTA_OF_RUNS: &[&str] = &[
@@ -25,6 +24,6 @@ const QUOTA_OF_RUNS: &[&str] = &[
 ];
 
 #[test]
-fn quota_of_runs(rt: HostRuntime) {
-    assert_eq!(rt; wrong(rt.alloc(), QUOTA_OF_RUNS), None);
+fn quota_of_runs(rt: HostRuntime) -> Result<(), Misplayed> {
+    play(rt.alloc(), QUOTA_OF_RUNS)
 }

@@ -1,5 +1,5 @@
 //! Reclaims after a restart, in every order, and one of a lock that nobody had (XNFS, "Grace period").
-use crate::servers::{wrong, wrong_of_hosts};
+use crate::servers::{Misplayed, play, play_with_hosts};
 use std::alloc::Global;
 use std::test::*;
 
@@ -57,7 +57,7 @@ fn are_granted(alloc: Global, order: [usize; 4]) -> bool {
         h,
     ];
     let of_rows = ["restarts", a, b, c, d, e, f, g, h];
-    wrong(alloc, &anew).is_none() && wrong_of_hosts(alloc, 0, b"abc", &of_rows).is_none()
+    play(alloc, &anew).is_ok() && play_with_hosts(alloc, 0, b"abc", &of_rows).is_ok()
 }
 
 #[test]
@@ -84,6 +84,6 @@ const DISHONEST_RECLAIM: &[&str] = &[
 ];
 
 #[test]
-fn dishonest_reclaim(rt: HostRuntime) {
-    assert_eq!(rt; wrong(rt.alloc(), DISHONEST_RECLAIM), None);
+fn dishonest_reclaim(rt: HostRuntime) -> Result<(), Misplayed> {
+    play(rt.alloc(), DISHONEST_RECLAIM)
 }

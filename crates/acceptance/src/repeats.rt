@@ -1,6 +1,5 @@
 //! Calls that come again, and a server that begins anew.
-use crate::servers::{wrong, wrong_in_row};
-use std::test::*;
+use crate::servers::{Misplayed, play, play_cut};
 
 /// A repeat gets the kept reply and does nothing. One from elsewhere is no repeat.
 const KEPT_REPLY: &[&str] = &[
@@ -16,8 +15,8 @@ const KEPT_REPLY: &[&str] = &[
 ];
 
 #[test]
-fn kept_reply(rt: HostRuntime) {
-    assert_eq!(rt; wrong(rt.alloc(), KEPT_REPLY), None);
+fn kept_reply(rt: HostRuntime) -> Result<(), Misplayed> {
+    play(rt.alloc(), KEPT_REPLY)
 }
 
 const SAME_XID_LONGER: &[&str] = &[
@@ -36,9 +35,9 @@ const SAME_XID_ELSEWHERE: &[&str] = &[
 ];
 
 #[test]
-fn same_xid_other_bytes(rt: HostRuntime) {
-    assert_eq!(rt; wrong_in_row(rt.alloc(), SAME_XID_LONGER), None);
-    assert_eq!(rt; wrong_in_row(rt.alloc(), SAME_XID_ELSEWHERE), None);
+fn same_xid_other_bytes(rt: HostRuntime) -> Result<(), Misplayed> {
+    play_cut(rt.alloc(), SAME_XID_LONGER)?;
+    play_cut(rt.alloc(), SAME_XID_ELSEWHERE)
 }
 
 /// As many replies are kept as there are calls from the lock to its repeat.
@@ -62,9 +61,9 @@ const KEPT_NO_MORE: &[&str] = &[
 ];
 
 #[test]
-fn kept_limit(rt: HostRuntime) {
-    assert_eq!(rt; wrong_in_row(rt.alloc(), STILL_KEPT), None);
-    assert_eq!(rt; wrong_in_row(rt.alloc(), KEPT_NO_MORE), None);
+fn kept_limit(rt: HostRuntime) -> Result<(), Misplayed> {
+    play_cut(rt.alloc(), STILL_KEPT)?;
+    play_cut(rt.alloc(), KEPT_NO_MORE)
 }
 
 /// The lock and its kept reply are gone.
@@ -78,14 +77,14 @@ const RESTART: &[&str] = &[
 ];
 
 #[test]
-fn restart(rt: HostRuntime) {
-    assert_eq!(rt; wrong(rt.alloc(), RESTART), None);
+fn restart(rt: HostRuntime) -> Result<(), Misplayed> {
+    play(rt.alloc(), RESTART)
 }
 
 /// One call more than a segment of the journal has entries, with no event before them.
 const JOURNAL_ROTATION: &[&str] = &["connect pipe", "times 1025 1 null = done"];
 
 #[test]
-fn journal_rotation(rt: HostRuntime) {
-    assert_eq!(rt; wrong(rt.alloc(), JOURNAL_ROTATION), None);
+fn journal_rotation(rt: HostRuntime) -> Result<(), Misplayed> {
+    play(rt.alloc(), JOURNAL_ROTATION)
 }

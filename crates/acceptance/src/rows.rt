@@ -1,12 +1,11 @@
 //! The rows of the lock manager, under their own names.
-use crate::servers::{wrong, wrong_in_both, wrong_in_row, wrong_of_all_hosts};
-use std::test::*;
+use crate::servers::{Misplayed, play, play_cut, play_in_both, play_with_all_hosts};
 
 const NULL: &[&str] = &["begins", "1 null = done"];
 
 #[test]
-fn null(rt: HostRuntime) {
-    assert_eq!(rt; wrong_in_row(rt.alloc(), NULL), None);
+fn null(rt: HostRuntime) -> Result<(), Misplayed> {
+    play_cut(rt.alloc(), NULL)
 }
 
 const TEST_AFTER_LOCK: &[&str] = &[
@@ -18,8 +17,8 @@ const TEST_AFTER_LOCK: &[&str] = &[
 ];
 
 #[test]
-fn test_after_lock(rt: HostRuntime) {
-    assert_eq!(rt; wrong_in_row(rt.alloc(), TEST_AFTER_LOCK), None);
+fn test_after_lock(rt: HostRuntime) -> Result<(), Misplayed> {
+    play_cut(rt.alloc(), TEST_AFTER_LOCK)
 }
 
 const ENDS_OF_FILE: &[&str] = &[
@@ -32,8 +31,8 @@ const ENDS_OF_FILE: &[&str] = &[
 ];
 
 #[test]
-fn ends_of_file(rt: HostRuntime) {
-    assert_eq!(rt; wrong_in_row(rt.alloc(), ENDS_OF_FILE), None);
+fn ends_of_file(rt: HostRuntime) -> Result<(), Misplayed> {
+    play_cut(rt.alloc(), ENDS_OF_FILE)
 }
 
 const FREE_ALL: &[&str] = &[
@@ -47,8 +46,8 @@ const FREE_ALL: &[&str] = &[
 ];
 
 #[test]
-fn free_all(rt: HostRuntime) {
-    assert_eq!(rt; wrong_in_row(rt.alloc(), FREE_ALL), None);
+fn free_all(rt: HostRuntime) -> Result<(), Misplayed> {
+    play_cut(rt.alloc(), FREE_ALL)
 }
 
 const GRACE: &[&str] = &[
@@ -61,8 +60,8 @@ const GRACE: &[&str] = &[
 ];
 
 #[test]
-fn grace(rt: HostRuntime) {
-    assert_eq!(rt; wrong_in_both(rt.alloc(), GRACE), None);
+fn grace(rt: HostRuntime) -> Result<(), Misplayed> {
+    play_in_both(rt.alloc(), GRACE)
 }
 
 const ABSENT_UNLOCK: &[&str] = &[
@@ -73,8 +72,8 @@ const ABSENT_UNLOCK: &[&str] = &[
 ];
 
 #[test]
-fn absent_unlock(rt: HostRuntime) {
-    assert_eq!(rt; wrong_in_row(rt.alloc(), ABSENT_UNLOCK), None);
+fn absent_unlock(rt: HostRuntime) -> Result<(), Misplayed> {
+    play_cut(rt.alloc(), ABSENT_UNLOCK)
 }
 
 const NM_LOCK: &[&str] = &[
@@ -87,8 +86,8 @@ const NM_LOCK: &[&str] = &[
 ];
 
 #[test]
-fn nm_lock(rt: HostRuntime) {
-    assert_eq!(rt; wrong_in_row(rt.alloc(), NM_LOCK), None);
+fn nm_lock(rt: HostRuntime) -> Result<(), Misplayed> {
+    play_cut(rt.alloc(), NM_LOCK)
 }
 
 const SHARE_REPLACED: &[&str] = &[
@@ -99,8 +98,8 @@ const SHARE_REPLACED: &[&str] = &[
 ];
 
 #[test]
-fn share_replaced(rt: HostRuntime) {
-    assert_eq!(rt; wrong_in_row(rt.alloc(), SHARE_REPLACED), None);
+fn share_replaced(rt: HostRuntime) -> Result<(), Misplayed> {
+    play_cut(rt.alloc(), SHARE_REPLACED)
 }
 
 pub(crate) const SHARE_CONFLICT: &[&str] = &[
@@ -112,8 +111,8 @@ pub(crate) const SHARE_CONFLICT: &[&str] = &[
 ];
 
 #[test]
-fn share_conflict(rt: HostRuntime) {
-    assert_eq!(rt; wrong_in_both(rt.alloc(), SHARE_CONFLICT), None);
+fn share_conflict(rt: HostRuntime) -> Result<(), Misplayed> {
+    play_in_both(rt.alloc(), SHARE_CONFLICT)
 }
 
 /// A store that has all its hosts refuses the row of one more: its LOCK changes nothing; an NM_LOCK asks for no row.
@@ -131,8 +130,8 @@ pub(crate) const REFUSED_HOST: &[&str] = &[
 ];
 
 #[test]
-fn refused_host(rt: HostRuntime) {
-    assert_eq!(rt; wrong_of_all_hosts(rt.alloc(), REFUSED_HOST), None);
+fn refused_host(rt: HostRuntime) -> Result<(), Misplayed> {
+    play_with_all_hosts(rt.alloc(), REFUSED_HOST)
 }
 
 /// Nor may a host without a row wait.
@@ -149,8 +148,8 @@ const REFUSED_WAITER: &[&str] = &[
 ];
 
 #[test]
-fn refused_waiter(rt: HostRuntime) {
-    assert_eq!(rt; wrong_of_all_hosts(rt.alloc(), REFUSED_WAITER), None);
+fn refused_waiter(rt: HostRuntime) -> Result<(), Misplayed> {
+    play_with_all_hosts(rt.alloc(), REFUSED_WAITER)
 }
 
 /// The bytes 0 to 2 of the file 01020304 and each second byte behind them are 63 runs; 64 in each of 1,023 files more fill
@@ -169,8 +168,8 @@ const TABLE_FULL: &[&str] = &[
 ];
 
 #[test]
-fn table_full(rt: HostRuntime) {
-    assert_eq!(rt; wrong(rt.alloc(), TABLE_FULL), None);
+fn table_full(rt: HostRuntime) -> Result<(), Misplayed> {
+    play(rt.alloc(), TABLE_FULL)
 }
 
 /// The same where the locks of others leave room for one run more.
@@ -191,6 +190,6 @@ const TABLE_FULL_OF_OTHERS: &[&str] = &[
 ];
 
 #[test]
-fn table_full_of_others(rt: HostRuntime) {
-    assert_eq!(rt; wrong(rt.alloc(), TABLE_FULL_OF_OTHERS), None);
+fn table_full_of_others(rt: HostRuntime) -> Result<(), Misplayed> {
+    play(rt.alloc(), TABLE_FULL_OF_OTHERS)
 }

@@ -13,8 +13,16 @@ use range_table::RangeTable;
 use sqlite::{Alter, Connection, MemStore};
 use std::alloc::Global;
 
-/// Where a server can't begin at all.
-pub(crate) const NO_SERVER: Option<usize> = Some(usize::MAX);
+/// Why a script is not played as it says.
+#[derive(Clone, Copy, Debug, PartialEq, Eq)]
+pub(crate) enum Misplayed {
+    /// The server can't begin at all.
+    NoServer,
+    /// The first line that goes otherwise; of a stream, the first line behind it.
+    Line(usize),
+    /// The first of some streams that goes otherwise.
+    Stream(usize),
+}
 
 /// The bytes of a stream that come at once, where the test doesn't care.
 pub(crate) const PIECE: usize = 64;
@@ -31,24 +39,32 @@ pub(crate) fn opened<T: RangeTable + Drop, S: HostStore + Drop>(
     Daemon::new(alloc, table, store, name).ok()
 }
 
-/// The place of the first line that a server over this store plays wrong.
-pub(crate) fn wrong_over<'a, S: HostStore + Drop>(
+/// What is told of the line that goes otherwise than it says, if one does.
+pub(crate) fn told(wrong: Option<usize>) -> Result<(), Misplayed> {
+    match wrong {
+        None => Ok(()),
+        Some(line) => Err(Misplayed::Line(line)),
+    }
+}
+
+/// Whether a server over this store plays the lines.
+pub(crate) fn play_over<'a, S: HostStore + Drop>(
     alloc: Global,
     store: S,
     most: usize,
     lines: &[&'a str],
-) -> Option<usize> {
+) -> Result<(), Misplayed> {
     let Ok(table) = ArenaTable::new(alloc) else {
-        return NO_SERVER;
+        return Err(Misplayed::NoServer);
     };
     let Some(mut daemon) = opened(alloc, table, store) else {
-        return NO_SERVER;
+        return Err(Misplayed::NoServer);
     };
     let mut page = Page::new(alloc, most);
     let wrong = wrong_line(&mut daemon, &mut page, lines);
     drop(page);
     drop(daemon);
-    wrong
+    told(wrong)
 }
 
 /// A store in memory whose own state is this, with these rows.
@@ -58,59 +74,60 @@ pub(crate) fn memory(alloc: Global, own: u32, hosts: Vec<HostRow>) -> Option<Mem
     MemHosts::new(alloc, own, hosts, Vec::new(alloc)).ok()
 }
 
-fn wrong_in_memory(
+fn play_in_memory(
     alloc: Global,
     own: u32,
     hosts: Option<Vec<HostRow>>,
     most: usize,
     lines: &[&str],
-) -> Option<usize>
+) -> Result<(), Misplayed>
     requires { own < 2147483648 }
 {
     let Some(hosts) = hosts else {
-        return NO_SERVER;
+        return Err(Misplayed::NoServer);
     };
     match memory(alloc, own, hosts) {
-        Some(store) => wrong_over(alloc, store, most, lines),
-        None => NO_SERVER,
+        Some(store) => play_over(alloc, store, most, lines),
+        None => Err(Misplayed::NoServer),
     }
 }
 
 /// Of a server of no hosts, in memory.
-pub(crate) fn wrong(alloc: Global, lines: &[&str]) -> Option<usize> {
-    wrong_by(alloc, PIECE, lines)
+pub(crate) fn play(alloc: Global, lines: &[&str]) -> Result<(), Misplayed> {
+    play_by(alloc, PIECE, lines)
 }
 
 /// The same where the stream comes by so many bytes.
-pub(crate) fn wrong_by(alloc: Global, most: usize, lines: &[&str]) -> Option<usize> {
-    wrong_in_memory(alloc, 0, Some(Vec::new(alloc)), most, lines)
+pub(crate) fn play_by(alloc: Global, most: usize, lines: &[&str]) -> Result<(), Misplayed> {
+    play_in_memory(alloc, 0, Some(Vec::new(alloc)), most, lines)
 }
 
 /// The same of a stream that comes whole, and of one that comes by five bytes.
-pub(crate) fn wrong_in_row(alloc: Global, lines: &[&str]) -> Option<usize> {
-    let whole = wrong_by(alloc, 8_192, lines);
-    if whole.is_some() {
-        return whole;
-    }
-    wrong_by(alloc, 5, lines)
+pub(crate) fn play_cut(alloc: Global, lines: &[&str]) -> Result<(), Misplayed> {
+    play_by(alloc, 8_192, lines)?;
+    play_by(alloc, 5, lines)
 }
 
 /// The same of each stream, after the grace period: whole, and byte by byte.
-pub(crate) fn wrong_in_streams(alloc: Global, streams: &[&[&str]]) -> Option<usize> {
+pub(crate) fn play_each(alloc: Global, streams: &[&[&str]]) -> Result<(), Misplayed> {
     for (place, lines) in streams.iter().enumerate() {
-        let whole = wrong_by(alloc, 8_192, lines);
-        if whole.is_some() || wrong_by(alloc, 1, lines).is_some() {
-            return Some(place);
+        if play_by(alloc, 8_192, lines).is_err() || play_by(alloc, 1, lines).is_err() {
+            return Err(Misplayed::Stream(place));
         }
     }
-    None
+    Ok(())
 }
 
 /// Of a server in this own state that knows these hosts, each of one byte of name, with the epoch 1 and the state 3.
-pub(crate) fn wrong_of_hosts(alloc: Global, own: u32, names: &[u8], lines: &[&str]) -> Option<usize>
+pub(crate) fn play_with_hosts(
+    alloc: Global,
+    own: u32,
+    names: &[u8],
+    lines: &[&str],
+) -> Result<(), Misplayed>
     requires { own < 2147483648 }
 {
-    wrong_in_memory(alloc, own, hosts_of(alloc, names), PIECE, lines)
+    play_in_memory(alloc, own, hosts_of(alloc, names), PIECE, lines)
 }
 
 fn hosts_of(alloc: Global, names: &[u8]) -> Option<Vec<HostRow>> {
@@ -130,8 +147,8 @@ fn put_hosts(alloc: Global, hosts: &mut Vec<HostRow>, names: &[u8]) -> Option<()
 }
 
 /// Of a server that knows as many hosts as a store has.
-pub(crate) fn wrong_of_all_hosts(alloc: Global, lines: &[&str]) -> Option<usize> {
-    wrong_in_memory(alloc, 0, all_hosts(alloc), PIECE, lines)
+pub(crate) fn play_with_all_hosts(alloc: Global, lines: &[&str]) -> Result<(), Misplayed> {
+    play_in_memory(alloc, 0, all_hosts(alloc), PIECE, lines)
 }
 
 /// As many hosts as a store has.
@@ -152,20 +169,21 @@ fn put_all_hosts(alloc: Global, hosts: &mut Vec<HostRow>) -> Option<()> {
 }
 
 /// Of a server over a database in memory that these statements have changed, once it was started, if it was.
-pub(crate) fn wrong_in_sql(alloc: Global, changes: Option<&str>, lines: &[&str]) -> Option<usize> {
+pub(crate) fn play_in_sql(
+    alloc: Global,
+    changes: Option<&str>,
+    lines: &[&str],
+) -> Result<(), Misplayed> {
     match database(alloc, changes) {
-        Some(store) => wrong_over(alloc, store, PIECE, lines),
-        None => NO_SERVER,
+        Some(store) => play_over(alloc, store, PIECE, lines),
+        None => Err(Misplayed::NoServer),
     }
 }
 
 /// Of a server of no hosts, over memory and over a database.
-pub(crate) fn wrong_in_both(alloc: Global, lines: &[&str]) -> Option<usize> {
-    let in_memory = wrong(alloc, lines);
-    if in_memory.is_some() {
-        return in_memory;
-    }
-    wrong_in_sql(alloc, None, lines)
+pub(crate) fn play_in_both(alloc: Global, lines: &[&str]) -> Result<(), Misplayed> {
+    play(alloc, lines)?;
+    play_in_sql(alloc, None, lines)
 }
 
 /// A fresh database; or one that was started, and then changed by these statements.

@@ -1,6 +1,6 @@
 //! Stores that refuse, and stores that are lent: which rows they hold, and how often they are asked.
 use crate::rows::{REFUSED_HOST, SHARE_CONFLICT};
-use crate::servers::{PIECE, all_hosts, database, memory, wrong_in_sql, wrong_over};
+use crate::servers::{Misplayed, PIECE, all_hosts, database, memory, play_in_sql, play_over};
 use crate::state::are_rows;
 use hosts_db::HostStore;
 use hosts_lent::Lent;
@@ -33,12 +33,9 @@ const QUOTA_REFUSED: &[&str] = &[
 ];
 
 #[test]
-fn rows_refused(rt: HostRuntime) {
-    assert_eq!(rt; wrong_in_sql(rt.alloc(), Some(WATCHED), ROWS_REFUSED), None);
-    assert_eq!(rt;
-        wrong_in_sql(rt.alloc(), Some(WATCHED), QUOTA_REFUSED),
-        None
-    );
+fn rows_refused(rt: HostRuntime) -> Result<(), Misplayed> {
+    play_in_sql(rt.alloc(), Some(WATCHED), ROWS_REFUSED)?;
+    play_in_sql(rt.alloc(), Some(WATCHED), QUOTA_REFUSED)
 }
 
 /// Where the row of a new host is refused, its LOCK changes nothing; an NM_LOCK asks for no row.
@@ -113,11 +110,15 @@ const BOTH_HOSTS: &[&str] = &[
     "stored yes",
 ];
 
-// What a server over the store that is lent to it plays wrong, and how often it asks the store.
-fn played<S: HostStore>(alloc: Global, store: &mut S, lines: &[&str]) -> (Option<usize>, usize) {
+// Whether a server over the store that is lent to it plays the lines, and how often it asks the store.
+fn played<S: HostStore>(
+    alloc: Global,
+    store: &mut S,
+    lines: &[&str],
+) -> (Result<(), Misplayed>, usize) {
     let mut writes = 0;
-    let wrong = wrong_over(alloc, Lent::new(store, &mut writes), PIECE, lines);
-    (wrong, writes)
+    let played = play_over(alloc, Lent::new(store, &mut writes), PIECE, lines);
+    (played, writes)
 }
 
 fn holds<S: HostStore>(store: &S, own: u32, rows: &str) -> bool {
@@ -135,9 +136,9 @@ struct TwoServers;
 
 impl Trial for TwoServers {
     fn holds<S: HostStore>(&self, alloc: Global, store: &mut S) -> bool {
-        played(alloc, store, FIRST_HOST) == (None, 2)
+        played(alloc, store, FIRST_HOST) == (Ok(()), 2)
             && holds(store, 1, "a 1 3")
-            && played(alloc, store, SECOND_HOST) == (None, 2)
+            && played(alloc, store, SECOND_HOST) == (Ok(()), 2)
             && holds(store, 3, "a 1 3 b 3 3")
     }
 }
@@ -148,7 +149,7 @@ struct OneServer;
 
 impl Trial for OneServer {
     fn holds<S: HostStore>(&self, alloc: Global, store: &mut S) -> bool {
-        played(alloc, store, BOTH_HOSTS) == (None, 4) && holds(store, 3, "a 1 3 b 3 3")
+        played(alloc, store, BOTH_HOSTS) == (Ok(()), 4) && holds(store, 3, "a 1 3 b 3 3")
     }
 }
 
@@ -158,7 +159,7 @@ struct Unstarted;
 
 impl Trial for Unstarted {
     fn holds<S: HostStore>(&self, alloc: Global, store: &mut S) -> bool {
-        played(alloc, store, HOST_REFUSED) == (None, 1) && holds(store, 0, "")
+        played(alloc, store, HOST_REFUSED) == (Ok(()), 1) && holds(store, 0, "")
     }
 }
 
@@ -168,7 +169,7 @@ struct NoLock;
 
 impl Trial for NoLock {
     fn holds<S: HostStore>(&self, alloc: Global, store: &mut S) -> bool {
-        played(alloc, store, SHARE_CONFLICT) == (None, 1)
+        played(alloc, store, SHARE_CONFLICT) == (Ok(()), 1)
     }
 }
 
@@ -207,11 +208,11 @@ fn refused_host(rt: HostRuntime) {
 fn stays_full(alloc: Global) -> Option<bool> {
     let mut full = memory(alloc, 0, all_hosts(alloc)?)?;
     let told = played(alloc, &mut full, REFUSED_HOST);
-    Some(told == (None, 2) && full.hosts().len() == 4_096)
+    Some(told == (Ok(()), 2) && full.hosts().len() == 4_096)
 }
 
 #[test]
 fn share_conflict(rt: HostRuntime) {
     assert!(rt; in_memory(rt.alloc(), &NoLock));
-    assert_eq!(rt; stays_full(rt.alloc()), Some(true));
+    assert!(rt; stays_full(rt.alloc()) == Some(true));
 }

@@ -1,6 +1,5 @@
 //! Streams in their words, and what is sent for them (RFC 5531; RFC 1813, appendix II), each whole and byte by byte.
-use crate::servers::wrong_in_streams;
-use std::test::*;
+use crate::servers::{Misplayed, play_each};
 
 /// An exclusive lock of the bytes 0 to 9, by the process 7 of host `a`; and whether the process 8 of host `b` could lock the
 /// whole file.
@@ -13,8 +12,8 @@ const LOCK_AND_TEST: [&[&str]; 1] = [&[
 ]];
 
 #[test]
-fn lock_and_test(rt: HostRuntime) {
-    assert_eq!(rt; wrong_in_streams(rt.alloc(), &LOCK_AND_TEST), None);
+fn lock_and_test(rt: HostRuntime) -> Result<(), Misplayed> {
+    play_each(rt.alloc(), &LOCK_AND_TEST)
 }
 
 /// A NULL in one fragment, and in three, one of which is empty.
@@ -32,15 +31,15 @@ const PIECES: [&[&str]; 2] = [
 ];
 
 #[test]
-fn pieces(rt: HostRuntime) {
-    assert_eq!(rt; wrong_in_streams(rt.alloc(), &PIECES), None);
+fn pieces(rt: HostRuntime) -> Result<(), Misplayed> {
+    play_each(rt.alloc(), &PIECES)
 }
 
 const EMPTY_INPUT: [&[&str]; 2] = [&["begins", "in"], &["begins", "in 80*1 00*1"]];
 
 #[test]
-fn empty_input(rt: HostRuntime) {
-    assert_eq!(rt; wrong_in_streams(rt.alloc(), &EMPTY_INPUT), None);
+fn empty_input(rt: HostRuntime) -> Result<(), Misplayed> {
+    play_each(rt.alloc(), &EMPTY_INPUT)
 }
 
 /// A mark of one byte too many ends the stream, whatever stands behind it; what stood before it is answered.
@@ -60,8 +59,8 @@ const RECORD_TOO_LONG: [&[&str]; 3] = [
 ];
 
 #[test]
-fn record_too_long(rt: HostRuntime) {
-    assert_eq!(rt; wrong_in_streams(rt.alloc(), &RECORD_TOO_LONG), None);
+fn record_too_long(rt: HostRuntime) -> Result<(), Misplayed> {
+    play_each(rt.alloc(), &RECORD_TOO_LONG)
 }
 
 /// Another RPC version, program, version, procedure and credential.
@@ -89,8 +88,8 @@ const REFUSED_HEADERS: [&[&str]; 4] = [
 ];
 
 #[test]
-fn refused_headers(rt: HostRuntime) {
-    assert_eq!(rt; wrong_in_streams(rt.alloc(), &REFUSED_HEADERS), None);
+fn refused_headers(rt: HostRuntime) -> Result<(), Misplayed> {
+    play_each(rt.alloc(), &REFUSED_HEADERS)
 }
 
 /// The NULL call in a version that isn't served.
@@ -101,8 +100,8 @@ const VERSION_2: [&[&str]; 1] = [&[
 ]];
 
 #[test]
-fn version_2(rt: HostRuntime) {
-    assert_eq!(rt; wrong_in_streams(rt.alloc(), &VERSION_2), None);
+fn version_2(rt: HostRuntime) -> Result<(), Misplayed> {
+    play_each(rt.alloc(), &VERSION_2)
 }
 
 /// Arguments whose `block` is 2, and those with a word behind them.
@@ -120,8 +119,8 @@ const GARBAGE_ARGS: [&[&str]; 2] = [
 ];
 
 #[test]
-fn garbage_args(rt: HostRuntime) {
-    assert_eq!(rt; wrong_in_streams(rt.alloc(), &GARBAGE_ARGS), None);
+fn garbage_args(rt: HostRuntime) -> Result<(), Misplayed> {
+    play_each(rt.alloc(), &GARBAGE_ARGS)
 }
 
 /// Arguments without their last word.
@@ -132,8 +131,8 @@ const RECORD_CUT_SHORT: [&[&str]; 1] = [&[
 ]];
 
 #[test]
-fn record_cut_short(rt: HostRuntime) {
-    assert_eq!(rt; wrong_in_streams(rt.alloc(), &RECORD_CUT_SHORT), None);
+fn record_cut_short(rt: HostRuntime) -> Result<(), Misplayed> {
+    play_each(rt.alloc(), &RECORD_CUT_SHORT)
 }
 
 /// A NULL with AUTH_SYS: stamp 0, machine `a`, uid 0, gid 0, no other groups. Seventeen groups are one too many.
@@ -151,8 +150,8 @@ const NULL_AUTH_SYS: [&[&str]; 2] = [
 ];
 
 #[test]
-fn null_auth_sys(rt: HostRuntime) {
-    assert_eq!(rt; wrong_in_streams(rt.alloc(), &NULL_AUTH_SYS), None);
+fn null_auth_sys(rt: HostRuntime) -> Result<(), Misplayed> {
+    play_each(rt.alloc(), &NULL_AUTH_SYS)
 }
 
 /// SM_STAT of `a`.
@@ -163,8 +162,8 @@ const STAT_CALL: [&[&str]; 1] = [&[
 ]];
 
 #[test]
-fn stat_call(rt: HostRuntime) {
-    assert_eq!(rt; wrong_in_streams(rt.alloc(), &STAT_CALL), None);
+fn stat_call(rt: HostRuntime) -> Result<(), Misplayed> {
+    play_each(rt.alloc(), &STAT_CALL)
 }
 
 /// LOCKs by a caller whose name has 2^32 - 1 bytes, 1,025 and 1,024.
@@ -187,8 +186,8 @@ const NAME_TOO_LONG: [&[&str]; 3] = [
 ];
 
 #[test]
-fn name_too_long(rt: HostRuntime) {
-    assert_eq!(rt; wrong_in_streams(rt.alloc(), &NAME_TOO_LONG), None);
+fn name_too_long(rt: HostRuntime) -> Result<(), Misplayed> {
+    play_each(rt.alloc(), &NAME_TOO_LONG)
 }
 
 /// A NULL whose credential is of no kind and has 400 bytes, and one that has 401, which is no call.
@@ -202,8 +201,8 @@ const CREDENTIAL_TOO_LONG: [&[&str]; 2] = [
 ];
 
 #[test]
-fn credential_too_long(rt: HostRuntime) {
-    assert_eq!(rt; wrong_in_streams(rt.alloc(), &CREDENTIAL_TOO_LONG), None);
+fn credential_too_long(rt: HostRuntime) -> Result<(), Misplayed> {
+    play_each(rt.alloc(), &CREDENTIAL_TOO_LONG)
 }
 
 /// The longest record is answered: the bytes behind the arguments are not looked at.
@@ -214,6 +213,6 @@ const TRAILING_BYTES: [&[&str]; 1] = [&[
 ]];
 
 #[test]
-fn trailing_bytes(rt: HostRuntime) {
-    assert_eq!(rt; wrong_in_streams(rt.alloc(), &TRAILING_BYTES), None);
+fn trailing_bytes(rt: HostRuntime) -> Result<(), Misplayed> {
+    play_each(rt.alloc(), &TRAILING_BYTES)
 }

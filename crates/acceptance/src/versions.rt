@@ -1,6 +1,5 @@
 //! Calls of versions 1 and 3: what they are answered, and in which version the server calls back (XNFS, NLM).
-use crate::servers::wrong;
-use std::test::*;
+use crate::servers::{Misplayed, play};
 
 const VERSION_3_LOCK: &[&str] = &[
     "begins",
@@ -9,8 +8,8 @@ const VERSION_3_LOCK: &[&str] = &[
 ];
 
 #[test]
-fn version_3_lock(rt: HostRuntime) {
-    assert_eq!(rt; wrong(rt.alloc(), VERSION_3_LOCK), None);
+fn version_3_lock(rt: HostRuntime) -> Result<(), Misplayed> {
+    play(rt.alloc(), VERSION_3_LOCK)
 }
 
 /// How a TEST of version 3 shows a lock of version 4: of a byte behind 2^32, of 2^32 bytes, and of few.
@@ -33,10 +32,11 @@ const CLAMPED_HOLDER: [&[&str]; 3] = [
 ];
 
 #[test]
-fn clamped_holder(rt: HostRuntime) {
+fn clamped_holder(rt: HostRuntime) -> Result<(), Misplayed> {
     for lines in CLAMPED_HOLDER {
-        assert_eq!(rt; wrong(rt.alloc(), lines), None);
+        play(rt.alloc(), lines)?;
     }
+    Ok(())
 }
 
 /// DEADLCK and STALE_FH are DENIED, a TEST with nobody as holder; version 1 has no SHARE.
@@ -55,8 +55,8 @@ const MAPPED_STATUSES: &[&str] = &[
 ];
 
 #[test]
-fn mapped_statuses(rt: HostRuntime) {
-    assert_eq!(rt; wrong(rt.alloc(), MAPPED_STATUSES), None);
+fn mapped_statuses(rt: HostRuntime) -> Result<(), Misplayed> {
+    play(rt.alloc(), MAPPED_STATUSES)
 }
 
 /// The first of two that wait is told in its own version; who asks again in another is the same waiter.
@@ -72,8 +72,8 @@ const VERSION_1_GRANTED: &[&str] = &[
 ];
 
 #[test]
-fn version_1_granted(rt: HostRuntime) {
-    assert_eq!(rt; wrong(rt.alloc(), VERSION_1_GRANTED), None);
+fn version_1_granted(rt: HostRuntime) -> Result<(), Misplayed> {
+    play(rt.alloc(), VERSION_1_GRANTED)
 }
 
 /// A message form is told in its call's version.
@@ -86,6 +86,6 @@ const VERSION_3_RESULT: &[&str] = &[
 ];
 
 #[test]
-fn version_3_result(rt: HostRuntime) {
-    assert_eq!(rt; wrong(rt.alloc(), VERSION_3_RESULT), None);
+fn version_3_result(rt: HostRuntime) -> Result<(), Misplayed> {
+    play(rt.alloc(), VERSION_3_RESULT)
 }

@@ -1,7 +1,6 @@
 //! Locks that are waited for, from bytes to bytes: who waits, who is granted, and what the server calls then (XNFS, NLM_LOCK,
 //! NLM_CANCEL and NLM_GRANTED).
-use crate::servers::{wrong, wrong_in_both};
-use std::test::*;
+use crate::servers::{Misplayed, play, play_in_both};
 
 /// A grant that narrows its own lock frees whoever stood before it.
 const SETTLE_TWICE: &[&str] = &[
@@ -18,8 +17,8 @@ const SETTLE_TWICE: &[&str] = &[
 ];
 
 #[test]
-fn settle_twice(rt: HostRuntime) {
-    assert_eq!(rt; wrong(rt.alloc(), SETTLE_TWICE), None);
+fn settle_twice(rt: HostRuntime) -> Result<(), Misplayed> {
+    play(rt.alloc(), SETTLE_TWICE)
 }
 
 /// Who closes a cycle does not wait. Who holds nothing closes none.
@@ -50,9 +49,9 @@ const DESCRIPTION_WAITS: &[&str] = &[
 ];
 
 #[test]
-fn deadlock(rt: HostRuntime) {
-    assert_eq!(rt; wrong(rt.alloc(), DEADLOCK), None);
-    assert_eq!(rt; wrong(rt.alloc(), DESCRIPTION_WAITS), None);
+fn deadlock(rt: HostRuntime) -> Result<(), Misplayed> {
+    play(rt.alloc(), DEADLOCK)?;
+    play(rt.alloc(), DESCRIPTION_WAITS)
 }
 
 /// Who asks again has one place, and who cancels gets nothing later.
@@ -70,8 +69,8 @@ const CANCEL: &[&str] = &[
 ];
 
 #[test]
-fn cancel(rt: HostRuntime) {
-    assert_eq!(rt; wrong(rt.alloc(), CANCEL), None);
+fn cancel(rt: HostRuntime) -> Result<(), Misplayed> {
+    play(rt.alloc(), CANCEL)
 }
 
 /// Neither the owner's other wait nor another owner's is cancelled.
@@ -89,8 +88,8 @@ const CANCEL_IS_OF_JUST_ONE: &[&str] = &[
 ];
 
 #[test]
-fn cancel_is_of_just_one(rt: HostRuntime) {
-    assert_eq!(rt; wrong(rt.alloc(), CANCEL_IS_OF_JUST_ONE), None);
+fn cancel_is_of_just_one(rt: HostRuntime) -> Result<(), Misplayed> {
+    play(rt.alloc(), CANCEL_IS_OF_JUST_ONE)
 }
 
 /// A grant that is turned down goes to the next, whose call falls silent three times; the lock stays his.
@@ -115,8 +114,8 @@ const GRANT_REFUSED: &[&str] = &[
 ];
 
 #[test]
-fn grant_refused(rt: HostRuntime) {
-    assert_eq!(rt; wrong(rt.alloc(), GRANT_REFUSED), None);
+fn grant_refused(rt: HostRuntime) -> Result<(), Misplayed> {
+    play(rt.alloc(), GRANT_REFUSED)
 }
 
 /// A grant that is turned down goes to the next, who takes it; his call is over then.
@@ -140,8 +139,8 @@ const GRANTED_THEN: &[&str] = &[
 ];
 
 #[test]
-fn granted_then(rt: HostRuntime) {
-    assert_eq!(rt; wrong(rt.alloc(), GRANTED_THEN), None);
+fn granted_then(rt: HostRuntime) -> Result<(), Misplayed> {
+    play(rt.alloc(), GRANTED_THEN)
 }
 
 /// The bytes of a local program come free, and it is told so on its own connection.
@@ -156,8 +155,8 @@ const SETLKW_GRANTED: &[&str] = &[
 ];
 
 #[test]
-fn setlkw_granted(rt: HostRuntime) {
-    assert_eq!(rt; wrong(rt.alloc(), SETLKW_GRANTED), None);
+fn setlkw_granted(rt: HostRuntime) -> Result<(), Misplayed> {
+    play(rt.alloc(), SETLKW_GRANTED)
 }
 
 /// Only who asks by a blocking LOCK gets a row, and he has one place. Who is freed waits no longer.
@@ -175,8 +174,8 @@ const ROWS_OF_WAITERS: &[&str] = &[
 ];
 
 #[test]
-fn rows_of_waiters(rt: HostRuntime) {
-    assert_eq!(rt; wrong_in_both(rt.alloc(), ROWS_OF_WAITERS), None);
+fn rows_of_waiters(rt: HostRuntime) -> Result<(), Misplayed> {
+    play_in_both(rt.alloc(), ROWS_OF_WAITERS)
 }
 
 /// A GRANTED isn't answered by a GRANTED_RES.
@@ -194,8 +193,8 @@ const GRANT_SAYS_NOTHING: &[&str] = &[
 ];
 
 #[test]
-fn grant_says_nothing(rt: HostRuntime) {
-    assert_eq!(rt; wrong(rt.alloc(), GRANT_SAYS_NOTHING), None);
+fn grant_says_nothing(rt: HostRuntime) -> Result<(), Misplayed> {
+    play(rt.alloc(), GRANT_SAYS_NOTHING)
 }
 
 /// Whoever is told that the grace period isn't over calls again; once the grant is taken its call is over.
@@ -217,8 +216,8 @@ const GRANT_TAKEN: &[&str] = &[
 ];
 
 #[test]
-fn grant_taken(rt: HostRuntime) {
-    assert_eq!(rt; wrong(rt.alloc(), GRANT_TAKEN), None);
+fn grant_taken(rt: HostRuntime) -> Result<(), Misplayed> {
+    play(rt.alloc(), GRANT_TAKEN)
 }
 
 /// Once a grant is turned down its owner holds nothing, and is forgotten.
@@ -240,8 +239,8 @@ const GRANT_TURNED: &[&str] = &[
 ];
 
 #[test]
-fn grant_turned(rt: HostRuntime) {
-    assert_eq!(rt; wrong(rt.alloc(), GRANT_TURNED), None);
+fn grant_turned(rt: HostRuntime) -> Result<(), Misplayed> {
+    play(rt.alloc(), GRANT_TURNED)
 }
 
 /// A GRANTED_MSG is answered by its GRANTED_RES alone.
@@ -264,8 +263,8 @@ const MESSAGE_TURNED: &[&str] = &[
 ];
 
 #[test]
-fn message_turned(rt: HostRuntime) {
-    assert_eq!(rt; wrong(rt.alloc(), MESSAGE_TURNED), None);
+fn message_turned(rt: HostRuntime) -> Result<(), Misplayed> {
+    play(rt.alloc(), MESSAGE_TURNED)
 }
 
 /// How many owners have a number after each procedure.
@@ -293,8 +292,8 @@ const KNOWN_BY_HOLDING: &[&str] = &[
 ];
 
 #[test]
-fn known_by_holding(rt: HostRuntime) {
-    assert_eq!(rt; wrong(rt.alloc(), KNOWN_BY_HOLDING), None);
+fn known_by_holding(rt: HostRuntime) -> Result<(), Misplayed> {
+    play(rt.alloc(), KNOWN_BY_HOLDING)
 }
 
 /// The same of those who wait. In the end `b` doesn't want it any more, and `d` has it.
@@ -319,6 +318,6 @@ const KNOWN_BY_WAITING: &[&str] = &[
 ];
 
 #[test]
-fn known_by_waiting(rt: HostRuntime) {
-    assert_eq!(rt; wrong(rt.alloc(), KNOWN_BY_WAITING), None);
+fn known_by_waiting(rt: HostRuntime) -> Result<(), Misplayed> {
+    play(rt.alloc(), KNOWN_BY_WAITING)
 }

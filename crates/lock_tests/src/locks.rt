@@ -8,7 +8,7 @@
 //! - `drop-host a`, `clear`: the host's owners go, or all.
 //! - `used 3`: so many locks are held. `roomy`: more can be set.
 use crate::owner::read_owner;
-use crate::row::{Case, Row, Span, wrong_in};
+use crate::row::{Case, Misplayed, Row, Span, play_in};
 use held_locks::{Locks, NewSetting, Request};
 use owner_ids::Owner;
 use range_table::{FileId, FlatTable, Mode};
@@ -128,8 +128,8 @@ impl Case for Play {
     }
 }
 
-fn wrong(alloc: Global, rows: &[&str]) -> Option<usize> {
-    wrong_in(Play::new(alloc), rows)
+fn play_rows(alloc: Global, rows: &[&str]) -> Result<(), Misplayed> {
+    play_in(Play::new(alloc), rows)
 }
 
 const TEST_AFTER_LOCK: &[&str] = &[
@@ -147,8 +147,8 @@ const TEST_AFTER_LOCK: &[&str] = &[
 ];
 
 #[test]
-fn test_after_lock(rt: HostRuntime) {
-    assert_eq!(rt; wrong(rt.alloc(), TEST_AFTER_LOCK), None);
+fn test_after_lock(rt: HostRuntime) -> Result<(), Misplayed> {
+    play_rows(rt.alloc(), TEST_AFTER_LOCK)
 }
 
 const OWNERS_ARE_KNOWN_WHILE_THEY_HOLD: &[&str] = &[
@@ -178,8 +178,8 @@ const OWNERS_ARE_KNOWN_WHILE_THEY_HOLD: &[&str] = &[
 ];
 
 #[test]
-fn owners_are_known_while_they_hold(rt: HostRuntime) {
-    assert_eq!(rt; wrong(rt.alloc(), OWNERS_ARE_KNOWN_WHILE_THEY_HOLD), None);
+fn owners_are_known_while_they_hold(rt: HostRuntime) -> Result<(), Misplayed> {
+    play_rows(rt.alloc(), OWNERS_ARE_KNOWN_WHILE_THEY_HOLD)
 }
 
 /// Those who take part in the random script.

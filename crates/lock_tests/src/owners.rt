@@ -8,10 +8,9 @@
 //! - `host a 3`, `one 3 1`: so many of the numbers are of the host's owners, or are that at a place.
 //! - `nobody a 1000`: no owner of the host has this number.
 use crate::owner::{intern, read_owner};
-use crate::row::{Case, Row, wrong_in};
+use crate::row::{Case, Misplayed, Row, play_in};
 use owner_ids::{Host, HostOf, OneOwner, OwnerId, OwnerOrder, Owners};
 use std::alloc::Global;
-use std::test::*;
 
 #[derive(Drop)]
 struct Play {
@@ -98,13 +97,13 @@ impl Case for Play {
     }
 }
 
-fn wrong(alloc: Global, rows: &[&str]) -> Option<usize> {
+fn play_rows(alloc: Global, rows: &[&str]) -> Result<(), Misplayed> {
     let play = Play {
         alloc,
         owners: Owners::new(alloc),
         numbers: Vec::new(alloc),
     };
-    wrong_in(Some(play), rows)
+    play_in(Some(play), rows)
 }
 
 const AN_OWNER_HAS_ONE_NUMBER: &[&str] = &[
@@ -120,8 +119,8 @@ const AN_OWNER_HAS_ONE_NUMBER: &[&str] = &[
 ];
 
 #[test]
-fn an_owner_has_one_number(rt: HostRuntime) {
-    assert_eq!(rt; wrong(rt.alloc(), AN_OWNER_HAS_ONE_NUMBER), None);
+fn an_owner_has_one_number(rt: HostRuntime) -> Result<(), Misplayed> {
+    play_rows(rt.alloc(), AN_OWNER_HAS_ONE_NUMBER)
 }
 
 const A_NUMBER_GOES_WITH_ITS_OWNER: &[&str] = &[
@@ -134,8 +133,8 @@ const A_NUMBER_GOES_WITH_ITS_OWNER: &[&str] = &[
 ];
 
 #[test]
-fn a_number_goes_with_its_owner(rt: HostRuntime) {
-    assert_eq!(rt; wrong(rt.alloc(), A_NUMBER_GOES_WITH_ITS_OWNER), None);
+fn a_number_goes_with_its_owner(rt: HostRuntime) -> Result<(), Misplayed> {
+    play_rows(rt.alloc(), A_NUMBER_GOES_WITH_ITS_OWNER)
 }
 
 const NUMBERS_STAND_AS_THEIR_OWNERS: &[&str] = &[
@@ -156,6 +155,6 @@ const NUMBERS_STAND_AS_THEIR_OWNERS: &[&str] = &[
 ];
 
 #[test]
-fn numbers_stand_as_their_owners(rt: HostRuntime) {
-    assert_eq!(rt; wrong(rt.alloc(), NUMBERS_STAND_AS_THEIR_OWNERS), None);
+fn numbers_stand_as_their_owners(rt: HostRuntime) -> Result<(), Misplayed> {
+    play_rows(rt.alloc(), NUMBERS_STAND_AS_THEIR_OWNERS)
 }

@@ -3,9 +3,6 @@ ghost use Rattle.std.specs.Prelude.{◌≤◌, ◌<◌, ◌^◌};
 
 use range_table::Mode;
 
-/// Where a case can't begin at all.
-const NOT_BEGUN: Option<usize> = Some(usize::MAX);
-
 const LAST_BYTE: u64 = 9_223_372_036_854_775_807;
 
 /// Bytes of a file, from the first to the last.
@@ -81,6 +78,15 @@ impl<'a> Row<'a> {
     }
 }
 
+/// Why rows are not played as they say.
+#[derive(Clone, Copy, Debug)]
+pub(crate) enum Misplayed {
+    /// The case can't begin at all.
+    NotBegun,
+    /// The first row that goes otherwise.
+    Row(usize),
+}
+
 /// A case that plays rows.
 pub(crate) trait Case {
     /// Whether it goes as the row says. None where the row can't be read or there is no memory.
@@ -97,10 +103,14 @@ fn wrong_row<C: Case>(case: &mut C, rows: &[&str]) -> Option<usize> {
     None
 }
 
-/// The same of a case that is yet to begin.
-pub(crate) fn wrong_in<C: Case + Drop>(begun: Option<C>, rows: &[&str]) -> Option<usize> {
-    match begun {
+/// Whether a case that is yet to begin plays the rows.
+pub(crate) fn play_in<C: Case + Drop>(begun: Option<C>, rows: &[&str]) -> Result<(), Misplayed> {
+    let wrong = match begun {
         Some(mut case) => wrong_row(&mut case, rows),
-        None => NOT_BEGUN,
+        None => return Err(Misplayed::NotBegun),
+    };
+    match wrong {
+        None => Ok(()),
+        Some(row) => Err(Misplayed::Row(row)),
     }
 }

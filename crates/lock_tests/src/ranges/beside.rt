@@ -216,16 +216,31 @@ fn first_difference<T: RangeTable, U: RangeTable>(
     None
 }
 
-#[test]
-fn one_script_through_both_tables(rt: HostRuntime) -> Result<(), Fail> {
-    let alloc = rt.alloc();
-    let mut owners = Owners::new(alloc);
-    let asking = asking(alloc, &mut owners)?;
+// Whether both are alike through the script and at its end, and have many runs then.
+fn are_alike<T: RangeTable, U: RangeTable>(
+    table: &mut T,
+    other: &mut U,
+    owners: &Owners,
+    asking: &Asking,
+) -> bool {
+    first_difference(table, other, owners, asking).is_none()
+        && hold_alike(table, other, owners)
+        && table.used() > 1_000
+}
+
+// The same of two fresh tables. The owners are lent, since each end of a function drops what it has.
+fn play_both(alloc: Global, owners: &mut Owners) -> Result<bool, Fail> {
+    let asking = asking(alloc, owners)?;
     let mut arena = ArenaTable::new(alloc)?;
     let mut flat = FlatTable::new(alloc)?;
-    let difference = first_difference(&mut arena, &mut flat, &owners, &asking);
-    assert!(rt; difference.is_none());
-    assert!(rt; hold_alike(&arena, &flat, &owners));
-    assert!(rt; arena.used() > 1_000);
+    Ok(are_alike(&mut arena, &mut flat, owners, &asking))
+}
+
+#[test]
+fn one_script_through_both_tables(rt: HostRuntime) -> Result<(), Fail> {
+    let mut owners = Owners::new(rt.alloc());
+    let played = play_both(rt.alloc(), &mut owners);
+    drop(owners);
+    assert!(rt; played?);
     Ok(())
 }

@@ -10,8 +10,8 @@
 //! - `close p42`: it closes the file. `clear`: nobody holds anything.
 //! - `idle p42`: it holds nothing. `leaves p42`, `stays p42`: its number goes out of use, or may not.
 //! - `used 2`, `host a 1`: so many runs there are, or are of the host. `run 0 0 2`: the run 0 is of the bytes 0 to 2.
-use super::table::wrong;
-use std::test::*;
+use super::table::play_rows;
+use crate::row::Misplayed;
 
 const TEST_AFTER_LOCK: &[&str] = &[
     "owner a/7/A",
@@ -26,8 +26,8 @@ const TEST_AFTER_LOCK: &[&str] = &[
 ];
 
 #[test]
-fn test_after_lock(rt: HostRuntime) {
-    assert_eq!(rt; wrong(rt.alloc(), TEST_AFTER_LOCK), None);
+fn test_after_lock(rt: HostRuntime) -> Result<(), Misplayed> {
+    play_rows(rt.alloc(), TEST_AFTER_LOCK)
 }
 
 const ENDS_OF_FILE: &[&str] = &[
@@ -40,8 +40,8 @@ const ENDS_OF_FILE: &[&str] = &[
 ];
 
 #[test]
-fn ends_of_file(rt: HostRuntime) {
-    assert_eq!(rt; wrong(rt.alloc(), ENDS_OF_FILE), None);
+fn ends_of_file(rt: HostRuntime) -> Result<(), Misplayed> {
+    play_rows(rt.alloc(), ENDS_OF_FILE)
 }
 
 const LOCAL_LINES: &[&str] = &[
@@ -58,8 +58,8 @@ const LOCAL_LINES: &[&str] = &[
 ];
 
 #[test]
-fn local_lines(rt: HostRuntime) {
-    assert_eq!(rt; wrong(rt.alloc(), LOCAL_LINES), None);
+fn local_lines(rt: HostRuntime) -> Result<(), Misplayed> {
+    play_rows(rt.alloc(), LOCAL_LINES)
 }
 
 const QUOTA_OF_RUNS: &[&str] = &[
@@ -74,8 +74,8 @@ const QUOTA_OF_RUNS: &[&str] = &[
 ];
 
 #[test]
-fn quota_of_runs(rt: HostRuntime) {
-    assert_eq!(rt; wrong(rt.alloc(), QUOTA_OF_RUNS), None);
+fn quota_of_runs(rt: HostRuntime) -> Result<(), Misplayed> {
+    play_rows(rt.alloc(), QUOTA_OF_RUNS)
 }
 
 const TABLE_FULL: &[&str] = &[
@@ -94,8 +94,8 @@ const TABLE_FULL: &[&str] = &[
 ];
 
 #[test]
-fn table_full(rt: HostRuntime) {
-    assert_eq!(rt; wrong(rt.alloc(), TABLE_FULL), None);
+fn table_full(rt: HostRuntime) -> Result<(), Misplayed> {
+    play_rows(rt.alloc(), TABLE_FULL)
 }
 
 const WHO_HOLDS_NOTHING_MAY_GO: &[&str] = &[
@@ -108,6 +108,6 @@ const WHO_HOLDS_NOTHING_MAY_GO: &[&str] = &[
 ];
 
 #[test]
-fn who_holds_nothing_may_go(rt: HostRuntime) {
-    assert_eq!(rt; wrong(rt.alloc(), WHO_HOLDS_NOTHING_MAY_GO), None);
+fn who_holds_nothing_may_go(rt: HostRuntime) -> Result<(), Misplayed> {
+    play_rows(rt.alloc(), WHO_HOLDS_NOTHING_MAY_GO)
 }

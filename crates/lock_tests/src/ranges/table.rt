@@ -2,7 +2,7 @@
 ghost use Rattle.std.specs.Prelude.{◌≡◌, ◌≤◌, ◌<◌, ◌^◌};
 
 use crate::owner::{number, read_owner};
-use crate::row::{Case, Row, Span, wrong_in};
+use crate::row::{Case, Misplayed, Row, Span, play_in};
 use owner_ids::{OwnerId, Owners};
 use range_owners::{
     clear, drop_owner_on_file, first_conflict, holds_nothing, intern, refuses, release, runs, set,
@@ -173,6 +173,6 @@ impl Case for Held {
 }
 
 /// The place of the first row that goes otherwise than it says.
-pub(super) fn wrong(alloc: Global, rows: &[&str]) -> Option<usize> {
-    wrong_in(Held::new(alloc), rows)
+pub(super) fn play_rows(alloc: Global, rows: &[&str]) -> Result<(), Misplayed> {
+    play_in(Held::new(alloc), rows)
 }

@@ -10,7 +10,8 @@
 //! - `close a/7/ 3`: it closes file 3. `drop-host a`, `clear`: the host's waiters go, or all.
 //! - `take 5`: so many places go to calls. `too-many 5`: fewer are free. `lend 5`: they come back.
 //! - `waits a/7/`, `waits-not a/7/`: whether it waits. `free 1`, `waiters 7`: so many places are free, so many wait.
-use super::tables::wrong;
+use super::tables::play_rows;
+use crate::row::Misplayed;
 use blocked_list::{BlockError, NoSlots, NotWaiting};
 use std::alloc::AllocError;
 use std::test::*;
@@ -33,8 +34,8 @@ const SETTLE_TWICE: &[&str] = &[
 ];
 
 #[test]
-fn settle_twice(rt: HostRuntime) {
-    assert_eq!(rt; wrong(rt.alloc(), SETTLE_TWICE), None);
+fn settle_twice(rt: HostRuntime) -> Result<(), Misplayed> {
+    play_rows(rt.alloc(), SETTLE_TWICE)
 }
 
 /// a holds 1 and b holds 2, for which a waits; then b asks for 1.
@@ -48,8 +49,8 @@ const DEADLOCK: &[&str] = &[
 ];
 
 #[test]
-fn deadlock(rt: HostRuntime) {
-    assert_eq!(rt; wrong(rt.alloc(), DEADLOCK), None);
+fn deadlock(rt: HostRuntime) -> Result<(), Misplayed> {
+    play_rows(rt.alloc(), DEADLOCK)
 }
 
 /// The same with a description.
@@ -63,8 +64,8 @@ const DESCRIPTION_WAITS: &[&str] = &[
 ];
 
 #[test]
-fn description_waits(rt: HostRuntime) {
-    assert_eq!(rt; wrong(rt.alloc(), DESCRIPTION_WAITS), None);
+fn description_waits(rt: HostRuntime) -> Result<(), Misplayed> {
+    play_rows(rt.alloc(), DESCRIPTION_WAITS)
 }
 
 /// a waits for b, and c for a; then b asks for what c holds, and c for what b holds.
@@ -82,8 +83,8 @@ const LONGER_CYCLE: &[&str] = &[
 ];
 
 #[test]
-fn longer_cycle(rt: HostRuntime) {
-    assert_eq!(rt; wrong(rt.alloc(), LONGER_CYCLE), None);
+fn longer_cycle(rt: HostRuntime) -> Result<(), Misplayed> {
+    play_rows(rt.alloc(), LONGER_CYCLE)
 }
 
 fn reads(text: Result<String, AllocError>, shown: &str) -> bool {
@@ -115,8 +116,8 @@ const SLOTS_FULL: &[&str] = &[
 ];
 
 #[test]
-fn slots_full(rt: HostRuntime) {
-    assert_eq!(rt; wrong(rt.alloc(), SLOTS_FULL), None);
+fn slots_full(rt: HostRuntime) -> Result<(), Misplayed> {
+    play_rows(rt.alloc(), SLOTS_FULL)
 }
 
 const NO_PLACE: &[&str] = &[
@@ -128,8 +129,8 @@ const NO_PLACE: &[&str] = &[
 ];
 
 #[test]
-fn no_place(rt: HostRuntime) {
-    assert_eq!(rt; wrong(rt.alloc(), NO_PLACE), None);
+fn no_place(rt: HostRuntime) -> Result<(), Misplayed> {
+    play_rows(rt.alloc(), NO_PLACE)
 }
 
 const DROPS: &[&str] = &[
@@ -149,6 +150,6 @@ const DROPS: &[&str] = &[
 ];
 
 #[test]
-fn drops(rt: HostRuntime) {
-    assert_eq!(rt; wrong(rt.alloc(), DROPS), None);
+fn drops(rt: HostRuntime) -> Result<(), Misplayed> {
+    play_rows(rt.alloc(), DROPS)
 }

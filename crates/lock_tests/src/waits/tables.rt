@@ -2,7 +2,7 @@
 ghost use Rattle.std.specs.Prelude.{◌≤◌, ◌<◌, ◌^◌, None};
 
 use crate::owner::{intern, number};
-use crate::row::{Case, Row, Span, wrong_in};
+use crate::row::{Case, Misplayed, Row, Span, play_in};
 use blocked_list::{BlockError, NoSlots, NotWaiting, Quotas, Slots, Waiter};
 use callbacks::{Destination, Letter, Message, ShortBytes};
 use host_runs::RunsOfHosts;
@@ -254,6 +254,6 @@ impl Case for Tables {
 }
 
 /// The place of the first row that goes otherwise than it says.
-pub(super) fn wrong(alloc: Global, rows: &[&str]) -> Option<usize> {
-    wrong_in(Tables::new(alloc), rows)
+pub(super) fn play_rows(alloc: Global, rows: &[&str]) -> Result<(), Misplayed> {
+    play_in(Tables::new(alloc), rows)
 }
