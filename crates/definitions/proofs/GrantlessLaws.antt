@@ -1,6 +1,6 @@
 -- In grace nobody waits, and no call tells of a grant.
-use Rattle.std.proofs.Common.{◌≡◌, ℕ, ◌+◌, ◌%◌, ◌^◌, Bool, true, false, cond, ◌&&◌, ◌||◌, leb, List, [], ◌∷◌, ◌++◌, length, take, zero, suc, refl, sym, ap, subst, ◌∙◌, Option, Some, None, inl, inr}
-use Rattle.std.proofs.lemmas.Bool.{true≢false}
+use Rattle.std.proofs.Common.{◌≡◌, ℕ, ◌+◌, ◌%◌, ◌^◌, Bool, true, false, cond, ◌&&◌, leb, List, [], ◌∷◌, ◌++◌, length, take, zero, suc, refl, sym, ap, subst, ◌∙◌, Option, Some, None, inl, inr}
+use Rattle.std.proofs.lemmas.Bool.{true≢false, or_parts, or_from}
 use Rattle.definitions.specs.Bytes.{Bytes, Holds, is_any, first_that, without_first}
 use Rattle.definitions.specs.Settings.{Request}
 use Rattle.definitions.specs.Shares.{Share}
@@ -16,7 +16,7 @@ use Rattle.definitions.specs.Lines.{line_answer}
 use Rattle.definitions.specs.Answer.{Answered, ruling}
 use Rattle.definitions.specs.Step.{Peer, KeptPair, State, Event, Doing, Take, Send, Answer, Silent, Local, GraceOver, Restart, Applied, Starved, Stepped, applied, starved, step, taken, look, sent, restart, settled_after, is_same_key, is_restart, is_kept_kind, is_success, moved_to_front, with_row_stored, store_call, opening_state}
 use Rattle.definitions.specs.Replay.{Done, after, state_after}
-use Rattle.definitions.specs.Numbers.{numbered, AreLeft, NoneLeft, IsGone, IsLeft, IsSameCall, IsAgain}
+use Rattle.definitions.specs.Numbers.{numbered, AreLeft, NoneLeft, IsGone, IsLeft, IsSameCall, AreRenewed}
 use Rattle.definitions.specs.Standing.{IsGrantless, is_grant_call, GraceCallsLaw}
 use Rattle.definitions.specs.Uses.{new_pair}
 use Rattle.definitions.proofs.MoveLaws.{by_cond}
@@ -32,14 +32,6 @@ use Rattle.definitions.proofs.SideSteps.{settle_keeps}
 
 -- ---- lists of calls that tell of no grant
 
-either : (a b : Bool) → (a || b) ≡ false → (a ≡ false) × (b ≡ false)
-either true b e = absurd (true≢false e)
-either false b e = (refl, e)
-
-neither : (a b : Bool) → a ≡ false → b ≡ false → (a || b) ≡ false
-neither true b e h = absurd (true≢false e)
-neither false b e h = h
-
 abbrev HasNoGrant : List Outgoing → Type 0
 HasNoGrant calls = is_any is_grant_call calls ≡ false
 
@@ -49,34 +41,38 @@ same_call c d (inr h) = ap is_grant_call h.1
 
 plain_left : {before behind : List Outgoing} → AreLeft before behind → HasNoGrant before → HasNoGrant behind
 plain_left NoneLeft e = refl
-plain_left (IsGone {c = c} {before = before} h) e = plain_left h (either (is_grant_call c) (is_any is_grant_call before) e).1
+plain_left (IsGone {c = c} {before = before} h) e = plain_left h (or_parts (is_grant_call c) (is_any is_grant_call before) e).1
 plain_left (IsLeft {c = c} {d = d} {before = before} {behind = behind} s h) e =
-    let k = either (is_grant_call c) (is_any is_grant_call before) e in
-    neither (is_grant_call d) (is_any is_grant_call behind) (same_call c d s ∙ k.0) (plain_left h k.1)
+    let k = or_parts (is_grant_call c) (is_any is_grant_call before) e in
+    or_from (is_grant_call d) (is_any is_grant_call behind) (same_call c d s ∙ k.0) (plain_left h k.1)
 
-plain_one : (calls : List Outgoing) (c : Outgoing) → Holds calls c → HasNoGrant calls → is_grant_call c ≡ false
-plain_one [] c h e = absurd h
-plain_one (d ∷ calls) c (inl k) e = ap is_grant_call (sym k) ∙ (either (is_grant_call d) (is_any is_grant_call calls) e).0
-plain_one (d ∷ calls) c (inr k) e = plain_one calls c k (either (is_grant_call d) (is_any is_grant_call calls) e).1
-
-plain_again : (calls again : List Outgoing) → IsAgain calls again → HasNoGrant calls → HasNoGrant again
-plain_again calls again (inl e) h = ap (is_any is_grant_call) e
-plain_again calls again (inr k) h = ap (is_any is_grant_call) k.3 ∙ neither (is_grant_call k.0) false (plain_one calls k.0 k.1 h) refl
+plain_middle : (xs ys : List Outgoing) (c : Outgoing) → HasNoGrant (xs ++ c ∷ ys) → (is_grant_call c ≡ false) × HasNoGrant (xs ++ ys)
+plain_middle [] ys c e = or_parts (is_grant_call c) (is_any is_grant_call ys) e
+plain_middle (x ∷ xs) ys c e =
+    let k = or_parts (is_grant_call x) (is_any is_grant_call (xs ++ c ∷ ys)) e in
+    let m = plain_middle xs ys c k.1 in
+    (m.0, or_from (is_grant_call x) (is_any is_grant_call (xs ++ ys)) k.0 m.1)
 
 plain_numbered : (first : ℕ) (letters : List Letter) → AllOf IsPlain letters → HasNoGrant (numbered first letters)
 plain_numbered first [] h = refl
-plain_numbered first (l ∷ letters) h = neither (is_grant l.message) (is_any is_grant_call (numbered ((first + 1) % 2 ^ 64) letters)) h.0 (plain_numbered ((first + 1) % 2 ^ 64) letters h.1)
+plain_numbered first (l ∷ letters) h = or_from (is_grant l.message) (is_any is_grant_call (numbered ((first + 1) % 2 ^ 64) letters)) h.0 (plain_numbered ((first + 1) % 2 ^ 64) letters h.1)
 
 plain_both : (xs ys : List Outgoing) → HasNoGrant xs → HasNoGrant ys → HasNoGrant (xs ++ ys)
 plain_both [] ys e h = h
 plain_both (c ∷ xs) ys e h =
-    let k = either (is_grant_call c) (is_any is_grant_call xs) e in
-    neither (is_grant_call c) (is_any is_grant_call (xs ++ ys)) k.0 (plain_both xs ys k.1 h)
+    let k = or_parts (is_grant_call c) (is_any is_grant_call xs) e in
+    or_from (is_grant_call c) (is_any is_grant_call (xs ++ ys)) k.0 (plain_both xs ys k.1 h)
+
+plain_renewed : (calls left again : List Outgoing) → AreRenewed calls left again → HasNoGrant calls → HasNoGrant (left ++ again)
+plain_renewed calls left again (inl h) e = plain_both left again (plain_left h.0 e) (ap (is_any is_grant_call) h.1)
+plain_renewed calls left again (inr d) e =
+    let m = plain_middle d.front d.back d.call (subst HasNoGrant d.stood e) in
+    plain_both left again (plain_left d.others m.1) (ap (is_any is_grant_call) d.due ∙ or_from (is_grant_call d.call) false m.0 refl)
 
 plain_on : (w v : World) → GoesPlainlyOn w v → HasNoGrant w.calls → HasNoGrant v.calls
 plain_on w v g h =
     ap (is_any is_grant_call) g.behind.rest.calls
-    ∙ plain_both (g.left ++ g.again) (numbered w.next g.behind.rest.letters) (plain_both g.left g.again (plain_left g.in_order h) (plain_again w.calls g.again g.renewed h)) (plain_numbered w.next g.behind.rest.letters g.behind.each)
+    ∙ plain_both (g.left ++ g.again) (numbered w.next g.behind.rest.letters) (plain_renewed w.calls g.left g.again g.in_order h) (plain_numbered w.next g.behind.rest.letters g.behind.each)
 
 plain_begin : (v : World) → BeginsPlainly v → HasNoGrant v.calls
 plain_begin v b = ap (is_any is_grant_call) b.behind.rest.calls ∙ plain_numbered (first_number v.hosts.own) b.behind.rest.letters b.behind.each
@@ -189,7 +185,7 @@ module _ (limits : Limits) (s : State) (quiet : IsQuiet s) where
     where
       go : (o : Option Outgoing) → first_that (is_numbered number) s.world.calls ≡ o → Quiet (with_calls s.world (after_silence_at o s.world.calls))
       go None e = same_quiet s.world (with_calls s.world s.world.calls) refl refl refl quiet.world
-      go (Some c) e = let v = with_calls s.world (after_silence_at (Some c) s.world.calls) in going_quiet s.world v refl (goes_silent s.world c (holds_first (is_numbered number) s.world.calls c e) v refl refl refl) quiet.world
+      go (Some c) e = let v = with_calls s.world (after_silence_at (Some c) s.world.calls) in going_quiet s.world v refl (goes_silent s.world number c e v refl refl refl) quiet.world
 
   begun_quiet : (store : StoreAnswer) → IsQuiet (restart s store).state
   begun_quiet Yes =

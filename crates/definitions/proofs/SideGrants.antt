@@ -11,7 +11,7 @@ use Rattle.definitions.specs.World.{World, Limits, with_setting, with_calls}
 use Rattle.definitions.specs.Rulings.{Told, Ruling}
 use Rattle.definitions.specs.Grants.{Change, ended, grant_answered, granted_res_rules, granted_res_at, granted_res_of, notice_answered, succeeded, answered_success, answered_otherwise, answer_rules, became, TableStays, TableChanges}
 use Rattle.definitions.proofs.MoveLaws.{by_cond}
-use Rattle.definitions.proofs.CallLaws.{left_without_first, holds_first}
+use Rattle.definitions.proofs.CallLaws.{left_without_first}
 use Rattle.definitions.proofs.SideMoves.{SharesStay, SideMoves, unmoved_sides, goes_left, goes_silent}
 
 module _ (R : Share → Type 0) where
@@ -30,7 +30,7 @@ module _ (R : Share → Type 0) where
       go (Some c) e = record {
         name = refl;
         shares = SharesStay;
-        calls = inl (goes_silent w c (holds_first (is_numbered number) w.calls c e) (with_calls w (after_silence_at (Some c) w.calls)) refl refl refl);
+        calls = inl (goes_silent w number c e (with_calls w (after_silence_at (Some c) w.calls)) refl refl refl);
       }
 
   grant_sides : (limits : Limits) (w : World) (c : Outgoing) (alock : Lock) (stat : Option Stat) → SideMoves R false w (grant_answered limits w c alock stat).world

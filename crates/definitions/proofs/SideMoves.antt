@@ -1,8 +1,8 @@
 -- How each call and line may change what stands beside the table: own name, phase, shares and the server's own calls.
-use Rattle.std.proofs.Common.{◌≡◌, ℕ, Bool, true, false, cond, not, ◌&&◌, eqb, leb, List, [], ◌∷◌, ◌++◌, refl, sym, subst, ◌∙◌, Option, Some, None, ◌⊎◌, inl, inr}
-use Rattle.std.proofs.lemmas.Bool.{true≢false}
+use Rattle.std.proofs.Common.{◌≡◌, ℕ, Bool, true, false, cond, not, ◌&&◌, eqb, leb, List, [], ◌∷◌, ◌++◌, refl, sym, ap, subst, ◌∙◌, Option, Some, None, ◌⊎◌, inl, inr}
+use Rattle.std.proofs.lemmas.Bool.{true≢false, eqb-true}
 use Rattle.std.proofs.lemmas.List.{append-nil}
-use Rattle.definitions.specs.Bytes.{Bytes, Holds}
+use Rattle.definitions.specs.Bytes.{Bytes, first_that}
 use Rattle.definitions.specs.Settings.{Setting, Request, setting_of}
 use Rattle.definitions.specs.Conflict.{conflicts}
 use Rattle.definitions.specs.Quotas.{quotas_of, lacks_room, is_refused}
@@ -17,9 +17,10 @@ use Rattle.definitions.specs.World.{World, Limits, with_setting, with_waiter, wi
 use Rattle.definitions.specs.Rulings.{Told, Ruling, decided, stays}
 use Rattle.definitions.specs.LockRules.{LockAsk, row_asked, after_row, free_lock, blocked_lock, lock_rules, unlock_rules, cancel_rules}
 use Rattle.definitions.specs.Answer.{lock_unless, lock_verdict, cancel_unless, cancel_answer, unlock_unless, unlock_answer}
-use Rattle.definitions.specs.Numbers.{AreLeft, IsAgain}
+use Rattle.definitions.specs.Numbers.{AreLeft, IsDueAgain, AreRenewed}
 use Rattle.definitions.proofs.MoveLaws.{by_cond}
 use Rattle.definitions.proofs.CallLaws.{left_same, left_without_first, AllOf, ContinuesBy, begins, all_due}
+use Rattle.definitions.proofs.Lists.{first_found}
 
 -- ---- what may change
 
@@ -38,8 +39,7 @@ IsPlain letter = is_grant letter.message ≡ false
 pub record GoesPlainlyOn (w v : World) : Type 0 where
   pub left : List Outgoing
   pub again : List Outgoing
-  pub in_order : AreLeft w.calls left
-  pub renewed : IsAgain w.calls again
+  pub in_order : AreRenewed w.calls left again
   pub behind : ContinuesBy IsPlain (left ++ again) w.next v
   pub phase : v.phase ≡ w.phase
 
@@ -126,26 +126,24 @@ unlock_answer_same limits w a = go (range_refusal w Unlocking a.alock)
 
 -- ---- the calls
 
-pub goes_with : (w v : World) (left again : List Outgoing) → AreLeft w.calls left → IsAgain w.calls again → v.calls ≡ left ++ again → v.next ≡ w.next → v.phase ≡ w.phase → GoesPlainlyOn w v
-goes_with w v left again h k e n p = record {
+pub goes_with : (w v : World) (left again : List Outgoing) → AreRenewed w.calls left again → v.calls ≡ left ++ again → v.next ≡ w.next → v.phase ≡ w.phase → GoesPlainlyOn w v
+goes_with w v left again h e n p = record {
   left = left;
   again = again;
   in_order = h;
-  renewed = k;
   behind = subst (λ (first : ℕ). ContinuesBy IsPlain (left ++ again) first v) n (begins IsPlain (left ++ again) v e);
   phase = p;
 }
 
 -- nothing but some calls goes
 pub goes_left : (w v : World) (left : List Outgoing) → AreLeft w.calls left → v.calls ≡ left → v.next ≡ w.next → v.phase ≡ w.phase → GoesPlainlyOn w v
-goes_left w v left h e n p = goes_with w v left [] h (inl refl) (e ∙ sym (append-nil left)) n p
+goes_left w v left h e n p = goes_with w v left [] (inl (h, refl)) (e ∙ sym (append-nil left)) n p
 
 pub goes_due : (w v : World) (letters : List Letter) → AllOf IsPlain letters → GoesPlainlyOn w v → GoesPlainlyOn w (with_all_due v letters)
 goes_due w v letters h g = record {
   left = g.left;
   again = g.again;
   in_order = g.in_order;
-  renewed = g.renewed;
   behind = all_due IsPlain (g.left ++ g.again) w.next v letters h g.behind;
   phase = (due_phase v letters) ∙ g.phase;
 }
@@ -155,13 +153,30 @@ goes_due w v letters h g = record {
     due_phase v (l ∷ letters) = due_phase (with_due v l) letters
 
 -- a silence of a call that is there
-pub goes_silent : (w : World) (c : Outgoing) → Holds w.calls c → (v : World) → v.calls ≡ after_silence_of c w.calls → v.next ≡ w.next → v.phase ≡ w.phase → GoesPlainlyOn w v
-goes_silent w c held v e n p = go c.is_due refl (leb 3 c.sendings) e
+pub goes_silent : (w : World) (number : ℕ) (c : Outgoing) → first_that (is_numbered number) w.calls ≡ Some c → (v : World) → v.calls ≡ after_silence_of c w.calls → v.next ≡ w.next → v.phase ≡ w.phase → GoesPlainlyOn w v
+goes_silent w number c found v e n p = go c.is_due refl (leb 3 c.sendings) e
   where
-    go : (b : Bool) → c.is_due ≡ b → (m : Bool) → v.calls ≡ cond b w.calls (cond m (without_call c.number w.calls) (without_call c.number w.calls ++ record c { is_due = true } ∷ [])) → GoesPlainlyOn w v
+    others : List Outgoing
+    others = without_call c.number w.calls
+
+    moved : c.is_due ≡ false → IsDueAgain w.calls others (record c { is_due = true } ∷ [])
+    moved h =
+        let f = first_found (is_numbered number) w.calls c found in
+        let left = ap (λ m. without_call m w.calls) (eqb-true c.number number f.passes) ∙ f.left in
+        record {
+          front = f.before;
+          call = c;
+          back = f.behind;
+          stood = f.there;
+          sent = h;
+          others = subst (AreLeft (f.before ++ f.behind)) (sym left) (left_same (f.before ++ f.behind));
+          due = refl;
+        }
+
+    go : (b : Bool) → c.is_due ≡ b → (m : Bool) → v.calls ≡ cond b w.calls (cond m others (others ++ record c { is_due = true } ∷ [])) → GoesPlainlyOn w v
     go true h m k = goes_left w v w.calls (left_same w.calls) k n p
-    go false h true k = goes_left w v (without_call c.number w.calls) (left_without_first (is_numbered c.number) w.calls) k n p
-    go false h false k = goes_with w v (without_call c.number w.calls) (record c { is_due = true } ∷ []) (left_without_first (is_numbered c.number) w.calls) (inr (c, held, h, refl)) k n p
+    go false h true k = goes_left w v others (left_without_first (is_numbered c.number) w.calls) k n p
+    go false h false k = goes_with w v others (record c { is_due = true } ∷ []) (inr (moved h)) k n p
 
 -- ---- what stays, and what goes on
 

@@ -18,7 +18,7 @@ use Rattle.definitions.specs.Step.{Peer, KeptPair, State, Event, Take, Send, Ans
 use Rattle.definitions.specs.Numbers.{Continues, GoesOn, BeginsAnew, is_beginning, NumbersLaw}
 use Rattle.definitions.specs.Standing.{IsShareReclaim, IsShareReclaimOf, OwnNameLaw}
 use Rattle.definitions.proofs.MoveLaws.{by_cond}
-use Rattle.definitions.proofs.CallLaws.{left_same, left_sending, holds_first, AllOf, begins, one_due, all_due}
+use Rattle.definitions.proofs.CallLaws.{left_same, left_sending, AllOf, begins, one_due, all_due}
 use Rattle.definitions.proofs.SideMoves.{ShareMove, SharesStay, GoesPlainlyOn, SideMoves, IsSame, same_sides, unmoved_sides, goes_left, goes_silent}
 use Rattle.definitions.proofs.SideGrants.{answer_sides}
 use Rattle.definitions.proofs.SideAnswers.{restart_sides, call_sides, ruled_sides, line_sides}
@@ -76,8 +76,7 @@ goes_still : (w v : World) → v.calls ≡ w.calls → v.next ≡ w.next → Goe
 goes_still w v e n = record {
   left = w.calls;
   again = [];
-  in_order = left_same w.calls;
-  renewed = inl refl;
+  in_order = inl (left_same w.calls, refl);
   behind = subst (λ (first : ℕ). Continues (w.calls ++ []) first v) n (begins Anything (w.calls ++ []) v (e ∙ sym (append-nil w.calls))).rest;
 }
 
@@ -88,7 +87,7 @@ pub record StepSides (Reclaimed : Share → Type 0) (begin : Bool) (w v : World)
 
 module _ (R : Share → Type 0) where
   plainly : (w v : World) → GoesPlainlyOn w v → GoesOn w v
-  plainly w v g = record { left = g.left; again = g.again; in_order = g.in_order; renewed = g.renewed; behind = g.behind.rest }
+  plainly w v g = record { left = g.left; again = g.again; in_order = g.in_order; behind = g.behind.rest }
 
   by_rules : (begin : Bool) (w v : World) → SideMoves R begin w v → StepSides R begin w v
   by_rules begin w v m = record {
@@ -114,7 +113,7 @@ module _ (R : Share → Type 0) where
         name = kept.name ∙ m.name;
         shares = subst (ShareMove R w.phase w.shares) (sym kept.shares) m.shares;
         calls = elim m.calls [
-          | inl g ↦ inl (record { left = g.left; again = g.again; in_order = g.in_order; renewed = g.renewed; behind = settled_continues (length v.waiters) limits (g.left ++ g.again) w.next v g.behind })
+          | inl g ↦ inl (record { left = g.left; again = g.again; in_order = g.in_order; behind = settled_continues (length v.waiters) limits (g.left ++ g.again) w.next v g.behind })
           | inr k ↦ inr (k.0, subst (λ (hosts : Hosts). Continues [] (first_number hosts.own) (settled limits v)) (sym kept.hosts) (settled_continues (length v.waiters) limits [] (first_number v.hosts.own) v k.1))
         ];
       }
@@ -126,7 +125,6 @@ module _ (R : Share → Type 0) where
         left = g.left;
         again = g.again;
         in_order = g.in_order;
-        renewed = g.renewed;
         behind = due_continues (g.left ++ g.again) w.next w letters g.behind;
       })
     where
@@ -139,7 +137,7 @@ module _ (R : Share → Type 0) where
     where
       go : (o : Option Outgoing) → first_that (is_numbered number) w.calls ≡ o → StepSides R begin w (with_calls w (after_silence_at o w.calls))
       go None e = same_step begin w (with_calls w w.calls) (record { name = refl; phase = refl; shares = refl; calls = refl; next = refl })
-      go (Some c) e = let v = with_calls w (after_silence_at (Some c) w.calls) in going_step begin w v refl refl (plainly w v (goes_silent w c (holds_first (is_numbered number) w.calls c e) v refl refl refl))
+      go (Some c) e = let v = with_calls w (after_silence_at (Some c) w.calls) in going_step begin w v refl refl (plainly w v (goes_silent w number c e v refl refl refl))
 
 module _ (limits : Limits) (s : State) where
   taken_sides : (peer : Peer) (asked : Bytes) (xid : ℕ) (call : Call) (store : StoreAnswer) (o : Option KeptPair) → StepSides (IsShareReclaimOf call) (is_restart peer call store) s.world (taken limits s peer asked xid call store o).state.world

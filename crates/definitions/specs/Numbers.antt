@@ -1,6 +1,5 @@
 -- The server's own calls over a step: what is there keeps its number and its order, and what comes is numbered on, one above the other.
 use Rattle.std.specs.Prelude.{◌≡◌, ◌⊎◌, ℕ, ◌+◌, ◌%◌, ◌^◌, Bool, true, false, List, [], ◌∷◌, ◌++◌}
-use Rattle.definitions.specs.Bytes.{Holds}
 use Rattle.definitions.specs.Hosts.{StoreAnswer, Yes}
 use Rattle.definitions.specs.Outgoing.{Letter, Outgoing, due_now, once_more}
 use Rattle.definitions.specs.Replies.{Asks}
@@ -27,9 +26,19 @@ pub data AreLeft : List Outgoing → List Outgoing → Type 0 where
   IsGone : {c : Outgoing} {before behind : List Outgoing} → AreLeft before behind → AreLeft (c ∷ before) behind
   IsLeft : {c d : Outgoing} {before behind : List Outgoing} → IsSameCall c d → AreLeft before behind → AreLeft (c ∷ before) (d ∷ behind)
 
--- no call is due again, or one that was sent and not due
-abbrev pub IsAgain : List Outgoing → List Outgoing → Type 0
-IsAgain calls again = (again ≡ []) ⊎ ((c : Outgoing) × Holds calls c × (c.is_due ≡ false) × (again ≡ record c { is_due = true } ∷ []))
+-- one of the calls, which was sent and not due, is due again; the others are those that may be left, and it is not among them
+pub record IsDueAgain (calls left again : List Outgoing) : Type 0 where
+  pub front : List Outgoing
+  pub call : Outgoing
+  pub back : List Outgoing
+  pub stood : calls ≡ front ++ call ∷ back
+  pub sent : call.is_due ≡ false
+  pub others : AreLeft (front ++ back) left
+  pub due : again ≡ record call { is_due = true } ∷ []
+
+-- no call is due again, or one
+abbrev pub AreRenewed : List Outgoing → List Outgoing → List Outgoing → Type 0
+AreRenewed calls left again = (AreLeft calls left × (again ≡ [])) ⊎ IsDueAgain calls left again
 
 -- the world's calls are these, and then letters that became due from a number on
 pub record Continues (before : List Outgoing) (first : ℕ) (v : World) : Type 0 where
@@ -41,8 +50,7 @@ pub record Continues (before : List Outgoing) (first : ℕ) (v : World) : Type 0
 pub record GoesOn (w v : World) : Type 0 where
   pub left : List Outgoing
   pub again : List Outgoing
-  pub in_order : AreLeft w.calls left
-  pub renewed : IsAgain w.calls again
+  pub in_order : AreRenewed w.calls left again
   pub behind : Continues (left ++ again) w.next v
 
 -- the calls of before are gone, and numbers begin anew behind the own state
