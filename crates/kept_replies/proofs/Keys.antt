@@ -15,7 +15,7 @@ use Rattle.definitions.specs.Bytes.{without_first}
 use Rattle.definitions.specs.Step.{KeptPair, is_same_key}
 use Rattle.kept_replies.specs.declared.key.Key.{Key}
 use Rattle.kept_replies.specs.contracts.key.KeyPartialEq.TheImpl.{eq-value}
-use Rattle.kept_replies.specs.Pairs.{view_of_peer, pair, pairs, shown, found, at_key}
+use Rattle.kept_replies.specs.Pairs.{view_of_peer, pair, pairs, shown, found, at_key, kept_first}
 
 abbrev pub same_key : Key → Key → Bool
 same_key = eq-value.it
@@ -111,12 +111,11 @@ module _ {V : Type 0} (xid : V → ℕ) (outcome : V → Outcome) (letters : V �
     | Some e ↦ λ h. let p = key_is key (P e.0 e.1) (sym (same_key_is key e.0) ∙ found_has es e h) in rw (p.0, p.1) (ap (λ l. P key e.1 ∷ l) (rest_shown es))
   ]) refl)
 
-  none_shown : (o : Option (Key × V)) → entry_is o ≡ None → o ≡ None
-  none_shown None h = refl
-  none_shown (Some e) h = cc
-
-  pub kept_shown : (c : LruCache Key V) → c.cap ≡ 1024 → (v : V) → at_key key (Ps c.entries) ≡ None → Ps (put_entries same_key c key v) ≡ P key v ∷ take 1023 (Ps c.entries)
-  kept_shown c full v h = rw (none_shown (lookup_entry (same_key key) c.entries) (entry_shown c.entries ∙ h), full) (ap (λ l. P key v ∷ l) (sym (take-map (λ e. P e.0 e.1) 1023 c.entries)))
+  pub kept_shown : (c : LruCache Key V) → c.cap ≡ 1024 → (v : V) → Ps (put_entries same_key c key v) ≡ kept_first (at_key key (Ps c.entries)) (P key v) (Ps c.entries)
+  kept_shown c full v = rw (← entry_shown c.entries, full) ((elim (lookup_entry (same_key key) c.entries) as (λ o. lookup_entry (same_key key) c.entries ≡ o → Ps (option_map_or (λ e. (e.0, v) ∷ remove_entry (same_key key) c.entries) o ((key, v) ∷ take 1023 c.entries)) ≡ kept_first (entry_is o) (P key v) (Ps c.entries)) [
+    | None ↦ λ h. ap (λ l. P key v ∷ l) (sym (take-map (λ e. P e.0 e.1) 1023 c.entries))
+    | Some e ↦ λ h. ap (λ p. p ∷ Ps (remove_entry (same_key key) c.entries)) (sym (same_pair e.0 v (found_has c.entries e h))) ∙ ap (λ l. P key v ∷ l) (rest_shown c.entries)
+  ]) refl)
 
   pub no_entry : (es : List (Key × V)) → is_some (lookup (same_key key) es) ≡ false → at_key key (Ps es) ≡ None
   no_entry [] h = refl

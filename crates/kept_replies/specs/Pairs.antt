@@ -1,5 +1,5 @@
 -- What is kept, as the definitions have it.
-use Rattle.std.specs.Prelude.{ℕ, List, map, Option, Some, None}
+use Rattle.std.specs.Prelude.{ℕ, List, ◌∷◌, map, take, Option, Some, None}
 use Rattle.std.specs.Borrow.{Bor}
 use Rattle.definitions.specs.Replies.{Outcome}
 use Rattle.definitions.specs.Outgoing.{Letter}
@@ -31,3 +31,8 @@ found (Some k) kept = moved_to_front k kept
 -- the pair with the key, if there is one
 abbrev pub at_key : Key → List KeptPair → Option KeptPair
 at_key key = first_that (is_same_key (view_of_peer key.peer) key.record)
+
+-- a pair goes to the front, in place of the one with its key; where there is none, of 1,024 the last goes
+abbrev pub kept_first : Option KeptPair → KeptPair → List KeptPair → List KeptPair
+kept_first None p kept = take 1024 (p ∷ kept)
+kept_first (Some k) p kept = moved_to_front p kept

@@ -1,8 +1,8 @@
 //! Kept replies, the newest use first.
-ghost use Rattle.std.specs.Prelude.{◌≡◌, ◌∷◌, ◌≤◌, ◌↔◌, IsTrue, ℕ, List, [], length, take, None, IfOk, OnOk, OnErr};
+ghost use Rattle.std.specs.Prelude.{◌≡◌, ◌≤◌, ◌↔◌, IsTrue, ℕ, List, [], length, IfOk, OnOk, OnErr};
 ghost use Rattle.definitions.specs.Replies.{Outcome};
 ghost use Rattle.definitions.specs.Outgoing.{Letter};
-ghost use Rattle.kept_replies.specs.Pairs.{pair, shown, found, at_key};
+ghost use Rattle.kept_replies.specs.Pairs.{pair, shown, found, at_key, kept_first};
 ghost use Rattle.std.specs.Borrow.{sem};
 
 use crate::key::Key;
@@ -88,11 +88,10 @@ impl<V: Kept> KeptReplies<V> {
         self.look(key)
     }
 
-    /// Keeps a call's reply as the newest, and drops the one whose use is longest ago where `MOST_KEPT` are kept.
-    /// Starved: nothing has changed.
+    /// Keeps a call's reply as the newest, in place of what was kept under its key. Where nothing was, and `MOST_KEPT` are
+    /// kept, the one whose use is longest ago goes. Starved: nothing has changed.
     pub fn keep(&mut self, key: Key, kept: V) -> Result<(), Starved>
-        requires { at_key key self.old ≡ None }
-        ensures ok { OnOk result (self.new ≡ take 1024 (pair V.xid V.outcome V.letters key kept ∷ self.old)) }
+        ensures ok { OnOk result (self.new ≡ kept_first (at_key key self.old) (pair V.xid V.outcome V.letters key kept) self.old) }
         ensures err { OnErr result (self.new ≡ self.old) }
     {
         match self.cache.put(key, kept) {

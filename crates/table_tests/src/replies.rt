@@ -158,6 +158,24 @@ fn kept_limit(rt: HostRuntime) -> Result<(), Fail> {
     Ok(())
 }
 
+/// A reply whose key is there takes the place of the old one.
+fn keeps_anew(alloc: Global, kept: &mut KeptReplies<Noted>) -> bool {
+    match key(alloc, PEER, 1) {
+        Ok(key) => kept.keep(key, Noted(7)).is_ok() && looks(alloc, kept, PEER, 1, Some(7)),
+        Err(_) => false,
+    }
+}
+
+#[test]
+fn a_reply_takes_anothers_place(rt: HostRuntime) -> Result<(), Fail> {
+    let mut kept = KeptReplies::new(rt.alloc())?;
+    let are_new = keeps(rt.alloc(), &mut kept, PEER, 1, 1)
+        && keeps(rt.alloc(), &mut kept, PEER, 2, 2);
+    let is_anew = keeps_anew(rt.alloc(), &mut kept);
+    assert_eq!(rt; (are_new, is_anew, kept.len()), (true, true, 2));
+    Ok(())
+}
+
 /// The numbers of the replies that are kept, the newest use first.
 #[derive(Drop)]
 struct Plain(Vec<u32>);
