@@ -245,10 +245,12 @@ pub fn set_lock<R: RangeTable, S: HostStore>(
     ensures world { IfOk result (λ answer. world.new.world ≡ settled the_limits (ruled NotAsked (line_answer the_limits world.old.world line.now.connection (set_line_of line.now))).world) }
     ensures err { OnErr result (world.new.world ≡ world.old.world) }
     ensures refusals { world.new.refusals ≡ world.old.refusals }
+    ensures forgotten { IfOk result (λ _. IsForgottenIfIdle (view_of_owner line.now.lock.now.owner) world.new.world world.new) }
 {
     let LinePlan { answer, change } = plan_set(world, line)?;
     prepare_change(world, &change)?;
     call_plans::make_change(world, change);
+    world.forget_idle(&line.lock.owner);
     world.settle();
     Ok(answer)
 }
