@@ -46,7 +46,7 @@ impl Model for Connection {
 }
 
 // Writes all. Each turn ends by the stream's own write timeout, so this ends, whatever the peer does.
-fn write_whole(stream: &TcpStream, bytes: &[u8]) -> Result<(), Lost> {
+fn write_in_turns(stream: &TcpStream, bytes: &[u8]) -> Result<(), Lost> {
     let mut to = stream;
     let mut rest = bytes;
     for _ in 0..TURNS {
@@ -108,7 +108,7 @@ impl Connection {
         if outgoing.is_lost {
             return Err(Lost);
         }
-        let written = write_whole(&self.stream, bytes);
+        let written = write_in_turns(&self.stream, bytes);
         if written.is_err() {
             outgoing.is_lost = true;
             self.shut();

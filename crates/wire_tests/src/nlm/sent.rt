@@ -2,14 +2,11 @@
 use super::{GRANTED_CALL, TEST_REPLY};
 use crate::words::{is_words, reads};
 use nlm4_types::{
-    CallError, Grant, Holder, Lock, NARROW, NlmMessage, Res, ShareRes, Stat, TestRes, Version,
+    CallError, Grant, Holder, Lock, NARROW, NlmMessage, Res, ShareRes, Stat, TOP, TestRes, Version,
     WIDE, shown_holder_is_spelled,
 };
 use std::alloc::Global;
 use xdr_core::{Frame, Opaque};
-
-/// The last byte that a file may have.
-const TOP: u64 = i64::MAX as u64;
 
 const COOKIE: Opaque<1024> = Opaque {
     bytes: &[0, 0, 0, 3],
