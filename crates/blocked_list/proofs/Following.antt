@@ -1,10 +1,12 @@
 -- A search for a cycle of waits: who is reached, and whose waits were followed.
 use Rattle.std.proofs.Common.{◌≡◌, ◌≢◌, ◌<◌, ◌≤◌, Bool, true, false, not, ℕ, zero, suc, ◌&&◌, ◌||◌, ◌+◌, eqb, List, [], ◌∷◌, length, get_or, set, replicate, Option, Some, None, refl, sym, ap, subst, arith, ◌∙◌, ◌⊎◌, inl, inr}
-use Rattle.std.proofs.lemmas.Bool.{false≢true}
+use Rattle.std.proofs.lemmas.Bool.{false≢true, or_right, and_parts, not-true}
 use Rattle.std.proofs.lemmas.Bool.Decides.{nat_tests}
 use Rattle.std.proofs.lemmas.List.{get_or-set_same, get_or-set_other, length-map}
 use Rattle.std.specs.List.{slice_get}
 use Rattle.std.specs.Prelude.{IsSome}
+use Rattle.std.proofs.lemmas.Option.{same_Some}
+use Rattle.range_table.proofs.Tests.{by_test}
 use Rattle.definitions.specs.Bytes.{is_any}
 use Rattle.definitions.specs.Owners.{Owner, same_owner, is_description}
 use Rattle.definitions.specs.Settings.{Setting, Request}
@@ -19,29 +21,13 @@ use Rattle.blocked_list.proofs.Waits.{named_at}
 
 -- ---- lists of marks
 
-by_test : {P : Type 0} (t : Bool) → (t ≡ true → P) → (t ≡ false → P) → P
-by_test true f g = f refl
-by_test false f g = g refl
-
 either : (a b : Bool) → (a || b) ≡ true → (a ≡ true) ⊎ (b ≡ true)
 either true b e = inl refl
 either false b e = inr e
 
-or_yes : (a b : Bool) → b ≡ true → (a || b) ≡ true
-or_yes true b e = refl
-or_yes false b e = e
-
-and_parts : (a b : Bool) → (a && b) ≡ true → (a ≡ true) × (b ≡ true)
-and_parts true b e = (refl, e)
-and_parts false b e = absurd (false≢true e)
-
 pub not_false : (b : Bool) → false ≡ not b → b ≡ true
 not_false true e = refl
 not_false false e = absurd (false≢true e)
-
-pub not_true : (b : Bool) → not b ≡ true → b ≡ false
-not_true true e = absurd (false≢true e)
-not_true false e = refl
 
 -- how many are not marked
 abbrev pub unmarked : List Bool → ℕ
@@ -74,9 +60,6 @@ within_from [] (suc k) x e = absurd (false≢true (ap is_here e))
 within_from (y ∷ ys) zero x e = omega arith
 within_from (y ∷ ys) (suc k) x e = let h = within_from ys k x e in omega (arith, h)
 
-some_same : {A : Type 0} (a b : A) → Some a ≡ Some b → a ≡ b
-some_same a b e = cc
-
 -- who passes stands somewhere
 any_place : {X : Type 0} (test : X → Bool) (xs : List X) → is_any test xs ≡ true → (k : ℕ) × (x : X) × (slice_get xs k ≡ Some x) × (test x ≡ true)
 any_place test [] e = absurd (false≢true e)
@@ -87,8 +70,8 @@ any_place test (x ∷ xs) e =
 
 place_any : {X : Type 0} (test : X → Bool) (xs : List X) (k : ℕ) (x : X) → slice_get xs k ≡ Some x → test x ≡ true → is_any test xs ≡ true
 place_any test [] k x e t = let l = within_from [] k x e in absurd (omega (arith, l))
-place_any test (y ∷ ys) zero x e t = rw (some_same y x e, t) refl
-place_any test (y ∷ ys) (suc k) x e t = or_yes (test y) (is_any test ys) (place_any test ys k x e t)
+place_any test (y ∷ ys) zero x e t = rw (same_Some y x e, t) refl
+place_any test (y ∷ ys) (suc k) x e t = or_right (test y) (is_any test ys) (place_any test ys k x e t)
 
 -- ---- the search
 
@@ -111,7 +94,7 @@ module _ (settings : List Setting) (xs : List Waiter) (r : Request) where
 
   pub begins : (reached followed : List Bool) → ((k : ℕ) (x : Waiter) → slice_get xs k ≡ Some x → get_or reached k false ≡ leads settings r x) → ((k : ℕ) (x : Waiter) → slice_get xs k ≡ Some x → get_or followed k false ≡ false) → IsSearched reached followed
   begins reached followed led none = record {
-    sound = λ k x at e. let p = and_parts (not (is_description x.request.owner)) (conflicts_with settings r x.request.owner) (sym (led k x at) ∙ e) in record { first = x.request.owner; kept_out = p.1; chain = Alone (not_true (is_description x.request.owner) p.0) };
+    sound = λ k x at e. let p = and_parts (not (is_description x.request.owner)) (conflicts_with settings r x.request.owner) (sym (led k x at) ∙ e) in record { first = x.request.owner; kept_out = p.1; chain = Alone (not-true (is_description x.request.owner) p.0) };
     begun = λ k x at e. led k x at ∙ e;
     free = λ k x at e. absurd (false≢true (sym (none k x at) ∙ e));
     on = λ k x at e j y there l. absurd (false≢true (sym (none k x at) ∙ e));
@@ -133,7 +116,7 @@ module _ (settings : List Setting) (xs : List Waiter) (r : Request) where
       other k t = get_or-set_other followed p k true false (λ e. let n = subst (λ m. eqb m p ≡ false) e t in grind (arith, nat_tests, n))
 
       one : (k : ℕ) (y : Waiter) → slice_get xs k ≡ Some y → k ≡ p → y ≡ x
-      one k y there e = some_same y x (sym there ∙ ap (slice_get xs) e ∙ at)
+      one k y there e = same_Some y x (sym there ∙ ap (slice_get xs) e ∙ at)
 
       opened : (k : ℕ) (y : Waiter) → slice_get xs k ≡ Some y → k ≡ p → conflicts_with settings y.request r.owner ≡ false
       opened k y there e = subst (λ (w : Waiter). conflicts_with settings w.request r.owner ≡ false) (sym (one k y there e)) free
@@ -142,13 +125,13 @@ module _ (settings : List Setting) (xs : List Waiter) (r : Request) where
       stays k y there e = led k y there ∙ (rw e refl)
 
       led_on : (k : ℕ) (y : Waiter) → slice_get xs k ≡ Some y → k ≡ p → (j : ℕ) (z : Waiter) → slice_get xs j ≡ Some z → leads settings y.request z ≡ true → get_or new j false ≡ true
-      led_on k y there e j z stands l' = led j z stands ∙ or_yes (get_or reached j false) (leads settings x.request z) (subst (λ (w : Waiter). leads settings w.request z ≡ true) (one k y there e) l')
+      led_on k y there e j z stands l' = led j z stands ∙ or_right (get_or reached j false) (leads settings x.request z) (subst (λ (w : Waiter). leads settings w.request z ≡ true) (one k y there e) l')
 
       further : (k : ℕ) (y : Waiter) → slice_get xs k ≡ Some y → leads settings x.request y ≡ true → IsReached y.request.owner
       further k y there e =
           let p' = and_parts (not (is_description y.request.owner)) (conflicts_with settings x.request y.request.owner) e in
           let b = s.sound p x at here in
-          record { first = b.first; kept_out = b.kept_out; chain = More b.chain (waits p x at y.request.owner p'.1) (not_true (is_description y.request.owner) p'.0) }
+          record { first = b.first; kept_out = b.kept_out; chain = More b.chain (waits p x at y.request.owner p'.1) (not-true (is_description y.request.owner) p'.0) }
 
   -- one that was reached waits for the asker
   pub closes : (reached followed : List Bool) (p : ℕ) (x : Waiter) → IsSearched reached followed → slice_get xs p ≡ Some x → get_or reached p false ≡ true → is_description r.owner ≡ false → conflicts_with settings x.request r.owner ≡ true → closes_cycle settings xs r ≡ true
@@ -188,7 +171,7 @@ module _ (settings : List Setting) (xs : List Waiter) (r : Request) where
 
 pub at_is : (names : Names) (ws : List Waiting) (i : ℕ) (w : Waiting) (x : Waiter) → w ≡ get_or ws i w → slice_get (waiters_by names ws) i ≡ Some x → x ≡ waiter_by names w
 at_is names [] i w x e at = let l = within_from [] i x at in absurd (omega (arith, l))
-at_is names (v ∷ ws) zero w x e at = sym (some_same (waiter_by names v) x at) ∙ ap (waiter_by names) (sym e)
+at_is names (v ∷ ws) zero w x e at = sym (same_Some (waiter_by names v) x at) ∙ ap (waiter_by names) (sym e)
 at_is names (v ∷ ws) (suc i) w x e at = at_is names ws i w x e at
 
 pub at_there : (names : Names) (ws : List Waiting) (i : ℕ) (w : Waiting) → w ≡ get_or ws i w → i < length ws → slice_get (waiters_by names ws) i ≡ Some (waiter_by names w)

@@ -1,7 +1,8 @@
 -- A change of one file leaves the conflicts on the others.
 use Rattle.std.proofs.Common.{◌≡◌, ◌≢◌, ◌≤◌, Bool, true, false, cond, not, ℕ, ◌&&◌, ◌||◌, List, [], ◌∷◌, ◌++◌, refl, sym, ap, ◌∙◌, ◌⊎◌, inl, inr, None}
-use Rattle.std.proofs.lemmas.Bool.{false≢true}
+use Rattle.std.proofs.lemmas.Bool.{false≢true, or_parts}
 use Rattle.std.proofs.lemmas.Slice.Eq.{bytes_eq-Decides}
+use Rattle.range_table.proofs.Tests.{by_test}
 use Rattle.definitions.specs.Bytes.{Bytes, same_bytes, is_any}
 use Rattle.definitions.specs.Owners.{Owner, same_owner}
 use Rattle.definitions.specs.Settings.{Setting, Request, setting_of, mode_at, without_owner_on}
@@ -26,14 +27,6 @@ conflict_stays : (before after : List Setting) (r : Request) → r.first ≤ r.l
 conflict_stays before after r range alike e =
     let c = (conflicts_law before r range).0 e in
     (conflicts_law after r range).1 (c.0, c.1, c.2, (c.3.0, (c.3.1.0, ap (λ m. excludes m r.mode) (alike c.3.0 c.0) ∙ c.3.1.1)))
-
-or_parts : (a b : Bool) → (a || b) ≡ false → (a ≡ false) × (b ≡ false)
-or_parts true b e = absurd (false≢true (sym e))
-or_parts false b e = (refl, e)
-
-by_test : {P : Type 0} (t : Bool) → (t ≡ true → P) → (t ≡ false → P) → P
-by_test true f g = f refl
-by_test false f g = g refl
 
 kept_out : (a s q : Bool) → s ≡ false → (not a && not (s || q)) ≡ false → (a ≡ true) ⊎ (q ≡ true)
 kept_out true s q e f = inl refl

@@ -3,7 +3,7 @@ use Rattle.std.proofs.Common.{◌≡◌, ◌<◌, ◌-◌, Bool, true, false, co
 use Rattle.std.proofs.lemmas.Bool.{false≢true}
 use Rattle.std.proofs.lemmas.Bool.Decides.{nat_tests}
 use Rattle.std.proofs.lemmas.Cmp.{upto}
-use Rattle.std.proofs.lemmas.List.{append-nil, length-append, length-drop, length-map, take-append-drop, take_all}
+use Rattle.std.proofs.lemmas.List.{append-nil, length-append, length-map, take-append-drop}
 use Rattle.std.proofs.lemmas.List.Elements.{filter-append}
 use Rattle.std.proofs.lemmas.List.Filters.{length-filter_both}
 use Rattle.std.proofs.lemmas.Slice.Eq.{bytes_eq-Decides}
@@ -15,17 +15,13 @@ use Rattle.std.specs.declared.cmp.Ordering.TheVariants.{Less, Equal, Greater}
 use Rattle.definitions.specs.Bytes.{Bytes, same_bytes}
 use Rattle.range_table.specs.File.{file_cmp}
 use Rattle.range_table.proofs.Files.{file_same_cmp, file_cmp_total, file_cmp_exact}
+use Rattle.range_table.proofs.Tests.{by_test}
+use Rattle.range_table.proofs.Orderings.{lt_is, le_not, not_le}
 use Rattle.range_owners.proofs.Words.{file_same}
 use Rattle.blocked_list.specs.ByFile.{below, places_of, AreByFile, IsIndex, IsPoint, moved_up, without_place}
-use Rattle.blocked_list.proofs.Places.{by_test, all_by, all_both, all_first, all_between, all_filter, all_kept, all_map, all_at, take_each, drop_each, kept_same, kept_all, kept_none, kept_twice, kept_within, kept_map, all_below, one_below, without_below}
+use Rattle.blocked_list.proofs.Places.{all_by, all_both, all_first, all_between, all_filter, all_kept, all_map, all_at, take_each, drop_each, kept_same, kept_all, kept_none, kept_twice, kept_within, kept_map, all_below, one_below, without_below}
 
 -- ---- files
-
-same_itself : (f : Bytes) → same_bytes f f ≡ true
-same_itself f = (bytes_eq-Decides f f).1 refl
-
-same_is : (a b : Bytes) → same_bytes a b ≡ true → a ≡ b
-same_is a b e = (bytes_eq-Decides a b).0 e
 
 lesser_off : (a f : Bytes) → is_lt (file_cmp a f) ≡ true → same_bytes a f ≡ false
 lesser_off a f l = by_test (same_bytes a f)
@@ -45,21 +41,6 @@ neither_on a f l u = go (file_cmp a f) refl l u
     go Equal e l u = (bytes_eq-Decides a f).1 (file_cmp_exact a f e)
     go Greater e l u = absurd (false≢true u)
 
-lt_is : (o : Ordering) → is_lt o ≡ true → o ≡ Less
-lt_is Less h = refl
-lt_is Equal h = cc
-lt_is Greater h = cc
-
-le_not : (o : Ordering) → is_le o ≡ true → is_gt o ≡ false
-le_not Less h = refl
-le_not Equal h = refl
-le_not Greater h = cc
-
-not_le : (o : Ordering) → is_gt o ≡ false → is_le o ≡ true
-not_le Less h = refl
-not_le Equal h = refl
-not_le Greater h = cc
-
 -- what is behind a greater file is not in front of it
 not_back : (a b : Bytes) → is_le (file_cmp a b) ≡ false → is_gt (file_cmp b a) ≡ false
 not_back a b h = go (file_cmp a b) refl h (file_cmp_total.antisymm b a)
@@ -70,10 +51,6 @@ not_back a b h = go (file_cmp a b) refl h (file_cmp_total.antisymm b a)
     go Greater e k r = ap is_gt (r ∙ ap ordering_reverse e)
 
 -- ---- tests that hold in front
-
--- a part up to the end
-pub to_end : (ps : List ℕ) (begin : ℕ) → take (length ps - begin) (drop begin ps) ≡ drop begin ps
-to_end ps begin = take_all (length ps - begin) (drop begin ps) (let d = length-drop begin ps in omega arith)
 
 abbrev pub Falls : (ℕ → Bool) → List ℕ → Type 0
 Falls test [] = Unit {0}
@@ -174,7 +151,7 @@ module _ (file : ℕ → Bytes) where
             let on = λ (p : ℕ). same_bytes (file p) f in
             let parts : filter on a ++ filter on b ≡ filter on (below n) = sym (filter-append on a b) ∙ ap (filter on) whole ∙ h.in_order f in
             filter-append on a (n ∷ b) ∙ by_test (on n)
-            (λ e. let is = same_is (file n) f e in
+            (λ e. let is = (bytes_eq-Decides (file n) f).0 e in
             let none = kept_none on b (all_by (λ p. is_upto (file n) p ≡ false) (λ p. on p ≡ false) b (λ p k. greater_off (file p) f (subst (λ g. is_le (file_cmp (file p) g) ≡ false) is k)) back) in
             let left : filter on a ≡ filter on (below n) = sym (append-nil (filter on a)) ∙ ap (λ l. filter on a ++ l) (sym none) ∙ parts in
             rw (e, none, left) (sym (filter-append on (below n) (n ∷ []) ∙ rw e refl)))
@@ -239,7 +216,7 @@ module _ (file new : ℕ → Bytes) where
     one_there ps h =
         let is = λ (q : ℕ). eqb q p in
         let on = λ (q : ℕ). same_bytes (file q) (file p) in
-        let on_it : (q : ℕ) → eqb q p ≡ true → same_bytes (file q) (file p) ≡ true = λ q k. (let j : q ≡ p = grind (arith, nat_tests) in rw j (same_itself (file p))) in
+        let on_it : (q : ℕ) → eqb q p ≡ true → same_bytes (file q) (file p) ≡ true = λ q k. (let j : q ≡ p = grind (arith, nat_tests) in rw j ((bytes_eq-Decides (file p) (file p)).1 refl)) in
         sym (kept_within is on ps on_it) ∙ ap (filter is) (h.in_order (file p)) ∙ kept_within is on (below (suc m)) on_it ∙ one_below p (suc m) l
 
     moved_within : (q : ℕ) → q < suc m → stays q ≡ true → moved_up p q < m

@@ -1,6 +1,6 @@
 -- A walk over those of one file.
-use Rattle.std.proofs.Common.{◌≡◌, ◌<◌, ◌≤◌, ◌+◌, ◌-◌, Bool, true, false, cond, not, ℕ, zero, suc, ◌&&◌, ◌||◌, eqb, ltb, List, [], ◌∷◌, ◌++◌, length, map, take, get_or, Option, Some, None, refl, sym, ap, subst, arith, ◌∙◌}
-use Rattle.std.proofs.lemmas.Bool.{false≢true}
+use Rattle.std.proofs.Common.{◌≡◌, ◌<◌, ◌≤◌, ◌+◌, ◌-◌, Bool, true, false, cond, not, ℕ, zero, suc, ◌||◌, eqb, ltb, List, [], ◌∷◌, ◌++◌, length, map, take, get_or, Option, Some, None, refl, sym, ap, subst, arith, ◌∙◌}
+use Rattle.std.proofs.lemmas.Bool.{or_parts}
 use Rattle.std.proofs.lemmas.Bool.Decides.{nat_tests}
 use Rattle.std.proofs.lemmas.List.{take_all, map-append, get_or_append_left, length-map}
 use Rattle.std.proofs.lemmas.List.Edits.{length-remove, get_or-remove_below, get_or-remove_above}
@@ -13,18 +13,15 @@ use Rattle.definitions.specs.Bytes.{Bytes, same_bytes, is_any}
 use Rattle.definitions.specs.Settings.{Setting}
 use Rattle.owner_ids.specs.Names.{Names}
 use Rattle.range_table.specs.declared.run.Run.{Run}
+use Rattle.range_table.proofs.Tests.{by_test}
 use Rattle.blocked_list.specs.ByFile.{below, file_at, places_of, moved_up, without_place, IsIndex}
 use Rattle.blocked_list.specs.First.{IsFirstAt}
 use Rattle.blocked_list.specs.Ready.{is_ready_on}
 use Rattle.blocked_list.specs.Waiting.{Waiting, AreNamed, waiter_by, waiters_by, same_wanted}
-use Rattle.blocked_list.proofs.Places.{by_test, IsKept, kept_place}
+use Rattle.blocked_list.proofs.Places.{IsKept, kept_place}
 use Rattle.blocked_list.proofs.Indexed.{index_same, index_less}
 use Rattle.blocked_list.proofs.Ready.{any_more, first_from, here, uses, free_on, out_on}
 use Rattle.blocked_list.proofs.Waits.{map_remove}
-
-either_false : (a b : Bool) → (a || b) ≡ false → (a ≡ false) × (b ≡ false)
-either_false true b e = absurd (false≢true (sym e))
-either_false false b e = (refl, e)
 
 module _ {X : Type 0} (test : X → Bool) where
   abbrev passes : Option X → Bool
@@ -47,11 +44,11 @@ module _ {X : Type 0} (test : X → Bool) where
 
   any_first : (u : ℕ → Bool) (ps qs : List ℕ) → is_any u (ps ++ qs) ≡ false → is_any u ps ≡ false
   any_first u [] qs e = refl
-  any_first u (p ∷ ps) qs e = let h = either_false (u p) (is_any u (ps ++ qs)) e in rw h.0 (any_first u ps qs h.1)
+  any_first u (p ∷ ps) qs e = let h = or_parts (u p) (is_any u (ps ++ qs)) e in rw h.0 (any_first u ps qs h.1)
 
   any_last : (u : ℕ → Bool) (ps : List ℕ) (n : ℕ) → is_any u (ps ++ n ∷ []) ≡ false → u n ≡ false
-  any_last u [] n e = (either_false (u n) false e).0
-  any_last u (p ∷ ps) n e = any_last u ps n (either_false (u p) (is_any u (ps ++ n ∷ [])) e).1
+  any_last u [] n e = (or_parts (u n) false e).0
+  any_last u (p ∷ ps) n e = any_last u ps n (or_parts (u p) (is_any u (ps ++ n ∷ [])) e).1
 
   none_in_front : (y : X) (xs : List X) (k : ℕ) → k ≤ length (y ∷ xs) → is_any (passes_at (y ∷ xs)) (below k) ≡ false → is_any test (take k (y ∷ xs)) ≡ false
   none_in_front y xs zero l e = refl
@@ -72,7 +69,7 @@ module _ {X : Type 0} (test : X → Bool) where
     none_off (p ∷ ps) e = go (same_bytes (file p) f) refl e (none_off ps)
       where
         go : (b : Bool) → same_bytes (file p) f ≡ b → is_any (passes_at xs) (cond b (p ∷ places_of file f ps) (places_of file f ps)) ≡ false → (is_any (passes_at xs) (places_of file f ps) ≡ false → is_any (passes_at xs) ps ≡ false) → (passes_at xs p || is_any (passes_at xs) ps) ≡ false
-        go true c h k = let g = either_false (passes_at xs p) (is_any (passes_at xs) (places_of file f ps)) h in rw g.0 (k g.1)
+        go true c h k = let g = or_parts (passes_at xs p) (is_any (passes_at xs) (places_of file f ps)) h in rw g.0 (k g.1)
         go false c h k = rw (off p c) (k h)
 
     abbrev part : List ℕ
@@ -102,10 +99,6 @@ part_inside file f n ps is i k l e =
     (kept.inside, kept.passes)
 
 -- ---- those of another file
-
-and_off : (a b : Bool) → a ≡ false → (a && b) ≡ false
-and_off true b e = absurd (false≢true (sym e))
-and_off false b e = refl
 
 pub ready_off : (names : Names) (quotas : Quotas) (settings : List Setting) (f : Bytes) (ws : List Waiting) (p : ℕ) → same_bytes (file_at ws p) f ≡ false → passes_at (is_ready_on f quotas settings) (waiters_by names ws) p ≡ false
 ready_off names quotas settings f [] zero e = refl

@@ -1,6 +1,6 @@
 -- Who can be granted, one waiter after another.
 use Rattle.std.proofs.Common.{◌≡◌, ◌<◌, Bool, true, false, not, ℕ, zero, suc, ◌&&◌, ◌||◌, ◌+◌, List, [], ◌∷◌, ◌++◌, length, take, get_or, Option, Some, None, refl, sym, ap, subst, arith, ◌∙◌}
-use Rattle.std.proofs.lemmas.Bool.{false≢true}
+use Rattle.std.proofs.lemmas.Bool.{false≢true, and_right, or_parts}
 use Rattle.std.proofs.lemmas.List.Folds.{list_any_more}
 use Rattle.definitions.specs.Bytes.{Bytes, same_bytes, is_any}
 use Rattle.definitions.specs.Conflict.{conflicts}
@@ -14,20 +14,13 @@ use Rattle.blocked_list.specs.Ready.{is_ready_on, is_ready_off}
 use Rattle.owner_ids.specs.Names.{Names}
 use Rattle.std.specs.Prelude.{IsSome}
 use Rattle.std.proofs.lemmas.List.{length-map}
+use Rattle.std.proofs.Math.Bool.{and-false}
 use Rattle.blocked_list.specs.Waiting.{Waiting, AreNamed, waiter_by, waiters_by}
 use Rattle.blocked_list.proofs.Firsts.{any_found}
 use Rattle.blocked_list.proofs.Waits.{map_at, named_at}
 
-none_ready : (b : Bool) → (b && false) ≡ false
-none_ready true = refl
-none_ready false = refl
-
-on_file : (a b : Bool) → b ≡ false → (a && b) ≡ false
-on_file true b e = e
-on_file false b e = refl
-
 short_off : (quotas : Quotas) (settings : List Setting) → is_short 65536 settings ≡ true → (x : Waiter) → is_ready the_limits quotas settings x ≡ false
-short_off quotas settings e x = rw e (none_ready (not (conflicts settings x.request)))
+short_off quotas settings e x = rw e (and-false (not (conflicts settings x.request)))
 
 pub short_none : (quotas : Quotas) (settings : List Setting) → is_short 65536 settings ≡ true → (xs : List Waiter) → is_any (is_ready the_limits quotas settings) xs ≡ false
 short_none quotas settings e [] = refl
@@ -35,7 +28,7 @@ short_none quotas settings e (x ∷ xs) = rw (short_off quotas settings e x) (sh
 
 pub short_none_on : (file : Bytes) (quotas : Quotas) (settings : List Setting) → is_short 65536 settings ≡ true → (xs : List Waiter) → is_any (is_ready_on file quotas settings) xs ≡ false
 short_none_on file quotas settings e [] = refl
-short_none_on file quotas settings e (x ∷ xs) = rw (on_file (same_bytes x.request.file file) (is_ready the_limits quotas settings x) (short_off quotas settings e x)) (short_none_on file quotas settings e xs)
+short_none_on file quotas settings e (x ∷ xs) = rw (and_right (same_bytes x.request.file file) (is_ready the_limits quotas settings x) (short_off quotas settings e x)) (short_none_on file quotas settings e xs)
 
 module _ {X : Type 0} (test : X → Bool) where
   -- one more that doesn't pass
@@ -67,10 +60,6 @@ module _ {X : Type 0} (test : X → Bool) where
 
 -- ---- all, or those on one file
 
-or_false : (a b : Bool) → (a || b) ≡ false → (a ≡ false) × (b ≡ false)
-or_false true b e = absurd (false≢true (sym e))
-or_false false b e = (refl, e)
-
 module _ (file : Bytes) (quotas : Quotas) (settings : List Setting) where
   abbrev on : Waiter → Bool
   on = is_ready_on file quotas settings
@@ -86,14 +75,14 @@ module _ (file : Bytes) (quotas : Quotas) (settings : List Setting) where
   none_on : (xs : List Waiter) → is_any (is_ready_off file quotas settings) xs ≡ false → is_any on xs ≡ false → is_any (is_ready the_limits quotas settings) xs ≡ false
   none_on [] e f = refl
   none_on (x ∷ xs) e f =
-      let a = or_false (is_ready_off file quotas settings x) (is_any (is_ready_off file quotas settings) xs) e in
-      let b = or_false (on x) (is_any on xs) f in
+      let a = or_parts (is_ready_off file quotas settings x) (is_any (is_ready_off file quotas settings) xs) e in
+      let b = or_parts (on x) (is_any on xs) f in
       rw (ready_on x a.0, b.0) (none_on xs a.1 b.1)
 
   none_front : (before : List Waiter) (x : Waiter) (behind : List Waiter) → is_any (is_ready_off file quotas settings) (before ++ x ∷ behind) ≡ false → is_any (is_ready_off file quotas settings) before ≡ false
   none_front [] x behind e = refl
   none_front (y ∷ ys) x behind e =
-      let a = or_false (is_ready_off file quotas settings y) (is_any (is_ready_off file quotas settings) (ys ++ x ∷ behind)) e in
+      let a = or_parts (is_ready_off file quotas settings y) (is_any (is_ready_off file quotas settings) (ys ++ x ∷ behind)) e in
       rw a.0 (none_front ys x behind a.1)
 
   and_right : (a b : Bool) → (a && b) ≡ true → b ≡ true
@@ -135,7 +124,7 @@ module _ (names : Names) (quotas : Quotas) (settings : List Setting) (ws : List 
 
   -- of those on a file
   pub out_on : (file : Bytes) → false ≡ is_ready the_limits quotas settings (waiter_by names w) → is_ready_on file quotas settings (waiter_by names w) ≡ false
-  out_on file out = on_file (same_bytes w.wanted.file file) (is_ready the_limits quotas settings (waiter_by names w)) (sym out)
+  out_on file out = and_right (same_bytes w.wanted.file file) (is_ready the_limits quotas settings (waiter_by names w)) (sym out)
 
   pub free_on : (file : Bytes) → same_bytes w.wanted.file file ≡ true → true ≡ is_ready the_limits quotas settings (waiter_by names w) → is_ready_on file quotas settings (waiter_by names w) ≡ true
   free_on file on free = rw (on) (sym free)

@@ -2,6 +2,7 @@
 use Rattle.std.proofs.Common.{◌≡◌, ℕ, ◌+◌, ◌-◌, ◌≤◌, Bool, true, false, cond, ◌&&◌, ◌||◌, eqb, leb, ltb, List, length, map, refl, sym, ap, subst, ◌∙◌, Option, Some, None, ℤ, arith}
 use Rattle.std.proofs.lemmas.Bool.{true≢false, ltb-false, eqb-false}
 use Rattle.std.specs.Ordering.{int_eq}
+use Rattle.std.proofs.lemmas.Option.{none-some}
 use Rattle.definitions.specs.Bytes.{Bytes, without}
 use Rattle.definitions.specs.Owners.{is_of_host, same_owner}
 use Rattle.definitions.specs.Bytes.{same_bytes}
@@ -29,9 +30,6 @@ use Rattle.definitions.proofs.WorldLaws.{due_keeps}
 
 -- ---- what is known where a call with a range isn't refused
 
-none_is : {A : Type 0} (x : A) → Some x ≡ None → ⊥
-none_is x e = cc
-
 ordered : (offset len : ℕ) → is_too_far offset len ≡ false → offset ≤ last_of offset len
 ordered offset len e = by_cond (λ n. offset ≤ n) (eqb len 0) top (offset + len - 1) (λ h. ltb-false top offset (or_none (ltb top offset) (ltb top (last_of offset len)) e)) (λ h. let k : len ≡ 0 → ⊥ = eqb-false len 0 h in more offset len k)
   where
@@ -46,10 +44,10 @@ pub admitted : (w : World) (kind : CallKind) (alock : Lock) → range_refusal w 
 admitted w kind alock e = go (is_stale alock.fh) (is_too_far alock.l_offset alock.l_len) (admits w.phase kind) refl e
   where
     go : (a b c : Bool) → is_too_far alock.l_offset alock.l_len ≡ b → cond a (Some STALE_FH) (cond b (Some FBIG) (cond c None (Some DENIED_GRACE_PERIOD))) ≡ None → (alock.l_offset ≤ last_of alock.l_offset alock.l_len) × (c ≡ true)
-    go true b c h k = absurd (none_is STALE_FH k)
-    go false true c h k = absurd (none_is FBIG k)
+    go true b c h k = absurd (none-some STALE_FH (sym k))
+    go false true c h k = absurd (none-some FBIG (sym k))
     go false false true h k = (ordered alock.l_offset alock.l_len h, refl)
-    go false false false h k = absurd (none_is DENIED_GRACE_PERIOD k)
+    go false false false h k = absurd (none-some DENIED_GRACE_PERIOD (sym k))
 
 grace_reclaims : (phase : Phase) (reclaim : Bool) → admits phase (Locking reclaim) ≡ true → phase ≡ Grace → reclaim ≡ true
 grace_reclaims Grace reclaim e g = e
@@ -266,9 +264,9 @@ module _ (Reclaimed : Request → Type 0) where
   line_admitted w lock e = go (is_too_far lock.offset lock.len) (admits w.phase LocalLocking) refl e
     where
       go : (b c : Bool) → is_too_far lock.offset lock.len ≡ b → cond b (Some LineFbig) (cond c None (Some LineGrace)) ≡ None → (lock.offset ≤ last_of lock.offset lock.len) × (c ≡ true)
-      go true c h k = absurd (none_is LineFbig k)
+      go true c h k = absurd (none-some LineFbig (sym k))
       go false true h k = (ordered lock.offset lock.len h, refl)
-      go false false h k = absurd (none_is LineGrace k)
+      go false false h k = absurd (none-some LineGrace (sym k))
 
   not_in_grace : (phase : Phase) → admits phase LocalLocking ≡ true → phase ≡ Grace → ⊥
   not_in_grace Grace e g = true≢false (sym e)

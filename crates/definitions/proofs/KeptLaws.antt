@@ -113,13 +113,13 @@ module _ {X : Type 0} (p : X → Bool) where
 
 -- ---- keys
 
-local_same : (a b : Bool) → cond a b (not b) ≡ true → a ≡ b
+pub local_same : (a b : Bool) → cond a b (not b) ≡ true → a ≡ b
 local_same true true e = refl
 local_same true false e = sym e
 local_same false true e = e
 local_same false false e = refl
 
-local_is : (a : Bool) → cond a a (not a) ≡ true
+pub local_is : (a : Bool) → cond a a (not a) ≡ true
 local_is true = refl
 local_is false = refl
 

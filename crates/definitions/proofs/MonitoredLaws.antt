@@ -1,6 +1,6 @@
 -- The row of a lock's host is there, or stored, before the lock is made.
 use Rattle.std.proofs.Common.{◌≡◌, ℕ, ◌-◌, Bool, true, false, cond, not, ◌&&◌, eqb, List, [], ◌∷◌, refl, sym, ap, ◌∙◌, Option, Some, None, ℤ}
-use Rattle.std.proofs.lemmas.Bool.{true≢false}
+use Rattle.std.proofs.lemmas.Bool.{true≢false, or_left, or_right}
 use Rattle.std.proofs.lemmas.Slice.Eq.{bytes_eq-Decides}
 use Rattle.std.specs.declared.cmp.Ordering.{Ordering}
 use Rattle.std.specs.declared.cmp.Ordering.TheVariants.{Less, Equal, Greater}
@@ -19,7 +19,6 @@ use Rattle.definitions.specs.Rulings.{Told, Ruling, stays, ruled}
 use Rattle.definitions.specs.LockRules.{LockAsk, row_asked, after_row, free_lock, blocked_lock, lock_rules}
 use Rattle.definitions.specs.Answer.{lock_ask, caller_row, lock_unless, lock_verdict, lock_answer, lock_msg_answer}
 use Rattle.definitions.specs.Monitored.{stands, HasRow, MonitoredLaw, IsGivenUp, RefusedRowLaw}
-use Rattle.definitions.proofs.Lists.{or_left, or_right}
 use Rattle.definitions.proofs.MoveLaws.{by_cond}
 
 put_any : {X : Type 0} (cmp : X → X → Ordering) (p : X → Bool) (x : X) (xs : List X) → p x ≡ true → is_any p (put cmp x xs) ≡ true

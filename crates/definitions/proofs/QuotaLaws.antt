@@ -1,6 +1,6 @@
 -- What a quota refuses, and what leaves it as it was.
-use Rattle.std.proofs.Common.{◌≡◌, ◌≢◌, ◌≤◌, ◌<◌, ℕ, ◌+◌, Bool, true, false, cond, not, ◌&&◌, ◌||◌, ltb, List, [], ◌∷◌, ◌++◌, refl, sym, ap, ◌∙◌, ◌⊎◌, inl, inr, Option, Some, None, is_some, arith, ℤ, pos, subst}
-use Rattle.std.proofs.lemmas.Bool.{true≢false, ltb-true, ltb-false, and_parts, and_from, le-ltb}
+use Rattle.std.proofs.Common.{◌≡◌, ◌≢◌, ◌≤◌, ℕ, ◌+◌, Bool, true, false, cond, not, ◌&&◌, ◌||◌, ltb, List, [], ◌∷◌, ◌++◌, refl, sym, ap, ◌∙◌, ◌⊎◌, inl, inr, Option, Some, None, is_some, arith, ℤ, pos}
+use Rattle.std.proofs.lemmas.Bool.{true≢false, ltb-false, and_parts, and_from, le-ltb, and_right, and_left}
 use Rattle.std.proofs.lemmas.Map.Lookups.{exact_bytes}
 use Rattle.std.proofs.lemmas.Slice.Eq.{bytes_eq-Decides}
 use Rattle.std.specs.declared.cmp.Ordering.{Ordering}
@@ -20,9 +20,6 @@ use Rattle.definitions.proofs.SettingLaws.{newest_wins}
 use Rattle.definitions.proofs.ReclaimLaws.{covered}
 
 -- ---- a full quota refuses nothing that finds room
-
-same_itself : (a : Bytes) → same_bytes a a ≡ true
-same_itself a = (bytes_eq-Decides a a).1 refl
 
 pub of_its_host : (owner : Owner) (name : Bytes) → host_of owner ≡ Some name → is_of_host name owner ≡ true
 of_its_host (Remote a) name e = (bytes_eq-Decides a.name name).1 (inside a.name name e)
@@ -52,13 +49,6 @@ beside_kept settings s name e =
     as_many_by (λ owner. not (is_of_host name owner)) settings (settings ++ s ∷ [])
     (λ file owner byte h. others_keep settings s file owner byte (λ k. true≢false (sym h ∙ ap not (ap (is_of_host name) (sym k) ∙ e))))
 
-not_both : (a b : Bool) → b ≡ false → (a && b) ≡ false
-not_both true b e = e
-not_both false b e = refl
-
-not_first : (a b : Bool) → a ≡ false → (a && b) ≡ false
-not_first a b e = ap (λ c. c && b) e
-
 pub full_quota_law : FullQuotaLaw
 full_quota_law settings s name quota own full fits = go (is_short full_quota settings) refl fits
   where
@@ -81,10 +71,10 @@ full_quota_law settings s name quota own full fits = go (is_short full_quota set
     go : (b : Bool) → is_short full_quota settings ≡ b → (b && (is_some s.mode || ltb (used settings) (used (settings ++ s ∷ [])))) ≡ false → is_past settings s name quota ≡ false
     go true e f =
         let k : used (settings ++ s ∷ []) ≤ used settings = ltb-false (used settings) (used (settings ++ s ∷ [])) (second (is_some s.mode) f) in
-        not_both (ltb quota (used_of name (settings ++ s ∷ []))) (ltb (used_of name settings) (used_of name (settings ++ s ∷ []))) (le-ltb (used_of name settings) (used_of name (settings ++ s ∷ [])) (omega (arith, k, before, after, beside)))
+        and_right (ltb quota (used_of name (settings ++ s ∷ []))) (ltb (used_of name settings) (used_of name (settings ++ s ∷ []))) (le-ltb (used_of name settings) (used_of name (settings ++ s ∷ [])) (omega (arith, k, before, after, beside)))
     go false e f =
         let k : used settings + 2 ≤ full_quota = ltb-false full_quota (used settings + 2) e in
-        not_first (ltb quota (used_of name (settings ++ s ∷ []))) (ltb (used_of name settings) (used_of name (settings ++ s ∷ []))) (le-ltb quota (used_of name (settings ++ s ∷ [])) (omega (arith, k, after, two, full)))
+        and_left (ltb quota (used_of name (settings ++ s ∷ []))) (ltb (used_of name settings) (used_of name (settings ++ s ∷ []))) (le-ltb quota (used_of name (settings ++ s ∷ [])) (omega (arith, k, after, two, full)))
 
 -- ---- quotas that hold no less back
 

@@ -1,5 +1,6 @@
 -- Over whole lists of events, and honest reclaims that are granted.
-use Rattle.std.proofs.Common.{◌≡◌, ℕ, ◌-◌, Bool, false, cond, not, ◌&&◌, ◌||◌, List, [], ◌∷◌, refl, ap, ◌∙◌, Option, Some, None}
+use Rattle.std.proofs.Common.{◌≡◌, ℕ, ◌-◌, false, cond, not, ◌&&◌, List, [], ◌∷◌, refl, ap, ◌∙◌, Option, Some, None}
+use Rattle.std.proofs.lemmas.Bool.{or_from}
 use Rattle.definitions.specs.Settings.{Setting, setting_of}
 use Rattle.definitions.specs.Conflict.{conflicts}
 use Rattle.definitions.specs.Starts.{is_short}
@@ -48,11 +49,8 @@ module _ (limits : Limits) (old : List Setting) (w : World) (a : LockArgs) (comp
       ap (λ o. (lock_unless limits w (lock_ask a row message slots) o).agreed.says) ok
       ∙ granted limits w (lock_ask a row message slots) (honest_meets_no_conflict old w.settings (request_of a.exclusive a.alock) (admitted w (Locking a.reclaim) a.alock ok).0 compatible under.settings honest) room
 
-neither : (a b : Bool) → a ≡ false → b ≡ false → (a || b) ≡ false
-neither a b e f = ap (λ c. c || b) e ∙ f
-
 pub honest_is_granted : HonestIsGranted
 honest_is_granted limits old w version a g compatible under reclaim ok honest free quota =
-    let room = neither (is_short limits.runs w.settings) (exceeds (quotas_of w.hosts) w.settings (setting_of (request_of a.exclusive a.alock))) free quota in
+    let room = or_from (is_short limits.runs w.settings) (exceeds (quotas_of w.hosts) w.settings (setting_of (request_of a.exclusive a.alock))) free quota in
     let ask = ask_granted limits old w a compatible under ok honest room in
     (ask (caller_row a) (Granted version a.exclusive a.alock) (slots_free limits w), ask None (Granted version a.exclusive a.alock) (slots_free limits w), ask (caller_row a) (GrantedMsg version a.exclusive a.alock) (slots_free limits w - 1))

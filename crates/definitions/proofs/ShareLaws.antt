@@ -1,11 +1,10 @@
 -- Shares: when two clash, and that those that are held never do.
 use Rattle.std.proofs.Common.{◌≡◌, Bool, true, false, cond, not, ◌&&◌, ◌||◌, List, [], ◌∷◌, ◌++◌, refl, sym, ap, ◌∙◌, ◌⊎◌, inl, inr, ℕ, subst}
-use Rattle.std.proofs.lemmas.Bool.{true≢false, and_parts, or_cases, not-true}
+use Rattle.std.proofs.lemmas.Bool.{true≢false, and_parts, or_cases, not-true, or_left, or_right, and_from, not_from_false, false_from_ne_true}
 use Rattle.std.proofs.lemmas.Slice.Eq.{bytes_eq-Decides}
 use Rattle.definitions.specs.Bytes.{same_bytes, without, Holds}
 use Rattle.definitions.specs.Phases.{Phase, Grace}
 use Rattle.definitions.specs.Shares.{Access, Share, meets, is_same_place, shares_clash, is_denied, with_share, without_share, IsOneOwner, IsClash, ClashLaw, SharesStand}
-use Rattle.definitions.proofs.Lists.{or_left, or_right}
 use Rattle.definitions.proofs.HostLaws.{shares_law}
 use Rattle.definitions.proofs.SideMoves.{ShareMove, SharesStay, HostGoes, ShareGoes, ShareComes, AllGo}
 
@@ -24,16 +23,8 @@ place_of a b e =
     let l = and_parts (same_bytes a.file b.file) (same_bytes a.name b.name) k.0 in
     (bytes_same a.name b.name l.1, bytes_same a.oh b.oh k.1)
 
-both_true : (a b : Bool) → a ≡ true → b ≡ true → (a && b) ≡ true
-both_true true b e h = h
-both_true false b e h = e
-
 place_is : (a b : Share) → a.file ≡ b.file → IsOneOwner a b → is_same_place a b ≡ true
-place_is a b e k = both_true (same_bytes a.file b.file && same_bytes a.name b.name) (same_bytes a.oh b.oh) (both_true (same_bytes a.file b.file) (same_bytes a.name b.name) (same_is a.file b.file e) (same_is a.name b.name k.0)) (same_is a.oh b.oh k.1)
-
-not_false : (b : Bool) → (b ≡ true → ⊥) → not b ≡ true
-not_false true h = absurd (h refl)
-not_false false h = refl
+place_is a b e k = and_from (same_bytes a.file b.file && same_bytes a.name b.name) (same_bytes a.oh b.oh) (and_from (same_bytes a.file b.file) (same_bytes a.name b.name) (same_is a.file b.file e) (same_is a.name b.name k.0)) (same_is a.oh b.oh k.1)
 
 clash_of : (a b : Share) → shares_clash a b ≡ true → IsClash a b
 clash_of a b e =
@@ -45,8 +36,8 @@ clash_of a b e =
 
 clash_is : (a b : Share) → IsClash a b → shares_clash a b ≡ true
 clash_is a b h =
-    both_true (same_bytes a.file b.file && not (is_same_place a b)) (meets a.access b.deny || meets a.deny b.access)
-    (both_true (same_bytes a.file b.file) (not (is_same_place a b)) (same_is a.file b.file h.0) (not_false (is_same_place a b) (λ e. h.1 (place_of a b e))))
+    and_from (same_bytes a.file b.file && not (is_same_place a b)) (meets a.access b.deny || meets a.deny b.access)
+    (and_from (same_bytes a.file b.file) (not (is_same_place a b)) (same_is a.file b.file h.0) (not_from_false (is_same_place a b) (false_from_ne_true (is_same_place a b) (λ e. h.1 (place_of a b e)))))
     (elim h.2 [ inl e ↦ or_left (meets a.access b.deny) (meets a.deny b.access) e | inr e ↦ or_right (meets a.access b.deny) (meets a.deny b.access) e ])
 
 pub clash_law : ClashLaw

@@ -1,6 +1,6 @@
 -- `starts` holds exactly the starts, each once.
 use Rattle.std.proofs.Common.{◌≡◌, ◌≢◌, ℕ, zero, suc, ◌+◌, ◌-◌, Bool, true, false, cond, not, ◌&&◌, ◌||◌, eqb, List, [], ◌∷◌, refl, sym, ap, subst, ◌∙◌, ◌⊎◌, inl, inr, Option, Some, None, is_some, arith}
-use Rattle.std.proofs.lemmas.Bool.{true≢false, and_parts, and_from, or_cases, eqb-true, eq-eqb, not-true, ne_eqb}
+use Rattle.std.proofs.lemmas.Bool.{true≢false, and_parts, and_from, or_cases, eqb-true, eq-eqb, not-true, ne_eqb, or_left, or_right}
 use Rattle.std.proofs.lemmas.Cmp.{tied_itself, then_total, on_total, nat_cmp_total, nat_list_cmp_total}
 use Rattle.std.proofs.lemmas.Map.Lookups.{CmpEqualImpliesEq, exact_unsigned, exact_bytes, exact_pairs}
 use Rattle.std.specs.Cmp.{IsTotalOrder}
@@ -13,7 +13,6 @@ use Rattle.definitions.specs.Settings.{Mode, Shared, Exclusive, Setting, is_of, 
 use Rattle.definitions.specs.Starts.{Start, start_cmp, same_mode, is_start, ends, IsStart, StartsLaw}
 use Rattle.std.proofs.lemmas.Slice.Eq.{bytes_eq-Decides}
 use Rattle.definitions.proofs.OwnerLaws.{owner_total, owner_exact, same_owner-Decides}
-use Rattle.definitions.proofs.Lists.{or_left, or_right}
 use Rattle.definitions.proofs.Orders.{in_order_holds, in_order_ascends, filter_holds, holds_filter, filter_ascends}
 use Rattle.definitions.proofs.ConflictLaws.{within_next}
 use Rattle.definitions.proofs.ReclaimLaws.{covered}

@@ -1,6 +1,6 @@
 -- Runs have one mode throughout and end where it ends, and a range conflicts where a run stands against it.
 use Rattle.std.proofs.Common.{◌≡◌, ◌≢◌, ℕ, zero, suc, ◌+◌, ◌-◌, ◌≤◌, ◌<◌, Bool, true, false, cond, not, ◌&&◌, leb, ltb, List, [], ◌∷◌, filter, map, refl, sym, ap, subst, ◌∙◌, ◌⊎◌, inl, inr, Option, Some, None, is_some, unwrap_or, arith, add-zero, add-suc}
-use Rattle.std.proofs.lemmas.Bool.{true≢false, and_parts, and_from, leb-true, leb-false, le-leb, lt-leb, ltb-true, lt-ltb, not-true}
+use Rattle.std.proofs.lemmas.Bool.{true≢false, and_parts, and_from, leb-true, leb-false, le-leb, lt-leb, ltb-true, lt-ltb, not-true, not_from_false, false_from_ne_true}
 use Rattle.std.proofs.lemmas.Slice.Eq.{bytes_eq-Decides}
 use Rattle.std.specs.Ordering.{on}
 use Rattle.std.specs.Cmp.{both_ways}
@@ -193,10 +193,6 @@ begun_at settings file owner (suc byte) h = go (same_mode (mode_at settings file
 
 -- ---- a run stands against a request exactly where some byte conflicts
 
-not_yes : (b : Bool) → (b ≡ true → ⊥) → not b ≡ true
-not_yes true h = absurd (h refl)
-not_yes false h = refl
-
 -- the run of that start reaches the byte
 reaches : (settings : List Setting) (file : Bytes) (y : Owner) (byte : ℕ) (f : IsBegun settings file y byte) → byte ≤ (run_at settings (end_at file y f.at)).last
 reaches settings file y byte f = go (leb byte (run_at settings (end_at file y f.at)).last) refl
@@ -242,7 +238,7 @@ run_against settings r h =
     let first : mode_at settings r.file y f.at ≡ Some run.mode = is.throughout f.at (omega arith) begun in
     let same_first : mode_at settings r.file y f.at ≡ mode_at settings r.file y byte = f.same f.at (omega arith) low in
     let kept_out : excludes (Some run.mode) r.mode ≡ true = ap (λ m. excludes m r.mode) (sym first ∙ same_first) ∙ h.3.1.1 in
-    let other : not (same_owner y r.owner) ≡ true = not_yes (same_owner y r.owner) (λ e. h.3.1.0 ((same_owner-Decides y r.owner).0 e)) in (
+    let other : not (same_owner y r.owner) ≡ true = not_from_false (same_owner y r.owner) (false_from_ne_true (same_owner y r.owner) (λ e. h.3.1.0 ((same_owner-Decides y r.owner).0 e))) in (
       run,
       holds_map (run_at settings) (starts settings) (end_at r.file y f.at) ((starts_law.exactly settings (end_at r.file y f.at)).1 f.begins),
       all_five (same_bytes r.file r.file) (not (same_owner y r.owner)) (leb f.at r.last) (leb r.first run.last) (excludes (Some run.mode) r.mode) ((bytes_eq-Decides r.file r.file).1 refl) other (le-leb f.at r.last (omega arith)) (le-leb r.first run.last (omega arith)) kept_out,

@@ -1,7 +1,8 @@
 -- An asker that has no number meets the locks that it would meet if it had one.
 use Rattle.std.proofs.Common.{◌≡◌, ◌≢◌, ◌≤◌, ℕ, ◌==◌, ◌&&◌, not, nat_le, Bool, true, false, cond, inl, inr, is_gt, refl, sym, ap, ◌∙◌, subst, List, Option, Some, None, IsSome}
-use Rattle.std.proofs.lemmas.Bool.{eqb-true}
+use Rattle.std.proofs.lemmas.Bool.{eqb-true, not-true}
 use Rattle.std.specs.Bool.{Decides}
+use Rattle.std.proofs.lemmas.Option.{same_Some}
 use Rattle.definitions.specs.Owners.{Owner}
 use Rattle.definitions.specs.Settings.{Setting}
 use Rattle.definitions.specs.Conflict.{conflicts as conflicts_said}
@@ -14,7 +15,7 @@ use Rattle.range_table.specs.File.{same_file}
 use Rattle.range_table.specs.declared.run.Run.{Run as NumberRun}
 use Rattle.range_owners.specs.Same.{view_of_mode, IsSameRun, IsSameFound}
 use Rattle.range_owners.specs.Stands.{Stands}
-use Rattle.range_owners.proofs.Words.{some_same, number_same, number_other}
+use Rattle.range_owners.proofs.Words.{number_same, number_other}
 use Rattle.range_owners.proofs.Keeping.{interned}
 use Rattle.range_owners.proofs.FirstConflicts.{first_over}
 use Rattle.range_owners.proofs.InWay.{conflicts_over}
@@ -40,13 +41,9 @@ third true true c d e h = refl
 third true false c d e h = cc
 third false b c d e h = cc
 
-not_true : (b : Bool) → not b ≡ true → b ≡ false
-not_true false h = refl
-not_true true h = cc
-
 -- a run that is in the way is of another number
 other_number : (wanted r : NumberRun) → conflicts wanted r ≡ true → r.owner ≢ wanted.owner
-other_number wanted r h = number_other r.owner wanted.owner (not_true (r.owner == wanted.owner) (third (same_file r.file wanted.file) (not (r.owner == wanted.owner)) (nat_le r.first wanted.last) (nat_le wanted.first r.last) (excludes (Some r.mode) wanted.mode) h))
+other_number wanted r h = number_other r.owner wanted.owner (not-true (r.owner == wanted.owner) (third (same_file r.file wanted.file) (not (r.owner == wanted.owner)) (nat_le r.first wanted.last) (nat_le wanted.first r.last) (excludes (Some r.mode) wanted.mode) h))
 
 module _ (names : Names) (held : Held) (settings : List Setting) (h : Stands names held settings) (n : ℕ) (r : HeldRequest) (ordered : r.first ≤ r.last) where
   abbrev x : Owner
@@ -101,13 +98,13 @@ module _ (names : Names) (held : Held) (settings : List Setting) (h : Stands nam
 
 -- what is shown of a run is the run of its owner
 pub same_shown : (names : Names) (a : NumberRun) (x : Owner) (t : Run) → names a.owner ≡ Some x → IsSameRun names a t → record { file = a.file; owner = x; first = a.first; last = a.last; mode = view_of_mode a.mode } ≡ t
-same_shown names a x t e s = let o : x ≡ t.owner = some_same x t.owner (sym e ∙ s.owner) in rw (s.file, o, s.first, s.last, s.mode) refl
+same_shown names a x t e s = let o : x ≡ t.owner = same_Some x t.owner (sym e ∙ s.owner) in rw (s.file, o, s.first, s.last, s.mode) refl
 
 -- what is found and shown is the first conflict
 pub shown_as : (names : Names) (found : Option NumberRun) (t : Option Run) (a : NumberRun) (x : Owner) → found ≡ Some a → names a.owner ≡ Some x → IsSameFound names found t → Some (record { file = a.file; owner = x; first = a.first; last = a.last; mode = view_of_mode a.mode }) ≡ t
 shown_as names None t a x i e s = cc
 shown_as names (Some b) None a x i e s = absurd s
-shown_as names (Some b) (Some t) a x i e s = let q : a ≡ b = some_same a b (sym i) in ap Some (same_shown names a x t e (subst (λ z. IsSameRun names z t) (sym q) s))
+shown_as names (Some b) (Some t) a x i e s = let q : a ≡ b = same_Some a b (sym i) in ap Some (same_shown names a x t e (subst (λ z. IsSameRun names z t) (sym q) s))
 
 pub none_as : (names : Names) (found : Option NumberRun) (t : Option Run) → found ≡ None → IsSameFound names found t → None ≡ t
 none_as names None None i s = refl

@@ -1,6 +1,6 @@
 -- What keeps a table, its counts and its names tied to the settings of owners.
 use Rattle.std.proofs.Common.{◌≡◌, ◌≢◌, ◌≤◌, ◌<◌, ◌==◌, ◌+◌, ◌-◌, ℕ, not, ◌&&◌, Bool, true, false, cond, refl, sym, ap, ◌∙◌, subst, arith, ltb, List, [], ◌∷◌, ◌++◌, filter, length, slice_index_or, slice_set, Option, Some, None, inl, inr, ◌⊎◌, is_some, ◌||◌}
-use Rattle.std.proofs.lemmas.Bool.{le-ltb}
+use Rattle.std.proofs.lemmas.Bool.{le-ltb, and_right, and_parts}
 use Rattle.std.proofs.Math.ListN.{get_or-eq_default}
 use Rattle.std.proofs.lemmas.List.{get_or-set_same, get_or-set_other}
 use Rattle.definitions.specs.Bytes.{Bytes, same_bytes}
@@ -103,14 +103,6 @@ module _ (ns others : List NumberSetting) (counts : List ℕ) (n all left : ℕ)
       (IsUsed-same (held_by (λ j. j == k) (mode_at ns)) (held_by (λ j. j == k) (mode_at others)) (slice_index_or counts k 0)
       (λ file j byte. by_test (j == k) (λ q. rw q (sym (spares file j byte (ap (λ z. z == n) (number_is j k q) ∙ t)))) (λ q. rw q refl)) (c k)))
 
-and_second : (a b : Bool) → (a && b) ≡ true → b ≡ true
-and_second true b e = e
-and_second false b e = cc
-
-and_false : (a b : Bool) → b ≡ false → (a && b) ≡ false
-and_false true b e = e
-and_false false b e = refl
-
 -- a setting of a number spares the others
 pub set_spares : (ns : List NumberSetting) (s : NumberSetting) → Spares s.owner (mode_at ns) (mode_at (ns ++ s ∷ []))
 set_spares ns s file k byte o =
@@ -119,7 +111,7 @@ set_spares ns s file k byte o =
 
 -- and so does a drop of a number on a file
 pub drop_spares : (ns : List NumberSetting) (on : File) (n : ℕ) → Spares n (mode_at ns) (mode_at (filter (λ s. not (is_by on n s)) ns))
-drop_spares ns on n file k byte o = mode_at-filter (λ file j. same_file file on && (j == n)) ns file k byte ∙ ap (λ b. cond b None (mode_at ns file k byte)) (and_false (same_file file on) (k == n) o)
+drop_spares ns on n file k byte o = mode_at-filter (λ file j. same_file file on && (j == n)) ns file k byte ∙ ap (λ b. cond b None (mode_at ns file k byte)) (and_right (same_file file on) (k == n) o)
 
 -- ---- an owner without a number
 
@@ -146,7 +138,7 @@ module _ (names : Names) (held : Held) (settings : List Setting) (h : Stands nam
     pub stranger_is_not_refused : refuses 65536 settings t ≡ false
     stranger_is_not_refused =
         let same : used settings ≡ used (settings ++ t ∷ []) = used_once held (used settings) (used (settings ++ t ∷ [])) (used_is names held settings h) (used_is names held (settings ++ t ∷ []) stranger_unlocks) in
-        and_false (is_short 65536 settings) (is_some t.mode || ltb (used settings) (used (settings ++ t ∷ []))) (ap (λ m. is_some m || ltb (used settings) (used (settings ++ t ∷ []))) none ∙ le-ltb (used settings) (used (settings ++ t ∷ [])) (omega (arith, same)))
+        and_right (is_short 65536 settings) (is_some t.mode || ltb (used settings) (used (settings ++ t ∷ []))) (ap (λ m. is_some m || ltb (used settings) (used (settings ++ t ∷ []))) none ∙ le-ltb (used settings) (used (settings ++ t ∷ [])) (omega (arith, same)))
 
 -- ---- what keeps the tie
 
@@ -297,7 +289,7 @@ tied_undropped ns counts names settings x on h fresh = record {
   same file y byte =
       drop_owner on x settings file y byte
       ∙ by_test (same_bytes file on && same_owner y x)
-      (λ t. let i : y ≡ x = (same_owner-Decides y x).0 (and_second (same_bytes file on) (same_owner y x) t) in rw t (sym (subst (λ z. owner_mode_at settings file z byte ≡ None) (sym i) (stranger_holds_nothing (named names) (mode_at ns) settings h.stands x fresh file byte))))
+      (λ t. let i : y ≡ x = (same_owner-Decides y x).0 (and_parts (same_bytes file on) (same_owner y x) t).1 in rw t (sym (subst (λ z. owner_mode_at settings file z byte ≡ None) (sym i) (stranger_holds_nothing (named names) (mode_at ns) settings h.stands x fresh file byte))))
       (λ t. rw t refl)
 
 -- ---- a drop of a host

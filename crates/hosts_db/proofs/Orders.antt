@@ -24,7 +24,7 @@ watch_total = then_total (on_total (λ w. w.mon_name) nat_list_cmp_total) (on_to
 pub row_agrees : (name : Bytes) (r : HostRow) → same_bytes r.name name ≡ is_eq (row_cmp r (row_named name))
 row_agrees name r = sym (is_eq-slice_cmp r.name name)
 
-eq_then : (a b : Ordering) → is_eq (ordering_then a b) ≡ (is_eq a && is_eq b)
+pub eq_then : (a b : Ordering) → is_eq (ordering_then a b) ≡ (is_eq a && is_eq b)
 eq_then Less b = refl
 eq_then Equal b = refl
 eq_then Greater b = refl

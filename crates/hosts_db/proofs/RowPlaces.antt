@@ -82,9 +82,6 @@ pub record IsPut {X : Type 0} (xs ys : List X) (place : Result ℕ ℕ) (x : X) 
   pub inside : IsInside place count room
   pub few : len_after count place ≤ most
 
-clash : {A : Type 0} (b : Bool) → b ≡ true → b ≡ false → A
-clash b e f = absurd (true≢false (sym e ∙ f))
-
 module _ (rows : List HostRow) (row : HostRow) (count room : ℕ) (counted : length rows ≡ count) (few : count ≤ 4096) (places : 4096 ≤ room) (rise : IsAscending row_cmp rows) (fits : (not (is_any (is_named row.name) rows) && leb 4096 (length rows)) ≡ false) where
   short : is_any (is_named row.name) rows ≡ false → length rows < 4096
   short e = let f : leb 4096 (length rows) ≡ false = ap (λ b. not b && leb 4096 (length rows)) (sym e) ∙ fits in grind (arith, nat_tests, f)
@@ -101,7 +98,7 @@ module _ (rows : List HostRow) (row : HostRow) (count room : ℕ) (counted : len
 
 module _ (watches : List Watch) (w : Watch) (count room : ℕ) (counted : length watches ≡ count) (few : count ≤ 1024) (places : 1024 ≤ room) (rise : IsAscending watch_cmp watches) (fits : (is_any (is_watch (Some w.mon_name) w.my_id) watches ≡ true) ⊎ (length watches < 1024)) where
   short_watches : is_any (is_watch (Some w.mon_name) w.my_id) watches ≡ false → length watches < 1024
-  short_watches e = elim fits [ inl h ↦ clash _ h e | inr h ↦ h ]
+  short_watches e = elim fits [ inl h ↦ absurd (true≢false (sym h ∙ e)) | inr h ↦ h ]
 
   pub put_watch : (place : Result ℕ ℕ) → IsPlace watch_cmp (watch_keyed w.mon_name w.my_id) watches place → IsPut watches (put watch_cmp w watches) place w count room 1024
   put_watch (Ok at) h = record { items = watch_put_at watches w at rise h; inside = subst (λ n. at < n) counted h.inside; few = few }

@@ -1,12 +1,11 @@
 -- A row stays, whatever call is made.
 use Rattle.std.proofs.Common.{◌≡◌, ℤ, pos, Bool, true, false, cond, ◌||◌, List, [], ◌∷◌, refl, sym, ap, ◌∙◌, inl, inr}
-use Rattle.std.proofs.lemmas.Bool.{true≢false, or_cases}
+use Rattle.std.proofs.lemmas.Bool.{true≢false, or_cases, or_left, or_right}
 use Rattle.std.proofs.lemmas.Map.Lookups.{exact_bytes}
 use Rattle.std.specs.declared.cmp.Ordering.{Ordering}
 use Rattle.std.specs.declared.cmp.Ordering.TheVariants.{Less, Equal, Greater}
 use Rattle.definitions.specs.Bytes.{Bytes, same_bytes, is_any, put, placed}
 use Rattle.definitions.specs.Hosts.{Hosts, HostRow, StoreCall, Begin, Monitor, Seen, Acked, Quota, Watched, Unwatched, has_row, full_quota, row_cmp, with_row, with_new_row, with_seen, with_epoch, with_quota, after_store}
-use Rattle.definitions.proofs.Lists.{or_left, or_right}
 
 module _ (name : Bytes) where
   abbrev is_named : HostRow → Bool

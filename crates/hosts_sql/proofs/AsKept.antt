@@ -1,6 +1,7 @@
 -- What a call's statements make is what the call is to make.
 use Rattle.std.proofs.Common.{◌≡◌, ℕ, ℤ, pos, Bool, true, false, cond, List, [], ◌∷◌, Option, Some, Result, IsTrue, is_err, refl, sym, ap, ◌∙◌, arith}
 use Rattle.std.proofs.lemmas.Map.Text.{is_eq-slice_cmp}
+use Rattle.std.proofs.lemmas.Option.{same_Some}
 use Rattle.sqlite_trees.specs.Tree.{Trees}
 use Rattle.sqlite.specs.State.{State, HasCleanDisk}
 use Rattle.sqlite.proofs.StateLemmas.{survives_weaker}
@@ -52,15 +53,12 @@ is_named name row = same_bytes row.name name
 same_name : (a b : Bytes) → same_bytes a b ≡ true → a ≡ b
 same_name a b e = bytes_exact a b (eq_equal (bytes_cmp a b) (is_eq-slice_cmp a b ∙ e))
 
-some_is : (a b : HostRow) → ◌≡◌ {A = Option HostRow} (Some a) (Some b) → a ≡ b
-some_is a b e = cc
-
 found_name : (name : Bytes) (rows : List HostRow) (row : HostRow) → first_that (is_named name) rows ≡ Some row → row.name ≡ name
 found_name name [] row found = absurd cc
 found_name name (r ∷ rs) row found = go (same_bytes r.name name) refl found (λ more. found_name name rs row more)
   where
     go : (b : Bool) → same_bytes r.name name ≡ b → cond b (Some r) (first_that (is_named name) rs) ≡ Some row → (first_that (is_named name) rs ≡ Some row → row.name ≡ name) → row.name ≡ name
-    go true e found more = ap (λ (x : HostRow). x.name) (sym (some_is r row found)) ∙ same_name r.name name e
+    go true e found more = ap (λ (x : HostRow). x.name) (sym (same_Some {A = HostRow} r row found)) ∙ same_name r.name name e
     go false e found more = more found
 
 module _ (h : Hosts) (name : Bytes) where

@@ -9,6 +9,7 @@ use Rattle.std.specs.Cmp.Lexicographic.{nat_list_cmp_total}
 use Rattle.std.proofs.lemmas.Cmp.{tied_itself}
 use Rattle.std.proofs.lemmas.Map.Text.{is_eq-slice_cmp}
 use Rattle.std.specs.FinMap.{FinMap, IsAntisymmetric, get, insert, entries, retain_keys, get-insert, get-retain_keys, same_map}
+use Rattle.std.proofs.lemmas.Option.{same_Some}
 use Rattle.definitions.specs.Bytes.{Bytes, IsAscending, IsBelowAll, bytes_cmp, same_bytes, is_any, first_that, put, placed, without}
 use Rattle.definitions.specs.Nsm.{MyId}
 use Rattle.definitions.specs.Hosts.{HostRow, Hosts, row_cmp, watch_cmp, has_row, is_watch, with_seen, with_epoch, after_store, Watched, Unwatched, with_quota}
@@ -106,15 +107,12 @@ abbrev change : Bytes → (HostRow → HostRow) → List HostRow → List HostRo
 change name g [] = []
 change name g (r ∷ rows) = cond (same_bytes r.name name) (g r ∷ rows) (r ∷ change name g rows)
 
-some_is : (a b : HostRow) → ◌≡◌ {A = Option HostRow} (Some a) (Some b) → a ≡ b
-some_is a b e = cc
-
 below_found : (r row : HostRow) (name : Bytes) (rs : List HostRow) → IsBelowAll row_cmp r rs → first_that (is_named name) rs ≡ Some row → row_cmp r row ≡ Less
 below_found r row name [] below found = absurd cc
 below_found r row name (s ∷ rs) below found = go (same_bytes s.name name) found (λ more. below_found r row name rs below.1 more)
   where
     go : (b : Bool) → cond b (Some s) (first_that (is_named name) rs) ≡ Some row → (first_that (is_named name) rs ≡ Some row → row_cmp r row ≡ Less) → row_cmp r row ≡ Less
-    go true e more = ap (row_cmp r) (sym (some_is s row e)) ∙ below.0
+    go true e more = ap (row_cmp r) (sym (same_Some {A = HostRow} s row e)) ∙ below.0
     go false e more = more e
 
 pub put_changes : (name : Bytes) (g : HostRow → HostRow) → ((r : HostRow) → (g r).name ≡ r.name) → (row : HostRow) (rows : List HostRow) → IsAscending row_cmp rows → first_that (is_named name) rows ≡ Some row
@@ -128,7 +126,7 @@ put_changes name g same row (r ∷ rs) rise found = go (same_bytes r.name name) 
     go : (b : Bool) → cond b (Some r) (first_that (is_named name) rs) ≡ Some row → (first_that (is_named name) rs ≡ Some row → put row_cmp (g row) rs ≡ change name g rs)
         → put row_cmp (g row) (r ∷ rs) ≡ cond b (g r ∷ rs) (r ∷ change name g rs)
     go true e more =
-        let is : r ≡ row = some_is r row e in
+        let is : r ≡ row = same_Some {A = HostRow} r row e in
         let tie : row_cmp (g row) r ≡ Equal = keyed r ∙ ap (row_cmp row) is ∙ tied_itself row_total row in
         ap (λ o. placed o (g row) r rs (put row_cmp (g row) rs)) tie ∙ ap (λ x. g x ∷ rs) (sym is)
     go false e more =

@@ -1,6 +1,6 @@
 -- What the DELETEs do to the rows that the trees stand for.
 use Rattle.std.proofs.Common.{◌≡◌, ℕ, Bool, true, false, cond, not, ◌&&◌, List, [], ◌∷◌, map, filter, slice_get, None, Some, Option, Ok, refl, sym, ap, subst, ◌∙◌, arith}
-use Rattle.std.proofs.lemmas.Bool.{true≢false}
+use Rattle.std.proofs.lemmas.Bool.{and_parts}
 use Rattle.std.specs.Cmp.Lexicographic.{nat_list_cmp_total}
 use Rattle.std.specs.FinMap.{from_entries, slice_cmp-IsAntisymmetric, nat_cmp-IsAntisymmetric}
 use Rattle.std.specs.Ordering.{is_eq, ordering_then, int_cmp}
@@ -10,6 +10,7 @@ use Rattle.sqlite_value.specs.Order.{Row, column, bytes}
 use Rattle.sqlite_sql.specs.Term.{Term}
 use Rattle.sqlite_sql.specs.Program.{overlay}
 use Rattle.std.specs.List.{flat_map}
+use Rattle.hosts_db.proofs.Orders.{eq_then}
 use Rattle.sqlite_trees.specs.View.{is_int}
 use Rattle.sqlite_trees.specs.Tree.{Trees, rowid}
 use Rattle.sqlite_trees.specs.Objects.{catalog_tree}
@@ -36,23 +37,19 @@ use Rattle.hosts_statements.proofs.Monitor.{went, same_value}
 use Rattle.hosts_statements.proofs.OwnIds.{own_ids, own_filtered}
 use Rattle.hosts_statements.proofs.Gone.{AreOwnIds, deleted}
 use Rattle.hosts_statements.proofs.Delete.{delete_query, host_tests, watch_tests, watches_tests, passes, answered, each_passing, delete_host_is, delete_watch_is, delete_watches_is}
-use Rattle.hosts_statements.proofs.Shrink.{blob_holds, int_holds, eq_then, left_map}
+use Rattle.hosts_statements.proofs.Shrink.{blob_holds, int_holds, left_map}
 use Rattle.hosts_statements.proofs.Watch.{watch_exact, watch_total}
 use Rattle.hosts_statements.proofs.Rows.{Makes, show_tables, did_at}
-
-both : (a b : Bool) → (a && b) ≡ true → (a ≡ true) × (b ≡ true)
-both true b h = (refl, h)
-both false b h = absurd (true≢false (sym h))
 
 and_true : (b : Bool) → (b && true) ≡ b
 and_true true = refl
 and_true false = refl
 
 pub host_whole : (r : Row) → is_host r ≡ true → is_int (rowid r) ≡ true
-host_whole r h = (both (is_int (rowid r)) (is_blob (column r 1)) h).0
+host_whole r h = (and_parts (is_int (rowid r)) (is_blob (column r 1)) h).0
 
 watch_whole : (r : Row) → is_watched r ≡ true → is_int (rowid r) ≡ true
-watch_whole r h = (both (is_int (rowid r)) _ h).0
+watch_whole r h = (and_parts (is_int (rowid r)) _ h).0
 
 -- ---- what the texts' conditions test
 
@@ -66,7 +63,7 @@ abbrev pub watch_given : Bytes → MyId → Row
 watch_given mon my = Blob mon ∷ my_given my
 
 host_test : (name : Bytes) (r : Row) → is_host r ≡ true → passes host_tests (host_given name) r ≡ same_bytes (host_of r).0 name
-host_test name r h = and_true _ ∙ blob_holds (column r 1) name (both (is_int (rowid r)) (is_blob (column r 1)) h).1
+host_test name r h = and_true _ ∙ blob_holds (column r 1) name (and_parts (is_int (rowid r)) (is_blob (column r 1)) h).1
 
 my_test : (a b : MyId) → is_eq (my_id_cmp a b) ≡ (same_bytes a.my_name b.my_name && (is_eq (int_cmp a.prog b.prog) && (is_eq (int_cmp a.vers b.vers) && is_eq (int_cmp a.proc b.proc))))
 my_test a b =
@@ -83,11 +80,11 @@ record AreColumns (r : Row) : Type 0 where
 
 columns_of : (r : Row) → is_watched r ≡ true → AreColumns r
 columns_of r h =
-    let a = both _ _ h in
-    let b = both _ _ a.1 in
-    let c = both _ _ b.1 in
-    let d = both _ _ c.1 in
-    let e = both _ _ d.1 in
+    let a = and_parts _ _ h in
+    let b = and_parts _ _ a.1 in
+    let c = and_parts _ _ b.1 in
+    let d = and_parts _ _ c.1 in
+    let e = and_parts _ _ d.1 in
     record { mon = b.0; my = c.0; prog = d.0; vers = e.0; proc = e.1 }
 
 watches_test : (my : MyId) (r : Row) → is_watched r ≡ true → passes watches_tests (my_given my) r ≡ is_key_of None my (watch_of r).0

@@ -7,6 +7,7 @@ use Rattle.std.specs.Cmp.{eq_by_cmp_equiv}
 use Rattle.std.specs.Cmp.Lexicographic.{nat_list_cmp_total}
 use Rattle.std.proofs.lemmas.Map.Text.{is_eq-slice_cmp}
 use Rattle.std.specs.FinMap.{FinMap, IsAntisymmetric, empty, empty_of_len, from_sorted, len-entries, entries-from_sorted, find, get, insert, entries, put, get-entries, entries-insert, slice_cmp-IsAntisymmetric, nat_cmp-IsAntisymmetric}
+use Rattle.definitions.proofs.Lists.{none_from_is_some}
 use Rattle.definitions.specs.Bytes as list
 use Rattle.definitions.specs.Bytes.{Bytes, bytes_cmp, same_bytes, is_any, placed}
 use Rattle.definitions.specs.Hosts.{HostRow, Hosts, row_cmp, watch_cmp, has_row, is_watch, after_store, Monitor}
@@ -19,10 +20,6 @@ use Rattle.hosts_statements.specs.Shown.{shown}
 use Rattle.hosts_statements.specs.Wrote.{Committed, MayWork, WroteHosts, MayWriteHosts, rows_in, hosts_in}
 use Rattle.hosts_statements.proofs.Rows.{Makes}
 use Rattle.hosts_statements.proofs.Watch.{watch_total, watch_exact}
-
-none_of : {X : Type 0} (o : Option X) → is_some o ≡ false → o ≡ None
-none_of None h = refl
-none_of (Some x) h = absurd cc
 
 module _ {K X A : Type 0} (R : K → K → Ordering) (row : K × X → A) where
   -- a test that agrees with the key
@@ -61,10 +58,10 @@ pub watch_found : (m : FinMap key_cmp Bytes) (k : WatchKey) → is_any (is_watch
 watch_found m k = any_found key_cmp watch_row k (is_watch (Some k.mon) k.my) (key_agrees k) (entries m) ∙ ap is_some (sym (get-entries m k))
 
 pub no_host : (m : FinMap bytes_cmp Host) (name : Bytes) → is_any (λ (r : HostRow). same_bytes r.name name) (map host_row (entries m)) ≡ false → get m name ≡ None
-no_host m name h = none_of (get m name) (sym (row_found m name) ∙ h)
+no_host m name h = none_from_is_some (get m name) (sym (row_found m name) ∙ h)
 
 pub no_watch : (m : FinMap key_cmp Bytes) (k : WatchKey) → is_any (is_watch (Some k.mon) k.my) (map watch_row (entries m)) ≡ false → get m k ≡ None
-no_watch m k h = none_of (get m k) (sym (watch_found m k) ∙ h)
+no_watch m k h = none_from_is_some (get m k) (sym (watch_found m k) ∙ h)
 
 pub host_put : (m : FinMap bytes_cmp Host) (name : Bytes) (host : Host) → map host_row (entries (insert m name host)) ≡ list.put row_cmp (host_row (name, host)) (map host_row (entries m))
 host_put m name host = ap (map host_row) (entries-insert nat_list_cmp_total m name host) ∙ put_listed bytes_cmp host_row row_cmp (λ a b. refl) bytes_exact name host (entries m)

@@ -1,6 +1,6 @@
 -- Rows that are told apart by their rowids stay so, in any order, with one more and with some fewer.
 use Rattle.std.proofs.Common.{◌≡◌, ◌≤◌, ℕ, ℤ, ◌+◌, Bool, true, false, cond, not, ◌||◌, List, [], ◌∷◌, map, filter, Option, Some, refl, sym, ap, subst, ◌∙◌, arith}
-use Rattle.std.proofs.lemmas.Bool.{true≢false}
+use Rattle.std.proofs.lemmas.Bool.{true≢false, or_from, not-false, or_parts}
 use Rattle.std.specs.declared.cmp.Ordering.{Ordering}
 use Rattle.std.specs.declared.cmp.Ordering.TheVariants.{Less, Equal, Greater}
 use Rattle.std.specs.List.{list_any}
@@ -27,22 +27,6 @@ unit_if b = cond b 1 0
 counted : (id : ℤ) (r : Row) (rs : List Row) → count_of id (r ∷ rs) ≡ unit_if (has_rowid id r) + count_of id rs
 counted id r rs = sum_by-cons (λ row. cond (has_rowid id row) 1 0) r rs
 
-pub left_false : (a b : Bool) → (a || b) ≡ false → a ≡ false
-left_false true b h = absurd (true≢false h)
-left_false false b h = refl
-
-pub right_false : (a b : Bool) → (a || b) ≡ false → b ≡ false
-right_false true b h = absurd (true≢false h)
-right_false false b h = h
-
-both_false : (a b : Bool) → a ≡ false → b ≡ false → (a || b) ≡ false
-both_false true b e f = absurd (true≢false e)
-both_false false b e f = f
-
-pub not_false : (b : Bool) → not b ≡ false → b ≡ true
-not_false true h = refl
-not_false false h = absurd (true≢false h)
-
 pub int_is : (v : Value) → is_int v ≡ true → v ≡ Int (id_in v)
 int_is Null h = absurd (true≢false (sym h))
 int_is (Int n) h = refl
@@ -65,10 +49,10 @@ eq_equal Greater h = absurd (true≢false (sym h))
 
 module _ (fits : Row → Bool) where
   pub first_fits : (r : Row) (rs : List Row) → list_any (λ row. not (fits row)) (r ∷ rs) ≡ false → fits r ≡ true
-  first_fits r rs h = not_false (fits r) (left_false (not (fits r)) (list_any (λ row. not (fits row)) rs) h)
+  first_fits r rs h = not-false (fits r) ((or_parts (not (fits r)) (list_any (λ row. not (fits row)) rs) h).0)
 
   pub rest_fits : (r : Row) (rs : List Row) → list_any (λ row. not (fits row)) (r ∷ rs) ≡ false → list_any (λ row. not (fits row)) rs ≡ false
-  rest_fits r rs h = right_false (not (fits r)) (list_any (λ row. not (fits row)) rs) h
+  rest_fits r rs h = (or_parts (not (fits r)) (list_any (λ row. not (fits row)) rs) h).1
 
   pub own_rest : (r : Row) (rs : List Row) → AreOwn fits (r ∷ rs) → AreOwn fits rs
   own_rest r rs own = (rest_fits r rs own.0, λ id. let e = counted id r rs in let h = own.1 id in omega (arith, e, h))
@@ -100,7 +84,7 @@ module _ (fits : Row → Bool) where
       fewer (r ∷ rs) h = go (p r) (fewer rs (rest_fits r rs h))
         where
           go : (b : Bool) → list_any (λ row. not (fits row)) (filter p rs) ≡ false → list_any (λ row. not (fits row)) (cond b (r ∷ filter p rs) (filter p rs)) ≡ false
-          go true more = both_false _ _ (left_false (not (fits r)) (list_any (λ row. not (fits row)) rs) h) more
+          go true more = or_from _ _ ((or_parts (not (fits r)) (list_any (λ row. not (fits row)) rs) h).0) more
           go false more = more
 
       less : (id : ℤ) (rows : List Row) → count_of id (filter p rows) ≤ count_of id rows
@@ -121,12 +105,12 @@ module _ (fits : Row → Bool) where
       more_fit (r ∷ rs) h = go (value_cmp (rowid r) (rowid new)) (more_fit rs (rest_fits r rs h))
         where
           first : not (fits r) ≡ false
-          first = left_false (not (fits r)) (list_any (λ row. not (fits row)) rs) h
+          first = (or_parts (not (fits r)) (list_any (λ row. not (fits row)) rs) h).0
 
           go : (o : Ordering) → list_any (λ row. not (fits row)) (put_row new rs) ≡ false → list_any (λ row. not (fits row)) (match_ordering o (r ∷ put_row new rs) (new ∷ rs) (new ∷ r ∷ rs)) ≡ false
-          go Less more = both_false _ _ first more
-          go Equal more = both_false _ _ (ap not fit) (rest_fits r rs h)
-          go Greater more = both_false _ _ (ap not fit) h
+          go Less more = or_from _ _ first more
+          go Equal more = or_from _ _ (ap not fit) (rest_fits r rs h)
+          go Greater more = or_from _ _ (ap not fit) h
 
       at_most : (id : ℤ) (rows : List Row) → count_of id (put_row new rows) ≤ unit_if (has_rowid id new) + count_of id rows
       at_most id [] = let e = counted id new [] in omega (arith, e)
@@ -144,7 +128,7 @@ module _ (fits : Row → Bool) where
           let equiv = eq_by_cmp_equiv value_cmp_total in
           let apart : has_rowid id r ≡ false =
           equiv.symm (rowid r) (Int id) ∙ equiv.congr (Int id) (rowid new) (rowid r) (equiv.symm (Int id) (rowid new) ∙ ties) ∙ equiv.symm (rowid new) (rowid r) ∙ left_false (is_eq (value_cmp (rowid r) (rowid new))) (is_taken rs new) h in
-          let rest = none id ties rs (right_false (is_eq (value_cmp (rowid r) (rowid new))) (is_taken rs new) h) in
+          let rest = none id ties rs ((or_parts (is_eq (value_cmp (rowid r) (rowid new))) (is_taken rs new) h).1) in
           let e = counted id r rs in
           let f : unit_if (has_rowid id r) ≡ 0 = ap unit_if apart in
           omega (arith, e, f, rest)
@@ -173,7 +157,7 @@ module _ (fits : Row → Bool) where
     where
       all_fit : (last : Option ℤ) (rows : List Row) → Rises fits last rows → list_any (λ row. not (fits row)) rows ≡ false
       all_fit last [] h = refl
-      all_fit last (r ∷ rs) h = both_false _ _ (ap not h.2) (all_fit (Some h.0) rs h.4)
+      all_fit last (r ∷ rs) h = or_from _ _ (ap not h.2) (all_fit (Some h.0) rs h.4)
 
       apart : (id : ℤ) (r : Row) (n : ℤ) → rowid r ≡ Int n → int_cmp id n ≡ Less → has_rowid id r ≡ false
       apart id r n is low = ap (λ v. is_eq (value_cmp v (Int id))) is ∙ ap is_eq (value_cmp-Int n id ∙ int_cmp_total.antisymm n id ∙ ap ordering_reverse low)

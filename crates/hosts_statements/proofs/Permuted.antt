@@ -8,6 +8,8 @@ use Rattle.std.specs.List.Sorted.{IsPermutation}
 use Rattle.std.proofs.lemmas.List.Sorted.{Contains-permutation, IsPermutation-map, list_any-IsPermutation}
 use Rattle.std.specs.FinMap.{FinMap, IsAntisymmetric, find, empty, from_entries, get-from_entries, same_map, from_entries_push}
 use Rattle.std.specs.FinMap.Entries.{is_some-find, find-append}
+use Rattle.hosts_statements.proofs.PutLemmas.{missed, missed_later}
+use Rattle.definitions.proofs.Lists.{none_from_is_some}
 use Rattle.sqlite_value.specs.Order.{Row}
 use Rattle.hosts_statements.specs.Reading.{AreApart, KeepsAll}
 
@@ -16,18 +18,6 @@ same_some x y e = cc
 
 not_both : {X : Type 0} {x : X} {o : Option X} → o ≡ None → o ≡ Some x → ⊥
 not_both none some = let e = sym none ∙ some in absurd cc
-
-none_of : {X : Type 0} (o : Option X) → is_some o ≡ false → o ≡ None
-none_of None h = refl
-none_of (Some x) h = absurd cc
-
-missed : {X : Type 0} (b : Bool) (x : X) (o : Option X) → cond b (Some x) o ≡ None → b ≡ false
-missed true x o h = absurd cc
-missed false x o h = refl
-
-missed_later : {X : Type 0} (b : Bool) (x : X) (o : Option X) → cond b (Some x) o ≡ None → o ≡ None
-missed_later true x o h = absurd cc
-missed_later false x o h = h
 
 module _ {K X : Type 0} {R : K → K → Ordering} (o : IsTotalOrder R) where
   -- an entry that is there is found
@@ -57,7 +47,7 @@ module _ {K X : Type 0} {R : K → K → Ordering} (o : IsTotalOrder R) where
       let keys = list_any-IsPermutation (eq_by_cmp R q) (map (λ (e : K × X). e.0) xs) (map (λ (e : K × X). e.0) ys) (IsPermutation-map (λ (e : K × X). e.0) xs ys moved) in
       let both : is_some (find R q xs) ≡ is_some (find R q ys) = is_some-find R q xs ∙ keys ∙ sym (is_some-find R q ys) in
       let cases : (r : Option X) → find R q xs ≡ r → r ≡ find R q ys = elim [
-        | None ↦ λ none. sym (none_of (find R q ys) (sym both ∙ ap is_some none))
+        | None ↦ λ none. sym (none_from_is_some (find R q ys) (sym both ∙ ap is_some none))
         | Some v ↦ λ some.
             let e = there xs q v some in
             let at = Contains-permutation xs ys e.0 moved e.1 in sym (found_at ys apart at.0 at.1 e.0 at.2 q e.2 ∙ ap Some e.3)

@@ -14,7 +14,7 @@ use Rattle.sqlite.proofs.Callers.{command_of, statement_of, runs_as}
 use Rattle.hosts_statements.specs.Reading.{command_in}
 use Rattle.hosts_statements.specs.Wrote.{IsRowWrite, Ran}
 
-same_command : (r : Result Compiled CompileError) → command_of r ≡ command_in r
+pub same_command : (r : Result Compiled CompileError) → command_of r ≡ command_in r
 same_command (Ok c) = refl
 same_command (Err e) = refl
 

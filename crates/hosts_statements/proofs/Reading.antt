@@ -28,6 +28,7 @@ use Rattle.sqlite_catalog.specs.Listing.{IsSound, IsTableRow, is_table_row}
 use Rattle.std.specs.List.{flat_map, AllZip}
 use Rattle.std.specs.Cmp.Lexicographic.{nat_list_cmp_total}
 use Rattle.std.specs.FinMap.{from_entries, slice_cmp-IsAntisymmetric, nat_cmp-IsAntisymmetric}
+use Rattle.hosts_statements.proofs.Ran.{same_command}
 use Rattle.hosts_statements.specs.Maps.{key_cmp}
 use Rattle.definitions.specs.Bytes.{bytes_cmp}
 use Rattle.hosts_statements.specs.Shown.{host_of, watch_of, number_at, upgraded_row, shown, shown_with, shown_if_listed, shown_in_tables, shown_in_first}
@@ -137,10 +138,6 @@ hosts_plain_at Second db is = (hosts_mean db.schema is).plain
 
 pub watches_plain_at : (version : Version) (db : Database) → IsHostSchema version db.schema → IsPlain (understood db.schema read_watches_text)
 watches_plain_at version db is = (watches_mean version db.schema is).plain
-
-same_command : (r : Result Compiled CompileError) → command_of r ≡ command_in r
-same_command (Ok c) = refl
-same_command (Err e) = refl
 
 pub tells : (sql : List ℕ) (db : Database) (mid new : State) (rows : List Row) → mid.now ≡ db → IsPlain (understood db.schema sql) → Shown sql [] mid new rows → Tells sql db rows
 tells sql db mid new rows at plain h q names is unlisted =

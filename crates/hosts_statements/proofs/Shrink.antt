@@ -9,6 +9,7 @@ use Rattle.std.specs.Cmp.{IsTotalOrder}
 use Rattle.std.proofs.lemmas.Map.Text.{is_eq-slice_cmp}
 use Rattle.std.specs.FinMap.{FinMap, IsAntisymmetric, find, entries, entries_sorted, from_sorted, get-from_sorted, entries-from_sorted, get-entries, from_entries, get-from_entries, same_map, retain_keys, get-retain_keys}
 use Rattle.std.specs.FinMap.Entries.{where_key, find-where_key, is_sorted-where_key}
+use Rattle.hosts_db.proofs.Orders.{eq_then}
 use Rattle.definitions.specs.Bytes.{Bytes, same_bytes, without}
 use Rattle.sqlite_value.specs.declared.value.Value.{Value}
 use Rattle.sqlite_value.specs.declared.value.Value.TheVariants.{Null, Int, Real, Text, Blob}
@@ -44,11 +45,6 @@ int_holds (Int m) n h = truth_is _ ∙ ap is_eq (value_cmp-Int m n)
 int_holds (Real x) n h = absurd (true≢false (sym h))
 int_holds (Text t) n h = absurd (true≢false (sym h))
 int_holds (Blob b) n h = absurd (true≢false (sym h))
-
-pub eq_then : (a b : Ordering) → is_eq (ordering_then a b) ≡ (is_eq a && is_eq b)
-eq_then Less b = refl
-eq_then Equal b = refl
-eq_then Greater b = refl
 
 -- ---- rows that a test of their keys leaves
 

@@ -1,6 +1,6 @@
 -- Hosts that pass the table's UNIQUE have names of their own.
 use Rattle.std.proofs.Common.{◌≡◌, Bool, true, false, cond, not, ◌&&◌, List, [], ◌∷◌, map, None, Some, refl, sym, ap, ◌∙◌}
-use Rattle.std.proofs.lemmas.Bool.{true≢false}
+use Rattle.std.proofs.lemmas.Bool.{true≢false, not-true}
 use Rattle.std.specs.declared.cmp.Ordering.{Ordering}
 use Rattle.std.specs.declared.cmp.Ordering.TheVariants.{Less, Equal, Greater}
 use Rattle.std.specs.List.{AllByRecursion, list_any}
@@ -25,7 +25,7 @@ use Rattle.hosts_statements.specs.Reading.{AreApart}
 use Rattle.hosts_statements.proofs.Gone.{AreOwnIds}
 use Rattle.hosts_statements.proofs.OwnIds.{left_false, right_false, first_fits, rest_fits}
 use Rattle.hosts_statements.proofs.Shrink.{truth_is, blob_holds}
-use Rattle.hosts_upgrade.proofs.Moved.{and_left, and_right, untaken}
+use Rattle.hosts_upgrade.proofs.Moved.{and_left, and_right}
 
 -- another row has the name of this one
 abbrev pub clash : Row → Row → Bool
@@ -96,4 +96,4 @@ hosts_apart (r ∷ rs) own all apart = (
 
 pub unclashed : (all rows : List Row) → AllByRecursion (λ row. (not (list_any (clash row) all) && true) ≡ true) rows → AllByRecursion (λ row. list_any (clash row) all ≡ false) rows
 unclashed all [] h = tt
-unclashed all (r ∷ rs) h = (untaken (list_any (clash r) all) (and_left (not (list_any (clash r) all)) true h.0), unclashed all rs h.1)
+unclashed all (r ∷ rs) h = (not-true (list_any (clash r) all) (and_left (not (list_any (clash r) all)) true h.0), unclashed all rs h.1)

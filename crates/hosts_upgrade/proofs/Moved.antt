@@ -1,6 +1,6 @@
 -- Rows that are put into a table, where no rowid comes twice.
 use Rattle.std.proofs.Common.{◌≡◌, Bool, true, false, cond, not, ◌&&◌, ◌||◌, List, [], ◌∷◌, ◌++◌, map, refl, sym, ap, ◌∙◌}
-use Rattle.std.proofs.lemmas.Bool.{true≢false}
+use Rattle.std.proofs.lemmas.Bool.{true≢false, not-true}
 use Rattle.std.specs.declared.cmp.Ordering.{Ordering}
 use Rattle.std.specs.declared.cmp.Ordering.TheVariants.{Less, Equal, Greater}
 use Rattle.std.specs.List.{list_any}
@@ -26,10 +26,6 @@ pub and_right : (a b : Bool) → (a && b) ≡ true → b ≡ true
 and_right true b h = h
 and_right false b h = absurd (true≢false (sym h))
 
-pub untaken : (b : Bool) → not b ≡ true → b ≡ false
-untaken true h = absurd (true≢false (sym h))
-untaken false h = refl
-
 -- ---- in any order
 
 pub put_row_moves : (new : Row) (rows : List Row) → is_taken rows new ≡ false → IsPermutation (new ∷ rows) (put_row new rows)
@@ -47,7 +43,7 @@ put_row_moves new (r ∷ rs) free =
 pub put_all_moves : (rows news : List Row) → are_fresh rows news ≡ true → IsPermutation (news ++ rows) (put_all rows news)
 put_all_moves rows [] fresh = IsPermutation-refl rows
 put_all_moves rows (n ∷ ns) fresh =
-    let free = untaken (is_taken rows n) (and_left (not (is_taken rows n)) (are_fresh (put_row n rows) ns) fresh) in
+    let free = not-true (is_taken rows n) (and_left (not (is_taken rows n)) (are_fresh (put_row n rows) ns) fresh) in
     let rest = put_all_moves (put_row n rows) ns (and_right (not (is_taken rows n)) (are_fresh (put_row n rows) ns) fresh) in
     let first : IsPermutation (n ∷ (ns ++ rows)) (ns ++ n ∷ rows) = IsPermutation-sym (ns ++ n ∷ rows) (n ∷ (ns ++ rows)) (IsPermutation-middle ns n rows) in
     let second : IsPermutation (ns ++ n ∷ rows) (ns ++ put_row n rows) = IsPermutation-append ns ns (n ∷ rows) (put_row n rows) (IsPermutation-refl ns) (put_row_moves n rows free) in
@@ -58,7 +54,7 @@ put_all_moves rows (n ∷ ns) fresh =
 pub put_all_own : (rows news : List Row) → are_fresh rows news ≡ true → list_any (λ r. not (is_host r)) news ≡ false → AreOwn is_host rows → AreOwn is_host (put_all rows news)
 put_all_own rows [] fresh fit own = own
 put_all_own rows (n ∷ ns) fresh fit own =
-    let free = untaken (is_taken rows n) (and_left (not (is_taken rows n)) (are_fresh (put_row n rows) ns) fresh) in
+    let free = not-true (is_taken rows n) (and_left (not (is_taken rows n)) (are_fresh (put_row n rows) ns) fresh) in
     let here = fits (is_host n) (left_false (not (is_host n)) (list_any (λ r. not (is_host r)) ns) fit) in
     put_all_own (put_row n rows) ns (and_right (not (is_taken rows n)) (are_fresh (put_row n rows) ns) fresh) (right_false (not (is_host n)) (list_any (λ r. not (is_host r)) ns) fit) (own_put is_host n rows here free own)
   where

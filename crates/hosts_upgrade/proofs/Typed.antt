@@ -1,6 +1,6 @@
 -- The rows of a table obey its types.
 use Rattle.std.proofs.Common.{◌≡◌, true, false, not, ◌&&◌, List, [], ◌∷◌, drop, None, refl, sym}
-use Rattle.std.proofs.lemmas.Bool.{true≢false}
+use Rattle.std.proofs.lemmas.Bool.{true≢false, not-true}
 use Rattle.std.specs.List.{AllByRecursion}
 use Rattle.sqlite_value.specs.declared.value.Value.{Value}
 use Rattle.sqlite_value.specs.declared.value.Value.TheVariants.{Null, Int, Real, Text, Blob}
@@ -11,7 +11,7 @@ use Rattle.sqlite_schema.specs.Rules.{are_typed, are_present, is_of, has_compute
 use Rattle.sqlite_trees.specs.View.{is_int}
 use Rattle.hosts_statements.specs.Own.{is_blob}
 use Rattle.hosts_statements.specs.Tables.{first_hosts_columns, first_hosts_table}
-use Rattle.hosts_upgrade.proofs.Moved.{and_left, and_right, untaken}
+use Rattle.hosts_upgrade.proofs.Moved.{and_left, and_right}
 
 -- a name in bytes and two numbers
 pub record IsTyped (row : Row) : Type 0 where
@@ -43,7 +43,7 @@ has_all : (row : Row) → are_present None 0 first_hosts_columns row ≡ true �
 has_all row h =
     let a = and_right (not (is_null (column row 1))) _ h in
     let b = and_right (not (is_null (column row 2))) _ a in
-    record { name = untaken _ (and_left (not (is_null (column row 1))) _ h); epoch = untaken _ (and_left (not (is_null (column row 2))) _ a); seen = untaken _ (and_left (not (is_null (column row 3))) _ b) }
+    record { name = not-true _ (and_left (not (is_null (column row 1))) _ h); epoch = not-true _ (and_left (not (is_null (column row 2))) _ a); seen = not-true _ (and_left (not (is_null (column row 3))) _ b) }
 
 typed_row : (row : Row) → are_typed None 0 first_hosts_columns (drop 1 row) ≡ true → HasAll row → IsTyped row
 typed_row [] t p = absurd (true≢false p.seen)

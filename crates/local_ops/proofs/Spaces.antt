@@ -4,7 +4,7 @@ use Rattle.std.specs.Prelude.{not, ◌&&◌, Ok}
 use Rattle.std.specs.Fmt.{decimal}
 use Rattle.std.specs.List.{All, AllPass}
 use Rattle.std.specs.Str.Parse.{AllDigits}
-use Rattle.std.proofs.lemmas.Bool.{and_parts, and_from}
+use Rattle.std.proofs.lemmas.Bool.{and_parts, and_from, not-true}
 use Rattle.std.proofs.lemmas.Bool.Decides.{eqb_tells}
 use Rattle.std.proofs.lemmas.Fmt.{decimal_is_IsNumeral}
 use Rattle.std.proofs.lemmas.List.Elements.{All-nil, All-cons, All-head, All-tail}
@@ -24,15 +24,11 @@ abbrev pub are_spaceless : List Bytes → Bool
 are_spaceless [] = true
 are_spaceless (field ∷ fields) = spaceless field && are_spaceless fields
 
-not_true : (b : Bool) → not b ≡ true → b ≡ false
-not_true true e = absurd cc
-not_true false e = refl
-
 no_space : (text : Bytes) → spaceless text ≡ true → All (λ c. is_space c ≡ false) text
 no_space [] e = All-nil _
 no_space (c ∷ cs) e =
     let p = and_parts (not (is_space c)) (spaceless cs) e in
-    All-cons (λ b. is_space b ≡ false) c cs (not_true (is_space c) p.0) (no_space cs p.1)
+    All-cons (λ b. is_space b ≡ false) c cs (not-true (is_space c) p.0) (no_space cs p.1)
 
 pub fields_of-spaced : (field : Bytes) (fields : List Bytes) → spaceless field ≡ true → are_spaceless fields ≡ true → fields_of (spaced (field ∷ fields)) ≡ field ∷ fields
 fields_of-spaced field [] e all = slice_split_none is_space field (no_space field e)

@@ -1,6 +1,7 @@
 -- What stays of waiters where an owner closes a file.
 use Rattle.std.proofs.Common.{◌≡◌, ℕ, subst, Bool, true, false, List, [], ◌∷◌, refl, sym, ap, ◌∙◌, Option, Some, unwrap_or}
 use Rattle.std.specs.Prelude.{◌&&◌, ◌||◌, cond}
+use Rattle.std.proofs.Math.Bool.{and-false}
 use Rattle.definitions.specs.Bytes.{Bytes, same_bytes}
 use Rattle.definitions.specs.Owners.{Owner, Process, same_owner}
 use Rattle.definitions.proofs.OwnerLaws.{same_owner-Decides}
@@ -29,10 +30,6 @@ not_same x y differ = go (same_owner x y) refl
     go true e = absurd (differ ((same_owner-Decides x y).0 e))
     go false e = refl
 
-pub and_false : (b : Bool) → (b && false) ≡ false
-and_false true = refl
-and_false false = refl
-
 -- nobody of a name that has no number waits
 pub stranger_waits_not : (names : List (Option Owner)) (file : Bytes) (x : Owner) → ((n : ℕ) → named names n ≡ Some x → ⊥) → (ws : List Waiting) → AreNamed (named names) ws
     → without_waiters_on file x (waiters_by (named names) ws) ≡ waiters_by (named names) ws
@@ -42,7 +39,7 @@ stranger_waits_not names file x nobody (w ∷ ws) a =
     let owner = owner_at (named names) w.wanted.owner in
     let is : owner ≡ s.0 = ap (λ o. unwrap_or o (Process 0)) s.1 in
     let other : same_owner owner x ≡ false = not_same owner x (λ same. nobody w.wanted.owner (s.1 ∙ ap Some (sym is ∙ same))) in
-    let kept : (same_bytes w.wanted.file file && same_owner owner x) ≡ false = ap (λ b. same_bytes w.wanted.file file && b) other ∙ and_false (same_bytes w.wanted.file file) in
+    let kept : (same_bytes w.wanted.file file && same_owner owner x) ≡ false = ap (λ b. same_bytes w.wanted.file file && b) other ∙ and-false (same_bytes w.wanted.file file) in
     ap (λ b. cond b (without_waiters_on file x (waiters_by (named names) ws)) (waiter_by (named names) w ∷ without_waiters_on file x (waiters_by (named names) ws))) kept
     ∙ ap (λ (v : List Waiter). waiter_by (named names) w ∷ v) (stranger_waits_not names file x nobody ws a.1)
 

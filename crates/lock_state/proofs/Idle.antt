@@ -1,6 +1,6 @@
 -- Who is idle, through the changes.
 use Rattle.std.proofs.Common.{◌≡◌, ℕ, ◌≤◌, Bool, true, false, ◌&&◌, ◌||◌, cond, leb, List, [], ◌∷◌, ◌++◌, refl, sym, ap, ◌∙◌, Some, None, arith}
-use Rattle.std.proofs.lemmas.Bool.{false≢true, le-leb}
+use Rattle.std.proofs.lemmas.Bool.{false≢true, le-leb, or_parts}
 use Rattle.std.proofs.lemmas.Slice.Eq.{bytes_eq-Decides}
 use Rattle.definitions.specs.Bytes.{Bytes, same_bytes, is_any, first_that, without_first}
 use Rattle.definitions.specs.Owners.{Owner, same_owner}
@@ -51,10 +51,6 @@ waits_now w x idle =
     false≢true (sym idle.waits_not ∙ any_last (λ (y : Waiter). same_owner y.request.owner x.request.owner) w.waiters x (same_itself x.request.owner))
 
 -- whoever is idle after a grant was idle before
-parts : (a b : Bool) → (a || b) ≡ false → (a ≡ false) × (b ≡ false)
-parts true b e = absurd (false≢true (sym e))
-parts false b e = (refl, e)
-
 none_there : {X : Type 0} (p q : X → Bool) (xs : List X) → ((x : X) → first_that p xs ≡ Some x → q x ≡ false) → is_any q (without_first p xs) ≡ false → is_any q xs ≡ false
 none_there p q [] h e = refl
 none_there p q (y ∷ ys) h e = go (p y) h e (none_there p q ys)
@@ -63,7 +59,7 @@ none_there p q (y ∷ ys) h e = go (p y) h e (none_there p q ys)
         → (((x : _) → first_that p ys ≡ Some x → q x ≡ false) → is_any q (without_first p ys) ≡ false → is_any q ys ≡ false) → (q y || is_any q ys) ≡ false
     go true h e more = ap (λ b. b || is_any q ys) (h y refl) ∙ e
     go false h e more =
-        let f = parts (q y) (is_any q (without_first p ys)) e in
+        let f = or_parts (q y) (is_any q (without_first p ys)) e in
         ap (λ b. b || is_any q ys) f.0 ∙ more h f.1
 
 module _ (w : World) (x : Waiter) (there : first_ready the_limits w ≡ Some x) (ordered : x.request.first ≤ x.request.last) (y : Owner) where

@@ -2,9 +2,9 @@
 use Rattle.std.proofs.Common.{◌≡◌, ◌≢◌, ℕ, ◌==◌, ◌||◌, Bool, true, false, List, [], ◌∷◌, length, refl, sym, ap, ◌∙◌, subst, Option, Some, None, unwrap_or, arith}
 use Rattle.std.specs.Option.{IsSome}
 use Rattle.std.specs.List.{list_any}
+use Rattle.std.proofs.lemmas.Bool.{or_right}
 use Rattle.definitions.specs.Bytes.{Bytes, is_any}
 use Rattle.definitions.specs.Owners.{Owner, Process, is_of_host, same_owner}
-use Rattle.definitions.proofs.Lists.{or_right}
 use Rattle.definitions.proofs.OwnerLaws.{same_owner-Decides}
 use Rattle.range_owners.proofs.Words.{number_is}
 use Rattle.definitions.specs.Outgoing.{Outgoing}

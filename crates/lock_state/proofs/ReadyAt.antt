@@ -1,6 +1,6 @@
 -- Where somebody may be ready, through the changes.
 use Rattle.std.proofs.Common.{◌≡◌, Bool, true, false, not, ◌&&◌, ◌||◌, cond, List, [], ◌∷◌, ◌++◌, refl, sym, ap, ◌∙◌, subst, Some, None, Result, Ok, Err, OnOk, OnErr}
-use Rattle.std.proofs.lemmas.Bool.{false≢true}
+use Rattle.std.proofs.lemmas.Bool.{false≢true, or_parts, and_right}
 use Rattle.std.proofs.lemmas.Option.{none-some}
 use Rattle.std.proofs.lemmas.Slice.Eq.{bytes_eq-Decides}
 use Rattle.definitions.specs.Bytes.{Bytes, same_bytes, is_any, first_that, without, without_first}
@@ -21,32 +21,28 @@ use Rattle.lock_state.specs.ReadyAt.{IsReadyAt, with_file, after_change, after_g
 
 -- ---- where none passes a test
 
-neither : (a b : Bool) → (a || b) ≡ false → (a ≡ false) × (b ≡ false)
-neither true b e = cc
-neither false b e = (refl, e)
-
 module _ {X : Type 0} (p : X → Bool) where
   pub none_first : (xs : List X) → is_any p xs ≡ false → first_that p xs ≡ None
   none_first [] e = refl
   none_first (x ∷ xs) e =
-      let n = neither (p x) (is_any p xs) e in
+      let n = or_parts (p x) (is_any p xs) e in
       ap (λ b. cond b (Some x) (first_that p xs)) n.0 ∙ none_first xs n.1
 
   none_by : (q : X → Bool) (xs : List X) → ((x : X) → p x ≡ false → q x ≡ false) → is_any p xs ≡ false → is_any q xs ≡ false
   none_by q [] f e = refl
   none_by q (x ∷ xs) f e =
-      let n = neither (p x) (is_any p xs) e in
+      let n = or_parts (p x) (is_any p xs) e in
       ap (λ b. b || is_any q xs) (f x n.0) ∙ none_by q xs f n.1
 
   none_more : (xs : List X) (x : X) → is_any p xs ≡ false → p x ≡ false → is_any p (xs ++ x ∷ []) ≡ false
   none_more [] x e h = ap (λ b. b || false) h
   none_more (y ∷ xs) x e h =
-      let n = neither (p y) (is_any p xs) e in
+      let n = or_parts (p y) (is_any p xs) e in
       ap (λ b. b || is_any p (xs ++ x ∷ [])) n.0 ∙ none_more xs x n.1 h
 
   none_without : (test : X → Bool) (xs : List X) → is_any p xs ≡ false → is_any p (without test xs) ≡ false
   none_without test [] e = refl
-  none_without test (x ∷ xs) e = let n = neither (p x) (is_any p xs) e in go (test x) n.0 (none_without test xs n.1)
+  none_without test (x ∷ xs) e = let n = or_parts (p x) (is_any p xs) e in go (test x) n.0 (none_without test xs n.1)
     where
       go : (b : Bool) → p x ≡ false → is_any p (without test xs) ≡ false → is_any p (cond b (without test xs) (x ∷ without test xs)) ≡ false
       go true h more = more
@@ -54,7 +50,7 @@ module _ {X : Type 0} (p : X → Bool) where
 
   none_without_first : (test : X → Bool) (xs : List X) → is_any p xs ≡ false → is_any p (without_first test xs) ≡ false
   none_without_first test [] e = refl
-  none_without_first test (x ∷ xs) e = let n = neither (p x) (is_any p xs) e in go (test x) n.0 n.1 (none_without_first test xs n.1)
+  none_without_first test (x ∷ xs) e = let n = or_parts (p x) (is_any p xs) e in go (test x) n.0 n.1 (none_without_first test xs n.1)
     where
       go : (b : Bool) → p x ≡ false → is_any p xs ≡ false → is_any p (without_first test xs) ≡ false → is_any p (cond b xs (x ∷ without_first test xs)) ≡ false
       go true h rest more = rest
@@ -63,7 +59,7 @@ module _ {X : Type 0} (p : X → Bool) where
   -- nor does the first that passes another
   not_first : (test : X → Bool) (xs : List X) (x : X) → is_any p xs ≡ false → first_that test xs ≡ Some x → p x ≡ false
   not_first test [] x e f = absurd (none-some x f)
-  not_first test (y ∷ ys) x e f = let n = neither (p y) (is_any p ys) e in go (test y) f n.0 (not_first test ys x n.1)
+  not_first test (y ∷ ys) x e f = let n = or_parts (p y) (is_any p ys) e in go (test y) f n.0 (not_first test ys x n.1)
     where
       one : Some y ≡ Some x → y ≡ x
       one e = cc
@@ -73,9 +69,6 @@ module _ {X : Type 0} (p : X → Bool) where
       go false f h more = more f
 
 -- ---- files
-
-same_is : (a b : Bytes) → same_bytes a b ≡ true → a ≡ b
-same_is a b e = (bytes_eq-Decides a b).0 e
 
 is_same : (a b : Bytes) → a ≡ b → same_bytes a b ≡ true
 is_same a b e = (bytes_eq-Decides a b).1 e
@@ -88,14 +81,10 @@ not_off : (b r : Bool) → r ≡ true → (not b && r) ≡ false → b ≡ true
 not_off true r h e = refl
 not_off false r h e = absurd (false≢true (sym e ∙ h))
 
-and_false : (a b : Bool) → b ≡ false → (a && b) ≡ false
-and_false true b e = e
-and_false false b e = refl
-
 pub no_off : (file : Bytes) (quotas : Quotas) (settings : List Setting) (ws : List Waiter) → is_any (is_ready the_limits quotas settings) ws ≡ false → is_any (is_ready_off file quotas settings) ws ≡ false
 no_off file quotas settings ws e =
     none_by (is_ready the_limits quotas settings) (is_ready_off file quotas settings) ws
-    (λ x h. and_false (not (same_bytes x.request.file file)) (is_ready the_limits quotas settings x) h) e
+    (λ x h. and_right (not (same_bytes x.request.file file)) (is_ready the_limits quotas settings x) h) e
 
 -- ---- changes
 
@@ -117,7 +106,7 @@ ready_waiting Nowhere quotas settings ws x e =
 ready_waiting (On file) quotas settings ws x e = go (same_bytes file x.request.file) refl
   where
     go : (b : Bool) → same_bytes file x.request.file ≡ b → IsReadyAt (cond b (On file) Anywhere) quotas settings (ws ++ x ∷ [])
-    go true t = none_more (is_ready_off file quotas settings) ws x e (own_file file quotas settings x (sym (same_is file x.request.file t)))
+    go true t = none_more (is_ready_off file quotas settings) ws x e (own_file file quotas settings x (sym ((bytes_eq-Decides file x.request.file).0 t)))
     go false t = tt
 ready_waiting Anywhere quotas settings ws x e = tt
 
@@ -134,11 +123,6 @@ ready_stored (On file) before after settings ws kept e = none_by (is_ready_off f
     off x h = still (not (same_bytes x.request.file file)) (is_ready the_limits before settings x) (is_ready the_limits after settings x) (not_readied the_limits before after kept settings x) h
 ready_stored Anywhere before after settings ws kept e = tt
 
--- neither runs nor a quota held anybody back
-neither_held : (short limited : Bool) → (short || limited) ≡ false → (short ≡ false) × (limited ≡ false)
-neither_held true limited e = absurd (false≢true (sym e))
-neither_held false limited e = (refl, e)
-
 -- the settings of a file change
 pub ready_changed : (u : Unsettled) (held : Bool) (quotas : Quotas) (before after : List Setting) (file : Bytes) (ws : List Waiter)
     → (held ≡ false → is_any (is_ready_off file quotas before) ws ≡ false → is_any (is_ready_off file quotas after) ws ≡ false)
@@ -149,7 +133,7 @@ ready_changed (On other) false quotas before after file ws law e = go (same_byte
   where
     go : (b : Bool) → same_bytes other file ≡ b → IsReadyAt (cond b (On other) Anywhere) quotas after ws
     go true t =
-        let is = same_is other file t in
+        let is = (bytes_eq-Decides other file).0 t in
         subst (λ f. is_any (is_ready_off f quotas after) ws ≡ false) (sym is) (law refl (subst (λ f. is_any (is_ready_off f quotas before) ws ≡ false) is e))
     go false t = tt
 ready_changed Anywhere false quotas before after file ws law e = tt
@@ -158,7 +142,7 @@ pub ready_set : {A E : Type 0} (r : Result A E) (law : SettingFreesLaw) (u : Uns
     → AreRanges ws → held ≡ (is_short 65536 settings || is_limited quotas s.owner) → OnOk r (left ≡ settings ++ s ∷ []) → OnErr r (left ≡ settings) → IsReadyAt u quotas settings ws → IsReadyAt (after_change u s.file held) quotas left ws
 ready_set (Ok x) law u held quotas settings left s ws ranges is ok err e =
     rw ok (ready_changed u held quotas settings (settings ++ s ∷ []) s.file ws
-    (λ h off. let n = neither_held (is_short 65536 settings) (is_limited quotas s.owner) (sym is ∙ h) in law quotas settings s ws ranges n.0 n.1 off) e)
+    (λ h off. let n = or_parts (is_short 65536 settings) (is_limited quotas s.owner) (sym is ∙ h) in law quotas settings s ws ranges n.0 n.1 off) e)
 ready_set (Err x) law u held quotas settings left s ws ranges is ok err e =
     rw err (ready_changed u held quotas settings settings s.file ws (λ h off. off) e)
 
@@ -166,7 +150,7 @@ pub ready_closed : (law : CloseFreesLaw) (u : Unsettled) (held : Bool) (quotas :
     → AreRanges ws → held ≡ (is_short 65536 settings || is_limited quotas owner) → IsReadyAt u quotas settings ws → IsReadyAt (after_change u file held) quotas (without_owner_on file owner settings) ws
 ready_closed law u held quotas settings file owner ws ranges is e =
     ready_changed u held quotas settings (without_owner_on file owner settings) file ws
-    (λ h off. let n = neither_held (is_short 65536 settings) (is_limited quotas owner) (sym is ∙ h) in law quotas settings file owner ws ranges n.0 n.1 off) e
+    (λ h off. let n = or_parts (is_short 65536 settings) (is_limited quotas owner) (sym is ∙ h) in law quotas settings file owner ws ranges n.0 n.1 off) e
 
 -- the first that is ready is granted
 pub ready_granted : (law : SettingFreesLaw) (u : Unsettled) (held : Bool) (quotas : Quotas) (settings : List Setting) (s : Setting) (ws : List Waiter) (x : Waiter)
@@ -178,7 +162,7 @@ ready_granted law Nowhere false quotas settings s ws x ranges enough is f same e
 ready_granted law (On file) false quotas settings s ws x ranges enough free f same e =
     let ready = (first_found (is_ready the_limits quotas settings) ws x f).passes in
     let off = not_first (is_ready_off file quotas settings) (is_ready the_limits quotas settings) ws x e f in
-    let on = same_is x.request.file file (not_off (same_bytes x.request.file file) (is_ready the_limits quotas settings x) ready off) in
+    let on = (bytes_eq-Decides x.request.file file).0 (not_off (same_bytes x.request.file file) (is_ready the_limits quotas settings x) ready off) in
     let is : s.file ≡ file = sym same ∙ on in
     let still = law quotas settings s ws ranges enough (sym free) (subst (λ g. is_any (is_ready_off g quotas settings) ws ≡ false) (sym is) e) in
     none_without_first (is_ready_off file quotas (settings ++ s ∷ [])) (is_ready the_limits quotas settings) ws

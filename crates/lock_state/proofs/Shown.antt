@@ -59,14 +59,6 @@ none_passes test (x ∷ xs) = go (test x) refl (none_passes test xs)
     go true e more = more
     go false e more = rw e more
 
-pub length_without : {X : Type 0} (test : X → Bool) (xs : List X) → length (without test xs) ≤ length xs
-length_without test [] = omega arith
-length_without test (x ∷ xs) = go (test x) (length_without test xs)
-  where
-    go : (b : Bool) → length (without test xs) ≤ length xs → length (cond b (without test xs) (x ∷ without test xs)) ≤ length (x ∷ xs)
-    go true more = omega arith
-    go false more = omega arith
-
 -- a setting that is made or refused
 pub shown_set : {A E : Type 0} (r : Result A E) (settings left : List Setting) (s : Setting) → OnOk r (left ≡ settings ++ s ∷ []) → OnErr r (left ≡ settings) → AreShown settings → CanShow s → AreShown left
 shown_set (Ok x) settings left s ok err a h = rw ok (shown_more settings s a h)

@@ -1,6 +1,7 @@
 -- Who has no number holds nothing and waits for nothing.
 use Rattle.std.proofs.Common.{◌≡◌, ◌≢◌, ℕ, Bool, false, not, ◌&&◌, ◌||◌, List, [], ◌∷◌, refl, sym, ap, ◌∙◌, Option, Some, None, unwrap_or}
 use Rattle.std.proofs.lemmas.Option.{none-some}
+use Rattle.std.proofs.Math.Bool.{and-false}
 use Rattle.definitions.specs.Bytes.{Bytes, same_bytes, is_any}
 use Rattle.definitions.specs.Owners.{Owner, Process, same_owner, is_description}
 use Rattle.definitions.specs.Settings.{Mode, Setting, Request, mode_at}
@@ -10,7 +11,7 @@ use Rattle.range_table.specs.Settings.{Held}
 use Rattle.owner_ids.specs.Names.{Names, named}
 use Rattle.range_owners.specs.Stands.{Stands}
 use Rattle.blocked_list.specs.Waiting.{Waiting, AreNamed, waiter_by, waiters_by}
-use Rattle.lock_state.proofs.Closed.{not_same, and_false}
+use Rattle.lock_state.proofs.Closed.{not_same}
 use Rattle.lock_state.proofs.Kept.{some_of}
 
 -- no waiter is for the request of one that has no number
@@ -22,7 +23,7 @@ stranger_waits names r nobody (w ∷ ws) a =
     let waiter = waiter_by (named names) w in
     let is : waiter.request.owner ≡ s.0 = ap (λ o. unwrap_or o (Process 0)) s.1 in
     let other : same_owner waiter.request.owner r.owner ≡ false = not_same waiter.request.owner r.owner (λ same. nobody w.wanted.owner (s.1 ∙ ap Some (sym is ∙ same))) in
-    let differs : same_request waiter.request r ≡ false = rw other (and_false (same_bytes waiter.request.file r.file)) in
+    let differs : same_request waiter.request r ≡ false = rw other (and-false (same_bytes waiter.request.file r.file)) in
     rw differs (stranger_waits names r nobody ws a.1)
 
 none_any : {X : Type 0} (test : X → Bool) → ((x : X) → test x ≡ false) → (xs : List X) → is_any test xs ≡ false
@@ -40,17 +41,17 @@ module _ (names : Names) (held : Held) (settings : List Setting) (h : Stands nam
   keeps_nobody_out : (q : Request) → conflicts_with settings q r.owner ≡ false
   keeps_nobody_out q =
       none_any (λ byte. holds_against settings q byte r.owner)
-      (λ byte. ap (λ o. not (same_owner r.owner q.owner) && excludes o q.mode) (holds_nothing q.file byte) ∙ and_false (not (same_owner r.owner q.owner)))
+      (λ byte. ap (λ o. not (same_owner r.owner q.owner) && excludes o q.mode) (holds_nothing q.file byte) ∙ and-false (not (same_owner r.owner q.owner)))
       (tested settings q)
 
   nobody_waits_for : (waiters : List Waiter) (y : Owner) → waits_for settings waiters y r.owner ≡ false
   nobody_waits_for waiters y =
       none_any (λ (w : Waiter). same_owner w.request.owner y && conflicts_with settings w.request r.owner)
-      (λ w. ap (λ b. same_owner w.request.owner y && b) (keeps_nobody_out w.request) ∙ and_false (same_owner w.request.owner y))
+      (λ w. ap (λ b. same_owner w.request.owner y && b) (keeps_nobody_out w.request) ∙ and-false (same_owner w.request.owner y))
       waiters
 
   -- so that nobody waits for it, and its waiting closes no cycle
   pub stranger_closes : (waiters : List Waiter) → closes_cycle settings waiters r ≡ false
   stranger_closes waiters =
       ap (λ b. not (is_description r.owner) && b) (none_any (λ y. waits_for settings waiters y r.owner) (nobody_waits_for waiters) (reached_from settings waiters r))
-      ∙ and_false (not (is_description r.owner))
+      ∙ and-false (not (is_description r.owner))

@@ -1,7 +1,10 @@
 -- The owner at a number is the slab's owner at that key, and its number in the map.
-use Rattle.std.proofs.Common.{◌≡◌, ◌≢◌, ℕ, List, Option, Some, None, map, refl, sym, ap, ◌∙◌, ◌==◌, Bool, true, false, subst, cond}
+use Rattle.std.proofs.Common.{◌≡◌, ◌≢◌, ℕ, List, Option, Some, None, map, refl, sym, ap, ◌∙◌, ◌==◌, Bool, true, false, subst, cond, OnOk, is_err}
 use Rattle.std.proofs.lemmas.Bool.{eqb-true, eqb-false, true≢false}
 use Rattle.std.proofs.Math.ListN.{get_or-map}
+use Rattle.std.proofs.lemmas.Option.{same_Some, none-some}
+use Rattle.std.specs.declared.result.Result.{Result}
+use Rattle.std.specs.declared.result.Result.TheVariants.{Ok, Err}
 use Rattle.definitions.specs.Owners.{Owner}
 use Rattle.definitions.proofs.OwnerLaws.{same_owner-Decides}
 use Rattle.slab.specs.Slab.{Slab, get, Updates}
@@ -18,12 +21,6 @@ renames_from xs old new key slot e u =
       there = named_said new key ∙ ap said_some u.changed;
       others = λ k o. named_said new k ∙ ap said_some (u.others k o) ∙ sym (named_said old k);
     })
-
-some_inside : {A : Type 0} (a b : A) → Some a ≡ Some b → a ≡ b
-some_inside a b e = cc
-
-none_some : {A : Type 0} (a : A) → None ≡ Some a → ⊥
-none_some a e = cc
 
 -- two owners in memory say one owner, or they don't
 by_same : {P : Type 0} (x y : HeldOwner) → (same_held x y ≡ true → view_of_owner x ≡ view_of_owner y → P) → (same_held x y ≡ false → (view_of_owner x ≡ view_of_owner y → ⊥) → P) → P
@@ -48,15 +45,15 @@ module _ (names after : Names) (numbers next : HeldOwner → Option ℕ) (x : He
     added_found : (y : HeldOwner) (k : ℕ) → next y ≡ Some k → after k ≡ Some (view_of_owner y)
     added_found y k e =
         by_same x y
-        (λ t s. let i : n ≡ k = some_inside n k (ap (λ z. cond z (Some n) (numbers y)) (sym t) ∙ sym (u y) ∙ e) in
+        (λ t s. let i : n ≡ k = same_Some n k (ap (λ z. cond z (Some n) (numbers y)) (sym t) ∙ sym (u y) ∙ e) in
         ap after (sym i) ∙ r.there ∙ ap Some s)
         (λ t s. let f = l.found y k (ap (λ z. cond z (Some n) (numbers y)) (sym t) ∙ sym (u y) ∙ e) in
-        r.others k (λ i. none_some (view_of_owner y) (sym free ∙ ap names (sym i) ∙ f)) ∙ f)
+        r.others k (λ i. none-some (view_of_owner y) (sym free ∙ ap names (sym i) ∙ f)) ∙ f)
 
     added_listed : (y : HeldOwner) (k : ℕ) → after k ≡ Some (view_of_owner y) → next y ≡ Some k
     added_listed y k e =
         by_number k n
-        (λ i. let s = some_inside (view_of_owner x) (view_of_owner y) (sym r.there ∙ ap after (sym i) ∙ e) in
+        (λ i. let s = same_Some (view_of_owner x) (view_of_owner y) (sym r.there ∙ ap after (sym i) ∙ e) in
         u y ∙ ap (λ z. cond z (Some n) (numbers y)) ((same_owner-Decides (view_of_owner x) (view_of_owner y)).1 s) ∙ ap Some (sym i))
         (λ o. let f : names k ≡ Some (view_of_owner y) = sym (r.others k o) ∙ e in
         by_same x y
@@ -70,17 +67,17 @@ module _ (names after : Names) (numbers next : HeldOwner → Option ℕ) (x : He
     removed_found : (y : HeldOwner) (k : ℕ) → next y ≡ Some k → after k ≡ Some (view_of_owner y)
     removed_found y k e =
         by_same x y
-        (λ t s. absurd (none_some k (ap (λ z. cond z None (numbers y)) (sym t) ∙ sym (u y) ∙ e)))
+        (λ t s. absurd (none-some k (ap (λ z. cond z None (numbers y)) (sym t) ∙ sym (u y) ∙ e)))
         (λ t s. let f = l.found y k (ap (λ z. cond z None (numbers y)) (sym t) ∙ sym (u y) ∙ e) in
-        r.others k (λ i. s (some_inside (view_of_owner x) (view_of_owner y) (sym here ∙ ap names (sym i) ∙ f))) ∙ f)
+        r.others k (λ i. s (same_Some (view_of_owner x) (view_of_owner y) (sym here ∙ ap names (sym i) ∙ f))) ∙ f)
 
     removed_listed : (y : HeldOwner) (k : ℕ) → after k ≡ Some (view_of_owner y) → next y ≡ Some k
     removed_listed y k e =
         by_number k n
-        (λ i. absurd (none_some (view_of_owner y) (sym r.there ∙ ap after (sym i) ∙ e)))
+        (λ i. absurd (none-some (view_of_owner y) (sym r.there ∙ ap after (sym i) ∙ e)))
         (λ o. let f : names k ≡ Some (view_of_owner y) = sym (r.others k o) ∙ e in
         by_same x y
-        (λ t s. absurd (o (some_inside k n (sym (l.listed y k f) ∙ l.listed y n (here ∙ ap Some s)))))
+        (λ t s. absurd (o (same_Some k n (sym (l.listed y k f) ∙ l.listed y n (here ∙ ap Some s)))))
         (λ t s. u y ∙ ap (λ z. cond z None (numbers y)) t ∙ l.listed y k f))
 
     pub lists_removed : Lists after next
@@ -90,3 +87,7 @@ module _ (names after : Names) (numbers next : HeldOwner → Option ℕ) (x : He
 pub still_nobody : (names after : Names) (n : ℕ) (x : Option Owner) → Renames names after n x → names 4294967295 ≡ None → (n ≡ 4294967295 → after n ≡ None) → after 4294967295 ≡ None
 still_nobody names after n x r nobody at =
     by_number 4294967295 n (λ i. ap after i ∙ at (sym i)) (λ o. r.others 4294967295 o ∙ nobody)
+
+pub when_ok : {V E P : Type 0} (r : Result V E) → is_err r ≡ false → OnOk r P → P
+when_ok (Ok v) e h = h
+when_ok (Err v) e h = absurd (cc)

@@ -3,25 +3,22 @@ use Rattle.std.proofs.Common.{◌≡◌, ℕ, ◌+◌, ◌-◌, ◌<◌, List, [
 use Rattle.std.specs.Prelude.{ltb, cond, eqb, Bool, true, false}
 use Rattle.std.specs.List.{position, position_or_len, join_with_byte}
 use Rattle.std.proofs.lemmas.Bool.{ltb-true, ltb-false}
-use Rattle.std.proofs.lemmas.Grind.{common_steps}
 use Rattle.std.proofs.lemmas.Option.{cond_some}
 use Rattle.std.proofs.lemmas.List.Elements.{All-from_get_or}
 use Rattle.std.proofs.lemmas.List.Splits.{slice_split_none, slice_split_first, length-slice_split, join_with_byte-slice_split}
 use Rattle.std.proofs.lemmas.List.Sums.{fails_before_first}
+use Rattle.std.proofs.lemmas.List.{take_rest}
 use Rattle.peers.specs.File.{parts_at, whole_lines, lines_of}
 
 abbrev is_at : ℕ → ℕ → Bool
 is_at byte = λ b. eqb b byte
-
-take_all-drop : (left : List ℕ) (count : ℕ) → take (length left - count) (drop count left) ≡ drop count left
-take_all-drop left count = grind (arith, common_steps)
 
 pub cut_at : (byte : ℕ) (bytes : List ℕ) (i : ℕ) → position (λ b. eqb b byte) bytes ≡ Some i → parts_at byte bytes ≡ take i bytes ∷ parts_at byte (take (length bytes - (i + 1)) (drop (i + 1) bytes))
 cut_at byte bytes i e =
     let at = position_or_len (is_at byte) bytes in
     let p = cond_some (ltb at (length bytes)) at i e in
     let P : ℕ → Type 0 = λ k. parts_at byte bytes ≡ take k bytes ∷ parts_at byte (drop (k + 1) bytes) in
-    subst P p.1 (slice_split_first (is_at byte) bytes 0 (ltb-true at (length bytes) p.0)) ∙ ap (λ (behind : List ℕ). take i bytes ∷ parts_at byte behind) (sym (take_all-drop bytes (i + 1)))
+    subst P p.1 (slice_split_first (is_at byte) bytes 0 (ltb-true at (length bytes) p.0)) ∙ ap (λ (behind : List ℕ). take i bytes ∷ parts_at byte behind) (sym (take_rest bytes (i + 1)))
 
 not_below : (b : Bool) (k : ℕ) → cond b (Some k) None ≡ None → b ≡ false
 not_below true k e = absurd cc

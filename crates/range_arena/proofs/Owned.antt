@@ -21,6 +21,8 @@ use Rattle.range_table.proofs.Files.{file_tests, file_cmp_total, file_cmp_exact,
 use Rattle.range_table.proofs.RunFacts.{of_in}
 use Rattle.range_table.proofs.Inserting.{before_not_itself, before_first}
 use Rattle.range_table.proofs.Searches.{partitioned, part}
+use Rattle.range_table.proofs.Edits.{nat_lt_is}
+use Rattle.range_table.proofs.Orderings.{lt_is, lt_not, le_not, not_le, then_both, then_upto}
 use Rattle.range_arena.proofs.Sorts.{in_at}
 
 pub first_total : IsTotalOrder first_cmp
@@ -37,11 +39,6 @@ sorted_list (r ∷ rs) h = (orders rs h.1.0, sorted_list rs h.1.1) where
   orders (s ∷ ss) h = (h.0.order, orders ss h.1)
 
 -- ---- binary searches
-
-less_is : (o : Ordering) → is_lt o ≡ true → o ≡ Less
-less_is Less h = refl
-less_is Equal h = cc
-less_is Greater h = cc
 
 abbrev Falls : (Run → Bool) → List Run → Type 0
 Falls test [] = Unit {0}
@@ -60,26 +57,11 @@ falls_by cmp test f rs h = partitioned test rs (falls rs h) where
 -- a test that falls along a sorted list
 module _ (cmp : Run → Run → Ordering) (total : IsTotalOrder cmp) where
   pub before_parted : (x : Run) (rs : List Run) → IsSortedBy cmp rs → IsPartitionedBy (λ s. is_lt (cmp s x)) rs
-  before_parted x = falls_by cmp (λ s. is_lt (cmp s x)) (λ r s h k. ap is_lt (total.trans r s x (less_is (cmp r s) h) (less_is (cmp s x) k)))
+  before_parted x = falls_by cmp (λ s. is_lt (cmp s x)) (λ r s h k. ap is_lt (total.trans r s x (lt_is (cmp r s) h) (lt_is (cmp s x) k)))
 
 -- it is the same of a whole list as of all its part
 pub parted_whole : (test : Run → Bool) (rs : List Run) (n : ℕ) → n ≡ length rs → IsPartitionedBy test rs → IsPartitionedBy test (part 0 (n - 0) rs)
 parted_whole test rs n e h = subst (λ ys. IsPartitionedBy test ys) (sym (take_all (n - 0) rs (omega arith))) h
-
-lt_not : (o : Ordering) → is_lt o ≡ true → is_gt o ≡ false
-lt_not Less h = refl
-lt_not Equal h = cc
-lt_not Greater h = cc
-
-le_not : (o : Ordering) → is_le o ≡ true → is_gt o ≡ false
-le_not Less h = refl
-le_not Equal h = refl
-le_not Greater h = cc
-
-not_le : (o : Ordering) → is_gt o ≡ false → is_le o ≡ true
-not_le Less h = refl
-not_le Equal h = refl
-not_le Greater h = cc
 
 -- the run that starts there
 abbrev at_byte : Setting → ℕ → Run → Run
@@ -143,14 +125,6 @@ pub record Between (c : Setting) (s r : Run) : Type 0 where
   pub of : is_of r c.file c.owner ≡ true
   pub less : s.first < r.first
 
-less_number : (a b : ℕ) → is_lt (nat_cmp a b) ≡ true → a < b
-less_number a b h =
-    by_test (ltb a b)
-    (λ t. grind (arith, file_tests))
-    (λ t. by_test (a == b)
-    (λ e. let k = rw (t, e) at h in absurd (cc))
-    (λ e. let k = rw (t, e) at h in absurd (cc)))
-
 pub between : (c : Setting) (byte b : ℕ) (s r : Run) → starts_before c b s ≡ true → is_lt (owned_cmp s r) ≡ true → owned_upto c byte r ≡ true → Between c s r
 between c byte b s r h k u =
     let m = starts c b s h in
@@ -167,7 +141,7 @@ between c byte b s r h k u =
             let d = exact_unsigned s.owner r.owner f in
             let o = m.of in
             grind (arith, file_tests);
-        less = let v = rw (e, f) at k in less_number s.first r.first v;
+        less = let v = rw (e, f) at k in nat_lt_is s.first r.first v;
       }
       by_owner e m Greater f = absurd (let v = rw (e, f) at k in cc)
 
@@ -250,15 +224,10 @@ module _ (rs ys : List Run) (c : Setting) (byte place : ℕ) (listed : IsRunList
 
 -- ---- a new run has a place of its own
 
-then_ties : (a b : Ordering) → ordering_then a b ≡ Equal → (a ≡ Equal) × (b ≡ Equal)
-then_ties Less b h = absurd (cc)
-then_ties Equal b h = (refl, h)
-then_ties Greater b h = absurd (cc)
-
 tied_first : (s x : Run) → owned_cmp s x ≡ Equal → first_cmp s x ≡ Equal
 tied_first s x e =
-    let p = then_ties (file_cmp s.file x.file) (ordering_then (nat_cmp s.owner x.owner) (nat_cmp s.first x.first)) e in
-    let q = then_ties (nat_cmp s.owner x.owner) (nat_cmp s.first x.first) p.1 in
+    let p = then_both (file_cmp s.file x.file) (ordering_then (nat_cmp s.owner x.owner) (nat_cmp s.first x.first)) e in
+    let q = then_both (nat_cmp s.owner x.owner) (nat_cmp s.first x.first) p.1 in
     rw (p.0, q.1, q.0) refl
 
 in_put : (x : Run) (rs : List Run) → IsIn x (insert_run x rs)
@@ -287,13 +256,6 @@ alone x (r ∷ rs) h s i e =
 
 -- ---- the last one of all the owner's runs
 
-then_lt : (a b c : Ordering) → is_lt (ordering_then a (ordering_then b c)) ≡ true → is_gt (ordering_then a b) ≡ false
-then_lt Less b c h = refl
-then_lt Equal Less c h = refl
-then_lt Equal Equal c h = refl
-then_lt Equal Greater c h = cc
-then_lt Greater b c h = cc
-
 then_le : (a b c : Ordering) → is_le (ordering_then a b) ≡ true → is_le c ≡ true → is_le (ordering_then a (ordering_then b c)) ≡ true
 then_le Less b c h k = refl
 then_le Equal Less c h k = refl
@@ -312,7 +274,7 @@ by_falls : (c : Setting) (r s : Run) → is_lt (owned_cmp r s) ≡ true → owne
 unfolding pair_cmp
 by_falls c r s h k =
     let key : Run = record r { file = c.file; owner = c.owner } in
-    not_le (pair_cmp r key) (upto pair_total r s key (then_lt (file_cmp r.file s.file) (nat_cmp r.owner s.owner) (nat_cmp r.first s.first) h) (le_not (pair_cmp s key) k))
+    not_le (pair_cmp r key) (upto pair_total r s key (then_upto (file_cmp r.file s.file) (nat_cmp r.owner s.owner) (nat_cmp r.first s.first) h) (le_not (pair_cmp s key) k))
 
 pub by_parted : (c : Setting) (rs : List Run) → IsSortedBy owned_cmp rs → IsPartitionedBy (owned_by c) rs
 by_parted c = falls_by owned_cmp (owned_by c) (by_falls c)

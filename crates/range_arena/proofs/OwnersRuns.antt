@@ -12,7 +12,7 @@ use Rattle.range_table.proofs.RunFacts.{of_in}
 use Rattle.range_table.proofs.Inserting.{before_not_itself, before_first}
 use Rattle.range_table.proofs.Lasts.{last_in, trims_one}
 use Rattle.range_table.proofs.Edits.{stays, all_stay}
-use Rattle.range_arena.proofs.Sorts.{in_at}
+use Rattle.range_arena.proofs.Sorts.{in_at, seat_in}
 use Rattle.range_arena.proofs.Owned.{none_last, starts}
 
 pub none_before_0 : (c : Setting) (rs : List Run) → last_started c 0 rs ≡ None
@@ -63,11 +63,6 @@ trim_ends c r =
     by_test (is_of r c.file c.owner && ltb r.first c.first && leb c.first r.last)
     (λ t. rw t refl)
     (λ t. rw t refl)
-
-seat_in : (ys : List Run) (x : Run) → IsIn x ys → (b : ℕ) × (b < length ys) × (x ≡ get_or ys b x)
-seat_in [] x i = absurd i
-seat_in (y ∷ ys) x (inl e) = (0, omega arith, e)
-seat_in (y ∷ ys) x (inr i) = let m = seat_in ys x i in (suc m.0, let l = m.1 in omega arith, m.2)
 
 pub trims_not : (c : Setting) (rs : List Run) (x : Run) → IsRunList rs → IsIn x rs → last_started c c.first rs ≡ Some x → x.last ≤ (trim c x).last → rs ≡ map (trim c) rs
 trims_not c rs x h i f l =

@@ -1,6 +1,6 @@
 -- A setting leaves what other hosts' owners have, and makes at most two runs more.
-use Rattle.std.proofs.Common.{◌≡◌, ℕ, ◌≤◌, ◌+◌, ◌-◌, ◌&&◌, Bool, not, true, false, ltb, List, [], ◌∷◌, ◌++◌, refl, sym, ap, ◌∙◌, arith}
-use Rattle.std.proofs.lemmas.Bool.{true≢false, ltb-false, le-ltb}
+use Rattle.std.proofs.Common.{◌≡◌, ℕ, ◌≤◌, ◌+◌, ◌-◌, ◌&&◌, not, true, false, ltb, List, [], ◌∷◌, ◌++◌, sym, ap, ◌∙◌, arith}
+use Rattle.std.proofs.lemmas.Bool.{true≢false, ltb-false, le-ltb, not-true}
 use Rattle.definitions.specs.Bytes.{Bytes}
 use Rattle.definitions.specs.Owners.{Owner, is_of_host}
 use Rattle.definitions.specs.Settings.{Setting, mode_at}
@@ -9,14 +9,10 @@ use Rattle.definitions.proofs.RunCounts.{two_more, as_many_by, used_parted, used
 use Rattle.definitions.proofs.QuotaLaws.{others_keep}
 use Rattle.range_owners.specs.Allowances.{PastLaw}
 
-not_true : (b : Bool) → not b ≡ true → b ≡ false
-not_true false e = refl
-not_true true e = cc
-
 -- where other hosts' owners keep what they hold
 module _ (host : Bytes) (before after : List Setting) (alike : (file : Bytes) (owner : Owner) (byte : ℕ) → is_of_host host owner ≡ false → mode_at after file owner byte ≡ mode_at before file owner byte) where
   beside_kept : used_beside host after ≡ used_beside host before
-  beside_kept = as_many_by (λ owner. not (is_of_host host owner)) before after (λ file owner byte e. alike file owner byte (not_true (is_of_host host owner) e))
+  beside_kept = as_many_by (λ owner. not (is_of_host host owner)) before after (λ file owner byte e. alike file owner byte (not-true (is_of_host host owner) e))
 
   pub own_left : used_of host after ≡ used after - (used before - used_of host before)
   own_left =

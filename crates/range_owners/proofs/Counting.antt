@@ -1,20 +1,21 @@
 -- Starts by number are the starts by owner, and so are their numbers.
 use Rattle.std.proofs.Common.{◌≡◌, ℕ, suc, ◌+◌, ◌-◌, Bool, true, false, ◌&&◌, ◌||◌, ltb, List, [], ◌∷◌, ◌++◌, length, filter, refl, sym, ap, ◌∙◌, subst, inl, inr, Option, Some, None, IsNone, is_some, arith}
-use Rattle.std.proofs.lemmas.Bool.{true≢false, and_parts, and_from, or_cases, ltb-true, lt-ltb}
-use Rattle.std.proofs.lemmas.Bool.Decides.{same_from_decides}
+use Rattle.std.proofs.lemmas.Bool.{true≢false, and_parts, and_from, or_cases, ltb-true, lt-ltb, or_left, or_right}
+use Rattle.std.proofs.lemmas.Bool.Decides.{same_from_decides, nat_tests}
 use Rattle.std.proofs.lemmas.Cmp.{tied_itself}
 use Rattle.std.specs.Bool.{Decides}
+use Rattle.std.specs.Cmp.{both_ways}
 use Rattle.std.specs.List.{IsDistinct, AllByRecursion}
 use Rattle.std.specs.Set.{is_member}
 use Rattle.std.specs.Ordering.{is_lt}
 use Rattle.std.specs.declared.cmp.Ordering.TheVariants.{Less}
+use Rattle.std.proofs.lemmas.Option.{same_Some}
 use Rattle.definitions.specs.Bytes.{Bytes, Holds, IsBelowAll, IsAscending}
 use Rattle.definitions.specs.Owners.{Owner, is_of_host}
 use Rattle.definitions.specs.Settings.{Mode, Setting}
 use Rattle.definitions.specs.Starts.{Start, start_cmp, same_mode, is_start, starts, used, used_of, refuses}
 use Rattle.definitions.specs.Starts.{ends}
 use Rattle.definitions.specs.Bytes.{in_order}
-use Rattle.definitions.proofs.Lists.{or_left, or_right}
 use Rattle.definitions.proofs.Orders.{filter_holds, holds_filter, filter_ascends}
 use Rattle.definitions.proofs.StartLaws.{start_total, start_fact, starts_law}
 use Rattle.range_table.specs.Settings.{Held, mode_at as held_at, held_by, held_after, same_held, same_start, IsUsed, IsRefused, Start as NumberStart, is_start as is_number_start}
@@ -27,7 +28,7 @@ use Rattle.range_table.proofs.Counts.{used_once}
 use Rattle.owner_ids.specs.Names.{Names, AreDistinct, is_owned_by, is_some_of_host}
 use Rattle.range_owners.specs.Same.{view_of_held_mode, IsSameSetting, AreOfHost}
 use Rattle.range_owners.specs.Stands.{Stands, UsedLaw, UsedOfLaw, UsedAfterLaw, RefusalLaw}
-use Rattle.range_owners.proofs.Words.{some_same, some_none}
+use Rattle.range_owners.proofs.Words.{some_none}
 use Rattle.range_owners.proofs.Keeping.{stands_set}
 
 abbrev pub start_by : Owner → NumberStart → Start
@@ -100,7 +101,7 @@ module _ (names : Names) (d : AreDistinct names) where
         let a : s.file ≡ t.file = grind (arith, file_tests) in
         let b : s.owner ≡ n = grind (arith, file_tests) in
         let c : s.byte ≡ t.byte = grind (arith, file_tests) in
-        let o : t.owner ≡ x = some_same t.owner x (sym f ∙ ap names (sym b) ∙ e) in
+        let o : t.owner ≡ x = same_Some t.owner x (sym f ∙ ap names (sym b) ∙ e) in
         ap (λ y. of_parts y t.owner t.byte) (sym a) ∙ ap (λ y. of_parts s.file y t.byte) o ∙ ap (λ y. of_parts s.file x y) (sym c),
     λ k.
         let a : t.file ≡ s.file = ap (λ u. u.file) k in
@@ -250,3 +251,6 @@ refusal_over names held settings s t h e = (refused names held settings s t h e,
 
 pub of_host : (names : Names) (name : Bytes) → AreOfHost names (is_owned_by names name) name
 of_host names name = record { agrees = λ n x e. ap (is_some_of_host name) e }
+
+pub two_less : (n : ℕ) → ltb 65534 n ≡ ltb 65536 (n + 2)
+two_less n = both_ways (ltb 65534 n) (ltb 65536 (n + 2)) (λ t. grind (arith, nat_tests, t)) (λ t. grind (arith, nat_tests, t))

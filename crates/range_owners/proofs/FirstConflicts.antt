@@ -6,6 +6,7 @@ use Rattle.std.proofs.lemmas.Cmp.{tied_itself, nat_list_cmp_total}
 use Rattle.std.specs.Ordering.{nat_cmp, ordering_then, ordering_reverse, is_gt}
 use Rattle.std.specs.declared.cmp.Ordering.{Ordering}
 use Rattle.std.specs.declared.cmp.Ordering.TheVariants.{Less, Equal, Greater}
+use Rattle.std.proofs.lemmas.Option.{same_Some}
 use Rattle.definitions.specs.Bytes.{Bytes, bytes_cmp, first_that, Holds}
 use Rattle.definitions.specs.Owners.{Owner, owner_cmp, same_owner}
 use Rattle.definitions.specs.Settings.{Mode, Shared, Exclusive, Setting, Request, mode_at}
@@ -27,7 +28,7 @@ use Rattle.range_table.proofs.RunFacts.{run_once}
 use Rattle.owner_ids.specs.Names.{Names}
 use Rattle.range_owners.specs.Same.{view_of_mode, view_of_held_mode, IsSameRun, IsSameRequest, IsSameFound}
 use Rattle.range_owners.specs.Stands.{Stands, OrdersNames, RunsLaw, FirstConflictLaw}
-use Rattle.range_owners.proofs.Words.{some_same, some_none, file_same, owner_test}
+use Rattle.range_owners.proofs.Words.{some_none, file_same, owner_test}
 use Rattle.range_owners.proofs.Counting.{held_once, starts_same}
 
 abbrev pub run_by : Owner → NumberRun → Run
@@ -121,7 +122,7 @@ first_holds p [] x e = absurd (some_none x (sym e))
 first_holds p (y ∷ ys) x e = go (p y) refl e (first_holds p ys x)
   where
     go : (b : Bool) → p y ≡ b → cond b (Some y) (first_that p ys) ≡ Some x → (first_that p ys ≡ Some x → Holds ys x × (p x ≡ true)) → Holds (y ∷ ys) x × (p x ≡ true)
-    go true i k more = let s = some_same y x k in (inl s, ap p (sym s) ∙ i)
+    go true i k more = let s = same_Some y x k in (inl s, ap p (sym s) ∙ i)
     go false i k more = let j = more k in (inr j.0, j.1)
 
 neither_above : (a b : Ordering) → b ≡ ordering_reverse a → is_gt a ≡ false → b ≢ Greater → a ≡ Equal

@@ -1,6 +1,7 @@
 -- What keeps numbers and owners together.
 use Rattle.std.proofs.Common.{◌≡◌, ◌≢◌, ℕ, Bool, cond, not, ◌&&◌, ◌==◌, List, [], ◌∷◌, ◌++◌, refl, sym, ap, ◌∙◌, subst, inl, inr, Some, None}
 use Rattle.std.specs.List.{filter}
+use Rattle.std.proofs.lemmas.Option.{same_Some}
 use Rattle.definitions.specs.Bytes.{Bytes, same_bytes}
 use Rattle.definitions.specs.Owners.{Owner, same_owner, is_of_host}
 use Rattle.definitions.specs.Settings.{Setting, covers, mode_at, without_host, without_owner_on}
@@ -14,7 +15,7 @@ use Rattle.range_table.proofs.Tables.{mode_at-append, mode_at-filter}
 use Rattle.owner_ids.specs.Names.{Names, Renames, WasFor}
 use Rattle.range_owners.specs.Same.{view_of_held_mode, IsSameSetting}
 use Rattle.range_owners.specs.Stands.{Stands, SettingLaw, DropHostLaw, DropOwnerLaw, InternLaw, ReleaseLaw, ClearLaw}
-use Rattle.range_owners.proofs.Words.{some_same, some_none, none_or, held_cond, cond_none, number_is, number_other, owner_test, covers_same, covers_owner, file_same}
+use Rattle.range_owners.proofs.Words.{some_none, none_or, held_cond, cond_none, number_is, number_other, owner_test, covers_same, covers_owner, file_same}
 
 -- it depends on what is held alone
 pub stands_same : (names : Names) (held other : Held) (settings : List Setting) → ((file : File) (n byte : ℕ) → other file n byte ≡ held file n byte) → Stands names held settings → Stands names other settings
@@ -93,7 +94,7 @@ module _ (names after : Names) (held : Held) (settings : List Setting) (n : ℕ)
     named : {P : Type 0} (k : ℕ) (y : Owner) → after k ≡ Some y → (k ≡ n → y ≡ x → P) → (k ≢ n → names k ≡ Some y → P) → P
     named k y e one other =
         by_test (k == n)
-        (λ t. let i = number_is k n t in one i (some_same y x (sym e ∙ ap after i ∙ r.there)))
+        (λ t. let i = number_is k n t in one i (same_Some y x (sym e ∙ ap after i ∙ r.there)))
         (λ t. let i = number_other k n t in other i (sym (r.others k i) ∙ e))
 
     pub stands_interned : Stands after held settings

@@ -7,6 +7,7 @@ use Rattle.std.specs.List.{AllByRecursion}
 use Rattle.std.specs.Ordering.{is_lt}
 use Rattle.std.specs.declared.cmp.Ordering.{Ordering}
 use Rattle.std.specs.declared.cmp.Ordering.TheVariants.{Less, Equal, Greater}
+use Rattle.std.proofs.lemmas.Option.{same_Some}
 use Rattle.definitions.specs.Bytes.{Bytes, Holds, IsBelowAll, IsAscending}
 use Rattle.definitions.specs.Owners.{Owner}
 use Rattle.definitions.specs.Settings.{Mode, Setting}
@@ -20,7 +21,7 @@ use Rattle.owner_ids.specs.Names.{Names, number_cmp}
 use Rattle.owner_ids.proofs.Orders.{number_agrees}
 use Rattle.range_owners.specs.Same.{IsSameRun}
 use Rattle.range_owners.specs.Stands.{Stands, RunOrderLaw}
-use Rattle.range_owners.proofs.Words.{some_same, some_none}
+use Rattle.range_owners.proofs.Words.{some_none}
 use Rattle.range_owners.proofs.FirstConflicts.{run_by, run_over, run_listed, owner_of, runs_over}
 
 -- ---- ascending lists with the same members are one
@@ -78,7 +79,7 @@ read_pair : (names : Names) (rs : List NumberRun) (ts : List Run) (i : ℕ) (r :
 read_pair names [] [] i r p e = absurd (some_none r (sym e))
 read_pair names [] (t ∷ ts) i r p e = absurd p
 read_pair names (s ∷ rs) [] i r p e = absurd p
-read_pair names (s ∷ rs) (t ∷ ts) zero r p e = (t, refl, subst (λ x. IsSameRun names x t) (some_same s r e) p.0)
+read_pair names (s ∷ rs) (t ∷ ts) zero r p e = (t, refl, subst (λ x. IsSameRun names x t) (same_Some s r e) p.0)
 read_pair names (s ∷ rs) (t ∷ ts) (suc i) r p e = read_pair names rs ts i r p.1 e
 
 module _ (names : Names) (held : Held) (settings : List Setting) (h : Stands names held settings) where
@@ -133,7 +134,7 @@ module _ (names : Names) (held : Held) (settings : List Setting) (h : Stands nam
   same_back : (r : NumberRun) (t u : Run) → IsSameRun names r t → IsSameRun names r u → t ≡ u
   same_back r t u a b =
       ap (λ z. fields z t.owner t.first t.last t.mode) (sym a.file ∙ b.file)
-      ∙ ap (λ z. fields u.file z t.first t.last t.mode) (some_same t.owner u.owner (sym a.owner ∙ b.owner))
+      ∙ ap (λ z. fields u.file z t.first t.last t.mode) (same_Some t.owner u.owner (sym a.owner ∙ b.owner))
       ∙ ap (λ z. fields u.file u.owner z t.last t.mode) (sym a.first ∙ b.first)
       ∙ ap (λ z. fields u.file u.owner u.first z t.mode) (sym a.last ∙ b.last)
       ∙ ap (λ z. fields u.file u.owner u.first u.last z) (sym a.mode ∙ b.mode)

@@ -2,6 +2,7 @@
 use Rattle.std.proofs.Common.{◌≡◌, ◌≢◌, ℕ, Bool, true, false, cond, ◌&&◌, ◌==◌, refl, sym, ap, ◌∙◌, Option, Some, None, arith}
 use Rattle.std.specs.Prelude.{nat_le}
 use Rattle.std.specs.Cmp.{both_ways}
+use Rattle.std.proofs.lemmas.Option.{same_Some}
 use Rattle.definitions.specs.Bytes.{Bytes, same_bytes}
 use Rattle.definitions.specs.Owners.{Owner, same_owner}
 use Rattle.definitions.specs.Settings.{Setting, covers}
@@ -13,9 +14,6 @@ use Rattle.range_table.specs.declared.run.Setting.{Setting as NumberSetting}
 use Rattle.range_table.proofs.Files.{file_tests}
 use Rattle.owner_ids.specs.Names.{Names, AreDistinct}
 use Rattle.range_owners.specs.Same.{view_of_held_mode, IsSameSetting}
-
-pub some_same : {A : Type 0} (a b : A) → Some a ≡ Some b → a ≡ b
-some_same a b e = cc
 
 pub some_none : {A : Type 0} (a : A) → Some a ≡ None → ⊥
 some_none a e = cc
@@ -49,7 +47,7 @@ number_other n k h = λ e. let t = number_same n k e in cc
 pub owner_test : (names : Names) (n k : ℕ) (x y : Owner) → AreDistinct names → names n ≡ Some x → names k ≡ Some y → (n == k) ≡ same_owner x y
 owner_test names n k x y d e f =
     both_ways (n == k) (same_owner x y)
-    (λ h. (same_owner-Decides x y).1 (some_same x y (sym e ∙ ap names (number_is n k h) ∙ f)))
+    (λ h. (same_owner-Decides x y).1 (same_Some x y (sym e ∙ ap names (number_is n k h) ∙ f)))
     (λ h. number_same n k (d.once n k y (e ∙ ap Some ((same_owner-Decides x y).0 h)) f))
 
 four : (a b c d : Bool) → (a && b && c && d) ≡ ((a && b) && (c && d))

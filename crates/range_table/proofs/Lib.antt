@@ -1,4 +1,5 @@
 pub mod Tests
+pub mod Orderings
 pub mod Files
 pub mod Cutting
 pub mod Inserting

@@ -2,7 +2,7 @@
 use Rattle.std.proofs.Common.{◌≡◌, ℕ, zero, suc, ◌+◌, ◌≤◌, true, false, List, [], ◌∷◌, ◌++◌, length, take, drop, ◌-◌, flat_map, refl, sym, ◌∙◌, ap, subst, ◌%◌, ◌^◌, append_assoc, arith, length-append}
 use Rattle.std.specs.List.{All}
 use Rattle.std.specs.Int.{w32, from_be_bytes}
-use Rattle.std.proofs.lemmas.Grind.{common_steps, flat_map-append}
+use Rattle.std.proofs.lemmas.Grind.{flat_map-append}
 use Rattle.std.proofs.lemmas.List.{append-nil, take-append-drop}
 use Rattle.std.proofs.lemmas.List.Elements.{All-append}
 use Rattle.record_mark.specs.Stream.{is_last, size_of, IsFragment, begun_with, ended_by, joined, begun_after, Fit, Reads, IsTooLong, Splits}
@@ -94,6 +94,3 @@ Reads-filled stream front left count given begun rest begun' rest' r e₁ e₂ =
 
 pub append-take-drop : (front left piece : List ℕ) (count : ℕ) → front ++ left ≡ piece → (front ++ take count left) ++ drop count left ≡ piece
 append-take-drop front left piece count e = append_assoc front (take count left) (drop count left) ∙ (ap (λ x. front ++ x) (take-append-drop count left) ∙ e)
-
-pub take_all-drop : (left : List ℕ) (count : ℕ) → take (length left - count) (drop count left) ≡ drop count left
-take_all-drop left count = grind (arith, common_steps)

@@ -1,7 +1,8 @@
 -- An honest reclaim in grace is granted.
-use Rattle.std.proofs.Common.{◌≡◌, ◌≢◌, ℕ, ◌-◌, Bool, true, false, cond, not, ◌&&◌, ◌||◌, leb, List, [], ◌∷◌, ◌++◌, map, refl, sym, ap, subst, ◌∙◌, Option, Some, None}
-use Rattle.std.proofs.lemmas.Bool.{true≢false}
+use Rattle.std.proofs.Common.{◌≡◌, ◌≢◌, ℕ, ◌-◌, Bool, true, false, cond, not, ◌&&◌, leb, List, [], ◌∷◌, ◌++◌, map, refl, sym, ap, subst, ◌∙◌, Option, Some, None}
+use Rattle.std.proofs.lemmas.Bool.{true≢false, or_from}
 use Rattle.std.proofs.lemmas.List.{map-append}
+use Rattle.std.proofs.lemmas.Option.{same_Some, none-some}
 use Rattle.definitions.specs.Bytes.{Bytes}
 use Rattle.definitions.specs.Settings.{Setting, Request, setting_of}
 use Rattle.definitions.specs.Conflict.{conflicts}
@@ -25,15 +26,6 @@ use Rattle.definitions.proofs.ReclaimLaws.{honest_meets_no_conflict}
 use Rattle.definitions.proofs.AnswerMoves.{admitted}
 use Rattle.definitions.proofs.StepLaws.{settled_nobody}
 use Rattle.restart_laws.specs.Honest.{lock_of, has_place, IsHonestReclaim, IsGranted}
-
-neither : (a b : Bool) → a ≡ false → b ≡ false → (a || b) ≡ false
-neither a b e f = ap (λ c. c || b) e ∙ f
-
-inside : {X : Type 0} (x y : X) → Some x ≡ Some y → x ≡ y
-inside x y e = cc
-
-no_lock : {X : Type 0} (x : X) → None ≡ Some x → ⊥
-no_lock x e = cc
 
 -- a lock that meets no conflict and finds room is granted once its row is stored
 rules_grant : (w : World) (a : LockAsk) → conflicts w.settings a.request ≡ false → lacks_room the_limits.runs (quotas_of w.hosts) w.settings a.request ≡ false → lock_rules the_limits w a ≡ after_row w (row_asked w a.row) GRANTED (λ v. with_setting v (setting_of a.request))
@@ -75,7 +67,7 @@ module _ (list : List Setting) (compatible : AreCompatible list) (s : State) (un
   request = request_of a.exclusive a.alock
 
   room : lacks_room the_limits.runs (quotas_of w.hosts) w.settings request ≡ false
-  room = neither (is_short the_limits.runs w.settings) (exceeds (quotas_of w.hosts) w.settings (setting_of request)) h.runs h.quota
+  room = or_from (is_short the_limits.runs w.settings) (exceeds (quotas_of w.hosts) w.settings (setting_of request)) h.runs h.quota
 
   ok : range_refusal w (Locking a.reclaim) a.alock ≡ None
   ok = range_fine w a h.grace h.reclaim h.fresh h.near
@@ -163,20 +155,20 @@ module _ (list : List Setting) (compatible : AreCompatible list) (s : State) (un
   Granted_by c o = IsGranted version c a xid s (taken the_limits s peer asked xid (Nlm version c) store o).given (taken the_limits s peer asked xid (Nlm version c) store o).state
 
   fresh_granted : (c : NlmCall) → lock_of c ≡ Some a → has_place s c ≡ true → Fits c store → Granted_by c None
-  fresh_granted (Locks b) e p fit = subst (λ (x : LockArgs). Fits (Locks x) store → Granted_by (Locks x) None) (sym (inside b a e)) (λ f. let g = replied_grant (Locks a) (caller_row a) by_lock f in record { settings = g.0; told = g.1 }) fit
-  fresh_granted (NmLock b) e p fit = subst (λ (x : LockArgs). Fits (NmLock x) store → Granted_by (NmLock x) None) (sym (inside b a e)) (λ f. let g = replied_grant (NmLock a) None by_nm_lock f in record { settings = g.0; told = g.1 }) fit
-  fresh_granted (LockMsg b) e p fit = subst (λ (x : LockArgs). Fits (LockMsg x) store → Granted_by (LockMsg x) None) (sym (inside b a e)) (λ f. let g = called_grant p f in record { settings = g.0; told = (g.1, g.2) }) fit
-  fresh_granted Null e p fit = absurd (no_lock a e)
-  fresh_granted (Test b) e p fit = absurd (no_lock a e)
-  fresh_granted (Cancel b) e p fit = absurd (no_lock a e)
-  fresh_granted (Unlock b) e p fit = absurd (no_lock a e)
-  fresh_granted (TestMsg b) e p fit = absurd (no_lock a e)
-  fresh_granted (CancelMsg b) e p fit = absurd (no_lock a e)
-  fresh_granted (UnlockMsg b) e p fit = absurd (no_lock a e)
-  fresh_granted (GrantedRes b) e p fit = absurd (no_lock a e)
-  fresh_granted (ShareCall b) e p fit = absurd (no_lock a e)
-  fresh_granted (Unshare b) e p fit = absurd (no_lock a e)
-  fresh_granted (FreeAll name state) e p fit = absurd (no_lock a e)
+  fresh_granted (Locks b) e p fit = subst (λ (x : LockArgs). Fits (Locks x) store → Granted_by (Locks x) None) (sym (same_Some b a e)) (λ f. let g = replied_grant (Locks a) (caller_row a) by_lock f in record { settings = g.0; told = g.1 }) fit
+  fresh_granted (NmLock b) e p fit = subst (λ (x : LockArgs). Fits (NmLock x) store → Granted_by (NmLock x) None) (sym (same_Some b a e)) (λ f. let g = replied_grant (NmLock a) None by_nm_lock f in record { settings = g.0; told = g.1 }) fit
+  fresh_granted (LockMsg b) e p fit = subst (λ (x : LockArgs). Fits (LockMsg x) store → Granted_by (LockMsg x) None) (sym (same_Some b a e)) (λ f. let g = called_grant p f in record { settings = g.0; told = (g.1, g.2) }) fit
+  fresh_granted Null e p fit = absurd (none-some a e)
+  fresh_granted (Test b) e p fit = absurd (none-some a e)
+  fresh_granted (Cancel b) e p fit = absurd (none-some a e)
+  fresh_granted (Unlock b) e p fit = absurd (none-some a e)
+  fresh_granted (TestMsg b) e p fit = absurd (none-some a e)
+  fresh_granted (CancelMsg b) e p fit = absurd (none-some a e)
+  fresh_granted (UnlockMsg b) e p fit = absurd (none-some a e)
+  fresh_granted (GrantedRes b) e p fit = absurd (none-some a e)
+  fresh_granted (ShareCall b) e p fit = absurd (none-some a e)
+  fresh_granted (Unshare b) e p fit = absurd (none-some a e)
+  fresh_granted (FreeAll name state) e p fit = absurd (none-some a e)
 
   pub reclaim_granted : Fits call store → IsGranted version call a xid s (applied the_limits s (event_of call) store).given (applied the_limits s (event_of call) store).state
   reclaim_granted fit = subst (Granted_by call) (sym h.new) (fresh_granted call h.lock h.place fit)

@@ -2,6 +2,7 @@
 use Rattle.std.proofs.Common.{◌≡◌, ℕ, zero, suc, Bool, true, false, cond, ◌&&◌, ◌||◌, leb, List, [], ◌∷◌, length, take, refl, sym, ap, subst, ◌∙◌, Option, Some, None, inl, inr}
 use Rattle.std.proofs.lemmas.Bool.{true≢false, and_parts}
 use Rattle.std.proofs.lemmas.Slice.Eq.{bytes_eq-Decides}
+use Rattle.std.proofs.lemmas.Option.{same_Some, none-some}
 use Rattle.definitions.specs.Bytes.{Bytes, Holds, same_bytes, first_that, without_first}
 use Rattle.definitions.specs.Nlm.{Version, Stat, Null, Test, Locks, Cancel, Unlock, TestMsg, LockMsg, CancelMsg, UnlockMsg, GrantedRes, ShareCall, Unshare, NmLock, FreeAll, LockArgs}
 use Rattle.definitions.specs.Hosts.{Hosts, StoreCall, StoreAnswer, NotAsked, Yes, Refused, has_row}
@@ -45,12 +46,6 @@ one_side : (a b : Bool) → b ≡ false → (a || b) ≡ true → a ≡ true
 one_side true b e h = refl
 one_side false b e h = absurd (true≢false (sym h ∙ e))
 
-inside : {X : Type 0} (x y : X) → Some x ≡ Some y → x ≡ y
-inside x y e = cc
-
-no_name : {X : Type 0} (x : X) → None ≡ Some x → ⊥
-no_name x e = cc
-
 ruled_each : {A B : Type 0} (f : A → B) (store : StoreAnswer) (r : Ruling A) → ruled store (each f r) ≡ f (ruled store r)
 ruled_each f NotAsked r = refl
 ruled_each f Yes r = refl
@@ -83,21 +78,21 @@ module _ (w : World) (version : Version) (a : LockArgs) (store : StoreAnswer) wh
       (λ _. subst (HasIfTold a.alock.caller_name) (sym (ruled_decided (gives w SystemErr) store)) (λ told. absurd (true≢false (sym told))))
 
 answered_has : (w : World) (local : Bool) (call : Call) (store : StoreAnswer) (name : Bytes) → monitored_by call ≡ Some name → HasIfTold name (ruled store (ruling the_limits w local call))
-answered_has w local (Nlm version (Locks a)) store name e = subst (λ (n : Bytes). HasIfTold n (ruled store (ruling the_limits w local (Nlm version (Locks a))))) (inside a.alock.caller_name name e) (replied_has w version a store)
-answered_has w local (Nlm version (LockMsg a)) store name e = subst (λ (n : Bytes). HasIfTold n (ruled store (ruling the_limits w local (Nlm version (LockMsg a))))) (inside a.alock.caller_name name e) (called_has w version a store)
-answered_has w local (Nlm version Null) store name e = absurd (no_name name e)
-answered_has w local (Nlm version (Test a)) store name e = absurd (no_name name e)
-answered_has w local (Nlm version (Cancel a)) store name e = absurd (no_name name e)
-answered_has w local (Nlm version (Unlock a)) store name e = absurd (no_name name e)
-answered_has w local (Nlm version (TestMsg a)) store name e = absurd (no_name name e)
-answered_has w local (Nlm version (CancelMsg a)) store name e = absurd (no_name name e)
-answered_has w local (Nlm version (UnlockMsg a)) store name e = absurd (no_name name e)
-answered_has w local (Nlm version (GrantedRes a)) store name e = absurd (no_name name e)
-answered_has w local (Nlm version (ShareCall a)) store name e = absurd (no_name name e)
-answered_has w local (Nlm version (Unshare a)) store name e = absurd (no_name name e)
-answered_has w local (Nlm version (NmLock a)) store name e = absurd (no_name name e)
-answered_has w local (Nlm version (FreeAll host state)) store name e = absurd (no_name name e)
-answered_has w local (Nsm call) store name e = absurd (no_name name e)
+answered_has w local (Nlm version (Locks a)) store name e = subst (λ (n : Bytes). HasIfTold n (ruled store (ruling the_limits w local (Nlm version (Locks a))))) (same_Some a.alock.caller_name name e) (replied_has w version a store)
+answered_has w local (Nlm version (LockMsg a)) store name e = subst (λ (n : Bytes). HasIfTold n (ruled store (ruling the_limits w local (Nlm version (LockMsg a))))) (same_Some a.alock.caller_name name e) (called_has w version a store)
+answered_has w local (Nlm version Null) store name e = absurd (none-some name e)
+answered_has w local (Nlm version (Test a)) store name e = absurd (none-some name e)
+answered_has w local (Nlm version (Cancel a)) store name e = absurd (none-some name e)
+answered_has w local (Nlm version (Unlock a)) store name e = absurd (none-some name e)
+answered_has w local (Nlm version (TestMsg a)) store name e = absurd (none-some name e)
+answered_has w local (Nlm version (CancelMsg a)) store name e = absurd (none-some name e)
+answered_has w local (Nlm version (UnlockMsg a)) store name e = absurd (none-some name e)
+answered_has w local (Nlm version (GrantedRes a)) store name e = absurd (none-some name e)
+answered_has w local (Nlm version (ShareCall a)) store name e = absurd (none-some name e)
+answered_has w local (Nlm version (Unshare a)) store name e = absurd (none-some name e)
+answered_has w local (Nlm version (NmLock a)) store name e = absurd (none-some name e)
+answered_has w local (Nlm version (FreeAll host state)) store name e = absurd (none-some name e)
+answered_has w local (Nsm call) store name e = absurd (none-some name e)
 
 -- the same behind settle
 fresh_has : (s : State) (peer : Peer) (asked : Bytes) (xid : ℕ) (call : Call) (store : StoreAnswer) (name : Bytes) → monitored_by call ≡ Some name → tells_lock (telling s peer call store None) ≡ true → has_row (taken the_limits s peer asked xid call store None).state.world.hosts name ≡ true
@@ -108,11 +103,11 @@ fresh_has s peer asked xid call store name e told =
 -- ---- kept replies
 
 same_record : (peer : Peer) (asked : Bytes) (kept : List KeptPair) (k : KeptPair) → first_that (is_same_key peer asked) kept ≡ Some k → k.asked ≡ asked
-same_record peer asked [] k e = absurd (no_name k e)
+same_record peer asked [] k e = absurd (none-some k e)
 same_record peer asked (j ∷ kept) k e = go (is_same_key peer asked j) refl e (same_record peer asked kept k)
   where
     go : (b : Bool) → is_same_key peer asked j ≡ b → cond b (Some j) (first_that (is_same_key peer asked) kept) ≡ Some k → (first_that (is_same_key peer asked) kept ≡ Some k → k.asked ≡ asked) → k.asked ≡ asked
-    go true h found more = ap (λ (x : KeptPair). x.asked) (sym (inside j k found)) ∙ (bytes_eq-Decides j.asked asked).0 (and_parts (same_bytes j.asked asked) _ h).0
+    go true h found more = ap (λ (x : KeptPair). x.asked) (sym (same_Some j k found)) ∙ (bytes_eq-Decides j.asked asked).0 (and_parts (same_bytes j.asked asked) _ h).0
     go false h found more = more found
 
 module _ (P : KeptPair → Type 0) where

@@ -1,16 +1,12 @@
 -- A list of tiers, as one list of numbers.
 use Rattle.std.proofs.Common.{◌≡◌, ℕ, zero, suc, ◌+◌, ◌*◌, ◌/◌, ◌%◌, ◌<◌, List, [], ◌∷◌, ◌++◌, length, get_or, take, drop, set, refl, sym, ap, ◌∙◌, arith, append_assoc, append-nil, length-append}
-use Rattle.std.proofs.Math.Seq.{take-append-add}
+use Rattle.std.proofs.Math.Seq.{take-append-add, drop-append-add}
 use Rattle.std.proofs.lemmas.List.{get_or_append_left, get_or-append-add, take_at, length-take-le}
 use Rattle.std.specs.List.{AllByRecursion, concat, range_with_len}
 use Rattle.tiered_list.specs.Tiers.{AreTiers}
 
 abbrev pub Long : List (List ℕ) → Type 0
 Long ts = AllByRecursion (λ t. length t ≡ 256) ts
-
-drop_append_add : (xs ys : List ℕ) (n : ℕ) → drop (length xs + n) (xs ++ ys) ≡ drop n ys
-drop_append_add [] ys n = let e : 0 + n ≡ n = omega arith in ap (λ k. drop k ys) e
-drop_append_add (x ∷ xs) ys n = let e : suc (length xs) + n ≡ suc (length xs + n) = omega arith in ap (λ k. drop k (x ∷ (xs ++ ys))) e ∙ drop_append_add xs ys n
 
 next : (t : List ℕ) (b : ℕ) → length t ≡ 256 → 256 * suc b ≡ length t + 256 * b
 next t b h = omega arith
@@ -35,7 +31,7 @@ take_tiers (t ∷ ts) (suc b) h = ap (λ k. take k (t ++ concat ts)) (next t b h
 pub drop_tiers : (ts : List (List ℕ)) (b : ℕ) → Long ts → drop (256 * b) (concat ts) ≡ concat (drop b ts)
 drop_tiers ts zero h = let e : 256 * 0 ≡ 0 = omega arith in ap (λ k. drop k (concat ts)) e
 drop_tiers [] (suc b) h = drop_nothing (256 * suc b)
-drop_tiers (t ∷ ts) (suc b) h = ap (λ k. drop k (t ++ concat ts)) (next t b h.0) ∙ drop_append_add t (concat ts) (256 * b) ∙ drop_tiers ts b h.1
+drop_tiers (t ∷ ts) (suc b) h = ap (λ k. drop k (t ++ concat ts)) (next t b h.0) ∙ drop-append-add t (concat ts) (256 * b) ∙ drop_tiers ts b h.1
 
 pub concat-append : (ts us : List (List ℕ)) → concat (ts ++ us) ≡ concat ts ++ concat us
 concat-append [] us = refl

@@ -1,9 +1,10 @@
 -- An audit meets entries one after another.
 use Rattle.std.proofs.Common.{append_assoc, ◌+◌, ◌<◌, length, take, drop, get_or, ◌≡◌, ℕ, suc, Bool, true, false, cond, List, [], ◌∷◌, ◌++◌, map, Option, Some, None, refl, sym, ap, ◌∙◌, subst, true≢false, ◌==◌, ◌&&◌, not, is_some, arith}
-use Rattle.std.proofs.lemmas.Bool.{eq-eqb, eqb-true, and_from}
+use Rattle.std.proofs.lemmas.Bool.{eq-eqb, eqb-true, and_from, and_parts}
 use Rattle.std.proofs.lemmas.List.{take_more, take-append-drop, map-append, append-nil}
 use Rattle.std.proofs.Math.Seq.{drop-cons}
 use Rattle.std.proofs.lemmas.Slice.Eq.{bytes_eq-Decides}
+use Rattle.definitions.proofs.KeptLaws.{local_same, local_is}
 use Rattle.definitions.specs.Bytes.{Bytes, same_bytes}
 use Rattle.definitions.specs.Step.{Peer}
 use Rattle.book.specs.declared.entry.Entry.{Entry}
@@ -52,28 +53,14 @@ stop_on from receipts xs rest last left before now = meet_all-append from receip
 
 -- ---- receipts are one where the test says so
 
-both : (x y : Bool) → (x && y) ≡ true → (x ≡ true) × (y ≡ true)
-both true y e = (refl, e)
-both false y e = absurd (true≢false (sym e))
-
-bools : (x y : Bool) → cond x y (not y) ≡ true → x ≡ y
-bools true true e = refl
-bools true false e = absurd (true≢false (sym e))
-bools false true e = absurd (true≢false (sym e))
-bools false false e = refl
-
-bools_refl : (x : Bool) → cond x x (not x) ≡ true
-bools_refl true = refl
-bools_refl false = refl
-
 peers_are : (a b : Peer) → same_peer a b ≡ true → a ≡ b
 peers_are a b e =
-    let s = both (same_bytes a.address b.address) (cond a.local b.local (not b.local)) e in
-    λ i. record { address = (bytes_eq-Decides a.address b.address).0 s.0 i; local = bools a.local b.local s.1 i }
+    let s = and_parts (same_bytes a.address b.address) (cond a.local b.local (not b.local)) e in
+    λ i. record { address = (bytes_eq-Decides a.address b.address).0 s.0 i; local = local_same a.local b.local s.1 i }
 
 takes_are : (p : Peer) (asked : Bytes) (e : Happening) → same_event (Takes p asked) e ≡ true → Takes p asked ≡ e
 takes_are p asked (Takes q bytes) h =
-    let s = both (same_peer p q) (same_bytes asked bytes) h in
+    let s = and_parts (same_peer p q) (same_bytes asked bytes) h in
     λ i. Takes (peers_are p q s.0 i) ((bytes_eq-Decides asked bytes).0 s.1 i)
 takes_are p asked SendsNext h = absurd (true≢false (sym h))
 takes_are p asked (HearsAnswer bytes) h = absurd (true≢false (sym h))
@@ -87,8 +74,8 @@ told number event reply = record { number = number; event = event; reply = reply
 
 receipt_is : (number : ℕ) (e : Happening) (reply : Bytes) (r : Receipt) → is_take e ≡ true → same_receipt (told number e reply) r ≡ true → told number e reply ≡ r
 receipt_is number (Takes p asked) reply r t h =
-    let s = both (number == r.number) (same_event (Takes p asked) r.event && same_bytes reply r.reply) h in
-    let u = both (same_event (Takes p asked) r.event) (same_bytes reply r.reply) s.1 in
+    let s = and_parts (number == r.number) (same_event (Takes p asked) r.event && same_bytes reply r.reply) h in
+    let u = and_parts (same_event (Takes p asked) r.event) (same_bytes reply r.reply) s.1 in
     λ i. told (eqb-true number r.number s.0 i) (takes_are p asked r.event u.0 i) ((bytes_eq-Decides reply r.reply).0 u.1 i)
 receipt_is number SendsNext reply r t h = absurd (true≢false (sym t))
 receipt_is number (HearsAnswer bytes) reply r t h = absurd (true≢false (sym t))
@@ -100,7 +87,7 @@ receipt_is number BeginsAnew reply r t h = absurd (true≢false (sym t))
 receipt_own : (number : ℕ) (e : Happening) (reply : Bytes) → is_take e ≡ true → same_receipt (told number e reply) (told number e reply) ≡ true
 receipt_own number (Takes p asked) reply t =
     and_from _ _ (eq-eqb number number refl)
-    (and_from _ _ (and_from _ _ (and_from _ _ ((bytes_eq-Decides p.address p.address).1 refl) (bools_refl p.local)) ((bytes_eq-Decides asked asked).1 refl)) ((bytes_eq-Decides reply reply).1 refl))
+    (and_from _ _ (and_from _ _ (and_from _ _ ((bytes_eq-Decides p.address p.address).1 refl) (local_is p.local)) ((bytes_eq-Decides asked asked).1 refl)) ((bytes_eq-Decides reply reply).1 refl))
 receipt_own number SendsNext reply t = absurd (true≢false (sym t))
 receipt_own number (HearsAnswer bytes) reply t = absurd (true≢false (sym t))
 receipt_own number (AsksLine l line) reply t = absurd (true≢false (sym t))

@@ -1,6 +1,5 @@
 -- Appending goes on.
-use Rattle.std.proofs.Common.{◌≡◌, ℕ, ◌-◌, List, [], ◌++◌, length, arith, Option, Some, None, take, drop, refl, sym, ◌∙◌, ap, subst, append_assoc}
-use Rattle.std.proofs.lemmas.Grind.{common_steps}
+use Rattle.std.proofs.Common.{◌≡◌, ℕ, ◌-◌, List, [], ◌++◌, Option, Some, None, take, drop, refl, sym, ◌∙◌, ap, subst, append_assoc}
 use Rattle.std.proofs.lemmas.List.{append-nil, take-append-drop}
 use Rattle.std.specs.Io.KnownBytes.{Appends, Keeps}
 use Rattle.std.specs.Prelude.{Result, Ok, Err, IsErr}
@@ -61,6 +60,3 @@ Wrote-failed a b (Err fault) x e w = w
 -- a loop's next part
 pub parts-next : (front left bytes : List ℕ) (count : ℕ) → front ++ left ≡ bytes → (front ++ take count left) ++ drop count left ≡ bytes
 parts-next front left bytes count e = append_assoc front (take count left) (drop count left) ∙ (ap (λ (s : List ℕ). front ++ s) (take-append-drop count left) ∙ e)
-
-pub take_all-drop : (left : List ℕ) (count : ℕ) → take (length left - count) (drop count left) ≡ drop count left
-take_all-drop left count = grind (arith, common_steps)

@@ -1,5 +1,6 @@
 use Rattle.std.proofs.Common.{◌++◌, take, ap, ◌∙◌}
-use Rattle.written.proofs.Appending.{Appends-more, parts-next, take_all-drop}
+use Rattle.std.proofs.lemmas.List.{take_rest}
+use Rattle.written.proofs.Appending.{Appends-more, parts-next}
 use Rattle.written.proofs.write_whole.Goals as goal
 
 pub loop-rest-preserved : goal.loop-rest-preserved
@@ -8,6 +9,6 @@ loop-rest-preserved g c =
     let left = c.loop-rest.rest.now in
     let count = c.in-Ok.count in (
       before.0 ++ take count left,
-      ap (λ x. (before.0 ++ take count left) ++ x) (take_all-drop left count) ∙ parts-next before.0 left _ count before.1,
+      ap (λ x. (before.0 ++ take count left) ++ x) (take_rest left count) ∙ parts-next before.0 left _ count before.1,
       Appends-more _ _ _ before.0 (take count left) before.2 c.in-Ok.ensures.bytes,
     )

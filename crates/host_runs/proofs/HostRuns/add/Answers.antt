@@ -1,14 +1,10 @@
-use Rattle.std.proofs.Common.{◌≡◌, Some, cond, refl, sym, subst, ◌∙◌, OnOk, is_err, false}
-use Rattle.std.specs.declared.result.Result.{Result}
+use Rattle.std.proofs.Common.{◌≡◌, Some, cond, refl, sym, subst, ◌∙◌}
 use Rattle.std.specs.declared.result.Result.TheVariants.{Ok, Err}
+use Rattle.owner_ids.proofs.Slots.{when_ok}
 use Rattle.definitions.specs.Bytes.{same_bytes}
 use Rattle.host_runs.specs.HostRuns.{count_in}
 use Rattle.host_runs.proofs.Counts.{counts_in, puts}
 use Rattle.host_runs.proofs.HostRuns.add.Goals as goal
-
-when_ok : {V E P : Type 0} (r : Result V E) → is_err r ≡ false → OnOk r P → P
-when_ok (Ok v) e h = h
-when_ok (Err v) e h = absurd (cc)
 
 pub returns-else-is_err : goal.returns-else-is_err
 returns-else-is_err c =

@@ -1,8 +1,9 @@
 use Rattle.std.proofs.Common.{sym}
+use Rattle.std.proofs.lemmas.Bool.{not-true}
 use Rattle.owner_ids.specs.Names.{named}
 use Rattle.definitions.specs.Owners.{is_description}
 use Rattle.blocked_list.specs.Waiting.{owner_at, request_by, waiters_by}
-use Rattle.blocked_list.proofs.Following.{not_asked, not_false, not_true}
+use Rattle.blocked_list.proofs.Following.{not_asked, not_false}
 use Rattle.blocked_list.proofs.slots.Slots.closes_cycle.Goals as goal
 
 pub returns-then-not-is_step : goal.returns-then-not-is_step
@@ -13,4 +14,4 @@ returns-then-not-is_step g c = λ settings h known asker.
 pub returns : goal.returns
 returns g c = λ settings h known asker.
     let names = named c.args.owners.now in
-    c.comes_back.ensures settings h known asker (not_true (is_description (owner_at names c.args.wanted.now.owner)) (sym (c.if-not-is_step.ensures asker)))
+    c.comes_back.ensures settings h known asker (not-true (is_description (owner_at names c.args.wanted.now.owner)) (sym (c.if-not-is_step.ensures asker)))

@@ -1,21 +1,16 @@
 use Rattle.std.proofs.Common.{◌≡◌, ◌≢◌, ℕ, false, Option, Some, None, is_some, refl, sym, ap, ◌∙◌}
 use Rattle.std.specs.Cmp.{both_ways}
+use Rattle.std.proofs.lemmas.Option.{none-some}
 use Rattle.definitions.specs.Starts.{refuses}
 use Rattle.owner_ids.specs.Said.{view_of_owner}
 use Rattle.owner_ids.specs.Names.{named}
 use Rattle.range_table.specs.Settings.{mode_at}
+use Rattle.definitions.proofs.Lists.{none_from_is_some}
 use Rattle.range_owners.proofs.Counting.{refusal_over}
 use Rattle.range_owners.specs.Same.{view_of_held_mode}
 use Rattle.held_locks.specs.Asked.{changed, change_by_number}
 use Rattle.held_locks.proofs.Ties.{stranger_is_not_refused, same_change}
 use Rattle.held_locks.proofs.locks.Locks.refuses.Goals as goal
-
-none_some : {A : Type 0} (x : A) → None ≡ Some x → ⊥
-none_some x e = cc
-
-no_mode : {A : Type 0} (m : Option A) → is_some m ≡ false → m ≡ None
-no_mode None e = refl
-no_mode (Some m) e = cc
 
 pub returns-in-Some : goal.returns-in-Some
 returns-in-Some g c =
@@ -30,7 +25,7 @@ pub returns-else-is_some : goal.returns-else-is_some
 returns-else-is_some g c =
     let change = c.args.change.now in
     let names = named c.self.inside.owners in
-    let fresh : (k : ℕ) → names k ≢ Some (view_of_owner change.owner.now) = λ k e. none_some k (c.in-None.ensures.known k e) in
-    let none = no_mode change.mode (sym c.is_some.ensures ∙ c.if-is_some.false) in
+    let fresh : (k : ℕ) → names k ≢ Some (view_of_owner change.owner.now) = λ k e. none-some k (c.in-None.ensures.known k e) in
+    let none = none_from_is_some change.mode (sym c.is_some.ensures ∙ c.if-is_some.false) in
     let held = mode_at (g.R.RangeTable.settings c.self.inside.table) in
     rw (← c.self.view_is) (c.if-is_some.false ∙ sym (stranger_is_not_refused names held c.self.inside.settings.items c.self.invariant.tied.stands (view_of_owner change.owner.now) fresh (changed change) refl (ap view_of_held_mode none)))

@@ -1,4 +1,6 @@
 use Rattle.std.proofs.Common.{◌≡◌, ◌≢◌, ◌++◌, ◌∷◌, [], ℕ, Some, None, sym, ap, ◌∙◌, subst, true, false, refl, ◌⊎◌}
+use Rattle.std.proofs.lemmas.Option.{none-some}
+use Rattle.std.proofs.lemmas.Bool.{false≢true}
 use Rattle.owner_ids.specs.Said.{view_of_owner}
 use Rattle.owner_ids.specs.Names.{named}
 use Rattle.range_table.specs.Settings.{mode_at}
@@ -10,12 +12,6 @@ use Rattle.held_locks.proofs.Ties.{tied_set, tied_stranger, stranger_mode, stran
 use Rattle.held_locks.proofs.HostCounts.{hosts_changed, hosts_kept, set_alike}
 use Rattle.held_locks.proofs.locks.Locks.set.Goals as goal
 use Rattle.held_locks.proofs.locks.Locks.set.Goals.{in-Some+in_ok-set, in_default}
-
-none_some : {A : Type 0} (x : A) → None ≡ Some x → ⊥
-none_some x e = cc
-
-false_true : {A : Type 0} → false ≡ true → A
-false_true e = cc
 
 pub returns-in_err-set-clause-refused : goal.returns-in_err-set-clause-refused
 returns-in_err-set-clause-refused g c =
@@ -47,7 +43,7 @@ invariant_of-self-2 g c =
             by_host = hosts_changed settings next (view_of_owner change.owner.now) (set_alike settings (changed change)) ns others counts left names c.self.inside.hosts w.set.new.hosts was tied c.self.invariant.by_host done.hosts;
           })
       | in_default w ↦
-          let fresh : (k : ℕ) → named names k ≢ Some (view_of_owner change.owner.now) = λ k e. none_some k (w.in_default.ensures.known k e) in
+          let fresh : (k : ℕ) → named names k ≢ Some (view_of_owner change.owner.now) = λ k e. none-some k (w.in_default.ensures.known k e) in
           let known = subst (λ h. (change.mode ≡ None) ⊎ IsKnown h (view_of_owner change.owner.now)) (sym c.self.view_is) c.requires.known in
           let tied = tied_stranger ns counts names settings change was fresh (stranger_mode names change known fresh) in
           rw (c.after-self-inside.ensures, w.self-inside-is)
@@ -62,13 +58,13 @@ returns-clause-refused g c = elim c.match-number.branch [
       let change = c.args.change.now in
       let held = mode_at (g.R.RangeTable.settings c.self.inside.table) in
       let over = refusal_over (named names) held c.self.inside.settings.items (change_by_number n change) (changed change) c.self.invariant.tied.stands (same_change names n change w.in-Some.ensures.found) in
-      rw (← c.self.view_is) ((λ e. false_true e), λ t. w.in_ok-set.ensures.refused.1 (over.1 t))
+      rw (← c.self.view_is) ((λ e. false≢true e), λ t. w.in_ok-set.ensures.refused.1 (over.1 t))
   | in_default w ↦
       let change = c.args.change.now in
       let names = named c.self.inside.owners in
-      let fresh : (k : ℕ) → names k ≢ Some (view_of_owner change.owner.now) = λ k e. none_some k (w.in_default.ensures.known k e) in
+      let fresh : (k : ℕ) → names k ≢ Some (view_of_owner change.owner.now) = λ k e. none-some k (w.in_default.ensures.known k e) in
       let known = subst (λ h. (change.mode ≡ None) ⊎ IsKnown h (view_of_owner change.owner.now)) (sym c.self.view_is) c.requires.known in
       let none = stranger_mode c.self.inside.owners change known fresh in
       let held = mode_at (g.R.RangeTable.settings c.self.inside.table) in
-      rw (← c.self.view_is) ((λ e. false_true e), λ t. sym (stranger_is_not_refused names held c.self.inside.settings.items c.self.invariant.tied.stands (view_of_owner change.owner.now) fresh (changed change) refl (ap view_of_held_mode none)) ∙ t)
+      rw (← c.self.view_is) ((λ e. false≢true e), λ t. sym (stranger_is_not_refused names held c.self.inside.settings.items c.self.invariant.tied.stands (view_of_owner change.owner.now) fresh (changed change) refl (ap view_of_held_mode none)) ∙ t)
 ]

@@ -1,4 +1,5 @@
 use Rattle.std.proofs.Common.{◌≡◌, ◌++◌, ◌∷◌, [], Some, sym, subst, true, false, refl, List, Option}
+use Rattle.std.proofs.lemmas.Bool.{false≢true}
 use Rattle.definitions.specs.Owners.{Owner}
 use Rattle.owner_ids.specs.Said.{view_of_owner}
 use Rattle.owner_ids.specs.Names.{named}
@@ -11,9 +12,6 @@ use Rattle.held_locks.specs.declared.asked.NewSetting.{NewSetting}
 use Rattle.held_locks.proofs.Ties.{tied_set}
 use Rattle.held_locks.proofs.HostCounts.{hosts_changed, set_alike}
 use Rattle.held_locks.proofs.locks.Locks.set_run.Goals as goal
-
-false_true : {A : Type 0} → false ≡ true → A
-false_true e = cc
 
 same : (names : List (Option Owner)) (r : Run) (x : Owner) → named names r.owner ≡ Some x → IsSameSetting (named names) (record { file = r.file; owner = r.owner; first = r.first; last = r.last; mode = Some r.mode }) (setting_by x r)
 same names r x e = record { file = refl; owner = e; first = refl; last = refl; mode = refl }
@@ -52,4 +50,4 @@ returns-clause-refused g c = λ x e.
     let known = subst (λ h. named h.names r.owner ≡ Some x) (sym c.self.view_is) e in
     let held = mode_at (g.R.RangeTable.settings c.self.inside.table) in
     let over = refusal_over (named names) held c.self.inside.settings.items (record { file = r.file; owner = r.owner; first = r.first; last = r.last; mode = Some r.mode }) (setting_by x r) c.self.invariant.tied.stands (same names r x known) in
-    rw (← c.self.view_is) ((λ f. false_true f), λ t. c.in_ok-set.ensures.refused.1 (over.1 t))
+    rw (← c.self.view_is) ((λ f. false≢true f), λ t. c.in_ok-set.ensures.refused.1 (over.1 t))

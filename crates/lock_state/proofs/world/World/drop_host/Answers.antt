@@ -1,10 +1,10 @@
 use Rattle.std.proofs.Common.{◌≡◌, length, refl, ap, subst, arith}
+use Rattle.definitions.proofs.WaitLaws.{length_without}
 use Rattle.definitions.specs.Quotas.{quotas_of}
 use Rattle.definitions.specs.Outgoing.{is_grant_to}
 use Rattle.definitions.specs.Waits.{without_host_waiters}
 use Rattle.owner_ids.specs.Names.{named}
 use Rattle.blocked_list.specs.Waiting.{AreNamed, waiters_by}
-use Rattle.lock_state.proofs.Shown.{length_without}
 use Rattle.lock_state.proofs.Kept.{whole_dropped, waiters_left}
 use Rattle.lock_state.proofs.world.World.drop_host.Goals as goal
 

@@ -1,19 +1,13 @@
-use Rattle.std.proofs.Common.{arith, ◌≡◌, Some, None, sym, ap, ◌∙◌, subst, cond, OnOk, is_err, false}
+use Rattle.std.proofs.Common.{arith, ◌≡◌, Some, None, sym, ap, ◌∙◌, subst, cond}
 use Rattle.std.specs.BTreeMap.{get}
 use Rattle.std.specs.Ordering.{is_eq}
-use Rattle.std.specs.declared.result.Result.{Result}
-use Rattle.std.specs.declared.result.Result.TheVariants.{Ok, Err}
 use Rattle.slab.specs.Slab.{Updates as SlabUpdates}
 use Rattle.definitions.specs.Owners.{owner_cmp}
 use Rattle.owner_ids.specs.Said.{view_of_owner, said_some, held_cmp}
 use Rattle.owner_ids.specs.Names.{named, Renames}
 use Rattle.owner_ids.specs.Kept.{view_of_owners}
-use Rattle.owner_ids.proofs.Slots.{named_said, renames_from, lists_added, still_nobody}
+use Rattle.owner_ids.proofs.Slots.{named_said, renames_from, lists_added, still_nobody, when_ok}
 use Rattle.owner_ids.proofs.owners.Owners.add.Goals as goal
-
-when_ok : {V E P : Type 0} (r : Result V E) → is_err r ≡ false → OnOk r P → P
-when_ok (Ok v) e h = h
-when_ok (Err v) e h = absurd (cc)
 
 renamed : (c : goal.After-insert_reserved) → Renames (named (view_of_owners c.self.inside)) (named (view_of_owners (record { slots = c.insert_reserved.new.self; numbers = c.insert.new.self; recent = c.self.inside.recent }))) c.vacant_key-place.result (Some (view_of_owner c.args.owner))
 renamed c =

@@ -1,5 +1,6 @@
 use Rattle.std.proofs.Common.{◌++◌, drop, take, ap, ◌∙◌, append_assoc}
-use Rattle.record_mark.proofs.StreamLemmas.{Reads-filled, append-take-drop, take_all-drop, Splits-faulty}
+use Rattle.std.proofs.lemmas.List.{take_rest}
+use Rattle.record_mark.proofs.StreamLemmas.{Reads-filled, append-take-drop, Splits-faulty}
 use Rattle.record_mark.proofs.progress.Progress.take.Goals as goal
 
 pub returns-then-branch-clause-faults : goal.returns-then-branch-clause-faults
@@ -19,5 +20,5 @@ loop-left-preserved c = (
       let left = c.loop-left.left.now in
       let n = c.in_ok-count.count in
       let filled = Reads-filled stream before.0 left n _ _ _ _ _ before.2 c.in_ok-count.ensures.begun c.in_ok-count.ensures.took.2 in
-      (before.0 ++ take n left, ap (λ x. (before.0 ++ take n left) ++ x) (take_all-drop left n) ∙ append-take-drop before.0 left _ n before.1, c.in_ok-settle.ensures.reads _ given filled),
+      (before.0 ++ take n left, ap (λ x. (before.0 ++ take n left) ++ x) (take_rest left n) ∙ append-take-drop before.0 left _ n before.1, c.in_ok-settle.ensures.reads _ given filled),
 )
