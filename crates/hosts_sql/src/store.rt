@@ -1,9 +1,10 @@
 //! A store over a database.
-ghost use Rattle.std.specs.Prelude.{◌≡◌, IsTrue, Some, None, IfOk, IfErr};
+ghost use Rattle.std.specs.Prelude.{◌≡◌, IsTrue, Some, None, IfOk, IfErr, IfSome};
 ghost use Rattle.std.specs.Coded.{→_prop};
 ghost use Rattle.sqlite.specs.State.{HasCleanDisk, KeepsCommit, Survives};
 ghost use Rattle.sqlite.specs.Held.{state};
-ghost use Rattle.hosts_statements.specs.Wrote.{HasTables, HasTables-prop, IsAsKept, IsFresh, IsFresh-prop};
+ghost use Rattle.hosts_statements.specs.Own.{has_host_numbers, AllFit};
+ghost use Rattle.hosts_statements.specs.Wrote.{HasTables, HasTables-prop, IsAsKept, IsFresh, IsFresh-prop, hosts_of};
 ghost use Rattle.hosts_statements.specs.declared.tables.Version.TheVariants.{First, Second};
 
 use crate::calls::{write_acked, write_quota, write_seen, write_start, write_unwatch, write_watch};
@@ -34,12 +35,13 @@ pub struct SqlHosts<S: Alter> {
 impl<S: Alter> SqlHosts<S> {
     /// Takes a database that holds no object, or the tables of schema 1 or 2 with what they may hold, and writes
     /// nothing. A host of schema 1 shows the full quota; the first `start` upgrades the file. Any other database is
-    /// `StoreRefused`, and the connection comes back.
+    /// `StoreRefused`, one with a number out of its range too, and the connection comes back.
     pub fn adopt(
         alloc: Global,
         conn: Connection<S>,
     ) -> Result<SqlHosts<S>, (StoreError, Connection<S>)>
         ensures rows { IfOk result (λ s. IsAsKept (state S.Store s.conn) (⟦<SqlHosts<S> as HostStore>⟧.rows s)) }
+        ensures numbers { IfOk result (λ s. HasCleanDisk (state S.Store s.conn) → IfSome s.version (λ version. AllFit has_host_numbers (hosts_of version (state S.Store s.conn).committed))) }
         ensures refusals { IfOk result (λ s. ⟦<SqlHosts<S> as HostStore>⟧.refusals s ≡ 0) }
         ensures kept { IfOk result (λ s. HasCleanDisk (state S.Store s.conn) → KeepsCommit (state S.Store conn) (state S.Store s.conn)) }
         ensures crash { IfOk result (λ s. Survives (state S.Store conn) (state S.Store s.conn) (λ _. ⊥)) }

@@ -18,7 +18,7 @@ use Rattle.std.proofs.lemmas.Map.Lookups.{exact_signed}
 use Rattle.sqlite_trees.specs.View.{is_int}
 use Rattle.sqlite_trees.specs.Tree.{rowid, has_rowid, put_row}
 use Rattle.sqlite_rules.specs.Edit.{id_in, is_taken}
-use Rattle.hosts_statements.specs.Own.{AreOwn, Rises, count_of}
+use Rattle.hosts_statements.specs.Own.{AreOwn, AllFit, Rises, count_of}
 use Rattle.hosts_statements.proofs.Gone.{AreOwnIds}
 
 abbrev unit_if : Bool → ℕ
@@ -139,13 +139,16 @@ module _ (fits : Row → Bool) where
 
   -- ---- as a query shows them
 
-  pub own_of_map : (f : Row → Row) → ((r : Row) → fits (f r) ≡ fits r) → ((r : Row) → rowid (f r) ≡ rowid r) → (rows : List Row) → AreOwn fits (map f rows) → AreOwn fits rows
-  own_of_map f same id_same rows own = (sym (alike rows) ∙ own.0, λ id. subst (λ n. n ≤ 1) (as_many id rows) (own.1 id))
+  pub fit_of_map : (f : Row → Row) → ((r : Row) → fits (f r) ≡ fits r) → (rows : List Row) → AllFit fits (map f rows) → AllFit fits rows
+  fit_of_map f same rows fit = sym (alike rows) ∙ fit
     where
       alike : (rows : List Row) → list_any (λ row. not (fits row)) (map f rows) ≡ list_any (λ row. not (fits row)) rows
       alike [] = refl
       alike (r ∷ rs) = ap (λ b. not b || list_any (λ row. not (fits row)) (map f rs)) (same r) ∙ ap (λ b. not (fits r) || b) (alike rs)
 
+  pub own_of_map : (f : Row → Row) → ((r : Row) → fits (f r) ≡ fits r) → ((r : Row) → rowid (f r) ≡ rowid r) → (rows : List Row) → AreOwn fits (map f rows) → AreOwn fits rows
+  own_of_map f same id_same rows own = (fit_of_map f same rows own.0, λ id. subst (λ n. n ≤ 1) (as_many id rows) (own.1 id))
+    where
       as_many : (id : ℤ) (rows : List Row) → count_of id (map f rows) ≡ count_of id rows
       as_many id [] = refl
       as_many id (r ∷ rs) = counted id (f r) (map f rs) ∙ ap (λ v. unit_if (is_eq (value_cmp v (Int id))) + count_of id (map f rs)) (id_same r) ∙ ap (λ n. unit_if (has_rowid id r) + n) (as_many id rs) ∙ sym (counted id r rs)

@@ -1,7 +1,7 @@
 -- What the queries show.
-use Rattle.std.proofs.Common.{◌≡◌, ℕ, codes, pos, negsuc, List, [], ◌∷◌, map, filter, ◌==◌, if◌then◌else◌, false, None, Ok, Err, Result, refl, sym, ap, subst, ◌∙◌}
+use Rattle.std.proofs.Common.{not, ◌≡◌, ℕ, codes, pos, negsuc, List, [], ◌∷◌, map, filter, ◌==◌, if◌then◌else◌, false, None, Ok, Err, Result, refl, sym, ap, subst, ◌∙◌}
 use Rattle.std.specs.List.Sorted.{IsPermutation}
-use Rattle.std.proofs.lemmas.List.Sorted.{IsPermutation-map, IsPermutation-sym}
+use Rattle.std.proofs.lemmas.List.Sorted.{IsPermutation-map, IsPermutation-sym, list_any-IsPermutation}
 use Rattle.sqlite_value.specs.declared.value.Value.TheVariants.{Null, Int}
 use Rattle.sqlite_value.specs.Order.{Row, column}
 use Rattle.sqlite_value.specs.declared.keys.Key.{Key}
@@ -33,8 +33,8 @@ use Rattle.hosts_statements.specs.Maps.{key_cmp}
 use Rattle.definitions.specs.Bytes.{bytes_cmp}
 use Rattle.hosts_statements.specs.Shown.{host_of, watch_of, number_at, upgraded_row, shown, shown_with, shown_if_listed, shown_in_tables, shown_in_first}
 use Rattle.hosts_statements.specs.Reading.{command_in, host_shown, watch_shown, AreApart, ShowsOwn, Tells}
-use Rattle.hosts_statements.specs.Own.{is_host, is_watched, AreOwn}
-use Rattle.hosts_statements.proofs.OwnIds.{own_moved, own_of_map}
+use Rattle.hosts_statements.specs.Own.{is_host, is_watched, has_host_numbers, AreOwn, AllFit}
+use Rattle.hosts_statements.proofs.OwnIds.{own_moved, own_of_map, fit_of_map}
 use Rattle.hosts_statements.proofs.Permuted.{same_entries}
 use Rattle.hosts_statements.proofs.Places.{reads_tree}
 use Rattle.hosts_statements.proofs.Rows.{version_is, listed_as_tables}
@@ -235,3 +235,7 @@ own_hosts_from version db rows is h own =
 pub own_watches_from : (version : Version) (db : Database) (rows : List Row) → IsHostSchema version db.schema → Tells read_watches_text db rows → AreOwn is_watched rows → AreOwn is_watched (db.trees 3)
 own_watches_from version db rows is h own =
     own_of_map is_watched watch_shown (λ r. refl) (λ r. refl) (db.trees 3) (own_moved is_watched rows (map watch_shown (db.trees 3)) (IsPermutation-sym (map watch_shown (db.trees 3)) rows (reads_watches version db rows is h)) own)
+
+pub fitting_hosts_from : (version : Version) (db : Database) (rows : List Row) → IsHostSchema version db.schema → Tells (hosts_text version) db rows → AllFit has_host_numbers rows → AllFit has_host_numbers (hosts_of version db)
+fitting_hosts_from version db rows is h fit =
+    let hosts = hosts_of version db in fit_of_map has_host_numbers host_shown (λ r. refl) hosts (list_any-IsPermutation (λ row. not (has_host_numbers row)) (map host_shown hosts) rows (reads_hosts version db rows is h) ∙ fit)

@@ -1,5 +1,5 @@
 -- Rows that are what their table asks for, and are told apart by their rowids.
-use Rattle.std.specs.Prelude.{◌≡◌, ◌≤◌, ℕ, ℤ, Bool, true, false, cond, not, ◌&&◌, List, [], ◌∷◌, Option, Some, IfSome}
+use Rattle.std.specs.Prelude.{◌≡◌, ◌≤◌, ℕ, ℤ, pos, negsuc, ltb, Bool, true, false, cond, not, ◌&&◌, List, [], ◌∷◌, Option, Some, IfSome}
 use Rattle.std.specs.declared.cmp.Ordering.TheVariants.{Less}
 use Rattle.std.specs.Ordering.{int_cmp}
 use Rattle.std.specs.List.{list_any, sum_by}
@@ -25,13 +25,30 @@ is_host row = is_int (rowid row) && is_blob (column row 1)
 abbrev pub is_watched : Row → Bool
 is_watched row = is_int (rowid row) && (is_blob (column row 1) && (is_blob (column row 2) && (is_int (column row 3) && (is_int (column row 4) && is_int (column row 5)))))
 
+-- a number from 0 on, below a limit
+abbrev pub is_below : ℕ → Value → Bool
+is_below limit Null = false
+is_below limit (Int (pos n)) = ltb n limit
+is_below limit (Int (negsuc n)) = false
+is_below limit (Real x) = false
+is_below limit (Text t) = false
+is_below limit (Blob b) = false
+
+-- an own state, a state of 32 bits as its type has it, and a quota
+abbrev pub has_host_numbers : Row → Bool
+has_host_numbers row = is_below 2147483648 (column row 2) && (is_int (column row 3) && is_below 65537 (column row 4))
+
+-- each row passes the test
+abbrev pub AllFit : (Row → Bool) → List Row → Type 0
+AllFit fits rows = list_any (λ row. not (fits row)) rows ≡ false
+
 -- how many rows have the rowid
 abbrev pub count_of : ℤ → List Row → ℕ
 count_of id rows = sum_by (λ row. cond (has_rowid id row) 1 0) rows
 
 -- each row passes the test, and no two have one rowid
 abbrev pub AreOwn : (Row → Bool) → List Row → Type 0
-AreOwn fits rows = (list_any (λ row. not (fits row)) rows ≡ false) × ((id : ℤ) → count_of id rows ≤ 1)
+AreOwn fits rows = AllFit fits rows × ((id : ℤ) → count_of id rows ≤ 1)
 
 pub AreOwn-prop : (fits : Row → Bool) (rows : List Row) → IsProp (AreOwn fits rows)
 AreOwn-prop fits rows = ×_prop (Coded-set coded_bool _ _) (Π_prop (λ id. le_prop))

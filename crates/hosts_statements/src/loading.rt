@@ -1,5 +1,5 @@
 //! Reads the tables into memory.
-ghost use Rattle.std.specs.Prelude.{◌≡◌, ◌<◌, [], map, IsTrue, IfOk, OnOk};
+ghost use Rattle.std.specs.Prelude.{◌≡◌, ◌<◌, [], map, true, IsTrue, IfOk, OnOk};
 ghost use Rattle.sqlite.specs.Given.{IsPlain};
 ghost use Rattle.sqlite.specs.Listing.{understood};
 ghost use Rattle.sqlite.specs.State.{HasCleanDisk, IsLive, IsUnchanged, KeepsCommit, Survives};
@@ -8,7 +8,7 @@ ghost use Rattle.definitions.specs.Bytes.{bytes_cmp};
 ghost use Rattle.hosts_statements.specs.Maps.{host_row, watch_row, key_cmp};
 ghost use Rattle.hosts_statements.specs.Shown.{host_of, number_at, watch_of};
 ghost use Rattle.hosts_statements.specs.Reading.{AreApart, ShowsOwn, Tells, hosts_of_tree, watches_of_tree};
-ghost use Rattle.hosts_statements.specs.Own.{is_host, is_watched, AreOwn};
+ghost use Rattle.hosts_statements.specs.Own.{is_host, is_watched, has_host_numbers, AreOwn, AllFit};
 ghost use Rattle.hosts_statements.specs.Wrote.{HasOwnRow, IsHostSchema, IsWhole, hosts_of, hosts_text, hosts_in, number};
 
 use crate::rowids::{are_own_hosts, are_own_watches};
@@ -51,7 +51,8 @@ fn own_in(rows: &[Row], version: Version) -> Result<u32, StoreError>
 }
 
 fn host_in(row: &Row) -> Result<HostRow, StoreError>
-    ensures { IfOk result (λ host. host ≡ host_row (host_of row.now)) }
+    ensures host { IfOk result (λ host. host ≡ host_row (host_of row.now)) }
+    ensures numbers { IfOk result (λ _. has_host_numbers row.now ≡ true) }
 {
     let (Ok(name), Ok(epoch), Ok(seen), Ok(quota)) = (
         row.get::<Vec<u8>>(1),
@@ -72,6 +73,7 @@ fn keep_hosts(kept: &mut HostRows, rows: &[Row]) -> Result<(), StoreError>
     requires { kept.old.rows ≡ [] }
     ensures ok { OnOk result (kept.new ≡ record kept.old { rows = hosts_of_tree rows.now }) }
     ensures apart { OnOk result (AreApart bytes_cmp (map host_of rows.now)) }
+    ensures numbers { OnOk result (AllFit has_host_numbers rows.now) }
 {
     for (at, row) in rows.iter().enumerate() {
         let host = host_in(row)?;
@@ -117,6 +119,7 @@ fn read_hosts<S: Alter>(
     requires none { kept.old.rows ≡ [] }
     ensures ok { HasCleanDisk (state S.Store conn.new) → OnOk result (kept.new ≡ record kept.old { rows = hosts_of_tree (hosts_of version (state S.Store conn.old).committed) }) }
     ensures own { HasCleanDisk (state S.Store conn.new) → OnOk result (AreOwn is_host (hosts_of version (state S.Store conn.old).committed)) }
+    ensures numbers { HasCleanDisk (state S.Store conn.new) → OnOk result (AllFit has_host_numbers (hosts_of version (state S.Store conn.old).committed)) }
     ensures watches { OnOk result (kept.new.watches ≡ kept.old.watches) }
     ensures same { HasCleanDisk (state S.Store conn.new) → OnOk result (IsUnchanged (state S.Store conn.old) (state S.Store conn.new)) }
     ensures kept { HasCleanDisk (state S.Store conn.new) → KeepsCommit (state S.Store conn.old) (state S.Store conn.new) }
@@ -210,7 +213,8 @@ fn read_watches<S: Alter>(
     keep_watches(alloc, kept, &rows)
 }
 
-/// Reads the rows of the last commit from the tables of a version. A host of schema 1 has the full quota.
+/// Reads the rows of the last commit from the tables of a version. A host of schema 1 has the full quota. `StoreRefused` where
+/// a number is out of its range.
 pub fn load<S: Alter>(
     alloc: Global,
     conn: &mut Connection<S>,
@@ -222,6 +226,7 @@ pub fn load<S: Alter>(
     requires none { kept.old ≡ record { own = 0; rows = []; watches = [] } }
     ensures whole { HasCleanDisk (state S.Store conn.new) → OnOk result (IsWhole version (state S.Store conn.old).committed) }
     ensures rows { HasCleanDisk (state S.Store conn.new) → OnOk result (hosts_in (state S.Store conn.old) ≡ kept.new) }
+    ensures numbers { HasCleanDisk (state S.Store conn.new) → OnOk result (AllFit has_host_numbers (hosts_of version (state S.Store conn.old).committed)) }
     ensures same { HasCleanDisk (state S.Store conn.new) → OnOk result (IsUnchanged (state S.Store conn.old) (state S.Store conn.new)) }
     ensures kept { HasCleanDisk (state S.Store conn.new) → KeepsCommit (state S.Store conn.old) (state S.Store conn.new) }
     ensures crash { Survives (state S.Store conn.old) (state S.Store conn.new) (λ _. ⊥) }

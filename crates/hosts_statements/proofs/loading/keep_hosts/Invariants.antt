@@ -3,6 +3,7 @@ use Rattle.std.specs.FinMap.{FinMap, empty, entries}
 use Rattle.definitions.specs.Bytes.{bytes_cmp}
 use Rattle.hosts_statements.specs.Maps.{Host, host_row}
 use Rattle.hosts_statements.specs.Shown.{host_of}
+use Rattle.hosts_statements.specs.Own.{has_host_numbers, AllFit}
 use Rattle.hosts_statements.specs.Reading.{KeepsAll}
 use Rattle.hosts_statements.proofs.loading.keep_hosts.Given as goal
 
@@ -10,3 +11,4 @@ use Rattle.hosts_statements.proofs.loading.keep_hosts.Given as goal
 abbrev pub invariant-loop-at : goal.invariant-loop-at
 invariant-loop-at l =
     (m : FinMap bytes_cmp Host) × (l.kept ≡ record l.fn.kept { rows = map host_row (entries m) }) × ((after : FinMap bytes_cmp Host) → KeepsAll host_of m (drop l.at l.rows) after → KeepsAll host_of empty l.rows after)
+    × (AllFit has_host_numbers (drop l.at l.rows) → AllFit has_host_numbers l.rows)

@@ -1,5 +1,5 @@
 use Rattle.std.proofs.Common.{sym, ap, subst, ◌∙◌, arith}
-use Rattle.hosts_statements.specs.Own.{is_host, is_watched, AreOwn}
+use Rattle.hosts_statements.specs.Own.{is_host, is_watched, has_host_numbers, AreOwn, AllFit}
 use Rattle.definitions.specs.Hosts.{Hosts}
 use Rattle.sqlite.specs.Effect.{Database}
 use Rattle.sqlite.specs.State.{HasCleanDisk, IsUnchanged}
@@ -38,3 +38,8 @@ returns-clause-whole g c clean =
       (c.requires.tables same.2.0.was_open, c.in_ok-own.ensures.row same.0),
       (subst (λ (d : Database). AreOwn is_host (hosts_of c.args.version d)) committed (c.in_ok-read_hosts.ensures.own same.1), subst (λ (d : Database). AreOwn is_watched (d.trees 3)) (same.3.0.committed_is ∙ committed) (c.in_ok-read_watches.ensures.own clean)),
     )
+
+pub returns-clause-numbers : goal.returns-clause-numbers
+returns-clause-numbers g c clean =
+    let same = unchanged g (goal.at.returns-clause-numbers g c).In_ok-read_watches clean in
+    subst (λ (d : Database). AllFit has_host_numbers (hosts_of c.args.version d)) same.2.0.committed_is (c.in_ok-read_hosts.ensures.numbers same.1)

@@ -8,7 +8,7 @@ use Rattle.sqlite.specs.Given.{IsPlain}
 use Rattle.sqlite.specs.Listing.{understood}
 use Rattle.hosts_statements.specs.Reading.{Tells}
 use Rattle.hosts_statements.proofs.Permuted.{on_both, on_then}
-use Rattle.hosts_statements.proofs.Reading.{hosts_plain_at, hosts_from, own_hosts_from}
+use Rattle.hosts_statements.proofs.Reading.{hosts_plain_at, hosts_from, own_hosts_from, fitting_hosts_from}
 use Rattle.hosts_statements.proofs.loading.read_hosts.Goals as goal
 
 pub read-requires : goal.read-requires
@@ -37,3 +37,11 @@ returns-clause-own g c clean =
 
 pub returns-clause-watches : goal.returns-clause-watches
 returns-clause-watches g c = on_then c.keep_hosts.result c.keep_hosts.ensures.ok (λ made. ap (λ (h : Hosts). h.watches) made)
+
+pub returns-clause-numbers : goal.returns-clause-numbers
+returns-clause-numbers g c clean =
+    let old = state g.S.Store c.args.conn.now in
+    let first : HasCleanDisk old = omega (arith, clean, c.read.ensures.crash.clean) in
+    let is = c.requires.tables first (c.in-Ok.ensures.same clean).0.was_open in
+    let shown = subst (λ sql. Tells sql old.committed c.deref-2.result.now) c.hosts_query.ensures (subst (Tells c.hosts_query.result.now old.committed) (sym c.deref-2.ensures.value) (c.in-Ok.ensures.ok clean)) in
+    on_then c.keep_hosts.result c.keep_hosts.ensures.numbers (λ fit. fitting_hosts_from c.args.version old.committed c.deref-2.result.now is shown fit)
