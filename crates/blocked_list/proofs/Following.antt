@@ -15,8 +15,9 @@ use Rattle.definitions.specs.Waits.{Waiter, waits_for, closes_cycle, Chain, Alon
 use Rattle.definitions.proofs.OwnerLaws.{same_owner-Decides}
 use Rattle.definitions.proofs.WaitLaws.{cycle_law}
 use Rattle.owner_ids.specs.Names.{Names}
+use Rattle.range_table.specs.declared.run.Run.{Run}
 use Rattle.blocked_list.specs.Reach.{leads}
-use Rattle.blocked_list.specs.Waiting.{Waiting, AreNamed, owner_at, waiter_by, waiters_by}
+use Rattle.blocked_list.specs.Waiting.{Waiting, AreNamed, owner_at, request_by, waiter_by, waiters_by}
 use Rattle.blocked_list.proofs.Waits.{named_at}
 
 -- ---- lists of marks
@@ -101,7 +102,7 @@ module _ (settings : List Setting) (xs : List Waiter) (r : Request) where
   }
 
   -- the waits of one that was reached are followed
-  pub follows : (reached followed new : List Bool) (p : ℕ) (x : Waiter) → IsSearched reached followed → slice_get xs p ≡ Some x → get_or reached p false ≡ true → p < length followed → conflicts_with settings x.request r.owner ≡ false → ((k : ℕ) (y : Waiter) → slice_get xs k ≡ Some y → get_or new k false ≡ (get_or reached k false || leads settings x.request y)) → IsSearched new (set followed p true)
+  follows : (reached followed new : List Bool) (p : ℕ) (x : Waiter) → IsSearched reached followed → slice_get xs p ≡ Some x → get_or reached p false ≡ true → p < length followed → conflicts_with settings x.request r.owner ≡ false → ((k : ℕ) (y : Waiter) → slice_get xs k ≡ Some y → get_or new k false ≡ (get_or reached k false || leads settings x.request y)) → IsSearched new (set followed p true)
   follows reached followed new p x s at here l free led = record {
     sound = λ k y there e. elim (either (get_or reached k false) (leads settings x.request y) (sym (led k y there) ∙ e)) [ inl old ↦ s.sound k y there old | inr next ↦ further k y there next ];
     begun = λ k y there e. stays k y there (s.begun k y there e);
@@ -134,7 +135,7 @@ module _ (settings : List Setting) (xs : List Waiter) (r : Request) where
           record { first = b.first; kept_out = b.kept_out; chain = More b.chain (waits p x at y.request.owner p'.1) (not-true (is_description y.request.owner) p'.0) }
 
   -- one that was reached waits for the asker
-  pub closes : (reached followed : List Bool) (p : ℕ) (x : Waiter) → IsSearched reached followed → slice_get xs p ≡ Some x → get_or reached p false ≡ true → is_description r.owner ≡ false → conflicts_with settings x.request r.owner ≡ true → closes_cycle settings xs r ≡ true
+  closes : (reached followed : List Bool) (p : ℕ) (x : Waiter) → IsSearched reached followed → slice_get xs p ≡ Some x → get_or reached p false ≡ true → is_description r.owner ≡ false → conflicts_with settings x.request r.owner ≡ true → closes_cycle settings xs r ≡ true
   closes reached followed p x s at here asker back =
       let b = s.sound p x at here in
       (cycle_law settings xs r).1 (record { asker = asker; first = b.first; last = x.request.owner; kept_out = b.kept_out; chain = b.chain; back = waits p x at r.owner back })
@@ -174,13 +175,21 @@ at_is names [] i w x e at = let l = within_from [] i x at in absurd (omega (arit
 at_is names (v ∷ ws) zero w x e at = sym (same_Some (waiter_by names v) x at) ∙ ap (waiter_by names) (sym e)
 at_is names (v ∷ ws) (suc i) w x e at = at_is names ws i w x e at
 
-pub at_there : (names : Names) (ws : List Waiting) (i : ℕ) (w : Waiting) → w ≡ get_or ws i w → i < length ws → slice_get (waiters_by names ws) i ≡ Some (waiter_by names w)
+at_there : (names : Names) (ws : List Waiting) (i : ℕ) (w : Waiting) → w ≡ get_or ws i w → i < length ws → slice_get (waiters_by names ws) i ≡ Some (waiter_by names w)
 at_there names [] i w e l = absurd (omega (arith, l))
 at_there names (v ∷ ws) zero w e l = ap (λ u. Some (waiter_by names u)) (sym e)
 at_there names (v ∷ ws) (suc i) w e l = at_there names ws i w e (omega (arith, l))
 
 pub used_at : (names : Names) (ws : List Waiting) (i : ℕ) (w : Waiting) → w ≡ get_or ws i w → i < length ws → AreNamed names ws → IsSome (names w.wanted.owner)
 used_at names ws i w e l h = subst (λ (v : Waiting). IsSome (names v.wanted.owner)) (sym e) (named_at names ws i w h l)
+
+-- the search goes on with the waiter at a place
+module _ (settings : List Setting) (names : Names) (ws : List Waiting) (wanted : Run) (reached followed : List Bool) (i : ℕ) (w : Waiting) (at : (i < length ws) × (w ≡ get_or ws i w)) (s : IsSearched settings (waiters_by names ws) (request_by names wanted) reached followed) (here : get_or reached i false ≡ true) where
+  pub closes_at : is_description (owner_at names wanted.owner) ≡ false → conflicts_with settings (request_by names w.wanted) (owner_at names wanted.owner) ≡ true → closes_cycle settings (waiters_by names ws) (request_by names wanted) ≡ true
+  closes_at = closes settings (waiters_by names ws) (request_by names wanted) reached followed i (waiter_by names w) s (at_there names ws i w at.1 at.0) here
+
+  pub follows_at : (new : List Bool) → i < length followed → conflicts_with settings (request_by names w.wanted) (owner_at names wanted.owner) ≡ false → ((k : ℕ) (y : Waiter) → slice_get (waiters_by names ws) k ≡ Some y → get_or new k false ≡ (get_or reached k false || leads settings (request_by names w.wanted) y)) → IsSearched settings (waiters_by names ws) (request_by names wanted) new (set followed i true)
+  follows_at new = follows settings (waiters_by names ws) (request_by names wanted) reached followed new i (waiter_by names w) s (at_there names ws i w at.1 at.0) here
 
 step_yes : (a b c : Bool) → true ≡ not a → c ≡ b → c ≡ (not a && b)
 step_yes a b c e f = rw (← e) f

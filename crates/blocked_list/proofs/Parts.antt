@@ -98,6 +98,10 @@ part_inside file f n ps is i k l e =
     let kept = subst (λ j. IsKept on n i j (places_of file f (below n))) (sym (e ∙ ap (λ qs. get_or qs i 0) is)) (kept_place on n i 0 (subst (λ qs. i < length qs) is l)) in
     (kept.inside, kept.passes)
 
+-- the places that were read, of the list that a clause sees
+pub part_seen : (f : Bytes) (vs ws : List Waiting) (ps : List ℕ) → vs ≡ ws → ps ≡ places_of (file_at vs) f (below (length vs)) → ps ≡ places_of (file_at ws) f (below (length ws))
+part_seen f vs ws ps e is = is ∙ ap (λ (us : List Waiting). places_of (file_at us) f (below (length us))) e
+
 -- ---- those of another file
 
 pub ready_off : (names : Names) (quotas : Quotas) (settings : List Setting) (f : Bytes) (ws : List Waiting) (p : ℕ) → same_bytes (file_at ws p) f ≡ false → passes_at (is_ready_on f quotas settings) (waiters_by names ws) p ≡ false
@@ -135,16 +139,16 @@ module _ (names : Names) (quotas : Quotas) (settings : List Setting) (f : Bytes)
     on : same_bytes w.wanted.file f ≡ true
     on = ap (λ g. same_bytes g f) (sym (file_there ws k w inside at)) ∙ (part_inside (file_at ws) f (length ws) ps is i k l e).1
 
-    pub uses_on : AreNamed names ws → IsSome (names w.wanted.owner)
-    uses_on = uses names quotas settings ws k w inside at
+    used : AreNamed names ws → IsSome (names w.wanted.owner)
+    used = uses names quotas settings ws k w inside at
 
-    pub first_on_file : is_any (passes_at (is_ready_on f quotas settings) (waiters_by names ws)) (take i ps) ≡ false → true ≡ is_ready the_limits quotas settings (waiter_by names w) → IsFirstAt (is_ready_on f quotas settings) (waiters_by names ws) k
-    first_on_file none free =
-        part_found (is_ready_on f quotas settings) (file_at ws) f (waiters_by names ws) (ready_off names quotas settings f ws) ps by_owner i k (waiter_by names w) l e (sym (here names quotas settings ws k w inside at)) none (free_on names quotas settings ws k w inside at f on free)
+    pub first_on_file : AreNamed names ws → is_any (passes_at (is_ready_on f quotas settings) (waiters_by names ws)) (take i ps) ≡ false → (IsSome (names w.wanted.owner) → true ≡ is_ready the_limits quotas settings (waiter_by names w)) → IsFirstAt (is_ready_on f quotas settings) (waiters_by names ws) k
+    first_on_file named none free =
+        part_found (is_ready_on f quotas settings) (file_at ws) f (waiters_by names ws) (ready_off names quotas settings f ws) ps by_owner i k (waiter_by names w) l e (sym (here names quotas settings ws k w inside at)) none (free_on names quotas settings ws k w inside at f on (free (used named)))
 
-    pub next_on_file : is_any (passes_at (is_ready_on f quotas settings) (waiters_by names ws)) (take i ps) ≡ false → false ≡ is_ready the_limits quotas settings (waiter_by names w) → is_any (passes_at (is_ready_on f quotas settings) (waiters_by names ws)) (take (i + 1) ps) ≡ false
-    next_on_file none out =
-        part_next (is_ready_on f quotas settings) (file_at ws) f (waiters_by names ws) (ready_off names quotas settings f ws) ps i k (waiter_by names w) l e within (sym (here names quotas settings ws k w inside at)) none (out_on names quotas settings ws k w inside at f out)
+    pub next_on_file : AreNamed names ws → is_any (passes_at (is_ready_on f quotas settings) (waiters_by names ws)) (take i ps) ≡ false → (IsSome (names w.wanted.owner) → false ≡ is_ready the_limits quotas settings (waiter_by names w)) → is_any (passes_at (is_ready_on f quotas settings) (waiters_by names ws)) (take (i + 1) ps) ≡ false
+    next_on_file named none out =
+        part_next (is_ready_on f quotas settings) (file_at ws) f (waiters_by names ws) (ready_off names quotas settings f ws) ps i k (waiter_by names w) l e within (sym (here names quotas settings ws k w inside at)) none (out_on names quotas settings ws k w inside at f (out (used named)))
 
 -- ---- one more, and one less
 
@@ -181,10 +185,14 @@ index_removed ws p ps l h = go (length ws) refl l h
         (index_less (file_at ws) (file_at (remove ws p)) m p k (λ q u o. ap (λ fs. get_or fs (moved_up p q) []) (map_remove (λ (w : Waiting). w.wanted.file) ws p) ∙ at_removed (map (λ (w : Waiting). w.wanted.file) ws) p q [] (let long = length-map ws (λ (w : Waiting). w.wanted.file) in omega arith) o) ps g)
 
 -- none is gone where none are fewer
-pub kept_as_many : {X : Type 0} (t : X → Bool) (xs : List X) → length xs ≤ length (filter t xs) → filter t xs ≡ xs
+kept_as_many : {X : Type 0} (t : X → Bool) (xs : List X) → length xs ≤ length (filter t xs) → filter t xs ≡ xs
 kept_as_many t [] l = refl
 kept_as_many t (x ∷ xs) l = go (t x) l (kept_as_many t xs)
   where
     go : (b : Bool) → length (x ∷ xs) ≤ length (cond b (x ∷ filter t xs) (filter t xs)) → (length xs ≤ length (filter t xs) → filter t xs ≡ xs) → cond b (x ∷ filter t xs) (filter t xs) ≡ x ∷ xs
     go true k h = ap (λ ys. x ∷ ys) (h (omega (arith, k)))
     go false k h = (let n = length-filter_both t (λ y. not (t y)) (λ y. refl) xs in absurd (omega (arith, k)))
+
+-- nor of what is read then
+pub kept_whole : {X : Type 0} (t : X → Bool) (xs ys zs : List X) → ys ≡ filter t xs → zs ≡ ys → length xs ≤ length zs → zs ≡ xs
+kept_whole t xs ys zs e f l = f ∙ e ∙ kept_as_many t xs (subst (λ us. length xs ≤ length us) (f ∙ e) l)

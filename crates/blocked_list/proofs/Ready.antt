@@ -116,11 +116,11 @@ module _ (names : Names) (quotas : Quotas) (settings : List Setting) (ws : List 
   pub uses : AreNamed names ws → IsSome (names w.wanted.owner)
   uses h = subst (λ (v : Waiting). IsSome (names v.wanted.owner)) (sym at) (named_at names ws i w h l)
 
-  pub kept_out_next : is_any (is_ready the_limits quotas settings) (take i (waiters_by names ws)) ≡ false → false ≡ is_ready the_limits quotas settings (waiter_by names w) → is_any (is_ready the_limits quotas settings) (take (i + 1) (waiters_by names ws)) ≡ false
-  kept_out_next none out = any_more (is_ready the_limits quotas settings) (waiters_by names ws) i (waiter_by names w) within none (ready_here ∙ sym out)
+  pub kept_out_next : AreNamed names ws → is_any (is_ready the_limits quotas settings) (take i (waiters_by names ws)) ≡ false → (IsSome (names w.wanted.owner) → false ≡ is_ready the_limits quotas settings (waiter_by names w)) → is_any (is_ready the_limits quotas settings) (take (i + 1) (waiters_by names ws)) ≡ false
+  kept_out_next named none out = any_more (is_ready the_limits quotas settings) (waiters_by names ws) i (waiter_by names w) within none (ready_here ∙ sym (out (uses named)))
 
-  pub ready_first : is_any (is_ready the_limits quotas settings) (take i (waiters_by names ws)) ≡ false → true ≡ is_ready the_limits quotas settings (waiter_by names w) → IsFirstAt (is_ready the_limits quotas settings) (waiters_by names ws) i
-  ready_first none free = first_from (is_ready the_limits quotas settings) (waiters_by names ws) i (waiter_by names w) within none (ready_here ∙ sym free)
+  pub ready_first : AreNamed names ws → is_any (is_ready the_limits quotas settings) (take i (waiters_by names ws)) ≡ false → (IsSome (names w.wanted.owner) → true ≡ is_ready the_limits quotas settings (waiter_by names w)) → IsFirstAt (is_ready the_limits quotas settings) (waiters_by names ws) i
+  ready_first named none free = first_from (is_ready the_limits quotas settings) (waiters_by names ws) i (waiter_by names w) within none (ready_here ∙ sym (free (uses named)))
 
   -- of those on a file
   pub out_on : (file : Bytes) → false ≡ is_ready the_limits quotas settings (waiter_by names w) → is_ready_on file quotas settings (waiter_by names w) ≡ false

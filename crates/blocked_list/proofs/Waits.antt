@@ -1,5 +1,5 @@
 -- Waiters by number and by owner are alike.
-use Rattle.std.proofs.Common.{◌≡◌, ◌<◌, Bool, true, false, cond, not, ℕ, zero, suc, ◌&&◌, ◌==◌, List, [], ◌∷◌, ◌++◌, length, map, get_or, Option, Some, None, refl, sym, ap, arith, ◌∙◌}
+use Rattle.std.proofs.Common.{◌≡◌, ◌<◌, Bool, true, false, cond, not, ℕ, zero, suc, ◌&&◌, ◌==◌, List, [], ◌∷◌, ◌++◌, length, map, get_or, Option, Some, None, refl, sym, ap, subst, arith, ◌∙◌}
 use Rattle.std.proofs.lemmas.Bool.{false≢true}
 use Rattle.std.specs.List.{filter, remove}
 use Rattle.std.specs.Prelude.{IsSome, unwrap_or}
@@ -14,7 +14,7 @@ use Rattle.range_table.specs.declared.run.Mode.{Mode}
 use Rattle.range_table.specs.declared.run.Mode.TheVariants.{Shared, Exclusive}
 use Rattle.range_table.specs.declared.run.Run.{Run}
 use Rattle.blocked_list.specs.First.{IsFirstAt}
-use Rattle.blocked_list.specs.Waiting.{Waiting, owner_at, request_by, waiter_by, AreNamed, same_wanted}
+use Rattle.blocked_list.specs.Waiting.{Waiting, Taken, owner_at, request_by, waiter_by, AreNamed, same_wanted}
 use Rattle.blocked_list.proofs.Firsts.{without_first-at}
 
 pub modes_same : (a b : Mode) → modes_are_same (view_of_mode a) (view_of_mode b) ≡ same_mode a b
@@ -65,6 +65,10 @@ map_at f [] i d e l = absurd (omega (arith, l))
 map_at f (x ∷ xs) zero d e l = refl
 map_at f (x ∷ xs) (suc i) d e l = map_at f xs i d e (omega (arith, l))
 
+-- who stands in a list stands in the one that a clause sees
+pub stands_at : (s t : Taken) → s ≡ t → (i : ℕ) (w : Waiting) → i < length s.waiters → w ≡ get_or s.waiters i w → (i < length t.waiters) × (w ≡ get_or t.waiters i w)
+stands_at s t is i w l at = subst (λ (u : Taken). (i < length u.waiters) × (w ≡ get_or u.waiters i w)) is (l, at)
+
 -- ---- numbers in use
 
 pub named_is : (names : Names) (n : ℕ) → IsSome (names n) → names n ≡ Some (owner_at names n)
@@ -76,6 +80,10 @@ named_is names n h = go (names n) h
 
 pub same_request_by : (names : Names) (r : Run) → IsSome (names r.owner) → IsSameRequest names r (request_by names r)
 same_request_by names r h = record { file = refl; owner = named_is names r.owner h; first = refl; last = refl; mode = refl }
+
+-- the same of what was read, of the lock that a clause sees
+pub request_seen : (names : Names) (q r : Run) → q ≡ r → IsSome (names r.owner) → IsSameRequest names q (request_by names r)
+request_seen names q r e h = subst (λ p. IsSameRequest names p (request_by names r)) (sym e) (same_request_by names r h)
 
 pub named_push : (names : Names) (ws : List Waiting) (w : Waiting) → AreNamed names ws → IsSome (names w.wanted.owner) → AreNamed names (ws ++ w ∷ [])
 named_push names [] w h k = (k, tt)

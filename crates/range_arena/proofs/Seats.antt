@@ -1,14 +1,62 @@
--- Where a run stands in both lists.
-use Rattle.std.proofs.Common.{◌≡◌, ℕ, ◌<◌, List, length, get_or}
+-- Where a run stands in both lists, and what both are after an edit.
+use Rattle.std.proofs.Common.{◌≡◌, ℕ, ◌<◌, Bool, List, length, get_or, set, refl, sym, ap, subst, ◌∙◌}
+use Rattle.std.specs.List.{filter, remove}
 use Rattle.range_table.specs.Settings.{IsIn}
 use Rattle.range_table.specs.Runs.{IsRunList, IsPlace, run_before}
-use Rattle.range_arena.specs.Indexed.{first_cmp, owned_cmp, owned_before, IsSortedBy}
+use Rattle.range_arena.specs.Indexed.{first_cmp, owned_cmp, owned_before, IsSortedBy, AreSame, IsIndexed}
+use Rattle.range_arena.specs.Reaches.{AreVouched}
 use Rattle.range_table.specs.declared.run.Run.{Run}
-use Rattle.range_arena.proofs.Sorts.{seat_of}
+use Rattle.range_arena.specs.declared.indexed.Indexed.TheInside.{Inside}
+use Rattle.range_arena.proofs.Sorts.{seat_of, sorted_remove, same_remove, long_remove, sorted_set, same_set, long_set, sorted_filter, same_filter, same_long}
 use Rattle.range_arena.proofs.Owned.{first_total, owned_total, sorted_list}
 
-pub seated : (rs : List Run) (at : ℕ) (x : Run) → IsRunList rs → IsPlace (λ s. run_before s x) rs at → IsIn x rs → (at < length rs) × (x ≡ get_or rs at x)
-seated rs at x h p i = seat_of first_cmp first_total rs at x p.below p.above (sorted_list rs h) i
+-- the runs that a clause sees are those in the order of owners
+pub same_seen : (t : Inside) (list : List Run) → t.list ≡ list → IsIndexed t → AreSame list t.owned
+same_seen t list is k = subst (λ rs. AreSame rs t.owned) is k.same
 
-pub owned_seated : (ys : List Run) (at : ℕ) (x : Run) → IsSortedBy owned_cmp ys → IsPlace (λ s. owned_before s x) ys at → IsIn x ys → (at < length ys) × (x ≡ get_or ys at x)
-owned_seated ys at x h p i = seat_of owned_cmp owned_total ys at x p.below p.above h i
+sorted_seen : (t : Inside) (list : List Run) → t.list ≡ list → IsRunList list → IsSortedBy first_cmp t.list
+sorted_seen t list is h = sorted_list t.list (subst IsRunList (sym is) h)
+
+pub seated : (t : Inside) (list : List Run) → t.list ≡ list → IsRunList list → (x : Run) → IsIn x list → (at : ℕ) → IsPlace (λ s. run_before s x) t.list at → (at < length t.list) × (x ≡ get_or t.list at x)
+seated t list is h x i at p = seat_of first_cmp first_total t.list at x p.below p.above (sorted_seen t list is h) (subst (IsIn x) (sym is) i)
+
+pub owned_seated : (t : Inside) (list : List Run) → t.list ≡ list → IsIndexed t → (x : Run) → IsIn x list → (seat : ℕ) → IsPlace (λ s. owned_before s x) t.owned seat → (seat < length t.owned) × (x ≡ get_or t.owned seat x)
+owned_seated t list is k x i seat p = seat_of owned_cmp owned_total t.owned seat x p.below p.above k.sorted ((same_seen t list is k).into x i)
+
+abbrev pub IsVouched : Inside → Type 0
+IsVouched t = AreVouched t.stretches.items.items t.stretches.count t.list
+
+-- what is known of two lists is known where they stand
+pub IsIndexed-from_lists : (new : Inside) (xs ys : List Run) → new.list ≡ xs → new.owned ≡ ys → IsSortedBy owned_cmp ys → AreSame xs ys → length ys ≡ length xs → IsVouched new → IsIndexed new
+IsIndexed-from_lists new xs ys d e sorted same long vouched = record {
+  sorted = subst (IsSortedBy owned_cmp) (sym e) sorted;
+  same = subst (λ zs. AreSame new.list zs) (sym e) (subst (λ zs. AreSame zs ys) (sym d) same);
+  long = ap length e ∙ (long ∙ sym (ap length d));
+  vouched = vouched;
+}
+
+module _ (t : Inside) (list : List Run) (is : t.list ≡ list) (h : IsRunList list) (k : IsIndexed t) where
+  pub IsIndexed-filter : (p : Run → Bool) (new : Inside) → new.list ≡ filter p t.list → new.owned ≡ filter p t.owned → IsVouched new → IsIndexed new
+  IsIndexed-filter p new d e =
+      let sorted = sorted_filter owned_cmp p t.owned k.sorted in
+      let same = same_filter p t.list t.owned k.same in
+      let firsts = sorted_filter first_cmp p t.list (sorted_seen t list is h) in
+      IsIndexed-from_lists new (filter p t.list) (filter p t.owned) d e sorted same (same_long first_cmp first_total owned_cmp owned_total (filter p t.list) (filter p t.owned) firsts sorted same)
+
+  module _ (x : Run) (i : IsIn x list) (at : ℕ) (p : IsPlace (λ s. run_before s x) t.list at) (seat : ℕ) (q : IsPlace (λ s. owned_before s x) t.owned seat) (new : Inside) (vouched : at < length t.list → IsVouched new) where
+    pub IsIndexed-remove : new.list ≡ remove t.list at → new.owned ≡ remove t.owned seat → IsIndexed new
+    IsIndexed-remove d e =
+        let a = seated t list is h x i at p in
+        let b = owned_seated t list is k x i seat q in
+        let same = same_remove first_cmp first_total owned_cmp owned_total t.list t.owned at seat x a.0 b.0 a.1 b.1 (sorted_seen t list is h) k.sorted k.same in
+        IsIndexed-from_lists new (remove t.list at) (remove t.owned seat) d e (sorted_remove owned_cmp owned_total t.owned seat k.sorted) same (long_remove t.list t.owned at seat a.0 b.0 k.long) (vouched a.0)
+
+    -- the order looks at no end
+    pub IsIndexed-set : (last : ℕ) → let y : Run = record x { last = last } in new.list ≡ set t.list at y → new.owned ≡ set t.owned seat y → IsIndexed new
+    IsIndexed-set last d e =
+        let a = seated t list is h x i at p in
+        let b = owned_seated t list is k x i seat q in
+        let y : Run = record x { last = last } in
+        let sorted = sorted_set owned_cmp owned_total t.owned seat x y b.0 b.1 (λ s. refl) (λ s. refl) k.sorted in
+        let same = same_set first_cmp first_total owned_cmp owned_total t.list t.owned at seat x a.0 b.0 a.1 b.1 (sorted_seen t list is h) k.sorted k.same y in
+        IsIndexed-from_lists new (set t.list at y) (set t.owned seat y) d e sorted same (long_set t.list t.owned at seat y k.long) (vouched a.0)

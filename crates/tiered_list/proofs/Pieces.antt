@@ -91,6 +91,12 @@ tier_of ts b t h l e = ap (take 256) (drop_tiers ts b h) ∙ go ts b h l e where
 pub length_all : (ts : List (List ℕ)) → AreTiers ts → length (concat ts) ≡ 65536
 length_all ts h = length_tiers ts h.each ∙ (let n = h.count in omega arith)
 
+pub length_seen : (ts : List (List ℕ)) (xs : List ℕ) → AreTiers ts → concat ts ≡ xs → length xs ≡ 65536
+length_seen ts xs h is = ap length (sym is) ∙ length_all ts h
+
+pub inside_tiers : (ts : List (List ℕ)) (b : ℕ) → AreTiers ts → b < 256 → b < length ts
+inside_tiers ts b h l = let n = h.count in omega arith
+
 pub get_at : (ts : List (List ℕ)) (at : ℕ) (t : List ℕ) (d : ℕ) → AreTiers ts → at < 65536 → t ≡ get_or ts (at / 256) t → get_or (concat ts) at d ≡ get_or t (at % 256) d
 get_at ts at t d h l e =
     let n = h.count in

@@ -1,10 +1,11 @@
 -- Pushes through parts of a list that lie side by side are one push.
-use Rattle.std.proofs.Common.{◌≡◌, ℕ, suc, ◌+◌, ◌-◌, ◌*◌, ◌<◌, ◌≤◌, List, [], ◌∷◌, ◌++◌, length, get_or, take, drop, set, refl, sym, ap, subst, ◌∙◌, arith, append_assoc, length-append}
+use Rattle.std.proofs.Common.{◌≡◌, ◌≢◌, ℕ, suc, ◌+◌, ◌-◌, ◌*◌, ◌/◌, ◌%◌, ◌<◌, ◌≤◌, List, [], ◌∷◌, ◌++◌, length, get_or, take, drop, set, refl, sym, ap, subst, ◌∙◌, arith, append_assoc, length-append}
 use Rattle.std.proofs.Math.Seq.{take-add}
 use Rattle.std.proofs.lemmas.List.{length-take-le, length-drop, take_at, drop_at, drop-drop, drop-take, take-take, set_split, drop_more, take-append-drop, take-append-le, drop-append-le, length_push}
 use Rattle.std.specs.List.{concat}
 use Rattle.tiered_list.specs.Moves.{PushedIn, PulledIn, brought, sent}
-use Rattle.tiered_list.proofs.Pieces.{Long, around_tier, tier_of, set_tier, whole_tiers, length_front_tiers, long_at}
+use Rattle.tiered_list.specs.Tiers.{AreTiers}
+use Rattle.tiered_list.proofs.Pieces.{Long, inside_tiers, around_tier, tier_of, set_tier, whole_tiers, length_front_tiers, long_at}
 
 abbrev pub part_of : List ℕ → ℕ → ℕ → List ℕ
 part_of xs i j = take (j - i) (drop i xs)
@@ -119,19 +120,26 @@ pulled_one xs i j x ys y n l e f =
       pulled = ap (λ zs. zs ++ x ∷ []) (part_one xs i l) ∙ ap (λ z. z ∷ x ∷ []) (sym f);
     })
 
-pub pushed_tier : (ts : List (List ℕ)) (b x : ℕ) (t u : List ℕ) (y : ℕ) → Long ts → b < length ts → t ≡ get_or ts b t → x ∷ t ≡ u ++ y ∷ [] → PushedIn (concat ts) (256 * b) (256 * (b + 1)) x (concat (set ts b u)) y
-pushed_tier ts b x t u y h l e p = record {
-  part = u;
-  around = around_tier ts b u h l;
-  pushed = let n : 256 * (b + 1) - 256 * b ≡ 256 = omega arith in ap (λ k. x ∷ take k (drop (256 * b) (concat ts))) n ∙ ap (λ zs. x ∷ zs) (tier_of ts b t h l e) ∙ p;
-}
+part_tier : (ts : List (List ℕ)) (b : ℕ) (t : List ℕ) → Long ts → b < length ts → t ≡ get_or ts b t → part_of (concat ts) (256 * b) (256 * (b + 1)) ≡ t
+part_tier ts b t h l e = let n : 256 * (b + 1) - 256 * b ≡ 256 = omega arith in ap (λ k. take k (drop (256 * b) (concat ts))) n ∙ tier_of ts b t h l e
 
-pub pulled_tier : (ts : List (List ℕ)) (b x : ℕ) (t u : List ℕ) (y : ℕ) → Long ts → b < length ts → t ≡ get_or ts b t → t ++ x ∷ [] ≡ y ∷ u → PulledIn (concat ts) (256 * b) (256 * (b + 1)) x (concat (set ts b u)) y
-pulled_tier ts b x t u y h l e p = record {
-  part = u;
-  around = around_tier ts b u h l;
-  pulled = let n : 256 * (b + 1) - 256 * b ≡ 256 = omega arith in ap (λ k. take k (drop (256 * b) (concat ts)) ++ x ∷ []) n ∙ ap (λ zs. zs ++ x ∷ []) (tier_of ts b t h l e) ∙ p;
-}
+pub pushed_tier : (ts : List (List ℕ)) (xs : List ℕ) (b x : ℕ) (t u : List ℕ) (y : ℕ) → AreTiers ts → concat ts ≡ xs → b < 256 → t ≡ get_or ts b t → x ∷ t ≡ u ++ y ∷ [] → PushedIn xs (256 * b) (256 * (b + 1)) x (concat (set ts b u)) y
+pushed_tier ts xs b x t u y h is l e p =
+    let m = inside_tiers ts b h l in
+    subst (λ zs. PushedIn zs (256 * b) (256 * (b + 1)) x (concat (set ts b u)) y) is (record {
+      part = u;
+      around = around_tier ts b u h.each m;
+      pushed = ap (λ zs. x ∷ zs) (part_tier ts b t h.each m e) ∙ p;
+    })
+
+pub pulled_tier : (ts : List (List ℕ)) (xs : List ℕ) (b x : ℕ) (t u : List ℕ) (y : ℕ) → AreTiers ts → concat ts ≡ xs → b < 256 → t ≡ get_or ts b t → t ++ x ∷ [] ≡ y ∷ u → PulledIn xs (256 * b) (256 * (b + 1)) x (concat (set ts b u)) y
+pulled_tier ts xs b x t u y h is l e p =
+    let m = inside_tiers ts b h l in
+    subst (λ zs. PulledIn zs (256 * b) (256 * (b + 1)) x (concat (set ts b u)) y) is (record {
+      part = u;
+      around = around_tier ts b u h.each m;
+      pulled = ap (λ zs. zs ++ x ∷ []) (part_tier ts b t h.each m e) ∙ p;
+    })
 
 -- what is done in the middle of a list
 pub pushed_inside : (front mid back : List ℕ) (i j x : ℕ) (new : List ℕ) (y : ℕ) → i ≤ j → j ≤ length mid → PushedIn mid i j x new y → PushedIn (front ++ (mid ++ back)) (length front + i) (length front + j) x (front ++ (new ++ back)) y
@@ -232,24 +240,55 @@ pulled_sent xs from to ys y a l h =
     ∙ ap (λ m. take from xs ++ (take m (drop (from + 1) xs) ++ x ∷ drop (to + 1) xs)) n
 
 -- a part of a tier
-module _ (ts : List (List ℕ)) (b i j x : ℕ) (t u : List ℕ) (y : ℕ) (h : Long ts) (l : b < length ts) (e : t ≡ get_or ts b t) (o : i ≤ j) (m : j ≤ 256) where
-  long_tier : length t ≡ 256
-  long_tier = ap length e ∙ long_at ts b t h l
+module _ (ts : List (List ℕ)) (xs : List ℕ) (b i j x : ℕ) (t u : List ℕ) (y : ℕ) (h : AreTiers ts) (is : concat ts ≡ xs) (e : t ≡ get_or ts b t) (o : i ≤ j) (d : i ≢ j) (m : j ≤ 256) (w : 256 * b + j ≤ 65536) where
+  inside : b < length ts
+  inside = inside_tiers ts b h (omega arith)
 
-  pub pushed_in_tier : PushedIn t i j x u y → PushedIn (concat ts) (256 * b + i) (256 * b + j) x (concat (set ts b u)) y
-  pushed_in_tier p =
-      let n = long_tier in
-      let f = length_front_tiers ts b h l in
-      subst (λ zs. PushedIn zs (256 * b + i) (256 * b + j) x (concat (set ts b u)) y) (whole_tiers ts b t h l e)
-      (subst (λ zs. PushedIn (concat (take b ts) ++ (t ++ concat (drop (b + 1) ts))) (256 * b + i) (256 * b + j) x zs y) (sym (set_tier ts b u h l))
-      (subst (λ k. PushedIn (concat (take b ts) ++ (t ++ concat (drop (b + 1) ts))) (k + i) (k + j) x (concat (take b ts) ++ (u ++ concat (drop (b + 1) ts))) y) f
-      (pushed_inside (concat (take b ts)) t (concat (drop (b + 1) ts)) i j x u y o (omega arith) p)))
+  within : j ≤ length t
+  within = let n = ap length e ∙ long_at ts b t h.each inside in omega arith
 
-  pub pulled_in_tier : PulledIn t i j x u y → PulledIn (concat ts) (256 * b + i) (256 * b + j) x (concat (set ts b u)) y
-  pulled_in_tier p =
-      let n = long_tier in
-      let f = length_front_tiers ts b h l in
-      subst (λ zs. PulledIn zs (256 * b + i) (256 * b + j) x (concat (set ts b u)) y) (whole_tiers ts b t h l e)
-      (subst (λ zs. PulledIn (concat (take b ts) ++ (t ++ concat (drop (b + 1) ts))) (256 * b + i) (256 * b + j) x zs y) (sym (set_tier ts b u h l))
-      (subst (λ k. PulledIn (concat (take b ts) ++ (t ++ concat (drop (b + 1) ts))) (k + i) (k + j) x (concat (take b ts) ++ (u ++ concat (drop (b + 1) ts))) y) f
-      (pulled_inside (concat (take b ts)) t (concat (drop (b + 1) ts)) i j x u y o (omega arith) p)))
+  -- the tier is the middle one of three parts
+  amid : (R : List ℕ → ℕ → ℕ → List ℕ → Type 0) → (let front = concat (take b ts) in let back = concat (drop (b + 1) ts) in R (front ++ (t ++ back)) (length front + i) (length front + j) (front ++ (u ++ back))) → R xs (256 * b + i) (256 * b + j) (concat (set ts b u))
+  amid R p =
+      let front = concat (take b ts) in
+      let back = concat (drop (b + 1) ts) in
+      subst (λ zs. R zs (256 * b + i) (256 * b + j) (concat (set ts b u))) (whole_tiers ts b t h.each inside e ∙ is)
+      (subst (λ zs. R (front ++ (t ++ back)) (256 * b + i) (256 * b + j) zs) (sym (set_tier ts b u h.each inside))
+      (subst (λ k. R (front ++ (t ++ back)) (k + i) (k + j) (front ++ (u ++ back))) (length_front_tiers ts b h.each inside) p))
+
+  pub pushed_in_tier : PushedIn t i j x u y → PushedIn xs (256 * b + i) (256 * b + j) x (concat (set ts b u)) y
+  pushed_in_tier p = amid (λ zs k l ws. PushedIn zs k l x ws y) (pushed_inside (concat (take b ts)) t (concat (drop (b + 1) ts)) i j x u y o within p)
+
+  pub pulled_in_tier : PulledIn t i j x u y → PulledIn xs (256 * b + i) (256 * b + j) x (concat (set ts b u)) y
+  pulled_in_tier p = amid (λ zs k l ws. PulledIn zs k l x ws y) (pulled_inside (concat (take b ts)) t (concat (drop (b + 1) ts)) i j x u y o within p)
+
+-- between two places of one tier
+module _ (xs : List ℕ) (i j x : ℕ) (ys : List ℕ) (y : ℕ) (e : i / 256 ≡ j / 256) where
+  pub pushed_within : PushedIn xs (256 * (i / 256) + i % 256) (256 * (i / 256) + j % 256) x ys y → PushedIn xs i j x ys y
+  pushed_within p = pushed_at xs (256 * (i / 256) + i % 256) (256 * (i / 256) + j % 256) i j x ys y (omega arith) (omega arith) p
+
+  pub pulled_within : PulledIn xs (256 * (i / 256) + i % 256) (256 * (i / 256) + j % 256) x ys y → PulledIn xs i j x ys y
+  pulled_within p = pulled_at xs (256 * (i / 256) + i % 256) (256 * (i / 256) + j % 256) i j x ys y (omega arith) (omega arith) p
+
+-- from a place of one tier to one of another: through the rest of the first, the tiers between and the front of the last
+module _ (xs : List ℕ) (i j x : ℕ) (ys : List ℕ) (y : ℕ) (zs : List ℕ) (z : ℕ) (us : List ℕ) (u : ℕ) (n : length xs ≡ 65536) (w : j ≤ 65536) (o : i ≤ j) (d : i / 256 ≢ j / 256) where
+  apart : 256 * (i / 256 + 1) ≤ 256 * (j / 256)
+  apart = omega arith
+
+  pub pushed_through : PushedIn xs (256 * (i / 256) + i % 256) (256 * (i / 256) + 256) x ys y → PushedIn ys (256 * (i / 256 + 1)) (256 * (j / 256)) y zs z → PushedIn zs (256 * (j / 256) + 0) (256 * (j / 256) + j % 256) z us u → PushedIn xs i j x us u
+  pushed_through p q r =
+      let k = 256 * (i / 256 + 1) in
+      let l = 256 * (j / 256) in
+      let a : k ≤ l = apart in
+      pushed_then xs i l j x zs z us u (omega arith) (omega arith) (omega arith)
+      (pushed_then xs i k l x ys y zs z (omega arith) a (omega arith) (pushed_at xs (256 * (i / 256) + i % 256) (256 * (i / 256) + 256) i k x ys y (omega arith) (omega arith) p) q)
+      (pushed_at zs (l + 0) (l + j % 256) l j z us u (omega arith) (omega arith) r)
+
+  pub pulled_through : PulledIn xs (256 * (j / 256) + 0) (256 * (j / 256) + j % 256) x ys y → PulledIn ys (256 * (i / 256 + 1)) (256 * (j / 256)) y zs z → PulledIn zs (256 * (i / 256) + i % 256) (256 * (i / 256) + 256) z us u → PulledIn xs i j x us u
+  pulled_through p q r =
+      let k = 256 * (i / 256 + 1) in
+      let l = 256 * (j / 256) in
+      let a : k ≤ l = apart in
+      pulled_then xs i k j x zs z us u (omega arith) (omega arith) (omega arith)
+      (pulled_then xs k l j x ys y zs z a (omega arith) (omega arith) (pulled_at xs (l + 0) (l + j % 256) l j x ys y (omega arith) (omega arith) p) q)
+      (pulled_at zs (256 * (i / 256) + i % 256) (256 * (i / 256) + 256) i k z us u (omega arith) (omega arith) r)

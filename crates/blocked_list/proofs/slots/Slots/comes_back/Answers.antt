@@ -1,13 +1,12 @@
 use Rattle.std.proofs.Common.{◌<◌, ◌∙◌, ◌||◌, true, false, arith, length, sym, ap, subst, get_or}
 use Rattle.std.specs.Prelude.{IsSome}
 use Rattle.std.proofs.lemmas.List.{length-set}
-use Rattle.definitions.specs.Conflict.{conflicts_with}
 use Rattle.owner_ids.specs.Names.{named}
 use Rattle.range_table.specs.declared.run.Run.{Run}
 use Rattle.blocked_list.specs.Reach.{leads}
-use Rattle.blocked_list.specs.Waiting.{Taken, owner_at, request_by, waiter_by, waiters_by}
-use Rattle.blocked_list.proofs.Waits.{named_is, same_request_by}
-use Rattle.blocked_list.proofs.Following.{begins, follows, closes, opens, fewer_left, at_there, used_at, within_waiters}
+use Rattle.blocked_list.specs.Waiting.{Taken, owner_at, request_by, waiters_by}
+use Rattle.blocked_list.proofs.Waits.{named_is, request_seen, stands_at}
+use Rattle.blocked_list.proofs.Following.{begins, follows_at, closes_at, opens, fewer_left, used_at, within_waiters}
 use Rattle.blocked_list.proofs.slots.Slots.comes_back.Goals as goal
 
 pub loop-place-init : goal.loop-place-init
@@ -29,19 +28,11 @@ loop-place-smaller g c =
 pub returns-then-conflicts_with : goal.returns-then-conflicts_with
 returns-then-conflicts_with g c = λ settings h known asker step.
     let names = named c.args.owners.now in
-    let xs = waiters_by (named c.args.owners.now) c.args.self.now.waiters in
-    let r = request_by (named c.args.owners.now) c.args.wanted.now in
     let w = c.index.result.now in
-    let at = c.index.ensures ∙ ap (λ (s : Taken). get_or s.waiters c.in-Some.place c.index.result.now) c.self.view_is in
-    let some = c.in-Some.ensures.some in
-    let below : c.in-Some.place < length c.args.self.now.waiters = (let p = some.0 in let e = c.len.ensures in let ok = c.self.inside.waiters.ok.0 in let n = ap (λ (s : Taken). length s.waiters) c.self.view_is in omega arith) in
-    let there = at_there names c.args.self.now.waiters c.in-Some.place w at below in
-    let used = used_at names c.args.self.now.waiters c.in-Some.place w at below known.named in
-    let next = c.wanted-next.ensures.wanted in
-    let next_used = subst (λ (q : Run). IsSome (named c.args.owners.now q.owner)) (sym next) used in
-    let told = c.conflicts_with.ensures settings (request_by names c.wanted-next.result.now) (owner_at names c.args.wanted.now.owner) h (same_request_by names c.wanted-next.result.now next_used) (named_is names c.args.wanted.now.owner asker) ∙ ap (λ (q : Run). conflicts_with settings (request_by names q) (owner_at names c.args.wanted.now.owner)) next in
-    let searched = c.loop-place.invariant.searched settings h known asker in
-    sym (closes settings xs r c.loop-place.reached c.loop-place.followed c.in-Some.place (waiter_by names w) searched there some.1 step (sym told ∙ c.if-conflicts_with.true))
+    let at = stands_at _ _ c.self.view_is c.in-Some.place w (let p = c.in-Some.ensures.some.0 in let e = c.len.ensures in let ok = c.self.inside.waiters.ok.0 in omega arith) c.index.ensures in
+    let used = used_at names c.args.self.now.waiters c.in-Some.place w at.1 at.0 known.named in
+    let told = c.conflicts_with.ensures settings (request_by names w.wanted) (owner_at names c.args.wanted.now.owner) h (request_seen names _ _ c.wanted-next.ensures.wanted used) (named_is names c.args.wanted.now.owner asker) in
+    sym (closes_at settings names c.args.self.now.waiters c.args.wanted.now c.loop-place.reached c.loop-place.followed c.in-Some.place w at (c.loop-place.invariant.searched settings h known asker) c.in-Some.ensures.some.1 step (sym told ∙ c.if-conflicts_with.true))
 
 pub loop-place-preserved : goal.loop-place-preserved
 loop-place-preserved g c = record {
@@ -49,20 +40,14 @@ loop-place-preserved g c = record {
   long = length-set c.loop-place.followed c.in-Some.place true ∙ c.loop-place.invariant.long;
   searched = λ settings h known asker.
       let names = named c.args.owners.now in
-      let xs = waiters_by (named c.args.owners.now) c.args.self.now.waiters in
-      let r = request_by (named c.args.owners.now) c.args.wanted.now in
       let w = c.index.result.now in
-      let at = c.index.ensures ∙ ap (λ (s : Taken). get_or s.waiters c.in-Some.place c.index.result.now) c.self.view_is in
-      let some = c.in-Some.ensures.some in
-      let below : c.in-Some.place < length c.args.self.now.waiters = (let p = some.0 in let e = c.len.ensures in let ok = c.self.inside.waiters.ok.0 in let n = ap (λ (s : Taken). length s.waiters) c.self.view_is in omega arith) in
-      let there = at_there names c.args.self.now.waiters c.in-Some.place w at below in
-      let used = used_at names c.args.self.now.waiters c.in-Some.place w at below known.named in
+      let at = stands_at _ _ c.self.view_is c.in-Some.place w (let p = c.in-Some.ensures.some.0 in let e = c.len.ensures in let ok = c.self.inside.waiters.ok.0 in omega arith) c.index.ensures in
+      let used = used_at names c.args.self.now.waiters c.in-Some.place w at.1 at.0 known.named in
+      let told = c.conflicts_with.ensures settings (request_by names w.wanted) (owner_at names c.args.wanted.now.owner) h (request_seen names _ _ c.wanted-next.ensures.wanted used) (named_is names c.args.wanted.now.owner asker) in
+      let within : c.in-Some.place < length c.loop-place.followed = (let l = c.loop-place.invariant.long in let p = c.in-Some.ensures.some.0 in let e = c.len.ensures in let ok = c.self.inside.waiters.ok.0 in let i = c.self.invariant.0 in omega arith) in
       let next = c.wanted-next.ensures.wanted in
       let next_used = subst (λ (q : Run). IsSome (named c.args.owners.now q.owner)) (sym next) used in
-      let told = c.conflicts_with.ensures settings (request_by names c.wanted-next.result.now) (owner_at names c.args.wanted.now.owner) h (same_request_by names c.wanted-next.result.now next_used) (named_is names c.args.wanted.now.owner asker) ∙ ap (λ (q : Run). conflicts_with settings (request_by names q) (owner_at names c.args.wanted.now.owner)) next in
-      let searched = c.loop-place.invariant.searched settings h known asker in
-      let within : c.in-Some.place < length c.loop-place.followed = (let l = c.loop-place.invariant.long in let p = some.0 in let e = c.len.ensures in let ok = c.self.inside.waiters.ok.0 in let i = c.self.invariant.0 in omega arith) in
-      follows settings xs r c.loop-place.reached c.loop-place.followed c.reach-in-Some.new.reached c.in-Some.place (waiter_by names w) searched there some.1 within (sym told ∙ c.if-conflicts_with.false)
+      follows_at settings names c.args.self.now.waiters c.args.wanted.now c.loop-place.reached c.loop-place.followed c.in-Some.place w at (c.loop-place.invariant.searched settings h known asker) c.in-Some.ensures.some.1 c.reach-in-Some.new.reached within (sym told ∙ c.if-conflicts_with.false)
       (λ k y stands. c.reach-in-Some.ensures settings h known next_used k y stands ∙ ap (λ (q : Run). get_or c.loop-place.reached k false || leads settings (request_by names q) y) next);
 }
 

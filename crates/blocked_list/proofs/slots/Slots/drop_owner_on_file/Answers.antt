@@ -7,7 +7,7 @@ use Rattle.blocked_list.specs.Waiting.{Waiting, AreNamed, owner_at, waiter_by, w
 use Rattle.std.specs.List.{filter}
 use Rattle.blocked_list.specs.ByFile.{IsIndex, file_at}
 use Rattle.blocked_list.specs.ByOwner.{AreCounted}
-use Rattle.blocked_list.proofs.Parts.{kept_as_many}
+use Rattle.blocked_list.proofs.Parts.{kept_whole}
 use Rattle.blocked_list.proofs.Waits.{without_agrees, owner_on_agrees, named_filter}
 use Rattle.blocked_list.proofs.slots.Slots.drop_owner_on_file.Goals as goal
 
@@ -26,20 +26,14 @@ returns-clause-named c =
 
 pub renew_after-requires-clause-same : goal.renew_after-requires-clause-same
 renew_after-requires-clause-same c = λ few.
-    let ws = c.self.inside.waiters.items in
     let t = λ (w : Waiting). not (same_bytes w.wanted.file c.args.file.now && (w.wanted.owner == c.args.owner)) in
-    let kept : c.retain.new.self.items ≡ filter t ws = filter_same _ t _ (λ x b f' k. search rules) _ _ c.retain.ensures.filtered in
-    let at : c.deref.result.now ≡ filter t ws = c.deref.ensures.value ∙ kept in
-    let long : length ws ≤ length (filter t ws) = (let e = c.len-before.ensures in let ok = c.self.inside.waiters.ok.0 in let l = ap length at in omega arith) in
-    let whole : c.deref.result.now ≡ ws = at ∙ kept_as_many t ws long in
-    subst (λ (vs : List Waiting). IsIndex (file_at vs) (length vs) c.self.inside.by_file) (sym whole) c.self.invariant.2
+    let kept : c.retain.new.self.items ≡ filter t c.self.inside.waiters.items = filter_same _ t _ (λ x b f' k. search rules) _ _ c.retain.ensures.filtered in
+    let long : length c.self.inside.waiters.items ≤ length c.deref.result.now = (let e = c.len-before.ensures in let ok = c.self.inside.waiters.ok.0 in omega arith) in
+    subst (λ (vs : List Waiting). IsIndex (file_at vs) (length vs) c.self.inside.by_file) (sym (kept_whole t _ _ _ kept c.deref.ensures.value long)) c.self.invariant.2
 
 pub renew_after-requires-2-clause-same : goal.renew_after-requires-2-clause-same
 renew_after-requires-2-clause-same c = λ few.
-    let ws = c.self.inside.waiters.items in
     let t = λ (w : Waiting). not (same_bytes w.wanted.file c.args.file.now && (w.wanted.owner == c.args.owner)) in
-    let kept : c.retain.new.self.items ≡ filter t ws = filter_same _ t _ (λ x b f' k. search rules) _ _ c.retain.ensures.filtered in
-    let at : c.deref-2.result.now ≡ filter t ws = c.deref-2.ensures.value ∙ kept in
-    let long : length ws ≤ length (filter t ws) = (let e = c.len-before.ensures in let ok = c.self.inside.waiters.ok.0 in let l = ap length at in omega arith) in
-    let whole : c.deref-2.result.now ≡ ws = at ∙ kept_as_many t ws long in
-    subst (λ (vs : List Waiting). AreCounted vs c.self.inside.by_owner) (sym whole) c.self.invariant.3
+    let kept : c.retain.new.self.items ≡ filter t c.self.inside.waiters.items = filter_same _ t _ (λ x b f' k. search rules) _ _ c.retain.ensures.filtered in
+    let long : length c.self.inside.waiters.items ≤ length c.deref-2.result.now = (let e = c.len-before.ensures in let ok = c.self.inside.waiters.ok.0 in omega arith) in
+    subst (λ (vs : List Waiting). AreCounted vs c.self.inside.by_owner) (sym (kept_whole t _ _ _ kept c.deref-2.ensures.value long)) c.self.invariant.3

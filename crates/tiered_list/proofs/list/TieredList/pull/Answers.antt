@@ -1,30 +1,9 @@
-use Rattle.std.proofs.Common.{◌+◌, ◌*◌, ◌/◌, ◌%◌, ◌≤◌, arith}
-use Rattle.tiered_list.proofs.Pushes.{pulled_at, pulled_then}
+use Rattle.tiered_list.proofs.Pushes.{pulled_within, pulled_through}
 use Rattle.tiered_list.proofs.list.TieredList.pull.Goals as goal
 
 pub returns-then-first-last : goal.returns-then-first-last
-returns-then-first-last c =
-    let begin = c.args.begin in
-    let end = c.args.end in
-    let e = c.if-first-last.true in
-    let p = c.pull_cells in
-    pulled_at c.args.self.now (256 * (begin / 256) + begin % 256) (256 * (begin / 256) + end % 256) begin end c.args.number p.new.self p.result (omega arith) (omega arith) p.ensures.pulled
+returns-then-first-last c = pulled_within c.args.self.now c.args.begin c.args.end c.args.number _ _ c.if-first-last.true c.pull_cells.ensures.pulled
 
 pub returns : goal.returns
 returns c =
-    let xs = c.args.self.now in
-    let begin = c.args.begin in
-    let end = c.args.end in
-    let n = c.requires.long in
-    let w = c.requires.within in
-    let o = c.requires.order in
-    let j = 256 * (begin / 256 + 1) in
-    let k = 256 * (end / 256) in
-    let b : j ≤ k = (let f = c.if-first-last.false in omega arith) in
-    let one = c.pull_cells-number in
-    let two = c.pull_tiers-number in
-    let three = c.pull_cells-2 in
-    pulled_then xs begin j end c.args.number two.new.self two.result three.new.self three.result (omega arith) (omega arith) (omega arith)
-    (pulled_then xs j k end c.args.number one.new.self one.result two.new.self two.result b (omega arith) (omega arith)
-    (pulled_at xs (k + 0) (k + end % 256) k end c.args.number one.new.self one.result (omega arith) (omega arith) one.ensures.pulled) two.ensures.pulled)
-    (pulled_at two.new.self (256 * (begin / 256) + begin % 256) (256 * (begin / 256) + 256) begin j two.result three.new.self three.result (omega arith) (omega arith) three.ensures.pulled)
+    pulled_through c.args.self.now c.args.begin c.args.end c.args.number _ _ _ _ _ _ c.requires.long c.requires.within c.requires.order c.if-first-last.false c.pull_cells-number.ensures.pulled c.pull_tiers-number.ensures.pulled c.pull_cells-2.ensures.pulled
