@@ -1,6 +1,6 @@
 -- Who can be granted, one waiter after another.
 use Rattle.std.proofs.Common.{◌≡◌, ◌<◌, Bool, true, false, not, ℕ, zero, suc, ◌&&◌, ◌||◌, ◌+◌, List, [], ◌∷◌, ◌++◌, length, take, get_or, Option, Some, None, refl, sym, ap, subst, arith, ◌∙◌}
-use Rattle.std.proofs.lemmas.Bool.{false≢true, and_right, or_parts}
+use Rattle.std.proofs.lemmas.Bool.{false≢true, and_parts, and_right, or_parts}
 use Rattle.std.proofs.lemmas.List.Folds.{list_any_more}
 use Rattle.definitions.specs.Bytes.{Bytes, same_bytes, is_any}
 use Rattle.definitions.specs.Conflict.{conflicts}
@@ -85,10 +85,6 @@ module _ (file : Bytes) (quotas : Quotas) (settings : List Setting) where
       let a = or_parts (is_ready_off file quotas settings y) (is_any (is_ready_off file quotas settings) (ys ++ x ∷ behind)) e in
       rw a.0 (none_front ys x behind a.1)
 
-  and_right : (a b : Bool) → (a && b) ≡ true → b ≡ true
-  and_right true b e = e
-  and_right false b e = absurd (false≢true e)
-
   pub first_on : (xs : List Waiter) (place : Option ℕ) → is_any (is_ready_off file quotas settings) xs ≡ false → IsFirstPlace on xs place → IsFirstPlace (is_ready the_limits quotas settings) xs place
   first_on xs None e f = none_on xs e f
   first_on xs (Some i) e f = record {
@@ -98,7 +94,7 @@ module _ (file : Bytes) (quotas : Quotas) (settings : List Setting) where
     there = f.there;
     place = f.place;
     none_before = none_on f.before (none_front f.before f.x f.behind (ap (is_any (is_ready_off file quotas settings)) (sym f.there) ∙ e)) f.none_before;
-    passes = and_right (same_bytes f.x.request.file file) (is_ready the_limits quotas settings f.x) f.passes;
+    passes = (and_parts (same_bytes f.x.request.file file) (is_ready the_limits quotas settings f.x) f.passes).1;
   }
 
 -- ---- the waiter at a place

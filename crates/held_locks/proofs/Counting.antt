@@ -1,6 +1,5 @@
 -- Runs are counted by number.
-use Rattle.std.proofs.Common.{◌≡◌, ◌+◌, ℕ, ltb, Bool, true, false, refl, sym, ap, ◌∙◌, arith, List}
-use Rattle.std.proofs.lemmas.Bool.{lt-ltb, ltb-true, le-ltb, ltb-false}
+use Rattle.std.proofs.Common.{◌≡◌, ◌+◌, ℕ, ltb, ap, ◌∙◌, List}
 use Rattle.range_owners.proofs.Counting.{two_less}
 use Rattle.definitions.specs.Settings.{Setting}
 use Rattle.definitions.specs.Starts.{used, is_short}

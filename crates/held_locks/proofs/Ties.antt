@@ -1,5 +1,5 @@
 -- What keeps a table, its counts and its names tied to the settings of owners.
-use Rattle.std.proofs.Common.{◌≡◌, ◌≢◌, ◌≤◌, ◌<◌, ◌==◌, ◌+◌, ◌-◌, ℕ, not, ◌&&◌, Bool, true, false, cond, refl, sym, ap, ◌∙◌, subst, arith, ltb, List, [], ◌∷◌, ◌++◌, filter, length, slice_index_or, slice_set, Option, Some, None, inl, inr, ◌⊎◌, is_some, ◌||◌}
+use Rattle.std.proofs.Common.{◌≡◌, ◌≢◌, ◌≤◌, ◌<◌, ◌==◌, ◌+◌, ◌-◌, ℕ, not, ◌&&◌, Bool, false, cond, refl, sym, ap, ◌∙◌, subst, arith, ltb, List, [], ◌∷◌, ◌++◌, filter, length, slice_index_or, slice_set, Option, Some, None, inl, inr, ◌⊎◌, is_some, ◌||◌}
 use Rattle.std.proofs.lemmas.Bool.{le-ltb, and_right, and_parts}
 use Rattle.std.proofs.Math.ListN.{get_or-eq_default}
 use Rattle.std.proofs.lemmas.List.{get_or-set_same, get_or-set_other}

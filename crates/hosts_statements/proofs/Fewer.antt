@@ -1,5 +1,5 @@
 -- What the DELETEs do to the rows that the trees stand for.
-use Rattle.std.proofs.Common.{◌≡◌, ℕ, Bool, true, false, cond, not, ◌&&◌, List, [], ◌∷◌, map, filter, slice_get, None, Some, Option, Ok, refl, sym, ap, subst, ◌∙◌, arith}
+use Rattle.std.proofs.Common.{◌≡◌, ℕ, Bool, true, cond, not, ◌&&◌, List, [], ◌∷◌, map, filter, slice_get, None, Some, Option, Ok, refl, sym, ap, subst, ◌∙◌, arith}
 use Rattle.std.proofs.lemmas.Bool.{and_parts}
 use Rattle.std.specs.Cmp.Lexicographic.{nat_list_cmp_total}
 use Rattle.std.specs.FinMap.{from_entries, slice_cmp-IsAntisymmetric, nat_cmp-IsAntisymmetric}
@@ -10,6 +10,7 @@ use Rattle.sqlite_value.specs.Order.{Row, column, bytes}
 use Rattle.sqlite_sql.specs.Term.{Term}
 use Rattle.sqlite_sql.specs.Program.{overlay}
 use Rattle.std.specs.List.{flat_map}
+use Rattle.std.proofs.Math.Bool.{and-true}
 use Rattle.hosts_db.proofs.Orders.{eq_then}
 use Rattle.sqlite_trees.specs.View.{is_int}
 use Rattle.sqlite_trees.specs.Tree.{Trees, rowid}
@@ -41,10 +42,6 @@ use Rattle.hosts_statements.proofs.Shrink.{blob_holds, int_holds, left_map}
 use Rattle.hosts_statements.proofs.Watch.{watch_exact, watch_total}
 use Rattle.hosts_statements.proofs.Rows.{Makes, show_tables, did_at}
 
-and_true : (b : Bool) → (b && true) ≡ b
-and_true true = refl
-and_true false = refl
-
 pub host_whole : (r : Row) → is_host r ≡ true → is_int (rowid r) ≡ true
 host_whole r h = (and_parts (is_int (rowid r)) (is_blob (column r 1)) h).0
 
@@ -63,7 +60,7 @@ abbrev pub watch_given : Bytes → MyId → Row
 watch_given mon my = Blob mon ∷ my_given my
 
 host_test : (name : Bytes) (r : Row) → is_host r ≡ true → passes host_tests (host_given name) r ≡ same_bytes (host_of r).0 name
-host_test name r h = and_true _ ∙ blob_holds (column r 1) name (and_parts (is_int (rowid r)) (is_blob (column r 1)) h).1
+host_test name r h = and-true _ ∙ blob_holds (column r 1) name (and_parts (is_int (rowid r)) (is_blob (column r 1)) h).1
 
 my_test : (a b : MyId) → is_eq (my_id_cmp a b) ≡ (same_bytes a.my_name b.my_name && (is_eq (int_cmp a.prog b.prog) && (is_eq (int_cmp a.vers b.vers) && is_eq (int_cmp a.proc b.proc))))
 my_test a b =
@@ -93,7 +90,7 @@ watches_test my r h =
     let one = blob_holds (column r 2) my.my_name c.my in
     let two = int_holds (column r 3) my.prog c.prog in
     let three = int_holds (column r 4) my.vers c.vers in
-    let four = and_true _ ∙ int_holds (column r 5) my.proc c.proc in
+    let four = and-true _ ∙ int_holds (column r 5) my.proc c.proc in
     (λ i. one i && (two i && (three i && four i))) ∙ sym (my_test (watch_of r).0.my my)
 
 watch_test : (mon : Bytes) (my : MyId) (r : Row) → is_watched r ≡ true → passes watch_tests (watch_given mon my) r ≡ is_key_of (Some mon) my (watch_of r).0
@@ -103,7 +100,7 @@ watch_test mon my r h =
     let one = blob_holds (column r 2) my.my_name c.my in
     let two = int_holds (column r 3) my.prog c.prog in
     let three = int_holds (column r 4) my.vers c.vers in
-    let four = and_true _ ∙ int_holds (column r 5) my.proc c.proc in
+    let four = and-true _ ∙ int_holds (column r 5) my.proc c.proc in
     let rest : (same_bytes (bytes (column r 2)) my.my_name && (is_eq (int_cmp (id_in (column r 3)) my.prog) && (is_eq (int_cmp (id_in (column r 4)) my.vers) && is_eq (int_cmp (id_in (column r 5)) my.proc)))) ≡ is_eq (my_id_cmp (watch_of r).0.my my) = sym (my_test (watch_of r).0.my my) in
     (λ i. zero i && (one i && (two i && (three i && four i)))) ∙ ap (λ x. same_bytes (bytes (column r 1)) mon && x) rest
 

@@ -127,7 +127,7 @@ module _ (fits : Row → Bool) where
       none id ties (r ∷ rs) h =
           let equiv = eq_by_cmp_equiv value_cmp_total in
           let apart : has_rowid id r ≡ false =
-          equiv.symm (rowid r) (Int id) ∙ equiv.congr (Int id) (rowid new) (rowid r) (equiv.symm (Int id) (rowid new) ∙ ties) ∙ equiv.symm (rowid new) (rowid r) ∙ left_false (is_eq (value_cmp (rowid r) (rowid new))) (is_taken rs new) h in
+          equiv.symm (rowid r) (Int id) ∙ equiv.congr (Int id) (rowid new) (rowid r) (equiv.symm (Int id) (rowid new) ∙ ties) ∙ equiv.symm (rowid new) (rowid r) ∙ (or_parts (is_eq (value_cmp (rowid r) (rowid new))) (is_taken rs new) h).0 in
           let rest = none id ties rs ((or_parts (is_eq (value_cmp (rowid r) (rowid new))) (is_taken rs new) h).1) in
           let e = counted id r rs in
           let f : unit_if (has_rowid id r) ≡ 0 = ap unit_if apart in

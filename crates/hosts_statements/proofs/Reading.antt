@@ -1,5 +1,5 @@
 -- What the queries show.
-use Rattle.std.proofs.Common.{not, ◌≡◌, ℕ, codes, pos, negsuc, List, [], ◌∷◌, map, filter, ◌==◌, if◌then◌else◌, false, None, Ok, Err, Result, refl, sym, ap, subst, ◌∙◌}
+use Rattle.std.proofs.Common.{not, ◌≡◌, ℕ, codes, pos, negsuc, List, [], ◌∷◌, map, filter, ◌==◌, if◌then◌else◌, false, None, refl, sym, ap, subst, ◌∙◌}
 use Rattle.std.specs.List.Sorted.{IsPermutation}
 use Rattle.std.proofs.lemmas.List.Sorted.{IsPermutation-map, IsPermutation-sym, list_any-IsPermutation}
 use Rattle.sqlite_value.specs.declared.value.Value.TheVariants.{Null, Int}
@@ -12,13 +12,11 @@ use Rattle.sqlite_sql.specs.Term.{Term, Env, eval_all, lit, col}
 use Rattle.sqlite_sql.specs.Query.{Query, inner, end, IsAnswer, output, Output}
 use Rattle.sqlite_sql.specs.Program.{overlay}
 use Rattle.sqlite_schema.specs.declared.command.Command.TheVariants.{Select}
-use Rattle.sqlite_resolve.specs.declared.compiled.Compiled.{Compiled}
-use Rattle.sqlite_resolve.specs.declared.error.CompileError.{CompileError}
 use Rattle.sqlite_tied.specs.Compute.{everything}
 use Rattle.sqlite.specs.Effect.{Database, IsDatabase, Answers}
 use Rattle.sqlite.specs.Listing.{understood, reads_listing}
 use Rattle.sqlite.specs.State.{State, Shown}
-use Rattle.sqlite.proofs.Callers.{IsPlain, command_of, reads_as, one_permutation}
+use Rattle.sqlite.proofs.Callers.{IsPlain, reads_as, one_permutation}
 use Rattle.hosts_statements.specs.Tables.{Place, Fresh, Upgraded, hosts_tree, host_schema, first_schema, first_tables, read_own_text, read_hosts_text, read_first_hosts_text, read_watches_text}
 use Rattle.hosts_statements.specs.Wrote.{checks_in, place_of, number, hosts_of, hosts_text, own_shown, HasOwnRow, IsHostSchema}
 use Rattle.hosts_statements.specs.declared.tables.Version.{Version}

@@ -1,6 +1,6 @@
 -- Hosts that pass the table's UNIQUE have names of their own.
 use Rattle.std.proofs.Common.{◌≡◌, Bool, true, false, cond, not, ◌&&◌, List, [], ◌∷◌, map, None, Some, refl, sym, ap, ◌∙◌}
-use Rattle.std.proofs.lemmas.Bool.{true≢false, not-true}
+use Rattle.std.proofs.lemmas.Bool.{true≢false, not-true, or_parts}
 use Rattle.std.specs.declared.cmp.Ordering.{Ordering}
 use Rattle.std.specs.declared.cmp.Ordering.TheVariants.{Less, Equal, Greater}
 use Rattle.std.specs.List.{AllByRecursion, list_any}
@@ -9,6 +9,7 @@ use Rattle.std.specs.Cmp.{eq_by_cmp_equiv}
 use Rattle.std.specs.Cmp.Lexicographic.{nat_list_cmp_total}
 use Rattle.std.specs.FinMap.{find}
 use Rattle.std.proofs.lemmas.Map.Text.{is_eq-slice_cmp}
+use Rattle.std.proofs.Math.Bool.{and-true}
 use Rattle.sqlite_value.specs.declared.value.Value.{Value}
 use Rattle.sqlite_value.specs.declared.value.Value.TheVariants.{Null, Int, Real, Text, Blob}
 use Rattle.sqlite_value.specs.Order.{Row, column, bytes, value_cmp}
@@ -23,7 +24,7 @@ use Rattle.hosts_statements.specs.Shown.{host_of}
 use Rattle.hosts_statements.specs.Own.{is_blob, is_host}
 use Rattle.hosts_statements.specs.Reading.{AreApart}
 use Rattle.hosts_statements.proofs.Gone.{AreOwnIds}
-use Rattle.hosts_statements.proofs.OwnIds.{left_false, right_false, first_fits, rest_fits}
+use Rattle.hosts_statements.proofs.OwnIds.{first_fits, rest_fits}
 use Rattle.hosts_statements.proofs.Shrink.{truth_is, blob_holds}
 use Rattle.hosts_upgrade.proofs.Moved.{and_left, and_right}
 
@@ -60,37 +61,33 @@ not_first : (a b : Bool) → (a && b) ≡ false → b ≡ true → a ≡ false
 not_first true b h e = absurd (true≢false (sym e ∙ h))
 not_first false b h e = refl
 
-and_true : (b : Bool) → (b && true) ≡ b
-and_true true = refl
-and_true false = refl
-
 name_agrees : (r row : Row) → is_host r ≡ true → is_host row ≡ true → agree one_key (1 ∷ []) r (1 ∷ []) row ≡ eq_by_cmp bytes_cmp (host_of row).0 (host_of r).0
 unfolding Rattle.sqlite_value.specs.Keys.first_key
 name_agrees r row h k =
     let blob = and_right (is_int (rowid r)) (is_blob (column r 1)) h in
     let other = blob_is (column row 1) (and_right (is_int (rowid row)) (is_blob (column row 1)) k) in
-    and_true _ ∙ ap (λ v. is_true (binary (Rattle.sqlite_sql.specs.declared.ops.BinaryOp.TheVariants.Compare Rattle.sqlite_sql.specs.declared.ops.CompareOp.TheVariants.Eq Rattle.sqlite_value.specs.declared.keys.Collation.TheVariants.Binary) (column r 1) v)) other
+    and-true _ ∙ ap (λ v. is_true (binary (Rattle.sqlite_sql.specs.declared.ops.BinaryOp.TheVariants.Compare Rattle.sqlite_sql.specs.declared.ops.CompareOp.TheVariants.Eq Rattle.sqlite_value.specs.declared.keys.Collation.TheVariants.Binary) (column r 1) v)) other
     ∙ blob_holds (column r 1) (bytes (column row 1)) blob ∙ sym (is_eq-slice_cmp (bytes (column r 1)) (bytes (column row 1))) ∙ (eq_by_cmp_equiv nat_list_cmp_total).symm (host_of r).0 (host_of row).0
 
 none_found : (row : Row) (rows : List Row) → is_host row ≡ true → list_any (λ r. not (is_host r)) rows ≡ false → is_taken rows row ≡ false → list_any (clash row) rows ≡ false → find bytes_cmp (host_of row).0 (map host_of rows) ≡ None
 none_found row [] fit all free apart = refl
 none_found row (r ∷ rs) fit all free apart =
     let here = first_fits is_host r rs all in
-    let untied = left_false (is_eq (value_cmp (rowid r) (rowid row))) (is_taken rs row) free in
+    let untied = (or_parts (is_eq (value_cmp (rowid r) (rowid row))) (is_taken rs row) free).0 in
     let other = differs (rowid r) (rowid row) (and_left (is_int (rowid r)) (is_blob (column r 1)) here) (and_left (is_int (rowid row)) (is_blob (column row 1)) fit) untied in
-    let differ_names = not_first (agree one_key (1 ∷ []) r (1 ∷ []) row) (differ (rowid r) (rowid row)) (left_false (clash row r) (list_any (clash row) rs) apart) other in
+    let differ_names = not_first (agree one_key (1 ∷ []) r (1 ∷ []) row) (differ (rowid r) (rowid row)) (or_parts (clash row r) (list_any (clash row) rs) apart).0 other in
     let missed = sym (name_agrees r row here fit) ∙ differ_names in
     ap (λ b. cond b (Some (host_of r).1) (find bytes_cmp (host_of row).0 (map host_of rs))) missed
-    ∙ none_found row rs fit (rest_fits is_host r rs all) (right_false (is_eq (value_cmp (rowid r) (rowid row))) (is_taken rs row) free) (right_false (clash row r) (list_any (clash row) rs) apart)
+    ∙ none_found row rs fit (rest_fits is_host r rs all) (or_parts (is_eq (value_cmp (rowid r) (rowid row))) (is_taken rs row) free).1 (or_parts (clash row r) (list_any (clash row) rs) apart).1
 
 fewer : (x : Row) (all rows : List Row) → AllByRecursion (λ row. list_any (clash row) (x ∷ all) ≡ false) rows → AllByRecursion (λ row. list_any (clash row) all ≡ false) rows
 fewer x all [] h = tt
-fewer x all (r ∷ rs) h = (right_false (clash r x) (list_any (clash r) all) h.0, fewer x all rs h.1)
+fewer x all (r ∷ rs) h = ((or_parts (clash r x) (list_any (clash r) all) h.0).1, fewer x all rs h.1)
 
 pub hosts_apart : (rows : List Row) → AreOwnIds rows → list_any (λ r. not (is_host r)) rows ≡ false → AllByRecursion (λ row. list_any (clash row) rows ≡ false) rows → AreApart bytes_cmp (map host_of rows)
 hosts_apart [] own all apart = tt
 hosts_apart (r ∷ rs) own all apart = (
-  none_found r rs (first_fits is_host r rs all) (rest_fits is_host r rs all) own.1 (right_false (clash r r) (list_any (clash r) rs) apart.0),
+  none_found r rs (first_fits is_host r rs all) (rest_fits is_host r rs all) own.1 (or_parts (clash r r) (list_any (clash r) rs) apart.0).1,
   hosts_apart rs own.2 (rest_fits is_host r rs all) (fewer r rs rs apart.1),
 )
 

@@ -1,6 +1,6 @@
 -- Rows that are put into a table, where no rowid comes twice.
 use Rattle.std.proofs.Common.{◌≡◌, Bool, true, false, cond, not, ◌&&◌, ◌||◌, List, [], ◌∷◌, ◌++◌, map, refl, sym, ap, ◌∙◌}
-use Rattle.std.proofs.lemmas.Bool.{true≢false, not-true}
+use Rattle.std.proofs.lemmas.Bool.{true≢false, not-true, or_parts}
 use Rattle.std.specs.declared.cmp.Ordering.{Ordering}
 use Rattle.std.specs.declared.cmp.Ordering.TheVariants.{Less, Equal, Greater}
 use Rattle.std.specs.List.{list_any}
@@ -16,7 +16,7 @@ use Rattle.sqlite_rules.specs.Edit.{put_all, is_taken, are_fresh, have_rowids, n
 use Rattle.sqlite_rules.specs.declared.error.Rowids.TheVariants.{Chosen}
 use Rattle.hosts_statements.specs.Shown.{host_of}
 use Rattle.hosts_statements.specs.Own.{is_blob, is_host, AreOwn}
-use Rattle.hosts_statements.proofs.OwnIds.{left_false, right_false, own_put}
+use Rattle.hosts_statements.proofs.OwnIds.{own_put}
 
 pub and_left : (a b : Bool) → (a && b) ≡ true → a ≡ true
 and_left true b h = refl
@@ -31,7 +31,7 @@ and_right false b h = absurd (true≢false (sym h))
 pub put_row_moves : (new : Row) (rows : List Row) → is_taken rows new ≡ false → IsPermutation (new ∷ rows) (put_row new rows)
 put_row_moves new [] free = IsPermutation-refl (new ∷ [])
 put_row_moves new (r ∷ rs) free =
-    go (value_cmp (rowid r) (rowid new)) (left_false (is_eq (value_cmp (rowid r) (rowid new))) (is_taken rs new) free) (put_row_moves new rs (right_false (is_eq (value_cmp (rowid r) (rowid new))) (is_taken rs new) free))
+    go (value_cmp (rowid r) (rowid new)) (or_parts (is_eq (value_cmp (rowid r) (rowid new))) (is_taken rs new) free).0 (put_row_moves new rs (or_parts (is_eq (value_cmp (rowid r) (rowid new))) (is_taken rs new) free).1)
   where
     go : (o : Ordering) → is_eq o ≡ false → IsPermutation (new ∷ rs) (put_row new rs) → IsPermutation (new ∷ r ∷ rs) (match_ordering o (r ∷ put_row new rs) (new ∷ rs) (new ∷ r ∷ rs))
     go Less e more =
@@ -55,8 +55,8 @@ pub put_all_own : (rows news : List Row) → are_fresh rows news ≡ true → li
 put_all_own rows [] fresh fit own = own
 put_all_own rows (n ∷ ns) fresh fit own =
     let free = not-true (is_taken rows n) (and_left (not (is_taken rows n)) (are_fresh (put_row n rows) ns) fresh) in
-    let here = fits (is_host n) (left_false (not (is_host n)) (list_any (λ r. not (is_host r)) ns) fit) in
-    put_all_own (put_row n rows) ns (and_right (not (is_taken rows n)) (are_fresh (put_row n rows) ns) fresh) (right_false (not (is_host n)) (list_any (λ r. not (is_host r)) ns) fit) (own_put is_host n rows here free own)
+    let here = fits (is_host n) (or_parts (not (is_host n)) (list_any (λ r. not (is_host r)) ns) fit).0 in
+    put_all_own (put_row n rows) ns (and_right (not (is_taken rows n)) (are_fresh (put_row n rows) ns) fresh) (or_parts (not (is_host n)) (list_any (λ r. not (is_host r)) ns) fit).1 (own_put is_host n rows here free own)
   where
     fits : (b : Bool) → not b ≡ false → b ≡ true
     fits true h = refl
@@ -94,6 +94,6 @@ hosts_fit rows (s ∷ ss) named ids =
     let new = with_rowid Chosen rows s in
     let more = numbered Chosen (put_row new rows) ss in
     let id = and_left (is_int (rowid new)) (have_rowids more) ids in
-    let here : not (is_named new) ≡ false = ap not (name_numbered rows s) ∙ left_false (not (is_named s)) (list_any (λ x. not (is_named x)) ss) named in
-    let rest = hosts_fit (put_row new rows) ss (right_false (not (is_named s)) (list_any (λ x. not (is_named x)) ss) named) (and_right (is_int (rowid new)) (have_rowids more) ids) in
+    let here : not (is_named new) ≡ false = ap not (name_numbered rows s) ∙ (or_parts (not (is_named s)) (list_any (λ x. not (is_named x)) ss) named).0 in
+    let rest = hosts_fit (put_row new rows) ss (or_parts (not (is_named s)) (list_any (λ x. not (is_named x)) ss) named).1 (and_right (is_int (rowid new)) (have_rowids more) ids) in
     ap (λ b. not (b && is_named new) || list_any (λ r. not (is_host r)) more) id ∙ ap (λ b. b || list_any (λ r. not (is_host r)) more) here ∙ rest

@@ -1,5 +1,5 @@
 -- Which owners can be shown, through the changes of a list.
-use Rattle.std.proofs.Common.{◌≡◌, ◌≤◌, Bool, true, false, cond, List, [], ◌∷◌, ◌++◌, length, refl, Some, None, Result, Ok, Err, OnOk, OnErr, arith}
+use Rattle.std.proofs.Common.{◌≡◌, Bool, true, false, cond, List, [], ◌∷◌, ◌++◌, refl, Some, None, Result, Ok, Err, OnOk, OnErr}
 use Rattle.definitions.specs.Bytes.{is_any, without, without_first, first_that}
 use Rattle.definitions.specs.Settings.{Setting}
 use Rattle.definitions.specs.Waits.{Waiter}

@@ -58,7 +58,7 @@ returns-clause-refused g c = elim c.match-number.branch [
       let change = c.args.change.now in
       let held = mode_at (g.R.RangeTable.settings c.self.inside.table) in
       let over = refusal_over (named names) held c.self.inside.settings.items (change_by_number n change) (changed change) c.self.invariant.tied.stands (same_change names n change w.in-Some.ensures.found) in
-      rw (← c.self.view_is) ((λ e. false≢true e), λ t. w.in_ok-set.ensures.refused.1 (over.1 t))
+      rw (← c.self.view_is) ((λ e. absurd (false≢true e)), λ t. w.in_ok-set.ensures.refused.1 (over.1 t))
   | in_default w ↦
       let change = c.args.change.now in
       let names = named c.self.inside.owners in
@@ -66,5 +66,5 @@ returns-clause-refused g c = elim c.match-number.branch [
       let known = subst (λ h. (change.mode ≡ None) ⊎ IsKnown h (view_of_owner change.owner.now)) (sym c.self.view_is) c.requires.known in
       let none = stranger_mode c.self.inside.owners change known fresh in
       let held = mode_at (g.R.RangeTable.settings c.self.inside.table) in
-      rw (← c.self.view_is) ((λ e. false≢true e), λ t. sym (stranger_is_not_refused names held c.self.inside.settings.items c.self.invariant.tied.stands (view_of_owner change.owner.now) fresh (changed change) refl (ap view_of_held_mode none)) ∙ t)
+      rw (← c.self.view_is) ((λ e. absurd (false≢true e)), λ t. sym (stranger_is_not_refused names held c.self.inside.settings.items c.self.invariant.tied.stands (view_of_owner change.owner.now) fresh (changed change) refl (ap view_of_held_mode none)) ∙ t)
 ]

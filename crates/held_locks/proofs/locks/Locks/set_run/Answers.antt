@@ -50,4 +50,4 @@ returns-clause-refused g c = λ x e.
     let known = subst (λ h. named h.names r.owner ≡ Some x) (sym c.self.view_is) e in
     let held = mode_at (g.R.RangeTable.settings c.self.inside.table) in
     let over = refusal_over (named names) held c.self.inside.settings.items (record { file = r.file; owner = r.owner; first = r.first; last = r.last; mode = Some r.mode }) (setting_by x r) c.self.invariant.tied.stands (same names r x known) in
-    rw (← c.self.view_is) ((λ f. false≢true f), λ t. c.in_ok-set.ensures.refused.1 (over.1 t))
+    rw (← c.self.view_is) ((λ f. absurd (false≢true f)), λ t. c.in_ok-set.ensures.refused.1 (over.1 t))
