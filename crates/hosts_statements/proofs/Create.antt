@@ -19,7 +19,6 @@ use Rattle.sqlite_rules.specs.Edit.{edit_of, edited, Applies}
 use Rattle.sqlite_rules.specs.declared.error.Rowids.TheVariants.{Chosen}
 use Rattle.sqlite_tied.specs.Compute.{everything}
 use Rattle.sqlite.specs.Does.{Tally, Does, lacks_sequence}
-use Rattle.sqlite.specs.Rows.{Written}
 use Rattle.sqlite.specs.Effect.{Database, IsDatabase}
 use Rattle.sqlite.specs.State.{State, mode_of, Executes, Shows, Writes}
 use Rattle.sqlite.specs.Listing.{understood}
@@ -32,7 +31,7 @@ use Rattle.hosts_statements.specs.declared.tables.Version.TheVariants.{Second}
 use Rattle.hosts_statements.proofs.Places.{IsSecond, whole_second}
 use Rattle.hosts_statements.specs.Own.{is_host, is_watched, AreOwn}
 use Rattle.hosts_statements.proofs.Texts.{own_is, hosts_is, watches_is}
-use Rattle.hosts_statements.proofs.Monitor.{cast_null, cast_number, went, same_value}
+use Rattle.hosts_statements.proofs.Monitor.{cast_null, cast_number, inserted, went, same_value}
 use Rattle.hosts_statements.proofs.Rows.{Makes, version_is, listed_as_tables}
 
 -- the schema once the first table is made, and the second
@@ -124,16 +123,11 @@ own_step own a b count has h =
     let db = a.now.trees in
     let w = runs_as first_own_text given_params a b (host_schema Fresh own_checks) has (Insert 0 (Values own_terms 4)) own_row_is.0 own_row_is.1 count h in
     let text = statement_of first_own_text (understood (host_schema Fresh own_checks) first_own_text) in
-    let done = went (subst (λ s. Does a.step_limit (mode_of a) given_params (record { schema = s; trees = db }) text None (Insert 0 (Values own_terms 4)) (Ok (w.tally, b.now))) has w.changed) in
-    let now = ap (λ (p : Tally × Database). p.1) (same_value (went (went done.2).2).2) in
-    let given = went done.1 in
-    let written = went (went given.2).2 in
-    let counted = went written.2 in
-    let trees : done.0.trees ≡ written.0 = ap (λ (it : Written). it.trees) (same_value counted.2) ∙ same_value counted.1 in
-    let applied = one_step (host_schema Fresh own_checks) _ db written.0 (edit_of db (own_table own_checks) [] Chosen 0 given.0) refl written.1 in
-    let same : b.now.trees ≡ written.0 = ap (λ (d : Database). d.trees) now ∙ trees in
-    let exact = subst (λ all. Applies (host_schema Fresh own_checks) (mode_of a).keys db (edit_of db (own_table own_checks) [] Chosen 0 all) written.0) given.1.1 applied in
-    (ap (λ (d : Database). d.schema) now, subst (OwnIsSet own db) (sym same) (own_set db written.0 (mode_of a).keys own exact), w.sound)
+    let ran = subst (λ s. Does a.step_limit (mode_of a) given_params (record { schema = s; trees = db }) text None (Insert 0 (Values own_terms 4)) (Ok (w.tally, b.now))) has w.changed in
+    let done = inserted a.step_limit (mode_of a) given_params (host_schema Fresh own_checks) (own_table own_checks) 0 (Values own_terms 4) db w.tally b.now ran in
+    let applied = one_step (host_schema Fresh own_checks) _ db b.now.trees (edit_of db (own_table own_checks) [] Chosen 0 done.1) refl done.3 in
+    let exact = subst (λ all. Applies (host_schema Fresh own_checks) (mode_of a).keys db (edit_of db (own_table own_checks) [] Chosen 0 all) b.now.trees) done.2.1 applied in
+    (done.0, own_set db b.now.trees (mode_of a).keys own exact, w.sound)
 
 -- ---- before and after
 

@@ -31,9 +31,9 @@ use Rattle.hosts_statements.specs.Maps.{is_key_of, without_host, without_watches
 use Rattle.hosts_statements.specs.Own.{is_blob, is_host, is_watched, AreOwn}
 use Rattle.hosts_statements.specs.Tables.{Place, hosts_tree, hosts_at, host_tables, host_schema, hosts_table, watches_table, delete_host_text, delete_watch_text, delete_watches_text}
 use Rattle.hosts_statements.specs.Shown.{host_of, watch_of, number_at, shown_in_tables}
-use Rattle.hosts_statements.specs.Wrote.{HasOwnRow, IsWhole, Ran}
+use Rattle.hosts_statements.specs.Wrote.{IsWhole, Ran}
 use Rattle.hosts_statements.specs.declared.tables.Version.TheVariants.{Second}
-use Rattle.hosts_statements.proofs.Places.{IsSecond, second, whole_second, reads_tree, at_hosts, at_watches, on_table, one_change, Stays, stays, own_apart, watches_apart, catalog_apart, hosts_not_watches}
+use Rattle.hosts_statements.proofs.Places.{IsSecond, second, hosts_changed, watches_changed, whole_second, reads_tree, at_hosts, at_watches, on_table, one_change, Stays, stays, own_apart, watches_apart, catalog_apart, hosts_not_watches}
 use Rattle.hosts_statements.proofs.Monitor.{went, same_value}
 use Rattle.hosts_statements.proofs.OwnIds.{own_ids, own_filtered}
 use Rattle.hosts_statements.proofs.Gone.{AreOwnIds, deleted}
@@ -182,14 +182,7 @@ made_without_host name from to whole ran =
     let means = delete_host_is w.place w.checks in
     let it = did_at (host_schema w.place w.checks) delete_host_text (host_given name) _ from to w.tables tt means.0 means.1 ran in
     let done = does_delete_hosts w.place it.1 it.2 w.checks host_tests (host_given name) from.trees it.0 it.3 to w.hosts it.4 in
-    let after : IsSecond to = record {
-      place = w.place;
-      checks = w.checks;
-      tables = done.0;
-      own = subst (HasOwnRow 2) (sym done.1.own) w.own;
-      hosts = subst (AreOwn is_host) (sym done.1.rows) (own_filtered is_host _ (from.trees (hosts_tree w.place)) w.hosts);
-      watches = subst (AreOwn is_watched) (sym done.1.watches) w.watches;
-    } in
+    let after = hosts_changed w done.0 done.1.own done.1.watches (subst (AreOwn is_host) (sym done.1.rows) (own_filtered is_host _ (from.trees (hosts_tree w.place)) w.hosts)) in
     let shows = show_tables w.place w.checks from to done.0 it.5 done.1.listed w.own after.own in
     record { whole = whole_second to after; rows = shows.late ∙ left_hosts_show w.place name from.trees to.trees w.hosts done.1 ∙ ap (without_host name) (sym shows.early) }
 
@@ -199,14 +192,7 @@ module _ (mon : Option Bytes) (my : MyId) (params : Row) (tests : List Term) (ag
       → Rattle.sqlite.specs.Effect.IsDatabase to → Makes (without_watches mon my) from to
   made_left from to w text limit mode tally does sound =
       let done = does_delete_watches w.place limit mode w.checks tests params from.trees text tally to w.watches does in
-      let after : IsSecond to = record {
-        place = w.place;
-        checks = w.checks;
-        tables = done.0;
-        own = subst (HasOwnRow 2) (sym done.1.own) w.own;
-        hosts = subst (AreOwn is_host) (sym done.1.hosts) w.hosts;
-        watches = subst (AreOwn is_watched) (sym done.1.rows) (own_filtered is_watched _ (from.trees 3) w.watches);
-      } in
+      let after = watches_changed w done.0 done.1.own done.1.hosts (subst (AreOwn is_watched) (sym done.1.rows) (own_filtered is_watched _ (from.trees 3) w.watches)) in
       let shows = show_tables w.place w.checks from to done.0 sound done.1.listed w.own after.own in
       record { whole = whole_second to after; rows = shows.late ∙ left_watches_show w.place mon my (passes tests params) agrees from.trees to.trees w.watches done.1 ∙ ap (without_watches mon my) (sym shows.early) }
 

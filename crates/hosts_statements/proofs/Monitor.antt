@@ -7,6 +7,9 @@ use Rattle.sqlite_sql.specs.Term.{Term, lit, col}
 use Rattle.sqlite_sql.specs.Ops.{unary}
 use Rattle.sqlite_schema.specs.declared.schema.Keys.{Keys}
 use Rattle.sqlite_schema.specs.declared.schema.Kind.TheVariants.{Integer}
+use Rattle.sqlite_schema.specs.declared.schema.Schema.{Schema}
+use Rattle.sqlite_schema.specs.declared.schema.Table.{Table}
+use Rattle.sqlite_schema.specs.declared.command.Source.{Source}
 use Rattle.sqlite_schema.specs.declared.command.Source.TheVariants.{Values}
 use Rattle.sqlite_schema.specs.declared.command.Command.TheVariants.{Insert}
 use Rattle.sqlite_trees.specs.Tree.{Trees, put_row}
@@ -15,8 +18,9 @@ use Rattle.sqlite_rules.specs.Cast.{cast}
 use Rattle.sqlite_rules.specs.Edit.{Edit, edit_of, edited, next_rowid, is_taken, are_fresh, Applies}
 use Rattle.sqlite_rules.specs.declared.error.Rowids.TheVariants.{Chosen}
 use Rattle.sqlite.specs.declared.run.Mode.{Mode}
-use Rattle.sqlite.specs.Does.{Tally, Does}
-use Rattle.sqlite.specs.Rows.{Written}
+use Rattle.sqlite_rules.specs.Action.{Writes}
+use Rattle.sqlite.specs.Does.{Tally, Does, OnRows}
+use Rattle.sqlite.specs.Rows.{Written, Sourced, stamped}
 use Rattle.sqlite.specs.Effect.{Database}
 use Rattle.hosts_statements.specs.Tables.{Place, hosts_tree, hosts_at, hosts_table, host_schema}
 use Rattle.hosts_statements.specs.Maps.{Host}
@@ -59,6 +63,20 @@ went (inr on) = on
 pub same_value : {B E : Type 0} {a b : B} → ◌≡◌ {A = Result B E} (Ok a) (Ok b) → a ≡ b
 same_value e = cc
 
+-- an INSERT that went through is one edit of a table that has no AUTOINCREMENT
+pub inserted : (limit : Option ℕ) (mode : Mode) (params : Row) (schema : Schema) (t : Table) (at : ℕ) (from : Source) (db : Trees) (tally : Tally) (after : Database)
+    → OnRows (record { limit = limit; keys = mode.keys; schema = schema; table = record t { is_counted = false }; params = params }) mode None (Insert at from) db (Ok (tally, after))
+    → (after.schema ≡ schema) × (rows : List Row) × Sourced limit (record { schema = schema; trees = db }) (stamped (record t { is_counted = false }) params) from (Ok rows) × Writes schema mode.keys db (edit_of db (record t { is_counted = false }) [] Chosen 0 rows) (Ok after.trees)
+inserted limit mode params schema t at from db tally after ran =
+    let done = went ran in
+    let now = ap (λ (p : Tally × Database). p.1) (same_value (went (went done.2).2).2) in
+    let given = went done.1 in
+    let written = went (went given.2).2 in
+    let counted = went written.2 in
+    let trees : done.0.trees ≡ written.0 = ap (λ (it : Written). it.trees) (same_value counted.2) ∙ same_value counted.1 in
+    let same : after.trees ≡ written.0 = ap (λ (d : Database). d.trees) now ∙ trees in
+    (ap (λ (d : Database). d.schema) now, given.0, given.1, subst (λ trees. Writes schema mode.keys db (edit_of db (record t { is_counted = false }) [] Chosen 0 given.0) (Ok trees)) (sym same) written.1)
+
 pub untaken : (b : Bool) → (not b && true) ≡ true → b ≡ false
 untaken true h = absurd cc
 untaken false h = refl
@@ -93,13 +111,6 @@ pub does_monitor : (place : Place) (limit : Option ℕ) (mode : Mode) (checks : 
 does_monitor place limit mode checks name host db text tally after h =
     let tree = hosts_tree place in
     let ran = on_table limit mode (params name host) (record { schema = host_schema place checks; trees = db }) (hosts_at place) (hosts_table tree) (Insert (hosts_at place) (Values terms 5)) (Ok (tally, after)) (at_hosts place checks) h in
-    let done = went ran in
-    let now = ap (λ (p : Tally × Database). p.1) (same_value (went (went done.2).2).2) in
-    let given = went done.1 in
-    let written = went (went given.2).2 in
-    let counted = went written.2 in
-    let trees : done.0.trees ≡ written.0 = ap (λ (it : Written). it.trees) (same_value counted.2) ∙ same_value counted.1 in
-    let applied = one_change place checks _ db written.0 (edit_of db (hosts_table tree) [] Chosen 0 given.0) written.1 in
-    let same : after.trees ≡ written.0 = ap (λ (d : Database). d.trees) now ∙ trees in
-    let exact = subst (λ all. Applies (host_schema place checks) mode.keys db (edit_of db (hosts_table tree) [] Chosen 0 all) written.0) given.1.1 applied in
-    (ap (λ (d : Database). d.schema) now, subst (Grown place (stored (Int (next_rowid (db tree))) name host) db) (sym same) (grown place checks mode.keys db written.0 name host exact))
+    let done = inserted limit mode (params name host) (host_schema place checks) (hosts_table tree) (hosts_at place) (Values terms 5) db tally after ran in
+    let applied = one_change place checks _ db after.trees (edit_of db (hosts_table tree) [] Chosen 0 done.1) done.3 in
+    (done.0, grown place checks mode.keys db after.trees name host (subst (λ all. Applies (host_schema place checks) mode.keys db (edit_of db (hosts_table tree) [] Chosen 0 all) after.trees) done.2.1 applied))

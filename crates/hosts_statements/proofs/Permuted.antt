@@ -8,10 +8,10 @@ use Rattle.std.specs.List.Sorted.{IsPermutation}
 use Rattle.std.proofs.lemmas.List.Sorted.{Contains-permutation, IsPermutation-map, list_any-IsPermutation}
 use Rattle.std.specs.FinMap.{FinMap, IsAntisymmetric, find, empty, from_entries, get-from_entries, same_map, from_entries_push}
 use Rattle.std.specs.FinMap.Entries.{is_some-find, find-append}
-use Rattle.hosts_statements.proofs.PutLemmas.{missed, missed_later}
 use Rattle.definitions.proofs.Lists.{none_from_is_some}
 use Rattle.sqlite_value.specs.Order.{Row}
 use Rattle.hosts_statements.specs.Reading.{AreApart, KeepsAll}
+use Rattle.hosts_statements.proofs.PutLemmas.{missed, missed_later}
 
 same_some : {X : Type 0} (x y : X) → ◌≡◌ {A = Option X} (Some x) (Some y) → x ≡ y
 same_some x y e = cc

@@ -47,6 +47,14 @@ whole_second d s =
     let checks : checks_in d.schema.tables ≡ s.checks = ap (λ schema. checks_in schema.tables) s.tables ∙ checks_are s.place s.checks in
     ((s.tables ∙ (λ i. host_schema (sym place i) (sym checks i)), s.own), (subst (λ p. AreOwn is_host (d.trees (hosts_tree p))) (sym place) s.hosts, s.watches))
 
+-- the tables after a change of the rows of one of them
+module _ {from to : Database} (w : IsSecond from) (tables : to.schema ≡ host_schema w.place w.checks) (own : to.trees 0 ≡ from.trees 0) where
+  pub hosts_changed : to.trees 3 ≡ from.trees 3 → AreOwn is_host (to.trees (hosts_tree w.place)) → IsSecond to
+  hosts_changed same changed = record { place = w.place; checks = w.checks; tables = tables; own = subst (HasOwnRow 2) (sym own) w.own; hosts = changed; watches = subst (AreOwn is_watched) (sym same) w.watches }
+
+  pub watches_changed : to.trees (hosts_tree w.place) ≡ from.trees (hosts_tree w.place) → AreOwn is_watched (to.trees 3) → IsSecond to
+  watches_changed same changed = record { place = w.place; checks = w.checks; tables = tables; own = subst (HasOwnRow 2) (sym own) w.own; hosts = subst (AreOwn is_host) (sym same) w.hosts; watches = changed }
+
 -- ---- the trees differ
 
 pub own_apart : (place : Place) → 0 ≢ hosts_tree place

@@ -26,7 +26,7 @@ use Rattle.hosts_statements.specs.Tables.{Place, Fresh, Upgraded, hosts_tree, ho
 use Rattle.hosts_statements.specs.Shown.{host_of, watch_of, number_at, shown, shown_if_listed, shown_in_tables, shown_in_first}
 use Rattle.hosts_statements.specs.Wrote.{own_shown, HasOwnRow, IsWhole, IsRowWrite, Ran}
 use Rattle.hosts_statements.specs.declared.tables.Version.TheVariants.{Second}
-use Rattle.hosts_statements.proofs.Places.{IsSecond, second, whole_second}
+use Rattle.hosts_statements.proofs.Places.{second, hosts_changed, watches_changed, whole_second}
 use Rattle.hosts_statements.proofs.OwnIds.{own_put}
 use Rattle.hosts_statements.proofs.Texts.{monitor_is, monitor_plain, watch_is, watch_plain}
 use Rattle.hosts_statements.proofs.PutLemmas.{put_is_insert}
@@ -103,14 +103,7 @@ made_host name host from to whole none ran =
     let tree = hosts_tree w.place in
     let it = did_at (host_schema w.place w.checks) monitor_text (params name host) (Insert (hosts_at w.place) (Values terms 5)) from to w.tables tt (monitor_is w.place w.checks) (monitor_plain w.place w.checks) ran in
     let done = does_monitor w.place it.1 it.2 w.checks name host from.trees it.0 it.3 to it.4 in
-    let after : IsSecond to = record {
-      place = w.place;
-      checks = w.checks;
-      tables = done.0;
-      own = subst (HasOwnRow 2) (sym done.1.own) w.own;
-      hosts = subst (AreOwn is_host) (sym done.1.rows) (own_put is_host _ (from.trees tree) refl done.1.fresh w.hosts);
-      watches = subst (AreOwn is_watched) (sym done.1.watches) w.watches;
-    } in
+    let after = hosts_changed w done.0 done.1.own done.1.watches (subst (AreOwn is_host) (sym done.1.rows) (own_put is_host _ (from.trees tree) refl done.1.fresh w.hosts)) in
     let shows = show_tables w.place w.checks from to done.0 it.5 done.1.listed w.own after.own in
     let none_early = subst (λ (r : Rows). get r.hosts name ≡ None) shows.early none in
     record { whole = whole_second to after; rows = shows.late ∙ grown_shows w.place name host _ from.trees to.trees done.1 refl none_early ∙ ap (with_host name host) (sym shows.early) }
@@ -120,14 +113,7 @@ made_watch k private from to whole none ran =
     let w = second from whole in
     let it = did_at (host_schema w.place w.checks) watch_text (watch_params k private) (Insert 2 (Values watch_terms 7)) from to w.tables tt (watch_is w.place w.checks) (watch_plain w.place w.checks) ran in
     let done = does_watch w.place it.1 it.2 w.checks k private from.trees it.0 it.3 to it.4 in
-    let after : IsSecond to = record {
-      place = w.place;
-      checks = w.checks;
-      tables = done.0;
-      own = subst (HasOwnRow 2) (sym done.1.own) w.own;
-      hosts = subst (AreOwn is_host) (sym done.1.hosts) w.hosts;
-      watches = subst (AreOwn is_watched) (sym done.1.rows) (own_put is_watched _ (from.trees 3) refl done.1.fresh w.watches);
-    } in
+    let after = watches_changed w done.0 done.1.own done.1.hosts (subst (AreOwn is_watched) (sym done.1.rows) (own_put is_watched _ (from.trees 3) refl done.1.fresh w.watches)) in
     let shows = show_tables w.place w.checks from to done.0 it.5 done.1.listed w.own after.own in
     let none_early = subst (λ (r : Rows). get r.watches k ≡ None) shows.early none in
     record { whole = whole_second to after; rows = shows.late ∙ grown_watches w.place k private _ from.trees to.trees done.1 refl none_early ∙ ap (with_watch k private) (sym shows.early) }

@@ -17,7 +17,6 @@ use Rattle.sqlite_rules.specs.Edit.{Edit, edit_of, edited, next_rowid, is_taken,
 use Rattle.sqlite_rules.specs.declared.error.Rowids.TheVariants.{Chosen}
 use Rattle.sqlite.specs.declared.run.Mode.{Mode}
 use Rattle.sqlite.specs.Does.{Tally, Does}
-use Rattle.sqlite.specs.Rows.{Written}
 use Rattle.sqlite.specs.Effect.{Database}
 use Rattle.hosts_statements.specs.Maps.{WatchKey, key_cmp, with_watch}
 use Rattle.definitions.specs.Nsm.{MyId}
@@ -25,7 +24,7 @@ use Rattle.hosts_statements.specs.Tables.{Place, hosts_tree, watches_table, host
 use Rattle.hosts_statements.specs.Shown.{host_of, watch_of, number_at, shown_in_tables}
 use Rattle.hosts_statements.proofs.Places.{at_watches, on_table, one_change, stays, hosts_not_watches}
 use Rattle.hosts_statements.proofs.PutLemmas.{put_is_insert}
-use Rattle.hosts_statements.proofs.Monitor.{cast_null, cast_number, went, same_value, untaken}
+use Rattle.hosts_statements.proofs.Monitor.{cast_null, cast_number, inserted, untaken}
 
 abbrev as_pair : WatchKey → List ℕ × (List ℕ × (ℤ × (ℤ × ℤ)))
 as_pair k = (k.mon, (k.my.my_name, (k.my.prog, (k.my.vers, k.my.proc))))
@@ -86,16 +85,9 @@ pub does_watch : (place : Place) (limit : Option ℕ) (mode : Mode) (checks : Li
     → (after.schema ≡ host_schema place checks) × GrownWatches place (watch_row (Int (next_rowid (db 3))) k private) db after.trees
 does_watch place limit mode checks k private db text tally after h =
     let ran = on_table limit mode (watch_params k private) (record { schema = host_schema place checks; trees = db }) 2 (watches_table 3) (Insert 2 (Values watch_terms 7)) (Ok (tally, after)) (at_watches place checks) h in
-    let done = went ran in
-    let now = ap (λ (p : Tally × Database). p.1) (same_value (went (went done.2).2).2) in
-    let given = went done.1 in
-    let written = went (went given.2).2 in
-    let counted = went written.2 in
-    let trees : done.0.trees ≡ written.0 = ap (λ (it : Written). it.trees) (same_value counted.2) ∙ same_value counted.1 in
-    let applied = one_change place checks _ db written.0 (edit_of db (watches_table 3) [] Chosen 0 given.0) written.1 in
-    let same : after.trees ≡ written.0 = ap (λ (d : Database). d.trees) now ∙ trees in
-    let exact = subst (λ all. Applies (host_schema place checks) mode.keys db (edit_of db (watches_table 3) [] Chosen 0 all) written.0) given.1.1 applied in
-    (ap (λ (d : Database). d.schema) now, subst (GrownWatches place (watch_row (Int (next_rowid (db 3))) k private) db) (sym same) (grown place checks mode.keys db written.0 k private exact))
+    let done = inserted limit mode (watch_params k private) (host_schema place checks) (watches_table 3) 2 (Values watch_terms 7) db tally after ran in
+    let applied = one_change place checks _ db after.trees (edit_of db (watches_table 3) [] Chosen 0 done.1) done.3 in
+    (done.0, grown place checks mode.keys db after.trees k private (subst (λ all. Applies (host_schema place checks) mode.keys db (edit_of db (watches_table 3) [] Chosen 0 all) after.trees) done.2.1 applied))
 
 -- one more row is one more watch
 pub grown_watches : (place : Place) (k : WatchKey) (private : List ℕ) (row : Row) (old new : Trees) → GrownWatches place row old new → watch_of row ≡ (k, private)

@@ -1,6 +1,7 @@
 //! Statements that are run in one transaction.
 ghost use Rattle.std.specs.Prelude.{◌≡◌, IsTrue, OnOk, OnErr};
 ghost use Rattle.sqlite.specs.Values.{bound};
+ghost use Rattle.sqlite.specs.Effect.{Database};
 ghost use Rattle.sqlite.specs.State.{HasCleanDisk, KeepsCommit, Survives};
 ghost use Rattle.sqlite.specs.Held.{state};
 ghost use Rattle.hosts_statements.specs.Wrote.{Committed, MayWork, Ran, RanThree, RanTwo, WorksInside};
@@ -8,34 +9,56 @@ ghost use Rattle.hosts_statements.specs.Wrote.{Committed, MayWork, Ran, RanThree
 use sqlite::types::ValueRef;
 use sqlite::{Alter, Connection, Error, ErrorCode, Transaction};
 
-fn do_one<S: Alter>(
-    tx: &mut Transaction<'_, S>,
-    sql: &str,
-    params: &[ValueRef<'_>],
-) -> Result<(), Error>
-    ensures same_reference { tx.new.conn.ghost_name ≡ tx.old.conn.ghost_name }
-    ensures ok { WorksInside result (Ran sql.now (bound params.now)) (state S.Store tx.old.conn.now) (state S.Store tx.new.conn.now) }
-    ensures err { HasCleanDisk (state S.Store tx.new.conn.now) → IsTrue (state S.Store tx.old.conn.now).in_transaction → OnErr result (KeepsCommit (state S.Store tx.old.conn.now) (state S.Store tx.new.conn.now)) }
-    ensures survives { Survives (state S.Store tx.old.conn.now) (state S.Store tx.new.conn.now) (λ _. ⊥) }
-{
-    tx.execute(sql, params)?;
-    Ok(())
+/// What one transaction does. Where it fails, the last commit stays.
+pub(crate) trait Work {
+    ghost works: { Self → Database → Database → Type 0 };
+
+    fn run<S: Alter>(&self, tx: &mut Transaction<'_, S>) -> Result<(), Error>
+        ensures same_reference { tx.new.conn.ghost_name ≡ tx.old.conn.ghost_name }
+        ensures ok { WorksInside result (works self.now) (state S.Store tx.old.conn.now) (state S.Store tx.new.conn.now) }
+        ensures err { HasCleanDisk (state S.Store tx.new.conn.now) → IsTrue (state S.Store tx.old.conn.now).in_transaction → OnErr result (KeepsCommit (state S.Store tx.old.conn.now) (state S.Store tx.new.conn.now)) }
+        ensures survives { Survives (state S.Store tx.old.conn.now) (state S.Store tx.new.conn.now) (λ _. ⊥) };
 }
 
-fn do_two<S: Alter>(
-    tx: &mut Transaction<'_, S>,
-    first: &str,
-    given: &[ValueRef<'_>],
-    second: &str,
-    more: &[ValueRef<'_>],
-) -> Result<(), Error>
-    ensures same_reference { tx.new.conn.ghost_name ≡ tx.old.conn.ghost_name }
-    ensures ok { WorksInside result (RanTwo first.now (bound given.now) second.now (bound more.now)) (state S.Store tx.old.conn.now) (state S.Store tx.new.conn.now) }
-    ensures err { HasCleanDisk (state S.Store tx.new.conn.now) → IsTrue (state S.Store tx.old.conn.now).in_transaction → OnErr result (KeepsCommit (state S.Store tx.old.conn.now) (state S.Store tx.new.conn.now)) }
-    ensures survives { Survives (state S.Store tx.old.conn.now) (state S.Store tx.new.conn.now) (λ _. ⊥) }
+/// One statement, and its parameters.
+#[derive(Clone, Copy)]
+pub(crate) struct One<'a>(pub(crate) &'a str, pub(crate) &'a [ValueRef<'a>]);
+
+impl Work for One<'_> {
+    ghost works = { λ one. Ran one.0.now (bound one.1.now) };
+
+    fn run<S: Alter>(&self, tx: &mut Transaction<'_, S>) -> Result<(), Error> {
+        tx.execute(self.0, self.1)?;
+        Ok(())
+    }
+}
+
+/// One work behind the other.
+#[derive(Clone, Copy)]
+pub(crate) struct Then<A, B>(pub(crate) A, pub(crate) B);
+
+impl<A: Work, B: Work> Work for Then<A, B> {
+    ghost works = { λ then from to. (mid : Database) × A.works then.0 from mid × B.works then.1 mid to };
+
+    fn run<S: Alter>(&self, tx: &mut Transaction<'_, S>) -> Result<(), Error> {
+        self.0.run(tx)?;
+        self.1.run(tx)
+    }
+}
+
+/// Does this work in a transaction of its own.
+pub(crate) fn transact<S: Alter, W: Work>(conn: &mut Connection<S>, work: &W) -> Result<(), Error>
+    ensures ok { HasCleanDisk (state S.Store conn.new) → OnOk result (Committed (W.works work.now) (state S.Store conn.old) (state S.Store conn.new)) }
+    ensures err { HasCleanDisk (state S.Store conn.new) → OnErr result (KeepsCommit (state S.Store conn.old) (state S.Store conn.new)) }
+    ensures crash { Survives (state S.Store conn.old) (state S.Store conn.new) (MayWork (W.works work.now) (state S.Store conn.old)) }
 {
-    do_one(tx, first, given)?;
-    do_one(tx, second, more)
+    if !conn.is_autocommit() {
+        return Err(Error::SqliteFailure(ErrorCode::TransactionState));
+    }
+    let mut tx = conn.transaction();
+    work.run(&mut tx)?;
+    tx.commit()?;
+    Ok(())
 }
 
 /// Runs three statements in a transaction that is open.
@@ -53,8 +76,7 @@ pub fn do_three<S: Alter>(
     ensures err { HasCleanDisk (state S.Store tx.new.conn.now) → IsTrue (state S.Store tx.old.conn.now).in_transaction → OnErr result (KeepsCommit (state S.Store tx.old.conn.now) (state S.Store tx.new.conn.now)) }
     ensures survives { Survives (state S.Store tx.old.conn.now) (state S.Store tx.new.conn.now) (λ _. ⊥) }
 {
-    do_two(tx, first, given, second, more)?;
-    do_one(tx, third, last)
+    Then(Then(One(first, given), One(second, more)), One(third, last)).run(tx)
 }
 
 /// Runs a statement, in a transaction of its own.
@@ -67,13 +89,7 @@ pub(crate) fn run_one<S: Alter>(
     ensures err { HasCleanDisk (state S.Store conn.new) → OnErr result (KeepsCommit (state S.Store conn.old) (state S.Store conn.new)) }
     ensures crash { Survives (state S.Store conn.old) (state S.Store conn.new) (MayWork (Ran sql.now (bound params.now)) (state S.Store conn.old)) }
 {
-    if !conn.is_autocommit() {
-        return Err(Error::SqliteFailure(ErrorCode::TransactionState));
-    }
-    let mut tx = conn.transaction();
-    do_one(&mut tx, sql, params)?;
-    tx.commit()?;
-    Ok(())
+    transact(conn, &One(sql, params))
 }
 
 /// Runs two statements in one transaction.
@@ -88,34 +104,5 @@ pub(crate) fn run_two<S: Alter>(
     ensures err { HasCleanDisk (state S.Store conn.new) → OnErr result (KeepsCommit (state S.Store conn.old) (state S.Store conn.new)) }
     ensures crash { Survives (state S.Store conn.old) (state S.Store conn.new) (MayWork (RanTwo first.now (bound given.now) second.now (bound more.now)) (state S.Store conn.old)) }
 {
-    if !conn.is_autocommit() {
-        return Err(Error::SqliteFailure(ErrorCode::TransactionState));
-    }
-    let mut tx = conn.transaction();
-    do_two(&mut tx, first, given, second, more)?;
-    tx.commit()?;
-    Ok(())
-}
-
-/// Runs three statements in one transaction.
-pub(crate) fn run_three<S: Alter>(
-    conn: &mut Connection<S>,
-    first: &str,
-    given: &[ValueRef<'_>],
-    second: &str,
-    more: &[ValueRef<'_>],
-    third: &str,
-    last: &[ValueRef<'_>],
-) -> Result<(), Error>
-    ensures ok { HasCleanDisk (state S.Store conn.new) → OnOk result (Committed (RanThree first.now (bound given.now) second.now (bound more.now) third.now (bound last.now)) (state S.Store conn.old) (state S.Store conn.new)) }
-    ensures err { HasCleanDisk (state S.Store conn.new) → OnErr result (KeepsCommit (state S.Store conn.old) (state S.Store conn.new)) }
-    ensures crash { Survives (state S.Store conn.old) (state S.Store conn.new) (MayWork (RanThree first.now (bound given.now) second.now (bound more.now) third.now (bound last.now)) (state S.Store conn.old)) }
-{
-    if !conn.is_autocommit() {
-        return Err(Error::SqliteFailure(ErrorCode::TransactionState));
-    }
-    let mut tx = conn.transaction();
-    do_three(&mut tx, first, given, second, more, third, last)?;
-    tx.commit()?;
-    Ok(())
+    transact(conn, &Then(One(first, given), One(second, more)))
 }

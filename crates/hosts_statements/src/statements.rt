@@ -9,7 +9,7 @@ ghost use Rattle.hosts_statements.specs.Tables.{no_schema};
 ghost use Rattle.hosts_statements.specs.Wrote.{HasMade, HasTables, IsFresh, MayWriteHosts, WroteHosts, hosts_in};
 ghost use Rattle.hosts_statements.specs.declared.tables.Version.TheVariants.{Second};
 
-use crate::running::{run_one, run_three, run_two};
+use crate::running::{One, Then, run_one, run_two, transact};
 use hosts_db::MyId;
 use sqlite::{Alter, Connection, Error, ErrorCode, Transaction, params};
 
@@ -106,15 +106,19 @@ pub fn put_host_and_watch<S: Alter>(
 {
     let my = my_id.my_name();
     let (prog, vers, proc) = (my_id.prog(), my_id.vers(), my_id.proc());
-    run_three(
-        conn,
+    let host = One(
         "INSERT INTO hosts2 (name, epoch, seen, quota) VALUES (?1, ?2, ?3, ?4)",
         params![mon, epoch, 0i32, 65_536u32],
+    );
+    let none = One(
         "DELETE FROM watches WHERE mon = ?1 AND my = ?2 AND prog = ?3 AND vers = ?4 AND proc = ?5",
         params![mon, my, prog, vers, proc],
+    );
+    let watch = One(
         "INSERT INTO watches (mon, my, prog, vers, proc, priv) VALUES (?1, ?2, ?3, ?4, ?5, ?6)",
         params![mon, my, prog, vers, proc, private.as_slice()],
-    )
+    );
+    transact(conn, &Then(Then(host, none), watch))
 }
 
 /// Takes out the watch of a host by a watcher.

@@ -19,7 +19,7 @@ returns g c =
     let key : WatchKey = record { mon = c.args.mon.now; my = c.args.my_id.now } in
     let private = c.args.private.now in
     let host = made_now c.args.epoch (pos 0) in
-    let ran : CommitsWork (RanThree monitor_text (params key.mon host) delete_watch_text (watch_given key.mon key.my) watch_text (watch_params key private)) old (state g.S.Store c.run_three.new.conn) c.run_three.result = rw (c.params-to_sql.ensures, c.params-to_sql-2.ensures, c.params-to_sql-3.ensures, c.params-to_sql-4.ensures, c.params-to_sql-5.ensures, c.params-to_sql-6.ensures, c.params-to_sql-7.ensures, c.params-to_sql-8.ensures, c.params-to_sql-9.ensures, c.params-to_sql-10.ensures, c.params-to_sql-11.ensures, c.params-to_sql-12.ensures, c.params-to_sql-13.ensures, c.params-to_sql-14.ensures, c.params-to_sql-15.ensures, to_z-of_z w32 c.prog-prog.result (record { sfits = c.prog-prog.type_inv }), to_z-of_z w32 c.vers-vers.result (record { sfits = c.vers-vers.type_inv }), to_z-of_z w32 c.proc-proc.result (record { sfits = c.proc-proc.type_inv }), c.my_name-my.ensures.value, c.prog-prog.ensures, c.vers-vers.ensures, c.proc-proc.ensures, c.as_slice.ensures) at (commits_work c.run_three.result c.run_three.ensures.ok c.run_three.ensures.crash) in
+    let ran : CommitsWork (RanThree monitor_text (params key.mon host) delete_watch_text (watch_given key.mon key.my) watch_text (watch_params key private)) old (state g.S.Store c.transact.new.conn) c.transact.result = rw (c.params-to_sql.ensures, c.params-to_sql-2.ensures, c.params-to_sql-3.ensures, c.params-to_sql-4.ensures, c.params-to_sql-5.ensures, c.params-to_sql-6.ensures, c.params-to_sql-7.ensures, c.params-to_sql-8.ensures, c.params-to_sql-9.ensures, c.params-to_sql-10.ensures, c.params-to_sql-11.ensures, c.params-to_sql-12.ensures, c.params-to_sql-13.ensures, c.params-to_sql-14.ensures, c.params-to_sql-15.ensures, to_z-of_z w32 c.prog-prog.result (record { sfits = c.prog-prog.type_inv }), to_z-of_z w32 c.vers-vers.result (record { sfits = c.vers-vers.type_inv }), to_z-of_z w32 c.proc-proc.result (record { sfits = c.proc-proc.type_inv }), c.my_name-my.ensures.value, c.prog-prog.ensures, c.vers-vers.ensures, c.proc-proc.ensures, c.as_slice.ensures) at (commits_work c.transact.result c.transact.ensures.ok c.transact.ensures.crash) in
     let wrote = hosts_by_work (λ r. with_watch key private (without_watches (Some key.mon) key.my (with_host key.mon host r))) (λ (h : Hosts). after_store h (Watched key.mon key.my private)) (λ clean is_open to work.
     let none = c.requires.new clean is_open in
     (host_and_watch_put host key private old.committed to (c.requires.tables clean is_open) (no_host (rows_in old).hosts key.mon none) work, host_and_watch_listed (rows_in old) key private c.args.epoch (c.requires.own clean is_open) none)) ran in

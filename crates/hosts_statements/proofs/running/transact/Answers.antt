@@ -1,15 +1,13 @@
 use Rattle.std.proofs.Common.{◌≡◌, rules, IsTrue}
-use Rattle.sqlite.specs.Values.{bound}
-use Rattle.hosts_statements.specs.Wrote.{RanTwo}
 use Rattle.hosts_statements.proofs.Transactions.{Transacts, transacts, work_committed, work_survives, work_undone}
-use Rattle.hosts_statements.proofs.running.run_two.Goals as goal
-use Rattle.hosts_statements.proofs.running.run_two.Goals.{After-branch-commit}
+use Rattle.hosts_statements.proofs.running.transact.Goals as goal
+use Rattle.hosts_statements.proofs.running.transact.Goals.{After-branch-commit}
 
-transaction : (g : _) (c : After-branch-commit g) → Transacts g.S.Store (RanTwo c.args.first.now (bound c.args.given.now) c.args.second.now (bound c.args.more.now)) c.args.conn.now c.do_two.new.tx.conn.now c.commit.new.self.0 c.conn-2-1.given.0
+transaction : (g : _) (c : After-branch-commit g) → Transacts g.S.Store (g.W.Work.works c.args.work.now) c.args.conn.now c.run.new.tx.conn.now c.commit.new.self.0 c.conn-2-1.given.0
 transaction g c =
     let auto : IsTrue c.is_autocommit.result = search rules in
     let same : c.commit.new.self.0 ≡ c.conn-2-1.given.0 = search rules in
-    transacts c.transaction-tx.ensures.begun (c.is_autocommit.ensures.settled auto) c.in_ok-do_two.ensures.ok c.do_two.ensures.survives c.commit.ensures.survives same
+    transacts c.transaction-tx.ensures.begun (c.is_autocommit.ensures.settled auto) c.in_ok-run.ensures.ok c.run.ensures.survives c.commit.ensures.survives same
 
 pub returns-clause-ok : goal.returns-clause-ok
 returns-clause-ok g c clean = work_committed (transaction g (goal.at.returns-clause-ok g c).After-branch-commit) clean (λ late. (c.in_ok-commit.ensures.ok late).1)
