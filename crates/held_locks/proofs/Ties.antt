@@ -28,7 +28,7 @@ use Rattle.held_locks.specs.declared.asked.NewSetting.{NewSetting}
 use Rattle.held_locks.specs.Asked.{changed, change_by_number}
 use Rattle.range_owners.proofs.Counting.{used_is, of_host}
 use Rattle.range_owners.proofs.Released.{nothing_used, release_test}
-use Rattle.held_locks.specs.Tied.{IsTied, AreCounts}
+use Rattle.held_locks.specs.Tied.{IsTied, AreCounts, Spares, WereCounted}
 
 nothing_at : {X : Type 0} (d : X) (n : ℕ) → slice_index_or [] n d ≡ d
 nothing_at d n = get_or-eq_default [] d {n = n} (omega arith)
@@ -48,10 +48,6 @@ tied_nothing = record {
 }
 
 -- ---- counts
-
--- what the others hold stays
-abbrev pub Spares : ℕ → Held → Held → Type 0
-Spares n held after = (file : File) (k byte : ℕ) → (k == n) ≡ false → after file k byte ≡ held file k byte
 
 module _ (held after : Held) (n all left one : ℕ) (spares : Spares n held after) (u : IsUsed held all) (v : IsUsed after left) (c : IsUsed (held_by (λ k. k == n) held) one) where
   abbrev rest : ℕ
@@ -103,15 +99,29 @@ module _ (ns others : List NumberSetting) (counts : List ℕ) (n all left : ℕ)
       (IsUsed-same (held_by (λ j. j == k) (mode_at ns)) (held_by (λ j. j == k) (mode_at others)) (slice_index_or counts k 0)
       (λ file j byte. by_test (j == k) (λ q. rw q (sym (spares file j byte (ap (λ z. z == n) (number_is j k q) ∙ t)))) (λ q. rw q refl)) (c k)))
 
+-- where one number alone has changed
+module _ (n : ℕ) (counts : List ℕ) (all left : ℕ) (others : List NumberSetting) (w : WereCounted n counts all others) (v : IsUsed (mode_at others) left) where
+  pub part_counted : slice_index_or counts n 0 ≤ all
+  part_counted = part_of_all (mode_at w.before) (mode_at others) n all left (slice_index_or counts n 0) w.spares w.used v (w.counted n)
+
+  pub rest_counted : all - slice_index_or counts n 0 ≤ left
+  rest_counted = rest_of_left (mode_at w.before) (mode_at others) n all left (slice_index_or counts n 0) w.spares w.used v (w.counted n)
+
+  pub counts_recounted : n < length counts → AreCounts others (slice_set counts n (left - (all - slice_index_or counts n 0)))
+  counts_recounted place = counts_after w.before others counts n all left w.spares w.used v w.counted place
+
 -- a setting of a number spares the others
-pub set_spares : (ns : List NumberSetting) (s : NumberSetting) → Spares s.owner (mode_at ns) (mode_at (ns ++ s ∷ []))
-set_spares ns s file k byte o =
-    mode_at-append ns s file k byte
+pub set_spares : (ns left : List NumberSetting) (s : NumberSetting) → left ≡ ns ++ s ∷ [] → Spares s.owner (mode_at ns) (mode_at left)
+set_spares ns left s e file k byte o =
+    ap (λ l. mode_at l file k byte) e
+    ∙ mode_at-append ns s file k byte
     ∙ by_test (covers_number s file k byte) (λ t. let i = covers_owner s file k byte t in absurd (number_other k s.owner o (sym i))) (λ t. rw t refl)
 
 -- and so does a drop of a number on a file
-pub drop_spares : (ns : List NumberSetting) (on : File) (n : ℕ) → Spares n (mode_at ns) (mode_at (filter (λ s. not (is_by on n s)) ns))
-drop_spares ns on n file k byte o = mode_at-filter (λ file j. same_file file on && (j == n)) ns file k byte ∙ ap (λ b. cond b None (mode_at ns file k byte)) (and_right (same_file file on) (k == n) o)
+pub drop_spares : (ns left : List NumberSetting) (on : File) (n : ℕ) → left ≡ filter (λ s. not (is_by on n s)) ns → Spares n (mode_at ns) (mode_at left)
+drop_spares ns left on n e file k byte o =
+    ap (λ l. mode_at l file k byte) e
+    ∙ mode_at-filter (λ file j. same_file file on && (j == n)) ns file k byte ∙ ap (λ b. cond b None (mode_at ns file k byte)) (and_right (same_file file on) (k == n) o)
 
 -- ---- an owner without a number
 

@@ -24,6 +24,10 @@ setting_by x r = record { file = r.file; owner = x; first = r.first; last = r.la
 abbrev pub shown : Holder → Run
 shown h = record { file = h.file; owner = view_of_owner h.owner.now; first = h.first; last = h.last; mode = view_of_mode h.mode }
 
+-- the same of a run by number
+abbrev pub shown_by : Owner → NumberRun → Run
+shown_by x r = record { file = r.file; owner = x; first = r.first; last = r.last; mode = view_of_mode r.mode }
+
 abbrev pub shown_found : Option Holder → Option Run
 shown_found None = None
 shown_found (Some h) = Some (shown h)

@@ -1,11 +1,12 @@
 -- What a table holds by number, how many runs each number has, and whom each number names, beside the settings of owners.
-use Rattle.std.specs.Prelude.{ℕ, ◌≡◌, ◌<◌, ◌≤◌, ◌==◌, true, List, Option, Some, length, slice_index_or}
+use Rattle.std.specs.Prelude.{ℕ, ◌≡◌, ◌<◌, ◌≤◌, ◌==◌, true, false, List, Option, Some, length, slice_index_or}
 use Rattle.definitions.specs.Bytes.{Bytes}
 use Rattle.definitions.specs.Owners.{Owner}
 use Rattle.definitions.specs.Settings.{Setting}
 use Rattle.range_table.specs.declared.run.Setting.{Setting as NumberSetting}
 use Rattle.definitions.specs.Starts.{used_of}
 use Rattle.host_runs.specs.HostRuns.{Counted, runs_of, IsRecounted}
+use Rattle.range_table.specs.File.{File}
 use Rattle.range_table.specs.Settings.{Held, mode_at, held_by, IsUsed}
 use Rattle.owner_ids.specs.Names.{named}
 use Rattle.range_owners.specs.Stands.{Stands}
@@ -13,6 +14,17 @@ use Rattle.range_owners.specs.Stands.{Stands}
 -- how many runs each number has
 abbrev pub AreCounts : List NumberSetting → List ℕ → Type 0
 AreCounts ns counts = (n : ℕ) → IsUsed (held_by (λ k. k == n) (mode_at ns)) (slice_index_or counts n 0)
+
+-- what the other numbers hold stays
+abbrev pub Spares : ℕ → Held → Held → Type 0
+Spares n held after = (file : File) (k byte : ℕ) → (k == n) ≡ false → after file k byte ≡ held file k byte
+
+-- each number had so many runs, and all had so many, before one number alone changed what it holds
+pub record WereCounted (n : ℕ) (counts : List ℕ) (all : ℕ) (after : List NumberSetting) : Type 0 where
+  pub before : List NumberSetting
+  pub counted : AreCounts before counts
+  pub used : IsUsed (mode_at before) all
+  pub spares : Spares n (mode_at before) (mode_at after)
 
 pub record IsTied (ns : List NumberSetting) (counts : List ℕ) (names : List (Option Owner)) (settings : List Setting) : Type 0 where
   pub stands : Stands (named names) (mode_at ns) settings

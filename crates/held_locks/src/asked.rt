@@ -56,6 +56,24 @@ impl<'a> Request<'a> {
     }
 }
 
+impl<'a> Holder<'a> {
+    ghost use Rattle.held_locks.specs.Asked.{shown, shown_by};
+    ghost use Rattle.owner_ids.specs.Said.{view_of_owner};
+
+    /// Of a run, and the owner of its number.
+    pub(crate) fn of(run: &Run, owner: &'a Owner) -> Holder<'a>
+        ensures { shown result ≡ shown_by (view_of_owner owner.now) run.now }
+    {
+        Holder {
+            file: run.file,
+            owner,
+            first: run.first,
+            last: run.last,
+            mode: run.mode,
+        }
+    }
+}
+
 impl Request<'_> {
     ghost use Rattle.held_locks.specs.Asked.{run_by_number};
 

@@ -3,10 +3,10 @@ ghost use Rattle.std.specs.Prelude.{◌≡◌, ◌<◌, ◌≤◌, ◌↔◌, �
 ghost use Rattle.std.specs.List.{filter};
 ghost use Rattle.definitions.specs.Owners.{Owner as SaidOwner};
 ghost use Rattle.owner_ids.specs.Names.{named, is_owned_by};
-ghost use Rattle.range_table.specs.Settings.{IsRefused, mode_at, is_by};
+ghost use Rattle.range_table.specs.Settings.{Held, IsRefused, IsUsed, mode_at, is_by};
 ghost use Rattle.held_locks.specs.Asked.{change_by_number};
 ghost use Rattle.owner_ids.specs.Said.{view_of_owner};
-ghost use Rattle.held_locks.specs.Tied.{AreCounts, IsCountedAnew};
+ghost use Rattle.held_locks.specs.Tied.{AreCounts, IsCountedAnew, WereCounted};
 
 use crate::asked::NewSetting;
 use host_runs::HostRuns;
@@ -39,6 +39,26 @@ fn recount(counts: &mut Vec<u32>, number: OwnerId, before: u32, after: u32)
     counts[number as usize] = after - others;
 }
 
+// Counts the runs of an owner who alone has changed, and its host's, where there were so many in all.
+fn count_anew<R: RangeTable>(
+    table: &R,
+    counts: &mut Vec<u32>,
+    hosts: &mut HostRuns,
+    number: OwnerId,
+    owner: &Owner,
+    before: u32,
+)
+    requires place { number < length counts.old.items }
+    requires counted { WereCounted number counts.old.items before (R.settings table.now) }
+    ensures counted { AreCounts (R.settings table.now) counts.new.items }
+    ensures places { length counts.new.items ≡ length counts.old.items }
+    ensures hosts { (held : Held) → IsUsed held before → IsCountedAnew (view_of_owner owner.now) held (mode_at (R.settings table.now)) hosts.old hosts.new }
+{
+    let after = table.used();
+    recount(counts, number, before, after);
+    hosts.recount(owner, before, after);
+}
+
 /// Sets what a number holds, and counts its runs and its host's. Refused, nothing has changed.
 pub(crate) fn set<R: RangeTable>(
     table: &mut R,
@@ -59,9 +79,7 @@ pub(crate) fn set<R: RangeTable>(
 {
     let before = table.used();
     table.set(&change.file, number, change.first, change.last, change.mode)?;
-    let after = table.used();
-    recount(counts, number, before, after);
-    hosts.recount(change.owner, before, after);
+    count_anew(table, counts, hosts, number, change.owner, before);
     Ok(())
 }
 
@@ -83,9 +101,7 @@ pub(crate) fn drop_owner_on_file<R: RangeTable>(
 {
     let before = table.used();
     table.drop_owner_on_file(file, number);
-    let after = table.used();
-    recount(counts, number, before, after);
-    hosts.recount(owner, before, after);
+    count_anew(table, counts, hosts, number, owner, before);
 }
 
 /// The numbers of some owners have no runs from now on.

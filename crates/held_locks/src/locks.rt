@@ -134,13 +134,7 @@ impl<R: RangeTable> Locks<R> {
             .table
             .first_conflict(&self.owners, &wanted.by_number(asker))
         {
-            Some(run) => Some(Holder {
-                file: run.file,
-                owner: self.owners.get(run.owner),
-                first: run.first,
-                last: run.last,
-                mode: run.mode,
-            }),
+            Some(run) => Some(Holder::of(&run, self.owners.get(run.owner))),
             None => None,
         }
     }
@@ -319,13 +313,7 @@ impl<R: RangeTable> Locks<R> {
         ensures { slice_get (runs self.now.settings) i ≡ Some (shown result) }
     {
         let run = self.table.runs(&self.owners, i);
-        Holder {
-            file: run.file,
-            owner: self.owners.get(run.owner),
-            first: run.first,
-            last: run.last,
-            mode: run.mode,
-        }
+        Holder::of(&run, self.owners.get(run.owner))
     }
 
     /// All locks in a row, for whoever reads all of them. `None` where there is no memory for them.
@@ -343,13 +331,7 @@ impl<R: RangeTable> Locks<R> {
         ensures { slice_get (runs self.now.settings) i ≡ Some (shown result) }
     {
         let run = all.get(i);
-        Holder {
-            file: run.file,
-            owner: self.owners.get(run.owner),
-            first: run.first,
-            last: run.last,
-            mode: run.mode,
-        }
+        Holder::of(run, self.owners.get(run.owner))
     }
 
     /// The owner of a number in use.

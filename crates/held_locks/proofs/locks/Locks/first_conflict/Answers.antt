@@ -1,4 +1,4 @@
-use Rattle.std.proofs.Common.{sym, subst}
+use Rattle.std.proofs.Common.{Some, sym, ap, ◌∙◌, subst}
 use Rattle.definitions.specs.Starts.{first_conflict}
 use Rattle.owner_ids.specs.Said.{view_of_owner}
 use Rattle.owner_ids.specs.Names.{named, number_cmp}
@@ -14,7 +14,7 @@ returns-in-Some g c =
     let held = mode_at (g.R.RangeTable.settings c.self.inside.table) in
     let asker : IsAsker names c.asker-asker.result (view_of_owner c.args.wanted.now.owner.now) = subst (λ h. IsAsker (named h.names) c.asker-asker.result (view_of_owner c.args.wanted.now.owner.now)) (sym c.self.view_is) c.asker-asker.ensures in
     let found = first_found names held c.self.inside.settings.items c.self.invariant.tied.stands c.asker-asker.result c.args.wanted.now c.args.wanted.now.ordered c.first_conflict.result asker (subst (λ w. IsFirstConflict (number_cmp names) held w c.first_conflict.result) c.by_number.ensures c.first_conflict.ensures) in
-    rw (← c.self.view_is) (shown_as names c.first_conflict.result (first_conflict c.self.inside.settings.items (asked c.args.wanted.now)) c.in-Some.run' (view_of_owner c.get.result.now) c.in-Some.is c.get.ensures found)
+    rw (← c.self.view_is) (ap Some c.of.ensures ∙ shown_as names c.first_conflict.result (first_conflict c.self.inside.settings.items (asked c.args.wanted.now)) c.in-Some.run' (view_of_owner c.get.result.now) c.in-Some.is c.get.ensures found)
 
 pub returns-in-None : goal.returns-in-None
 returns-in-None g c =

@@ -24,4 +24,4 @@ returns g c =
     let names = named c.self.inside.owners in
     let a = c.runs-run.ensures in
     let over = run_order_over names (mode_at (g.R.RangeTable.settings c.self.inside.table)) c.self.inside.settings.items a.0 c.args.i c.runs-run.result c.self.invariant.tied.stands a.1 a.2 in
-    rw (← c.self.view_is) (over.1 ∙ ap Some (sym (same_shown names c.runs-run.result (view_of_owner c.get.result.now) over.0 c.get.ensures over.2)))
+    rw (← c.self.view_is) (over.1 ∙ ap Some (sym (c.of.ensures ∙ same_shown names c.runs-run.result (view_of_owner c.get.result.now) over.0 c.get.ensures over.2)))

@@ -23,4 +23,4 @@ returns g c =
     let h = c.args.self.now in
     let l = c.requires.listing in
     let over = run_order_over (named h.names) l.held h.settings c.args.all.now c.args.i c.get-run.result.now l.stands l.all c.get-run.ensures in
-    over.1 ∙ ap Some (sym (same_shown (named h.names) c.get-run.result.now (view_of_owner c.get.result.now) over.0 (ap (λ k. named k.names c.get-run.result.now.owner) (sym c.self.view_is) ∙ c.get.ensures) over.2))
+    over.1 ∙ ap Some (sym (c.of.ensures ∙ same_shown (named h.names) c.get-run.result.now (view_of_owner c.get.result.now) over.0 (ap (λ k. named k.names c.get-run.result.now.owner) (sym c.self.view_is) ∙ c.get.ensures) over.2))
