@@ -129,37 +129,31 @@ is_quota _ = false
 abbrev named : Bytes → HostRow → Bool
 named name r = same_bytes r.name name
 
+-- a row that is changed keeps its name and its quota
+module _ (name other : Bytes) (change : HostRow → HostRow) (changed : List HostRow → List HostRow) (none : changed [] ≡ []) (by_row : (r : HostRow) (rows : List HostRow) → changed (r ∷ rows) ≡ cond (same_bytes r.name name) (change r ∷ rows) (r ∷ changed rows)) (same_name : (r : HostRow) → (change r).name ≡ r.name) (same_quota : (r : HostRow) → (change r).quota ≡ r.quota) where
+  row_keeps : (rows : List HostRow) → quota_in (first_that (named other) (changed rows)) ≡ quota_in (first_that (named other) rows)
+  row_keeps [] = ap (λ rows. quota_in (first_that (named other) rows)) none
+  row_keeps (r ∷ rows) = ap (λ rows. quota_in (first_that (named other) rows)) (by_row r rows) ∙ go (same_bytes r.name name) (row_keeps rows)
+    where
+      hit : (b : Bool) → quota_in (cond b (Some (change r)) (first_that (named other) rows)) ≡ quota_in (cond b (Some r) (first_that (named other) rows))
+      hit true = ap Some (same_quota r)
+      hit false = refl
+
+      miss : (b : Bool) → quota_in (first_that (named other) (changed rows)) ≡ quota_in (first_that (named other) rows) → quota_in (cond b (Some r) (first_that (named other) (changed rows))) ≡ quota_in (cond b (Some r) (first_that (named other) rows))
+      miss true more = refl
+      miss false more = more
+
+      go : (b : Bool) → quota_in (first_that (named other) (changed rows)) ≡ quota_in (first_that (named other) rows) → quota_in (first_that (named other) (cond b (change r ∷ rows) (r ∷ changed rows))) ≡ quota_in (first_that (named other) (r ∷ rows))
+      go true more =
+          ap (λ n. quota_in (cond (same_bytes n other) (Some (change r)) (first_that (named other) rows))) (same_name r)
+          ∙ hit (same_bytes r.name other)
+      go false more = miss (same_bytes r.name other) more
+
 seen_keeps : (name other : Bytes) (seen : ℤ) (rows : List HostRow) → quota_in (first_that (named other) (with_seen name seen rows)) ≡ quota_in (first_that (named other) rows)
-seen_keeps name other seen [] = refl
-seen_keeps name other seen (r ∷ rows) = go (same_bytes r.name name) (seen_keeps name other seen rows)
-  where
-    hit : (b : Bool) → quota_in (cond b (Some (record r { seen = seen })) (first_that (named other) rows)) ≡ quota_in (cond b (Some r) (first_that (named other) rows))
-    hit true = refl
-    hit false = refl
-
-    miss : (b : Bool) → quota_in (first_that (named other) (with_seen name seen rows)) ≡ quota_in (first_that (named other) rows) → quota_in (cond b (Some r) (first_that (named other) (with_seen name seen rows))) ≡ quota_in (cond b (Some r) (first_that (named other) rows))
-    miss true more = refl
-    miss false more = more
-
-    go : (b : Bool) → quota_in (first_that (named other) (with_seen name seen rows)) ≡ quota_in (first_that (named other) rows) → quota_in (first_that (named other) (cond b (record r { seen = seen } ∷ rows) (r ∷ with_seen name seen rows))) ≡ quota_in (first_that (named other) (r ∷ rows))
-    go true more = hit (same_bytes r.name other)
-    go false more = miss (same_bytes r.name other) more
+seen_keeps name other seen = row_keeps name other (λ (r : HostRow). record r { seen = seen }) (with_seen name seen) refl (λ r rows. refl) (λ r. refl) (λ r. refl)
 
 epoch_keeps : (name other : Bytes) (epoch : ℕ) (rows : List HostRow) → quota_in (first_that (named other) (with_epoch name epoch rows)) ≡ quota_in (first_that (named other) rows)
-epoch_keeps name other epoch [] = refl
-epoch_keeps name other epoch (r ∷ rows) = go (same_bytes r.name name) (epoch_keeps name other epoch rows)
-  where
-    hit : (b : Bool) → quota_in (cond b (Some (record r { epoch = epoch })) (first_that (named other) rows)) ≡ quota_in (cond b (Some r) (first_that (named other) rows))
-    hit true = refl
-    hit false = refl
-
-    miss : (b : Bool) → quota_in (first_that (named other) (with_epoch name epoch rows)) ≡ quota_in (first_that (named other) rows) → quota_in (cond b (Some r) (first_that (named other) (with_epoch name epoch rows))) ≡ quota_in (cond b (Some r) (first_that (named other) rows))
-    miss true more = refl
-    miss false more = more
-
-    go : (b : Bool) → quota_in (first_that (named other) (with_epoch name epoch rows)) ≡ quota_in (first_that (named other) rows) → quota_in (first_that (named other) (cond b (record r { epoch = epoch } ∷ rows) (r ∷ with_epoch name epoch rows))) ≡ quota_in (first_that (named other) (r ∷ rows))
-    go true more = hit (same_bytes r.name other)
-    go false more = miss (same_bytes r.name other) more
+epoch_keeps name other epoch = row_keeps name other (λ (r : HostRow). record r { epoch = epoch }) (with_epoch name epoch) refl (λ r rows. refl) (λ r. refl) (λ r. refl)
 
 -- a row in its place leaves the rows of other names
 put_beside : (new : HostRow) (other : Bytes) (rows : List HostRow) → same_bytes new.name other ≡ false → first_that (named other) (put row_cmp new rows) ≡ first_that (named other) rows

@@ -1,5 +1,5 @@
 -- Parts, digits and pieces of a line.
-use Rattle.std.proofs.Common.{◌≡◌, ℕ, zero, suc, ◌-◌, ◌<◌, get_or, subst, arith, ◌/◌, ◌%◌, List, [], ◌∷◌, ◌++◌, Option, take, drop, length, slice_index, refl, sym, ◌∙◌, ap, append_assoc}
+use Rattle.std.proofs.Common.{◌≡◌, ℕ, zero, suc, ◌<◌, get_or, subst, arith, ◌/◌, ◌%◌, List, [], ◌∷◌, ◌++◌, Option, take, drop, length, slice_index, refl, sym, ◌∙◌, ap, append_assoc}
 use Rattle.std.specs.Io.KnownBytes.{Appends}
 use Rattle.std.specs.Prelude.{Result, IsErr, codes}
 use Rattle.std.specs.List.{flat_map}
@@ -51,6 +51,10 @@ hex-failed a b e t front part behind bytes shown before failed is whole =
 
 pub split-next : (front part behind left bytes : List ℕ) → left ≡ part ++ behind → front ++ left ≡ bytes → (front ++ part) ++ behind ≡ bytes
 split-next front part behind left bytes e whole = append_assoc front part behind ∙ (ap (λ (s : List ℕ). front ++ s) (sym e) ∙ whole)
+
+-- what is said of the bytes in front is said of one more part
+pub front-next : (P : List ℕ → Type 0) (front part behind left bytes : List ℕ) → left ≡ part ++ behind → front ++ left ≡ bytes → P (front ++ part) → (more : List ℕ) × (more ++ behind ≡ bytes) × P more
+front-next P front part behind left bytes e whole p = (front ++ part, split-next front part behind left bytes e whole, p)
 
 -- ---- pieces of a line
 

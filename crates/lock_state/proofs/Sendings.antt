@@ -1,9 +1,15 @@
 -- A sending or a silence makes no more calls than there were.
-use Rattle.std.proofs.Common.{◌≡◌, ℕ, suc, ◌≤◌, Bool, true, false, cond, leb, List, [], ◌∷◌, ◌++◌, length, refl, sym, ap, ◌∙◌, subst, Option, Some, None, arith}
+use Rattle.std.proofs.Common.{◌≡◌, ℕ, suc, ◌≤◌, ◌-◌, Bool, true, false, cond, leb, List, [], ◌∷◌, ◌++◌, length, refl, sym, ap, ◌∙◌, subst, Option, Some, None, arith}
 use Rattle.std.proofs.lemmas.Bool.{eqb-true}
 use Rattle.definitions.specs.Bytes.{first_that, without_first}
+use Rattle.definitions.specs.Owners.{Owner}
+use Rattle.definitions.specs.Quotas.{Quotas}
+use Rattle.definitions.specs.Settings.{Setting}
 use Rattle.definitions.specs.Outgoing.{Outgoing, ends_when_sent, once_more, is_numbered, without_call, after_sending, after_silence_at, after_silence}
 use Rattle.definitions.proofs.Lists.{first_found}
+use Rattle.blocked_list.specs.Waiting.{Taken}
+use Rattle.lock_state.specs.Whole.{IsWhole}
+use Rattle.lock_state.specs.declared.unsettled.Unsettled.{Unsettled}
 use Rattle.lock_state.proofs.Granting.{length_more}
 
 pub no_more_sent : (calls : List Outgoing) → length (after_sending calls) ≤ length calls
@@ -41,3 +47,10 @@ no_more_answered number (c ∷ calls) = go (is_numbered number c) (no_more_answe
     go : (b : Bool) → length (without_call number calls) ≤ length calls → length (cond b calls (c ∷ without_call number calls)) ≤ length (c ∷ calls)
     go true more = omega arith
     go false more = omega arith
+
+-- calls that have gone leave their places free
+pub IsWhole-fewer : {settings : List Setting} {names : List (Option Owner)} {slots after : Taken} {calls gone left : List Outgoing} {quotas : Quotas} {unsettled : Unsettled} {before now : ℕ} → IsWhole settings names slots calls quotas unsettled
+    → length gone ≤ length calls → left ≡ gone → before ≡ length calls → now ≡ length left → after ≡ record slots { calls = slots.calls - (before - now) } → IsWhole settings names after left quotas unsettled
+IsWhole-fewer {slots = slots} {after = after} {calls = calls} {gone = gone} {left = left} {before = before} {now = now} h fewer is was are given =
+    let counted : slots.calls - (before - now) ≡ length left = omega (arith, ap length is, fewer, was, are, h.counted) in
+    rw given (record { in_use = h.in_use; counted = counted; shown = h.shown; waiters_shown = h.waiters_shown; ranges = h.ranges; ready = h.ready })

@@ -9,29 +9,32 @@ pub shown_more : (settings : List Setting) (s : Setting) → AreShown settings �
 shown_more [] s a h = (h, tt)
 shown_more (t ∷ settings) s a h = (a.0, shown_more settings s a.1 h)
 
+-- what all elements have, those that are left have
+module _ {X : Type 0} (Has : X → Type 0) (Have : List X → Type 0) (parts : (x : X) (xs : List X) → Have (x ∷ xs) → Has x × Have xs) (both : (x : X) (xs : List X) → Has x → Have xs → Have (x ∷ xs)) (test : X → Bool) where
+  have_without : (xs : List X) → Have xs → Have (without test xs)
+  have_without [] a = a
+  have_without (x ∷ xs) a = go (test x) (have_without xs (parts x xs a).1)
+    where
+      go : (b : Bool) → Have (without test xs) → Have (cond b (without test xs) (x ∷ without test xs))
+      go true more = more
+      go false more = both x (without test xs) (parts x xs a).0 more
+
+  have_without_first : (xs : List X) → Have xs → Have (without_first test xs)
+  have_without_first [] a = a
+  have_without_first (x ∷ xs) a = go (test x) (have_without_first xs (parts x xs a).1)
+    where
+      go : (b : Bool) → Have (without_first test xs) → Have (cond b xs (x ∷ without_first test xs))
+      go true more = (parts x xs a).1
+      go false more = both x (without_first test xs) (parts x xs a).0 more
+
 pub shown_without : (test : Setting → Bool) (settings : List Setting) → AreShown settings → AreShown (without test settings)
-shown_without test [] a = tt
-shown_without test (s ∷ settings) a = go (test s) (shown_without test settings a.1)
-  where
-    go : (b : Bool) → AreShown (without test settings) → AreShown (cond b (without test settings) (s ∷ without test settings))
-    go true more = more
-    go false more = (a.0, more)
+shown_without = have_without CanShow AreShown (λ s settings a. a) (λ s settings h a. (h, a))
 
 pub waiters_without : (test : Waiter → Bool) (waiters : List Waiter) → AreWaitersShown waiters → AreWaitersShown (without test waiters)
-waiters_without test [] a = tt
-waiters_without test (x ∷ waiters) a = go (test x) (waiters_without test waiters a.1)
-  where
-    go : (b : Bool) → AreWaitersShown (without test waiters) → AreWaitersShown (cond b (without test waiters) (x ∷ without test waiters))
-    go true more = more
-    go false more = (a.0, more)
+waiters_without = have_without (λ (x : Waiter). IsShown x.request.owner) AreWaitersShown (λ x waiters a. a) (λ x waiters h a. (h, a))
 
 pub waiters_without_first : (test : Waiter → Bool) (waiters : List Waiter) → AreWaitersShown waiters → AreWaitersShown (without_first test waiters)
-waiters_without_first test [] a = tt
-waiters_without_first test (x ∷ waiters) a = go (test x) (waiters_without_first test waiters a.1)
-  where
-    go : (b : Bool) → AreWaitersShown (without_first test waiters) → AreWaitersShown (cond b waiters (x ∷ without_first test waiters))
-    go true more = a.1
-    go false more = (a.0, more)
+waiters_without_first = have_without_first (λ (x : Waiter). IsShown x.request.owner) AreWaitersShown (λ x waiters a. a) (λ x waiters h a. (h, a))
 
 pub first_shown : (test : Waiter → Bool) (waiters : List Waiter) (x : Waiter) → AreWaitersShown waiters → first_that test waiters ≡ Some x → IsShown x.request.owner
 first_shown test [] x a e = absurd (no_some x e)

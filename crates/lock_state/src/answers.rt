@@ -7,8 +7,7 @@ ghost use Rattle.definitions.specs.Moves.{AreRanges};
 ghost use Rattle.definitions.specs.Quotas.{quotas_of};
 ghost use Rattle.definitions.specs.Waits.{Waiter as SaidWaiter};
 ghost use Rattle.definitions.specs.World.{with_calls};
-ghost use Rattle.callbacks.specs.Grants.{granted_lock};
-ghost use Rattle.callbacks.specs.Meanings.{view_of_told_lock, view_of_message};
+ghost use Rattle.callbacks.specs.Meanings.{found_lock, view_of_told_lock};
 ghost use Rattle.out_calls.specs.Found.{found};
 ghost use Rattle.lock_state.specs.ReadyAt.{IsReadyAt};
 ghost use Rattle.lock_state.specs.Whole.{AreShown};
@@ -18,7 +17,7 @@ use crate::quotas::{Stored, is_refused};
 use crate::unsettled::{Unsettled, set_on};
 use crate::world::World;
 use blocked_list::Quotas;
-use callbacks::{Lock, Message};
+use callbacks::Lock;
 use held_locks::{Locks, NewSetting};
 use hosts_db::{HostStore, StoreError};
 use out_calls::{Call, OutCalls};
@@ -60,15 +59,8 @@ impl<R: RangeTable, S: HostStore> World<R, S> {
         ensures stays { self.new ≡ record self.old { world = record self.old.world { settings = self.new.world.settings } } }
     {
         let quotas = Stored { store: &self.store };
-        match find(&self.calls, key) {
-            Some(call) => {
-                unlock(
-                    &mut self.locks,
-                    &mut self.unsettled,
-                    &quotas,
-                    call.letter().message(),
-                )
-            }
+        match lock_of(&self.calls, key) {
+            Some(lock) => give_up(&mut self.locks, &mut self.unsettled, &quotas, lock),
             None => false,
         }
     }
@@ -105,21 +97,13 @@ fn host_of(calls: &OutCalls, xid: u32) -> Option<&[u8]>
     }
 }
 
-// Unlocks the range that the message grants.
-fn unlock<R: RangeTable, Q: Quotas>(
-    locks: &mut Locks<R>,
-    unsettled: &mut Unsettled,
-    quotas: &Q,
-    message: &Message,
-) -> bool
-    ensures unlocked { IsUnlocked (Q.by_host quotas.now) (granted_lock (view_of_message message.now)) result locks.old.settings locks.new.settings }
-    ensures names { locks.new.names ≡ locks.old.names }
-    ensures shown { AreShown locks.old.settings → AreShown locks.new.settings }
-    ensures ready { (waiters : List SaidWaiter) → AreRanges waiters → IsReadyAt unsettled.old (Q.by_host quotas.now) locks.old.settings waiters → IsReadyAt unsettled.new (Q.by_host quotas.now) locks.new.settings waiters }
+// The lock that the grant of an answer is for.
+fn lock_of<'a>(calls: &'a OutCalls, key: AnswerKey<'_>) -> Option<&'a Lock>
+    ensures { found_lock result ≡ lock_at (call_at key.entry calls.now) }
 {
-    match message.granted_lock() {
-        Some(lock) => give_up(locks, unsettled, quotas, lock),
-        None => false,
+    match find(calls, key) {
+        Some(call) => call.letter().message().granted_lock(),
+        None => None,
     }
 }
 

@@ -1,7 +1,7 @@
-use Rattle.std.proofs.Common.{◌++◌, [], refl}
+use Rattle.std.proofs.Common.{[], refl}
 use Rattle.hex.specs.Hex.{encode_with, lower_digits}
 use Rattle.written.proofs.Appending.{Appends-nil, Wrote-failed}
-use Rattle.local_ops.proofs.Writing.{hex-next, hex-failed, split-next}
+use Rattle.local_ops.proofs.Writing.{front-next, hex-next, hex-failed, split-next}
 use Rattle.local_ops.proofs.output.write_hex.Goals as goal
 
 pub loop-rest-init : goal.loop-rest-init
@@ -11,11 +11,8 @@ loop-rest-init g c = ([], refl, Appends-nil _)
 pub loop-rest-preserved : goal.loop-rest-preserved
 loop-rest-preserved g c =
     let before = c.loop-rest.invariant in
-    let part = c.split_at.result.0.now in (
-      before.0 ++ part,
-      split-next before.0 part c.split_at.result.1.now c.loop-rest.rest.now _ c.split_at.ensures.by_index.0 before.1,
-      hex-next _ _ _ lower_digits before.0 part c.short_hex.result.now before.2 c.in_ok-write_whole.ensures c.short_hex.ensures.text,
-    )
+    front-next _ before.0 _ _ _ _ c.split_at.ensures.by_index.0 before.1
+    (hex-next _ _ _ lower_digits before.0 c.split_at.result.0.now c.short_hex.result.now before.2 c.in_ok-write_whole.ensures c.short_hex.ensures.text)
 
 pub returns-in_err-write_whole : goal.returns-in_err-write_whole
 returns-in_err-write_whole g c =

@@ -1,37 +1,38 @@
-use Rattle.std.proofs.Common.{◌≡◌, false, refl, sym, subst}
-use Rattle.definitions.specs.Bytes.{is_any}
-use Rattle.definitions.specs.World.{the_limits, is_ready, is_ready_in}
+use Rattle.std.proofs.Common.{◌≡◌, List, Option, refl, sym, subst}
+use Rattle.definitions.specs.Owners.{Owner}
+use Rattle.definitions.specs.Settings.{Setting}
+use Rattle.definitions.specs.Starts.{used_of}
+use Rattle.definitions.specs.Waits.{Waiter}
+use Rattle.definitions.specs.World.{the_limits, is_ready_in}
 use Rattle.definitions.specs.Quotas.{quotas_of}
 use Rattle.owner_ids.specs.Names.{named}
+use Rattle.range_table.specs.Settings.{mode_at}
+use Rattle.range_table.specs.declared.run.Setting.{Setting as NumberSetting}
+use Rattle.range_owners.specs.Stands.{Stands}
 use Rattle.blocked_list.specs.First.{IsFirstPlace}
-use Rattle.blocked_list.specs.Ready.{is_ready_off}
-use Rattle.blocked_list.specs.Waiting.{AreNamed, AreKnown, waiters_by}
+use Rattle.blocked_list.specs.Ready.{IsFirstReady, IsFirstReadyOn}
+use Rattle.blocked_list.specs.Standing.{WhereCounted}
+use Rattle.blocked_list.specs.Waiting.{Waiting, AreNamed, waiters_by}
 use Rattle.lock_state.specs.Seen.{Seen}
 use Rattle.lock_state.specs.ReadyAt.{IsReadyAt}
 use Rattle.lock_state.proofs.world.World.next_place.Goals as goal
 
+-- what is said by the names that the table has is said by those that are known
+said : (ns : List NumberSetting) {names known : List (Option Owner)} {ws : List Waiting} {settings : List Setting} (Says : List Setting → List Waiter → Type 0) → Stands (named names) (mode_at ns) settings
+    → names ≡ known → AreNamed (named known) ws → WhereCounted (named names) ns ws (λ name. used_of name settings) Says → Says settings (waiters_by (named known) ws)
+said ns {ws = ws} {settings = settings} Says stands same in_use counted =
+    subst (λ ns. Says settings (waiters_by (named ns) ws)) same
+    (counted settings stands (record { distinct = stands.distinct; named = subst (λ ns. AreNamed (named ns) ws) (sym same) in_use }) (λ name. refl))
+
 pub returns-in-On-clause-first : goal.returns-in-On-clause-first
 returns-in-On-clause-first g c =
-    let settings = c.self.inside.locks.settings in
     let quotas = quotas_of (g.S.HostStore.rows c.self.inside.store) in
-    let ws = c.self.inside.slots.waiters in
-    let names = c.parts.result.1.now in
-    let named_there = subst (λ ns. AreNamed (named ns) ws) (sym c.parts.ensures.names) c.self.invariant.in_use in
-    let known : AreKnown (named names) ws = record { distinct = c.parts.ensures.stands.distinct; named = named_there } in
-    let ready = subst (λ u. IsReadyAt u quotas settings (waiters_by (named c.self.inside.locks.names) ws)) c.in-On.is c.self.invariant.ready in
-    let off = subst (λ ns. is_any (is_ready_off c.in-On.file quotas settings) (waiters_by (named ns) ws) ≡ false) (sym c.parts.ensures.names) ready in
-    let found = c.next_grantable_on.ensures.first settings c.parts.ensures.stands known (λ name. refl) off in
+    let ready = subst (λ u. IsReadyAt u quotas c.self.inside.locks.settings (waiters_by (named c.self.inside.locks.names) c.self.inside.slots.waiters)) c.in-On.is c.self.invariant.ready in
     subst (λ (s : Seen). IsFirstPlace (is_ready_in the_limits s.world) s.world.waiters c.next_grantable_on.result) c.self.view_is
-    (subst (λ ns. IsFirstPlace (is_ready the_limits quotas settings) (waiters_by (named ns) ws) c.next_grantable_on.result) c.parts.ensures.names found)
+    (said (g.R.RangeTable.settings c.parts.result.0.now) (λ settings waiters. IsFirstReadyOn c.in-On.file quotas settings waiters c.next_grantable_on.result) c.parts.ensures.stands c.parts.ensures.names c.self.invariant.in_use c.next_grantable_on.ensures.first ready)
 
 pub returns-in-Anywhere-clause-first : goal.returns-in-Anywhere-clause-first
 returns-in-Anywhere-clause-first g c =
-    let settings = c.self.inside.locks.settings in
     let quotas = quotas_of (g.S.HostStore.rows c.self.inside.store) in
-    let ws = c.self.inside.slots.waiters in
-    let names = c.parts.result.1.now in
-    let named_there = subst (λ ns. AreNamed (named ns) ws) (sym c.parts.ensures.names) c.self.invariant.in_use in
-    let known : AreKnown (named names) ws = record { distinct = c.parts.ensures.stands.distinct; named = named_there } in
-    let found = c.next_grantable.ensures.first settings c.parts.ensures.stands known (λ name. refl) in
     subst (λ (s : Seen). IsFirstPlace (is_ready_in the_limits s.world) s.world.waiters c.next_grantable.result) c.self.view_is
-    (subst (λ ns. IsFirstPlace (is_ready the_limits quotas settings) (waiters_by (named ns) ws) c.next_grantable.result) c.parts.ensures.names found)
+    (said (g.R.RangeTable.settings c.parts.result.0.now) (λ settings waiters. IsFirstReady quotas settings waiters c.next_grantable.result) c.parts.ensures.stands c.parts.ensures.names c.self.invariant.in_use c.next_grantable.ensures.first)
