@@ -4,7 +4,7 @@ ghost use Rattle.std.specs.Prelude.{◌≡◌, length};
 
 use anyhow::Result;
 use owner_ids::{Owner, OwnerId, Owners};
-use range_table::{FileId, Mode, RangeTable, Run};
+use range_table::{FileId, Mode, RangeTable, Run, Wanted};
 use std::alloc::{AllocError, Global};
 
 // A file of its own for each number.
@@ -81,13 +81,13 @@ fn ask_conflict<T: RangeTable>(
     let mut found = 0u32;
     for i in 0..rounds {
         if let Some(file) = files.get(i as usize % files.len().max(1)) {
-            let wanted = Run {
+            let wanted = Wanted::new(Run {
                 file: *file,
                 owner,
                 first: 0,
                 last: 20,
                 mode: Mode::Exclusive,
-            };
+            });
             if table.first_conflict(owners, &wanted).is_some() {
                 found = found.saturating_add(1);
             }

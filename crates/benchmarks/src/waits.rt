@@ -1,6 +1,6 @@
 //! Waiters: `change` or `come`, with `-none`, `-each` or `-one`. The answer is how many waiters there are and how many
 //! were found.
-ghost use Rattle.std.specs.Prelude.{◌≤◌, ◌<◌, ◌^◌, None};
+ghost use Rattle.std.specs.Prelude.{None};
 
 use crate::ranges::file_of;
 use anyhow::Result;
@@ -9,7 +9,7 @@ use callbacks::{Destination, Letter, Message, ShortBytes};
 use host_runs::RunsOfHosts;
 use owner_ids::{Owner, OwnerId, Owners};
 use range_arena::ArenaTable;
-use range_table::{FileId, Mode, RangeTable, Run};
+use range_table::{FileId, Mode, RangeTable, Run, Wanted};
 use std::alloc::{AllocError, Global};
 
 /// No host has a quota.
@@ -43,17 +43,14 @@ fn other_file(number: u32, count: u32) -> FileId {
     }
 }
 
-fn whole(file: FileId, owner: OwnerId) -> Run
-    ensures ordered { result.first ≤ result.last }
-    ensures inside { result.last < 2 ^ 63 }
-{
-    Run {
+fn whole(file: FileId, owner: OwnerId) -> Wanted {
+    Wanted::new(Run {
         file,
         owner,
         first: 0,
         last: 9,
         mode: Mode::Exclusive,
-    }
+    })
 }
 
 // One run on each of the other files.
@@ -112,10 +109,11 @@ fn change<T: RangeTable>(
 
 // Somebody waits for the file, and waits no longer.
 fn come_and_go(alloc: Global, slots: &mut Slots, owner: OwnerId, rounds: u32) -> Result<u32> {
-    let wanted = whole(file_of(MIDDLE), owner);
+    let file = file_of(MIDDLE);
+    let wanted = whole(file, owner);
     let mut found = 0u32;
     for _ in 0..rounds {
-        let _ = slots.block(waiter(alloc, wanted.file, owner)?);
+        let _ = slots.block(waiter(alloc, file, owner)?);
         if slots.cancel(&wanted).is_ok() {
             found = found.saturating_add(1);
         }

@@ -1,5 +1,5 @@
 //! Who would wait for whom in a circle.
-ghost use Rattle.std.specs.Prelude.{◌≡◌, ◌<◌, ◌≤◌, ◌+◌, ◌-◌, ◌^◌, ◌||◌, ◌↔◌, ℕ, not, true, false, Some, IsSome, IfSome, IfNone, length, slice_get, slice_index_or};
+ghost use Rattle.std.specs.Prelude.{◌≡◌, ◌<◌, ◌≤◌, ◌+◌, ◌-◌, ◌||◌, ◌↔◌, ℕ, not, true, false, Some, IsSome, IfSome, IfNone, length, slice_get, slice_index_or};
 ghost use Rattle.definitions.specs.Owners.{is_description};
 ghost use Rattle.definitions.specs.Waits.{Waiter as OwnerWaiter, closes_cycle};
 ghost use Rattle.owner_ids.specs.Names.{named};
@@ -9,7 +9,7 @@ ghost use Rattle.blocked_list.specs.Standing.{WhereWants};
 
 use crate::slots::Slots;
 use owner_ids::{OwnerId, Owners};
-use range_table::{RangeTable, Run};
+use range_table::{RangeTable, Wanted};
 use thiserror::Error;
 
 /// Why one may not wait.
@@ -30,11 +30,9 @@ impl Slots {
         &self,
         table: &T,
         owners: &Owners,
-        wanted: &Run,
+        wanted: &Wanted,
         spoken_for: usize,
     ) -> Result<(), BlockError>
-        requires ordered { wanted.now.first ≤ wanted.now.last }
-        requires inside { wanted.now.last < 2 ^ 63 }
         ensures deadlock { WhereWants (named owners.now) (T.settings table.now) self.now.waiters wanted.now (λ settings waiters r. (result ≡ Err BlockError.Deadlock) ↔ (closes_cycle settings waiters r ≡ true)) }
         ensures no_slots { WhereWants (named owners.now) (T.settings table.now) self.now.waiters wanted.now (λ settings waiters r. (result ≡ Err BlockError.NoSlots) ↔ ((closes_cycle settings waiters r ≡ false) × (free_places self.now ≤ spoken_for))) }
     {
@@ -49,12 +47,10 @@ impl Slots {
 
     /// Whether one who waited for this lock would wait, directly or through others, for itself. Open file descriptions
     /// are neither askers nor steps of a cycle.
-    pub fn closes_cycle<T: RangeTable>(&self, table: &T, owners: &Owners, wanted: &Run) -> bool
-        requires ordered { wanted.now.first ≤ wanted.now.last }
-        requires inside { wanted.now.last < 2 ^ 63 }
+    pub fn closes_cycle<T: RangeTable>(&self, table: &T, owners: &Owners, wanted: &Wanted) -> bool
         ensures { WhereWants (named owners.now) (T.settings table.now) self.now.waiters wanted.now (λ settings waiters r. result ≡ closes_cycle settings waiters r) }
     {
-        if !is_step(owners, wanted.owner) {
+        if !is_step(owners, wanted.run().owner) {
             return false;
         }
         let mut reached = unmarked();
@@ -68,12 +64,10 @@ impl Slots {
         &self,
         table: &T,
         owners: &Owners,
-        wanted: &Run,
+        wanted: &Wanted,
         reached: &mut [bool; 8192],
         followed: &mut [bool; 8192],
     ) -> bool
-        requires ordered { wanted.now.first ≤ wanted.now.last }
-        requires inside { wanted.now.last < 2 ^ 63 }
         requires nobody { (k : ℕ) → slice_index_or reached.old k false ≡ false }
         requires nowhere { (k : ℕ) → slice_index_or followed.old k false ≡ false }
         ensures { WhereWants (named owners.now) (T.settings table.now) self.now.waiters wanted.now (λ settings waiters r. is_description (owner_at (named owners.now) wanted.now.owner) ≡ false → result ≡ closes_cycle settings waiters r) }
@@ -81,8 +75,8 @@ impl Slots {
         self.reach(table, owners, wanted, reached);
         while let Some(place) = pending(reached, followed, self.waiters.len()) {
             followed[place] = true;
-            let next = self.waiters[place].wanted();
-            if range_owners::conflicts_with(table, owners, next, wanted.owner) {
+            let next = self.waiters[place].asked();
+            if range_owners::conflicts_with(table, owners, next, wanted.run().owner) {
                 return true;
             }
             self.reach(table, owners, next, reached);
@@ -95,11 +89,9 @@ impl Slots {
         &self,
         table: &T,
         owners: &Owners,
-        wanted: &Run,
+        wanted: &Wanted,
         reached: &mut [bool; 8192],
     )
-        requires ordered { wanted.now.first ≤ wanted.now.last }
-        requires inside { wanted.now.last < 2 ^ 63 }
         ensures { WhereWants (named owners.now) (T.settings table.now) self.now.waiters wanted.now (λ settings waiters r. MarksLed reached.old reached.new settings waiters r) }
     {
         for place in 0..self.waiters.len() {
@@ -112,13 +104,11 @@ impl Slots {
         &self,
         table: &T,
         owners: &Owners,
-        wanted: &Run,
+        wanted: &Wanted,
         place: usize,
         before: bool,
     ) -> bool
         requires there { place < length self.now.waiters }
-        requires ordered { wanted.now.first ≤ wanted.now.last }
-        requires inside { wanted.now.last < 2 ^ 63 }
         ensures { WhereWants (named owners.now) (T.settings table.now) self.now.waiters wanted.now (λ settings waiters r. (x : OwnerWaiter) → slice_get waiters place ≡ Some x → result ≡ (before || leads settings r x)) }
     {
         before || self.leads_to(table, owners, wanted, place)
@@ -129,12 +119,10 @@ impl Slots {
         &self,
         table: &T,
         owners: &Owners,
-        wanted: &Run,
+        wanted: &Wanted,
         place: usize,
     ) -> bool
         requires there { place < length self.now.waiters }
-        requires ordered { wanted.now.first ≤ wanted.now.last }
-        requires inside { wanted.now.last < 2 ^ 63 }
         ensures { WhereWants (named owners.now) (T.settings table.now) self.now.waiters wanted.now (λ settings waiters r. (x : OwnerWaiter) → slice_get waiters place ≡ Some x → result ≡ leads settings r x) }
     {
         let owner = self.waiters[place].wanted().owner;

@@ -12,7 +12,7 @@ use crate::by_file::ByFile;
 use crate::by_owner::ByOwner;
 use crate::waiter::Waiter;
 use owner_ids::{Host, HostOf, OwnerId, Owners, Starved};
-use range_table::{FileId, Run};
+use range_table::{FileId, Run, Wanted};
 use std::alloc::Global;
 use std::marker::Model;
 use thiserror::Error;
@@ -102,22 +102,22 @@ impl Slots {
     }
 
     /// Whether somebody waits for just this lock.
-    pub fn is_waiting(&self, wanted: &Run) -> bool
+    pub fn is_waiting(&self, wanted: &Wanted) -> bool
         ensures { (names : Names) → AreKnown names self.now.waiters → IsSome (names wanted.now.owner) → result ≡ is_waiting (request_by names wanted.now) (waiters_by names self.now.waiters) }
     {
-        self.place_of(wanted).is_some()
+        self.place_of(wanted.run()).is_some()
     }
 
     /// The waiter for just this lock waits no longer (XNFS, NLM_CANCEL). `NotWaiting` where there is none; then nothing
     /// changes.
-    pub fn cancel(&mut self, wanted: &Run) -> Result<(), NotWaiting>
+    pub fn cancel(&mut self, wanted: &Wanted) -> Result<(), NotWaiting>
         ensures refused { (names : Names) → AreKnown names self.old.waiters → IsSome (names wanted.now.owner) → IsErr result ↔ (is_waiting (request_by names wanted.now) (waiters_by names self.old.waiters) ≡ false) }
         ensures ok { OnOk result ((names : Names) → AreKnown names self.old.waiters → IsSome (names wanted.now.owner) → waiters_by names self.new.waiters ≡ without_waiter (request_by names wanted.now) (waiters_by names self.old.waiters)) }
         ensures err { OnErr result (self.new ≡ self.old) }
         ensures calls { self.new.calls ≡ self.old.calls }
         ensures named { (names : Names) → AreNamed names self.old.waiters → AreNamed names self.new.waiters }
     {
-        match self.place_of(wanted) {
+        match self.place_of(wanted.run()) {
             Some(place) => {
                 drop(self.take_out(place));
                 Ok(())

@@ -13,32 +13,27 @@ use callbacks::Letter;
 use host_runs::RunsOfHosts;
 use owner_ids::Owners;
 use range_owners::Allowance;
-use range_table::{FileId, RangeTable, Run, Setting};
+use range_table::{FileId, RangeTable, Run, Setting, Wanted};
 use std::marker::Model;
 
 /// The lock that somebody waits for, whom the tables know by number, and the call that tells of it once it is granted.
 #[derive(Drop)]
 pub struct Waiter {
-    wanted: Run,
+    wanted: Wanted,
     letter: Letter,
 }
 
 impl Model for Waiter {
-    ghost use Rattle.std.specs.Prelude.{◌≤◌, ◌<◌, ◌^◌};
     ghost use Rattle.blocked_list.specs.Waiting.{Waiting};
 
     ghost Value = { Waiting };
 
     ghost view = { λ w. record { wanted = w.wanted; letter = w.letter } };
-
-    ghost invariant = { λ w. (w.wanted.first ≤ w.wanted.last) × (w.wanted.last < 2 ^ 63) };
 }
 
 impl Waiter {
     /// A waiter for this lock, from copies that the caller made.
-    pub fn new(wanted: Run, letter: Letter) -> Waiter
-        requires ordered { wanted.first ≤ wanted.last }
-        requires inside { wanted.last < 2 ^ 63 }
+    pub fn new(wanted: Wanted, letter: Letter) -> Waiter
         ensures { result ≡ record { wanted = wanted; letter = letter } }
     {
         Waiter { wanted, letter }
@@ -49,6 +44,13 @@ impl Waiter {
         ensures wanted { result.now ≡ self.now.wanted }
         ensures ordered { result.now.first ≤ result.now.last }
         ensures inside { result.now.last < 2 ^ 63 }
+    {
+        self.wanted.run()
+    }
+
+    /// The same, as the tables are asked for it.
+    pub fn asked(&self) -> &Wanted
+        ensures { result.now ≡ self.now.wanted }
     {
         &self.wanted
     }
@@ -72,18 +74,19 @@ impl Waiter {
     pub(crate) fn is_for(&self, wanted: &Run) -> bool
         ensures { result ≡ same_wanted self.now.wanted wanted.now }
     {
-        self.wanted.file.is_same(&wanted.file)
-            && self.wanted.owner == wanted.owner
-            && self.wanted.first == wanted.first
-            && self.wanted.last == wanted.last
-            && self.wanted.mode.is_same(wanted.mode)
+        let run = self.wanted.run();
+        run.file.is_same(&wanted.file)
+            && run.owner == wanted.owner
+            && run.first == wanted.first
+            && run.last == wanted.last
+            && run.mode.is_same(wanted.mode)
     }
 
     #[tactic(auto, using(range_owners::proofs::Words::file_same))]
     pub(crate) fn is_on(&self, file: &FileId) -> bool
         ensures { result ≡ same_bytes self.now.wanted.file file.now }
     {
-        self.wanted.file.is_same(file)
+        self.wanted.run().file.is_same(file)
     }
 
     // Whether nobody is in the way, and its host's quota isn't, where 2 runs are free.
@@ -110,7 +113,7 @@ impl Waiter {
     ) -> bool
         ensures { WhereFree (named owners.now) (T.settings table.now) self.now (λ settings waiter. AreRunsOf (H.runs hosts.now) settings → result ≡ exceeds (Q.by_host quotas.now) settings (setting_of waiter.request)) }
     {
-        let Some(owner) = owners.find(self.wanted.owner) else {
+        let Some(owner) = owners.find(self.wanted.run().owner) else {
             return false;
         };
         let Some(limit) = limit_of(quotas, owner) else {
@@ -127,12 +130,13 @@ impl Waiter {
     fn setting(&self) -> Setting
         ensures { result ≡ setting_wanted self.now.wanted }
     {
+        let run = self.wanted.run();
         Setting {
-            file: self.wanted.file,
-            owner: self.wanted.owner,
-            first: self.wanted.first,
-            last: self.wanted.last,
-            mode: Some(self.wanted.mode),
+            file: run.file,
+            owner: run.owner,
+            first: run.first,
+            last: run.last,
+            mode: Some(run.mode),
         }
     }
 }

@@ -2,7 +2,7 @@
 ghost use Rattle.std.specs.Prelude.{◌≡◌, ◌≤◌, ◌<◌, ◌^◌};
 
 use owner_ids::{Owner, OwnerId};
-use range_table::{FileId, Mode, Run};
+use range_table::{FileId, Mode, Run, Wanted};
 
 /// A lock that is wanted (POSIX fcntl): from the first to the last byte, 0 to 2^63 - 1.
 #[derive(Clone, Copy)]
@@ -78,15 +78,15 @@ impl Request<'_> {
     ghost use Rattle.held_locks.specs.Asked.{run_by_number};
 
     /// The same lock, by its owner's number.
-    pub fn by_number(&self, owner: OwnerId) -> Run
+    pub fn by_number(&self, owner: OwnerId) -> Wanted
         ensures { result ≡ run_by_number owner self.now }
     {
-        Run {
+        Wanted::new(Run {
             file: self.file,
             owner,
             first: self.first,
             last: self.last,
             mode: self.mode,
-        }
+        })
     }
 }

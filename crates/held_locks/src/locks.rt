@@ -1,5 +1,5 @@
 //! The locks of all owners.
-ghost use Rattle.std.specs.Prelude.{◌≡◌, ◌≢◌, ◌≤◌, ◌<◌, ◌^◌, ◌⊎◌, ◌↔◌, ◌++◌, ◌∷◌, ℕ, [], true, false, Some, None, IfSome, IfNone, OnOk, OnErr, IsErr, IsTrue, IsSome, slice_get};
+ghost use Rattle.std.specs.Prelude.{◌≡◌, ◌≢◌, ◌<◌, ◌⊎◌, ◌↔◌, ◌++◌, ◌∷◌, ℕ, [], true, false, Some, None, IfSome, IfNone, OnOk, OnErr, IsErr, IsTrue, IsSome, slice_get};
 ghost use Rattle.definitions.specs.Owners.{Owner as SaidOwner, is_of_host};
 ghost use Rattle.definitions.specs.Settings.{without_host, without_owner_on};
 ghost use Rattle.definitions.specs.Conflict.{conflicts};
@@ -19,7 +19,7 @@ use crate::listing::Listing;
 use history::History;
 use host_runs::HostRuns;
 use owner_ids::{HostOf, NOBODY, Owner, OwnerId, Owners, Starved};
-use range_table::{FileId, NoRuns, RangeTable, Run};
+use range_table::{FileId, NoRuns, RangeTable, Wanted};
 use std::alloc::Global;
 use std::marker::Model;
 
@@ -203,27 +203,26 @@ impl<R: RangeTable> Locks<R> {
     }
 
     /// The same of a lock that is wanted by its owner's number, which is in use.
-    pub fn set_run(&mut self, wanted: &Run) -> Result<(), NoRuns>
-        requires ordered { wanted.now.first ≤ wanted.now.last }
-        requires inside { wanted.now.last < 2 ^ 63 }
+    pub fn set_run(&mut self, wanted: &Wanted) -> Result<(), NoRuns>
         requires known { IsSome (named self.old.names wanted.now.owner) }
         ensures refused { (x : SaidOwner) → named self.old.names wanted.now.owner ≡ Some x → IsErr result ↔ IsTrue (refuses 65536 self.old.settings (setting_by x wanted.now)) }
         ensures ok { OnOk result ((x : SaidOwner) → named self.old.names wanted.now.owner ≡ Some x → self.new.settings ≡ self.old.settings ++ setting_by x wanted.now ∷ []) }
         ensures err { OnErr result (self.new.settings ≡ self.old.settings) }
         ensures names { self.new.names ≡ self.old.names }
     {
+        let run = wanted.run();
         let change = NewSetting {
-            file: wanted.file,
-            owner: self.owners.get(wanted.owner),
-            first: wanted.first,
-            last: wanted.last,
-            mode: Some(wanted.mode),
+            file: run.file,
+            owner: self.owners.get(run.owner),
+            first: run.first,
+            last: run.last,
+            mode: Some(run.mode),
         };
         counts::set(
             &mut self.table,
             &mut self.counts,
             &mut self.hosts,
-            wanted.owner,
+            run.owner,
             &change,
         )?;
         self.settings = self.settings.after(&change);

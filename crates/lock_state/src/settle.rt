@@ -44,7 +44,7 @@ impl<R: RangeTable, S: HostStore> World<R, S> {
         let quotas = Stored { store: &self.store };
         let was_held = is_limited(&quotas, self.locks.owner(wanted.owner));
         self.unsettled = self.unsettled.after_grant(was_held);
-        let _ = self.locks.set_run(wanted);
+        let _ = self.locks.set_run(waiter.asked());
         self.calls.make_due(self.next, waiter.into_letter());
         self.next = self.next.wrapping_add(1);
         true

@@ -6,7 +6,7 @@ use crate::quick;
 use history::History;
 use owner_ids::{Host, OwnerId, OwnerOrder, Starved};
 use range_table::run::{Mode, NoRuns, Run, Setting};
-use range_table::{FileId, RangeTable, ordered, sorted};
+use range_table::{FileId, RangeTable, Wanted, ordered, sorted};
 use std::alloc::Global;
 use std::marker::Model;
 
@@ -82,16 +82,16 @@ impl RangeTable for ArenaTable {
         self.runs.list().copy_to(list);
     }
 
-    fn first_conflict<O: OwnerOrder>(&self, owners: &O, wanted: &Run) -> Option<Run> {
-        self.runs.first_conflict(owners, wanted)
+    fn first_conflict<O: OwnerOrder>(&self, owners: &O, wanted: &Wanted) -> Option<Run> {
+        self.runs.first_conflict(owners, wanted.run())
     }
 
-    fn is_blocked(&self, wanted: &Run) -> bool {
-        self.runs.is_blocked(wanted)
+    fn is_blocked(&self, wanted: &Wanted) -> bool {
+        self.runs.is_blocked(wanted.run())
     }
 
-    fn is_owner_in_way(&self, owner: OwnerId, wanted: &Run) -> bool {
-        self.runs.is_owner_in_way(owner, wanted)
+    fn is_owner_in_way(&self, owner: OwnerId, wanted: &Wanted) -> bool {
+        self.runs.is_owner_in_way(owner, wanted.run())
     }
 
     fn drop_owner_on_file(&mut self, file: &FileId, owner: OwnerId) {

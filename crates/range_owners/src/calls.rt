@@ -12,7 +12,7 @@ ghost use Rattle.range_table.specs.Settings.{mode_at, IsUsed};
 
 use crate::allowance::Allowance;
 use owner_ids::{HostOf, OwnerId, Owners};
-use range_table::{FileId, NoRuns, RangeTable, Run, Setting};
+use range_table::{FileId, NoRuns, RangeTable, Run, Setting, Wanted};
 
 /// How many runs the owners have.
 pub fn used<T: RangeTable>(table: &T, owners: &Owners) -> u32
@@ -74,21 +74,19 @@ pub fn runs<T: RangeTable>(table: &T, owners: &Owners, i: u32) -> Run
 }
 
 /// The first conflict, as the owners' settings have it.
-pub fn first_conflict<T: RangeTable>(table: &T, owners: &Owners, wanted: &Run) -> Option<Run>
-    requires ordered { wanted.now.first ≤ wanted.now.last }
-    requires inside { wanted.now.last < 2 ^ 63 }
+pub fn first_conflict<T: RangeTable>(table: &T, owners: &Owners, wanted: &Wanted) -> Option<Run>
     ensures { WhereAsks (named owners.now) (T.settings table.now) wanted.now (λ settings r. IsSameFound (named owners.now) result (first_conflict settings r)) }
 {
+    let _run = wanted.run();
     table.first_conflict(owners, wanted)
 }
 
 /// Whether another owner's mode is in the way of a lock.
-pub fn conflicts<T: RangeTable>(table: &T, owners: &Owners, wanted: &Run) -> bool
-    requires ordered { wanted.now.first ≤ wanted.now.last }
-    requires inside { wanted.now.last < 2 ^ 63 }
+pub fn conflicts<T: RangeTable>(table: &T, owners: &Owners, wanted: &Wanted) -> bool
     ensures { WhereAsks (named owners.now) (T.settings table.now) wanted.now (λ settings r. result ≡ conflicts settings r) }
 {
     let _owners = owners;
+    let _run = wanted.run();
     table.is_blocked(wanted)
 }
 
@@ -96,14 +94,13 @@ pub fn conflicts<T: RangeTable>(table: &T, owners: &Owners, wanted: &Run) -> boo
 pub fn conflicts_with<T: RangeTable>(
     table: &T,
     owners: &Owners,
-    wanted: &Run,
+    wanted: &Wanted,
     owner: OwnerId,
 ) -> bool
-    requires ordered { wanted.now.first ≤ wanted.now.last }
-    requires inside { wanted.now.last < 2 ^ 63 }
     ensures { WhereMeets (named owners.now) (T.settings table.now) wanted.now owner (λ settings r y. result ≡ conflicts_with settings r y) }
 {
     let _owners = owners;
+    let _run = wanted.run();
     table.is_owner_in_way(owner, wanted)
 }
 

@@ -1,6 +1,7 @@
 pub mod File
 pub mod FileId
 pub mod Spelt
+pub mod Range
 pub mod Settings
 pub mod Runs
 pub mod Parts

@@ -10,6 +10,7 @@ pub mod run;
 pub mod run_list;
 pub mod sorted;
 mod table;
+mod wanted;
 mod words;
 
 pub use alike::{first_conflict_in_both, runs_in_both, used_in_both};
@@ -17,3 +18,4 @@ pub use file::FileId;
 pub use flat::FlatTable;
 pub use run::{Mode, NoRuns, Run, Setting};
 pub use table::RangeTable;
+pub use wanted::Wanted;

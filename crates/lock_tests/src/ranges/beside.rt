@@ -3,7 +3,7 @@ ghost use Rattle.std.specs.Prelude.{◌≡◌, ◌≤◌, ◌<◌, ◌^◌};
 
 use owner_ids::{HostOf, Owner, OwnerId, Owners};
 use range_arena::ArenaTable;
-use range_table::{FileId, FlatTable, Mode, RangeTable, Run, Setting};
+use range_table::{FileId, FlatTable, Mode, RangeTable, Run, Setting, Wanted};
 use std::alloc::Global;
 use std::test::*;
 
@@ -87,14 +87,6 @@ fn nth<T: RangeTable>(table: &T, owners: &Owners, i: u32) -> Option<Run> {
     }
 }
 
-// The lock that is asked for, or that would be kept out where it is given up.
-fn wanted(asked: &Setting) -> Run
-    ensures ordered { result.first ≡ asked.now.first }
-    ensures inside { result.last ≡ asked.now.last }
-{
-    asked.run(asked.mode.unwrap_or(Mode::Exclusive))
-}
-
 fn set<T: RangeTable>(table: &mut T, asked: &Setting) -> bool
     requires ordered { asked.now.first ≤ asked.now.last }
     requires inside { asked.now.last < 2 ^ 63 }
@@ -147,11 +139,8 @@ fn find_alike<T: RangeTable, U: RangeTable>(
     other: &U,
     owners: &Owners,
     owner: OwnerId,
-    wanted: &Run,
-) -> bool
-    requires ordered { wanted.now.first ≤ wanted.now.last }
-    requires inside { wanted.now.last < 2 ^ 63 }
-{
+    wanted: &Wanted,
+) -> bool {
     let found = table.first_conflict(owners, wanted);
     found.is_some() == table.is_blocked(wanted)
         && found.is_some() == other.is_blocked(wanted)
@@ -193,8 +182,9 @@ fn step<T: RangeTable, U: RangeTable>(
         10..100 => count_alike(table, other, &asked),
         _ => {
             let owner = asking[next_random(random, 4) as usize];
-            find_alike(table, other, owners, owner, &wanted(&asked))
-                && set_alike(table, other, &asked)
+            // The lock that is asked for, or that would be kept out where it is given up.
+            let wanted = Wanted::new(asked.run(asked.mode.unwrap_or(Mode::Exclusive)));
+            find_alike(table, other, owners, owner, &wanted) && set_alike(table, other, &asked)
         }
     }
 }

@@ -6,7 +6,7 @@ use super::table::nth;
 use crate::owner::intern;
 use owner_ids::{OwnerId, Owners};
 use range_owners::{drop_host, drop_owner_on_file, first_conflict, set, used, used_of};
-use range_table::{FileId, FlatTable, Mode, Run, Setting};
+use range_table::{FileId, FlatTable, Mode, Setting, Wanted};
 use std::alloc::Global;
 use std::test::*;
 
@@ -111,13 +111,7 @@ fn conflicts_agree(
     let Some(mode) = asked.mode else {
         return true;
     };
-    let wanted = Run {
-        file: asked.file,
-        owner: asked.owner,
-        first: asked.first,
-        last: asked.last,
-        mode,
-    };
+    let wanted = Wanted::new(asked.run(mode));
     let found = match first_conflict(table, owners, &wanted) {
         Some(run) => Some((run.owner, run.first)),
         None => None,

@@ -8,7 +8,7 @@ use range_owners::{
     clear, drop_owner_on_file, first_conflict, holds_nothing, intern, refuses, release, runs, set,
     used, used_after, used_of,
 };
-use range_table::{FileId, FlatTable, Mode, RangeTable, Run, Setting};
+use range_table::{FileId, FlatTable, Mode, RangeTable, Run, Setting, Wanted};
 use std::alloc::Global;
 
 fn file() -> FileId {
@@ -86,13 +86,13 @@ impl Held {
 
     // The first run in the way of an owner's write lock.
     fn in_the_way(&self, owner: OwnerId, span: Span) -> Option<Run> {
-        let wanted = Run {
+        let wanted = Wanted::new(Run {
             file: file(),
             owner,
             first: span.first,
             last: span.last,
             mode: Mode::Exclusive,
-        };
+        });
         first_conflict(&self.table, &self.owners, &wanted)
     }
 

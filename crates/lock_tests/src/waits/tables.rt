@@ -1,5 +1,5 @@
 //! The waiters beside the owners and the locks that they wait for, and the rows that these play.
-ghost use Rattle.std.specs.Prelude.{◌≤◌, ◌<◌, ◌^◌, None};
+ghost use Rattle.std.specs.Prelude.{None};
 
 use crate::owner::{intern, number};
 use crate::row::{Case, Misplayed, Row, Span, play_in};
@@ -7,22 +7,18 @@ use blocked_list::{BlockError, NoSlots, NotWaiting, Quotas, Slots, Waiter};
 use callbacks::{Destination, Letter, Message, ShortBytes};
 use host_runs::RunsOfHosts;
 use owner_ids::{OwnerId, Owners};
-use range_table::{FileId, FlatTable, Mode, RangeTable, Run};
+use range_table::{FileId, FlatTable, Mode, RangeTable, Run, Wanted};
 use std::alloc::{AllocError, Global};
 
 /// A lock of a file, whose handle is one byte.
-fn run_on(file: u8, owner: OwnerId, wanted: (Mode, Span)) -> Run
-    ensures ordered { result.first ≤ result.last }
-    ensures inside { result.last < 2 ^ 63 }
-{
-    let (mode, span) = wanted;
-    Run {
+fn lock_on(file: u8, owner: OwnerId, (mode, span): (Mode, Span)) -> Wanted {
+    Wanted::new(Run {
         file: FileId::new(&[file]),
         owner,
         first: span.first,
         last: span.last,
         mode,
-    }
+    })
 }
 
 /// No host has a quota.
@@ -64,11 +60,8 @@ fn number_of(waiter: &Waiter) -> i32 {
 }
 
 // Whether it waits then. None where there is no memory.
-fn block(alloc: Global, slots: &mut Slots, run: Run, number: i32) -> Option<bool>
-    requires ordered { run.first ≤ run.last }
-    requires inside { run.last < 2 ^ 63 }
-{
-    let waiter = Waiter::new(run, letter(alloc, number).ok()?);
+fn block(alloc: Global, slots: &mut Slots, wanted: Wanted, number: i32) -> Option<bool> {
+    let waiter = Waiter::new(wanted, letter(alloc, number).ok()?);
     Some(slots.block(waiter).is_ok())
 }
 
@@ -113,24 +106,18 @@ impl Tables {
             .is_ok()
     }
 
-    fn block(&mut self, run: Run, number: u64) -> Option<bool>
-        requires ordered { run.first ≤ run.last }
-        requires inside { run.last < 2 ^ 63 }
-    {
+    fn block(&mut self, wanted: Wanted, number: u64) -> Option<bool> {
         block(
             self.alloc,
             &mut self.slots,
-            run,
+            wanted,
             i32::try_from(number).ok()?,
         )
     }
 
     // Whether one may wait, with no place spoken for.
-    fn may_block(&self, run: &Run) -> Result<(), BlockError>
-        requires ordered { run.now.first ≤ run.now.last }
-        requires inside { run.now.last < 2 ^ 63 }
-    {
-        self.slots.may_block(&self.table, &self.owners, run, 0)
+    fn may_block(&self, wanted: &Wanted) -> Result<(), BlockError> {
+        self.slots.may_block(&self.table, &self.owners, wanted, 0)
     }
 
     // So many wait, on files by turns.
@@ -141,8 +128,8 @@ impl Tables {
                 first: byte,
                 last: byte,
             };
-            let run = run_on(number % 7, owner, (Mode::Shared, span));
-            if self.block(run, byte) != Some(true) {
+            let wanted = lock_on(number % 7, owner, (Mode::Shared, span));
+            if self.block(wanted, byte) != Some(true) {
                 return false;
             }
         }
@@ -180,25 +167,22 @@ impl Tables {
                 Some(true)
             }
             _ => {
-                let run = run_on(1, owner, (row.mode?, row.span()?));
-                self.asks(run, row)
+                let wanted = lock_on(1, owner, (row.mode?, row.span()?));
+                self.asks(wanted, row)
             }
         }
     }
 
     // What an owner asks for.
-    fn asks(&mut self, run: Run, row: &Row<'_>) -> Option<bool>
-        requires ordered { run.first ≤ run.last }
-        requires inside { run.last < 2 ^ 63 }
-    {
+    fn asks(&mut self, wanted: Wanted, row: &Row<'_>) -> Option<bool> {
         match row.verb {
-            "block" => self.block(run, row.numbers[2]),
-            "full" => Some(!self.block(run, row.numbers[2])?),
-            "may-block" => Some(self.may_block(&run) == Ok(())),
-            "deadlock" => Some(self.may_block(&run) == Err(BlockError::Deadlock)),
-            "no-slots" => Some(self.may_block(&run) == Err(BlockError::NoSlots)),
-            "cancel" => Some(self.slots.cancel(&run) == Ok(())),
-            "absent" => Some(self.slots.cancel(&run) == Err(NotWaiting)),
+            "block" => self.block(wanted, row.numbers[2]),
+            "full" => Some(!self.block(wanted, row.numbers[2])?),
+            "may-block" => Some(self.may_block(&wanted) == Ok(())),
+            "deadlock" => Some(self.may_block(&wanted) == Err(BlockError::Deadlock)),
+            "no-slots" => Some(self.may_block(&wanted) == Err(BlockError::NoSlots)),
+            "cancel" => Some(self.slots.cancel(&wanted) == Ok(())),
+            "absent" => Some(self.slots.cancel(&wanted) == Err(NotWaiting)),
             _ => None,
         }
     }

@@ -10,7 +10,7 @@ pub returns-in-Some-clause-refused : goal.returns-in-Some-clause-refused
 returns-in-Some-clause-refused c = λ names known k.
     let test = λ (w : Waiting). same_wanted w.wanted c.args.wanted.now in
     let agree = requests_agree names known.distinct c.args.wanted.now k c.args.self.now.waiters known.named in
-    let waits = any_agrees (waiter_by names) test (λ (x : Waiter). same_request x.request (request_by names c.args.wanted.now)) c.args.self.now.waiters agree ∙ any_at test c.args.self.now.waiters c.in-Some.place c.in-Some.ensures in
+    let waits = any_agrees (waiter_by names) test (λ (x : Waiter). same_request x.request (request_by names c.args.wanted.now)) c.args.self.now.waiters agree ∙ any_at test c.args.self.now.waiters c.in-Some.place (rw c.run.ensures.run at c.in-Some.ensures) in
     (λ e. absurd (false≢true e), λ e. absurd (false≢true (sym e ∙ waits)))
 
 pub returns-in-Some-clause-ok : goal.returns-in-Some-clause-ok
@@ -18,7 +18,7 @@ returns-in-Some-clause-ok c = λ names known k.
     let test = λ (w : Waiting). same_wanted w.wanted c.args.wanted.now in
     let agree = requests_agree names known.distinct c.args.wanted.now k c.args.self.now.waiters known.named in
     ap (waiters_by names) (ap (λ (s : Taken). s.waiters) c.take_out.ensures.others)
-    ∙ removed_agrees (waiter_by names) test (λ (x : Waiter). same_request x.request (request_by names c.args.wanted.now)) c.args.self.now.waiters c.in-Some.place agree c.in-Some.ensures
+    ∙ removed_agrees (waiter_by names) test (λ (x : Waiter). same_request x.request (request_by names c.args.wanted.now)) c.args.self.now.waiters c.in-Some.place agree (rw c.run.ensures.run at c.in-Some.ensures)
 
 pub returns-in-Some-clause-named : goal.returns-in-Some-clause-named
 returns-in-Some-clause-named c = λ names h.
@@ -28,5 +28,5 @@ pub returns-in-None-clause-refused : goal.returns-in-None-clause-refused
 returns-in-None-clause-refused c = λ names known k.
     let test = λ (w : Waiting). same_wanted w.wanted c.args.wanted.now in
     let agree = requests_agree names known.distinct c.args.wanted.now k c.args.self.now.waiters known.named in
-    let none = any_agrees (waiter_by names) test (λ (x : Waiter). same_request x.request (request_by names c.args.wanted.now)) c.args.self.now.waiters agree ∙ c.in-None.ensures in
+    let none = any_agrees (waiter_by names) test (λ (x : Waiter). same_request x.request (request_by names c.args.wanted.now)) c.args.self.now.waiters agree ∙ (rw c.run.ensures.run at c.in-None.ensures) in
     (λ e. none, λ e. refl)

@@ -9,9 +9,9 @@ use Rattle.blocked_list.proofs.slots.Slots.closes_cycle.Goals as goal
 pub returns-then-not-is_step : goal.returns-then-not-is_step
 returns-then-not-is_step g c = λ settings h known asker.
     let names = named c.args.owners.now in
-    not_asked settings (waiters_by names c.args.self.now.waiters) (request_by names c.args.wanted.now) (not_false (is_description (owner_at names c.args.wanted.now.owner)) (c.if-not-is_step.ensures asker))
+    not_asked settings (waiters_by names c.args.self.now.waiters) (request_by names c.args.wanted.now) (not_false (is_description (owner_at names c.args.wanted.now.owner)) ((rw c.run.ensures.run at c.if-not-is_step.ensures) asker))
 
 pub returns : goal.returns
 returns g c = λ settings h known asker.
     let names = named c.args.owners.now in
-    c.comes_back.ensures settings h known asker (not-true (is_description (owner_at names c.args.wanted.now.owner)) (sym (c.if-not-is_step.ensures asker)))
+    c.comes_back.ensures settings h known asker (not-true (is_description (owner_at names c.args.wanted.now.owner)) (sym ((rw c.run.ensures.run at c.if-not-is_step.ensures) asker)))

@@ -31,7 +31,7 @@ returns-then-conflicts_with g c = λ settings h known asker step.
     let w = c.index.result.now in
     let at = stands_at _ _ c.self.view_is c.in-Some.place w (let p = c.in-Some.ensures.some.0 in let e = c.len.ensures in let ok = c.self.inside.waiters.ok.0 in omega arith) c.index.ensures in
     let used = used_at names c.args.self.now.waiters c.in-Some.place w at.1 at.0 known.named in
-    let told = c.conflicts_with.ensures settings (request_by names w.wanted) (owner_at names c.args.wanted.now.owner) h (request_seen names _ _ c.wanted-next.ensures.wanted used) (named_is names c.args.wanted.now.owner asker) in
+    let told = c.conflicts_with.ensures settings (request_by names w.wanted) (owner_at names c.args.wanted.now.owner) h (request_seen names _ _ c.asked-next.ensures used) (ap (λ (q : Run). names q.owner) c.run.ensures.run ∙ named_is names c.args.wanted.now.owner asker) in
     sym (closes_at settings names c.args.self.now.waiters c.args.wanted.now c.loop-place.reached c.loop-place.followed c.in-Some.place w at (c.loop-place.invariant.searched settings h known asker) c.in-Some.ensures.some.1 step (sym told ∙ c.if-conflicts_with.true))
 
 pub loop-place-preserved : goal.loop-place-preserved
@@ -43,9 +43,9 @@ loop-place-preserved g c = record {
       let w = c.index.result.now in
       let at = stands_at _ _ c.self.view_is c.in-Some.place w (let p = c.in-Some.ensures.some.0 in let e = c.len.ensures in let ok = c.self.inside.waiters.ok.0 in omega arith) c.index.ensures in
       let used = used_at names c.args.self.now.waiters c.in-Some.place w at.1 at.0 known.named in
-      let told = c.conflicts_with.ensures settings (request_by names w.wanted) (owner_at names c.args.wanted.now.owner) h (request_seen names _ _ c.wanted-next.ensures.wanted used) (named_is names c.args.wanted.now.owner asker) in
+      let told = c.conflicts_with.ensures settings (request_by names w.wanted) (owner_at names c.args.wanted.now.owner) h (request_seen names _ _ c.asked-next.ensures used) (ap (λ (q : Run). names q.owner) c.run.ensures.run ∙ named_is names c.args.wanted.now.owner asker) in
       let within : c.in-Some.place < length c.loop-place.followed = (let l = c.loop-place.invariant.long in let p = c.in-Some.ensures.some.0 in let e = c.len.ensures in let ok = c.self.inside.waiters.ok.0 in let i = c.self.invariant.0 in omega arith) in
-      let next = c.wanted-next.ensures.wanted in
+      let next = c.asked-next.ensures in
       let next_used = subst (λ (q : Run). IsSome (named c.args.owners.now q.owner)) (sym next) used in
       follows_at settings names c.args.self.now.waiters c.args.wanted.now c.loop-place.reached c.loop-place.followed c.in-Some.place w at (c.loop-place.invariant.searched settings h known asker) c.in-Some.ensures.some.1 c.reach-in-Some.new.reached within (sym told ∙ c.if-conflicts_with.false)
       (λ k y stands. c.reach-in-Some.ensures settings h known next_used k y stands ∙ ap (λ (q : Run). get_or c.loop-place.reached k false || leads settings (request_by names q) y) next);

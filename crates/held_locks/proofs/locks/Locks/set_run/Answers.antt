@@ -1,6 +1,7 @@
-use Rattle.std.proofs.Common.{◌≡◌, ◌++◌, ◌∷◌, [], Some, sym, subst, true, false, refl, List, Option}
+use Rattle.std.proofs.Common.{◌≡◌, ◌≤◌, ◌<◌, ◌^◌, ◌++◌, ◌∷◌, [], Some, sym, subst, true, false, refl, List, Option, IsTrue}
 use Rattle.std.proofs.lemmas.Bool.{false≢true}
 use Rattle.definitions.specs.Owners.{Owner}
+use Rattle.definitions.specs.Starts.{refuses}
 use Rattle.owner_ids.specs.Said.{view_of_owner}
 use Rattle.owner_ids.specs.Names.{named}
 use Rattle.range_table.specs.Settings.{mode_at}
@@ -19,16 +20,18 @@ same names r x e = record { file = refl; owner = e; first = refl; last = refl; m
 pub returns-in_err-set-clause-refused : goal.returns-in_err-set-clause-refused
 returns-in_err-set-clause-refused g c = λ x e.
     let names = c.self.inside.owners in
-    let r = c.args.wanted.now in
-    let known = subst (λ h. named h.names r.owner ≡ Some x) (sym c.self.view_is) e in
+    let r = c.run-run.result.now in
+    let is = c.run-run.ensures.run in
+    let known = subst (λ h. named h.names r.owner ≡ Some x) (sym c.self.view_is) (subst (λ (q : Run). named c.args.self.now.names q.owner ≡ Some x) (sym is) e) in
     let held = mode_at (g.R.RangeTable.settings c.self.inside.table) in
     let over = refusal_over (named names) held c.self.inside.settings.items (record { file = r.file; owner = r.owner; first = r.first; last = r.last; mode = Some r.mode }) (setting_by x r) c.self.invariant.tied.stands (same names r x known) in
-    rw (← c.self.view_is) ((λ f. over.0 (c.in_err-set.ensures.refused.0 refl)), λ t. c.from_residual.ensures.0)
+    rw (← c.self.view_is) ((λ f. subst (λ (q : Run). IsTrue (refuses 65536 c.self.inside.settings.items (setting_by x q))) is (over.0 (c.in_err-set.ensures.refused.0 refl))), λ t. c.from_residual.ensures.0)
 
 pub invariant_of-self-2 : goal.invariant_of-self-2
 invariant_of-self-2 g c =
-    let r = c.args.wanted.now in
-    let change : NewSetting = record { file = r.file; owner = c.get.result; first = r.first; last = r.last; mode = Some r.mode; ordered = c.requires.ordered; inside = c.requires.inside } in
+    let r = c.run-run.result.now in
+    let is = sym c.run-run.ensures.run in
+    let change : NewSetting = record { file = r.file; owner = c.get.result; first = r.first; last = r.last; mode = Some r.mode; ordered = subst (λ (q : Run). q.first ≤ q.last) is c.run-run.ensures.ordered; inside = subst (λ (q : Run). q.last < 2 ^ 63) is c.run-run.ensures.inside } in
     let ns = g.R.RangeTable.settings c.self.inside.table in
     let others = g.R.RangeTable.settings c.set.new.table in
     let counts = c.self.inside.counts.items in
@@ -46,8 +49,9 @@ invariant_of-self-2 g c =
 pub returns-clause-refused : goal.returns-clause-refused
 returns-clause-refused g c = λ x e.
     let names = c.self.inside.owners in
-    let r = c.args.wanted.now in
-    let known = subst (λ h. named h.names r.owner ≡ Some x) (sym c.self.view_is) e in
+    let r = c.run-run.result.now in
+    let is = c.run-run.ensures.run in
+    let known = subst (λ h. named h.names r.owner ≡ Some x) (sym c.self.view_is) (subst (λ (q : Run). named c.args.self.now.names q.owner ≡ Some x) (sym is) e) in
     let held = mode_at (g.R.RangeTable.settings c.self.inside.table) in
     let over = refusal_over (named names) held c.self.inside.settings.items (record { file = r.file; owner = r.owner; first = r.first; last = r.last; mode = Some r.mode }) (setting_by x r) c.self.invariant.tied.stands (same names r x known) in
-    rw (← c.self.view_is) ((λ f. absurd (false≢true f)), λ t. c.in_ok-set.ensures.refused.1 (over.1 t))
+    rw (← c.self.view_is) ((λ f. absurd (false≢true f)), λ t. c.in_ok-set.ensures.refused.1 (over.1 (subst (λ (q : Run). IsTrue (refuses 65536 c.self.inside.settings.items (setting_by x q))) (sym is) t)))

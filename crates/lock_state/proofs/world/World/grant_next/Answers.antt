@@ -34,9 +34,10 @@ pub returns-in_default-clause-done : goal.returns-in_default-clause-done
 returns-in_default-clause-done g c = λ e.
     subst (λ (s : Seen). s.world ≡ settled the_limits s.world) (sym c.self.view_is) (sym (settled_rest c.args.self.now.world c.in_default.ensures.first))
 
-pub set_run-requires-clause-known : goal.set_run-requires-clause-known
-set_run-requires-clause-known g c =
-    rw c.wanted-wanted.ensures.wanted (c.grant-waiter.ensures.named (named c.self.inside.locks.names) c.self.invariant.in_use).1
+pub set_run-requires : goal.set_run-requires
+set_run-requires g c = record {
+  known = rw c.asked.ensures (c.grant-waiter.ensures.named (named c.self.inside.locks.names) c.self.invariant.in_use).1;
+}
 
 first : (g : Over) (c : goal.After-self-3-1 g) → IsFirstAt (is_ready the_limits (quotas_of (g.S.HostStore.rows c.self.inside.store)) c.self.inside.locks.settings) (waiters_by (named c.self.inside.locks.names) c.self.inside.slots.waiters) c.in-Some.place
 first g c = subst (λ (s : Seen). IsFirstAt (is_ready_in the_limits s.world) s.world.waiters c.in-Some.place) (sym c.self.view_is) c.in-Some.ensures.first
@@ -54,8 +55,8 @@ settings_are g c =
     let there = c.grant-waiter.ensures.there (named names) (is_ready the_limits (quotas_of (g.S.HostStore.rows c.self.inside.store)) settings) (first g c) in
     let one = (c.grant-waiter.ensures.named (named names) c.self.invariant.in_use).1 in
     is_set names settings c.self.inside.slots c.grant-waiter.new.self c.self.inside.calls c.grant-waiter.result (quotas_of (g.S.HostStore.rows c.self.inside.store)) c.self.inside.unsettled c.self.invariant there one c.set_run.result c.set_run.new.self.settings
-    (subst (λ r. (x : Owner) → named names r.owner ≡ Some x → IsErr c.set_run.result ↔ IsTrue (refuses 65536 settings (setting_by x r))) c.wanted-wanted.ensures.wanted c.set_run.ensures.refused)
-    (subst (λ r. OnOk c.set_run.result ((x : Owner) → named names r.owner ≡ Some x → c.set_run.new.self.settings ≡ settings ++ setting_by x r ∷ [])) c.wanted-wanted.ensures.wanted c.set_run.ensures.ok)
+    (subst (λ r. (x : Owner) → named names r.owner ≡ Some x → IsErr c.set_run.result ↔ IsTrue (refuses 65536 settings (setting_by x r))) c.asked.ensures c.set_run.ensures.refused)
+    (subst (λ r. OnOk c.set_run.result ((x : Owner) → named names r.owner ≡ Some x → c.set_run.new.self.settings ≡ settings ++ setting_by x r ∷ [])) c.asked.ensures c.set_run.ensures.ok)
 
 -- the granted owner is the waiter's
 held : (g : Over) (c : goal.After-self-3-1 g) → c.is_limited-was_held.result ≡ is_limited (quotas_of (g.S.HostStore.rows c.self.inside.store)) (owner_at (named c.self.inside.locks.names) c.grant-waiter.result.wanted.owner)
