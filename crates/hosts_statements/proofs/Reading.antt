@@ -141,6 +141,10 @@ pub tells : (sql : List ℕ) (db : Database) (mid new : State) (rows : List Row)
 tells sql db mid new rows at plain h q names is unlisted =
     subst (λ (d : Database). Answers d q [] rows) at (reads_as sql [] mid new db.schema (ap (λ (d : Database). d.schema) at) (Select q names) (same_command (understood db.schema sql) ∙ is) plain unlisted rows h)
 
+-- the same of a text and rows that are equal to these
+pub Tells-alike : (db : Database) (sql text : List ℕ) (rows found : List Row) → sql ≡ text → found ≡ rows → Tells sql db rows → Tells text db found
+Tells-alike db sql text rows found e i told = subst (λ t. Tells t db found) e (subst (Tells sql db) (sym i) told)
+
 pub each_alone : {A B : Type 0} (f : A → B) (xs : List A) → flat_map (λ x. f x ∷ []) xs ≡ map f xs
 each_alone f [] = refl
 each_alone f (x ∷ xs) = ap (λ ys. f x ∷ ys) (each_alone f xs)

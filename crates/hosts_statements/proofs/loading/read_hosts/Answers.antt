@@ -1,14 +1,12 @@
 use Rattle.std.proofs.Common.{map, sym, ap, subst, ◌∙◌, arith, rules, IsTrue}
 use Rattle.std.specs.FinMap.{entries}
-use Rattle.sqlite.specs.State.{HasCleanDisk}
 use Rattle.sqlite.specs.Held.{state}
 use Rattle.definitions.specs.Hosts.{Hosts}
 use Rattle.hosts_statements.specs.Maps.{host_row}
 use Rattle.sqlite.specs.Given.{IsPlain}
 use Rattle.sqlite.specs.Listing.{understood}
-use Rattle.hosts_statements.specs.Reading.{Tells}
 use Rattle.hosts_statements.proofs.Permuted.{on_both, on_then}
-use Rattle.hosts_statements.proofs.Reading.{hosts_plain_at, hosts_from, own_hosts_from, fitting_hosts_from}
+use Rattle.hosts_statements.proofs.Reading.{Tells-alike, hosts_plain_at, hosts_from, own_hosts_from, fitting_hosts_from}
 use Rattle.hosts_statements.proofs.loading.read_hosts.Goals as goal
 
 pub read-requires : goal.read-requires
@@ -21,17 +19,15 @@ read-requires g c = record {
 pub returns-clause-ok : goal.returns-clause-ok
 returns-clause-ok g c clean =
     let old = state g.S.Store c.args.conn.now in
-    let first : HasCleanDisk old = omega (arith, clean, c.read.ensures.crash.clean) in
-    let is = c.requires.tables first (c.in-Ok.ensures.same clean).0.was_open in
-    let shown = subst (λ sql. Tells sql old.committed c.deref-2.result.now) c.hosts_query.ensures (subst (Tells c.hosts_query.result.now old.committed) (sym c.deref-2.ensures.value) (c.in-Ok.ensures.ok clean)) in
+    let is = c.requires.tables (omega (arith, clean, c.read.ensures.crash.clean)) (c.in-Ok.ensures.same clean).0.was_open in
+    let shown = Tells-alike old.committed _ _ _ _ c.hosts_query.ensures c.deref-2.ensures.value (c.in-Ok.ensures.ok clean) in
     on_both c.keep_hosts.result c.keep_hosts.ensures.ok c.keep_hosts.ensures.apart (λ made apart. made ∙ ap (λ m. record c.args.kept.now { rows = map host_row (entries m) }) (hosts_from c.args.version old.committed c.deref-2.result.now is shown apart))
 
 pub returns-clause-own : goal.returns-clause-own
 returns-clause-own g c clean =
     let old = state g.S.Store c.args.conn.now in
-    let first : HasCleanDisk old = omega (arith, clean, c.read.ensures.crash.clean) in
-    let is = c.requires.tables first (c.in-Ok.ensures.same clean).0.was_open in
-    let shown = subst (λ sql. Tells sql old.committed c.deref.result.now) c.hosts_query.ensures (subst (Tells c.hosts_query.result.now old.committed) (sym c.deref.ensures.value) (c.in-Ok.ensures.ok clean)) in
+    let is = c.requires.tables (omega (arith, clean, c.read.ensures.crash.clean)) (c.in-Ok.ensures.same clean).0.was_open in
+    let shown = Tells-alike old.committed _ _ _ _ c.hosts_query.ensures c.deref.ensures.value (c.in-Ok.ensures.ok clean) in
     let passed : IsTrue c.are_own_hosts.result = search rules in
     on_then c.keep_hosts.result c.keep_hosts.ensures.ok (λ _. own_hosts_from c.args.version old.committed c.deref.result.now is shown (c.are_own_hosts.ensures passed))
 
@@ -41,7 +37,6 @@ returns-clause-watches g c = on_then c.keep_hosts.result c.keep_hosts.ensures.ok
 pub returns-clause-numbers : goal.returns-clause-numbers
 returns-clause-numbers g c clean =
     let old = state g.S.Store c.args.conn.now in
-    let first : HasCleanDisk old = omega (arith, clean, c.read.ensures.crash.clean) in
-    let is = c.requires.tables first (c.in-Ok.ensures.same clean).0.was_open in
-    let shown = subst (λ sql. Tells sql old.committed c.deref-2.result.now) c.hosts_query.ensures (subst (Tells c.hosts_query.result.now old.committed) (sym c.deref-2.ensures.value) (c.in-Ok.ensures.ok clean)) in
+    let is = c.requires.tables (omega (arith, clean, c.read.ensures.crash.clean)) (c.in-Ok.ensures.same clean).0.was_open in
+    let shown = Tells-alike old.committed _ _ _ _ c.hosts_query.ensures c.deref-2.ensures.value (c.in-Ok.ensures.ok clean) in
     on_then c.keep_hosts.result c.keep_hosts.ensures.numbers (λ fit. fitting_hosts_from c.args.version old.committed c.deref-2.result.now is shown fit)
