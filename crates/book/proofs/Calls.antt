@@ -9,7 +9,7 @@ use Rattle.definitions.specs.Rulings.{Ruling, ruled}
 use Rattle.definitions.specs.Answer.{Answered, ruling}
 use Rattle.definitions.specs.Step.{Peer, KeptPair, State, Take, Applied, Starved, Replies, with_world, look, store_call, asked_unless_kept, with_row_stored, is_kept_kind, is_restart, kept_after}
 use Rattle.definitions.specs.Replay.{fits, may_leave_row}
-use Rattle.definitions.proofs.AskingLaws.{starved_law}
+use Rattle.definition_laws.proofs.AskingLaws.{starved_law}
 use Rattle.call_plans.specs.declared.plans.Plan.{Plan}
 use Rattle.call_plans.specs.declared.plans.Plan.TheVariants as plan
 use Rattle.lock_service.specs.MayAsk.{may_ask}

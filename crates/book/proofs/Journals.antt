@@ -3,7 +3,7 @@ use Rattle.std.proofs.Common.{◌≡◌, ℕ, ◌+◌, List, [], ◌∷◌, ◌+
 use Rattle.definitions.specs.World.{the_limits}
 use Rattle.definitions.specs.Step.{State}
 use Rattle.definitions.specs.Replay.{Done, Entry, after, IsLegal as IsLegalFrom}
-use Rattle.definitions.proofs.HistoryLaws.{history_grows}
+use Rattle.definition_laws.proofs.HistoryLaws.{history_grows}
 use Rattle.book.specs.Given.{Upshot}
 use Rattle.book.specs.Notes.{Note, Happening, Steps}
 use Rattle.book.specs.Journal.{Journal, IsEntryOf, AreEntriesOf, IsLegal, begun, next_of, noted}

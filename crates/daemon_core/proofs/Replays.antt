@@ -8,7 +8,7 @@ use Rattle.definitions.specs.World.{the_limits}
 use Rattle.definitions.specs.Step.{State, opening_state}
 use Rattle.definitions.specs.Replay.{Done, after, state_after}
 use Rattle.definitions.specs.Moves.{IsSound, IsReclaim, TableMove}
-use Rattle.definitions.specs.Standing.{IsShareReclaim, IsGrantless}
+use Rattle.definition_laws.specs.Standing.{IsShareReclaim, IsGrantless}
 use Rattle.book.specs.Given.{Upshot}
 use Rattle.book.specs.Notes.{Happening, Steps}
 use Rattle.kept_replies.specs.declared.key.Peer.{Peer}
@@ -17,10 +17,10 @@ use Rattle.daemon_core.specs.declared.event.Event.TheVariants.{Connect, Piece, D
 use Rattle.daemon_core.specs.declared.outcome.Outcome.{Outcome}
 use Rattle.daemon_core.specs.declared.outcome.Outcome.TheVariants.{Applied, Starved, NoSegment}
 use Rattle.daemon_core.specs.declared.outputs.Outputs.{Outputs}
-use Rattle.definitions.proofs.RunLaws.{run_is_sound}
-use Rattle.definitions.proofs.GraceLaws.{grace_grants_law}
-use Rattle.definitions.proofs.GrantlessLaws.{grace_calls_law}
-use Rattle.definitions.proofs.StandingLaws.{grace_shares_law}
+use Rattle.definition_laws.proofs.RunLaws.{run_is_sound}
+use Rattle.definition_laws.proofs.GraceLaws.{grace_grants_law}
+use Rattle.definition_laws.proofs.GrantlessLaws.{grace_calls_law}
+use Rattle.definition_laws.proofs.StandingLaws.{grace_shares_law}
 use Rattle.daemon_core.specs.Laws.{GrantsReclaimsOnly}
 use Rattle.daemon_core.specs.Hub.{Hub, opening, place_of, Connects, Disconnects, Pieces, TakesAt, HubStep, Run}
 

@@ -11,7 +11,7 @@ use Rattle.definitions.specs.Rulings.{ruled, stays, decided}
 use Rattle.definitions.specs.Shown.{shown_stat}
 use Rattle.definitions.specs.World.{World, the_limits, slots_free, with_all_due}
 use Rattle.definitions.specs.Step.{Event, Take, Peer, Doing, Applied, Starved, Given, Replies, State, Stepped, KeptPair, applied, taken, repeated, look, step, with_row_stored, asked_unless_kept, moved_to_front, IsUnapplied}
-use Rattle.definitions.proofs.RepeatLaws.{repeat_law}
+use Rattle.definition_laws.proofs.RepeatLaws.{repeat_law}
 use Rattle.kept_replies.specs.Pairs.{view_of_peer}
 use Rattle.call_plans.specs.Planned.{view_of_stored}
 use Rattle.book.specs.Given.{Upshot}

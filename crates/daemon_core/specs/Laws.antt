@@ -7,7 +7,7 @@ use Rattle.definitions.specs.Shares.{Share}
 use Rattle.definitions.specs.World.{the_limits}
 use Rattle.definitions.specs.Step.{State}
 use Rattle.definitions.specs.Moves.{IsSound, IsReclaim, TableMove}
-use Rattle.definitions.specs.Standing.{IsShareReclaim, IsGrantless}
+use Rattle.definition_laws.specs.Standing.{IsShareReclaim, IsGrantless}
 use Rattle.book.specs.Given.{Upshot}
 use Rattle.book.specs.Notes.{Happening, Steps}
 use Rattle.daemon_core.specs.declared.event.Event.{Event}

@@ -23,8 +23,8 @@ use Rattle.definitions.specs.Reclaims.{AreCompatible, IsUnder}
 use Rattle.definitions.specs.Step.{Peer, KeptPair, State, Event, Take, Applied, Replies, taken, applied, store_call, asked_unless_kept}
 use Rattle.definitions.specs.Replay.{fits}
 use Rattle.definitions.proofs.ReclaimLaws.{honest_meets_no_conflict}
-use Rattle.definitions.proofs.AnswerMoves.{admitted}
-use Rattle.definitions.proofs.StepLaws.{settled_nobody}
+use Rattle.definition_laws.proofs.AnswerMoves.{admitted}
+use Rattle.definition_laws.proofs.StepLaws.{settled_nobody}
 use Rattle.restart_laws.specs.Honest.{lock_of, has_place, IsHonestReclaim, IsGranted}
 
 -- a lock that meets no conflict and finds room is granted once its row is stored

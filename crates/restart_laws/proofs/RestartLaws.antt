@@ -10,13 +10,13 @@ use Rattle.definitions.specs.World.{World, the_limits, opening, restart_letter, 
 use Rattle.definitions.specs.Outgoing.{Letter}
 use Rattle.definitions.specs.Rulings.{ruled}
 use Rattle.definitions.specs.Answer.{ruling}
-use Rattle.definitions.specs.Numbers.{is_beginning}
+use Rattle.definition_laws.specs.Numbers.{is_beginning}
 use Rattle.definitions.specs.Step.{Peer, KeptPair, State, Event, Take, Send, Answer, Silent, Local, GraceOver, Restart, Applied, look, taken, fresh, applied, kept_after, is_restart}
 use Rattle.definitions.specs.Replay.{fits}
 use Rattle.definitions.specs.Reclaims.{IsUnder}
 use Rattle.definitions.proofs.WorldLaws.{due_keeps, restart_notices, next_own_law}
-use Rattle.definitions.proofs.StepLaws.{settled_nobody}
-use Rattle.definitions.proofs.StoreRules.{due_hosts}
+use Rattle.definition_laws.proofs.StepLaws.{settled_nobody}
+use Rattle.definition_laws.proofs.StoreRules.{due_hosts}
 use Rattle.definitions.proofs.ReclaimLaws.{restart_is_under}
 use Rattle.restart_laws.specs.Anew.{IsAnew}
 

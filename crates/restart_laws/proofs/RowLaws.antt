@@ -6,7 +6,7 @@ use Rattle.std.proofs.lemmas.Option.{same_Some, none-some}
 use Rattle.definitions.specs.Bytes.{Bytes, Holds, same_bytes, first_that, without_first}
 use Rattle.definitions.specs.Nlm.{Version, Stat, Null, Test, Locks, Cancel, Unlock, TestMsg, LockMsg, CancelMsg, UnlockMsg, GrantedRes, ShareCall, Unshare, NmLock, FreeAll, LockArgs}
 use Rattle.definitions.specs.Hosts.{Hosts, StoreCall, StoreAnswer, NotAsked, Yes, Refused, has_row}
-use Rattle.definitions.specs.Monitored.{stands}
+use Rattle.definition_laws.specs.Monitored.{stands}
 use Rattle.definitions.specs.Shown.{shown_stat}
 use Rattle.definitions.specs.Replies.{Call, Nlm, Nsm, SystemErr, Ignored, Turned, Asks}
 use Rattle.definitions.specs.World.{World, the_limits, slots_free}
@@ -15,14 +15,14 @@ use Rattle.definitions.specs.Outgoing.{Outgoing, next_due}
 use Rattle.definitions.specs.Answer.{Answered, gives, replied, sent_back, by_reply, by_call, by_message, lock_letter, lock_answer, lock_msg_answer, ruling}
 use Rattle.definitions.specs.Step.{Peer, KeptPair, State, Event, Take, Send, Answer, Silent, Local, GraceOver, Restart, Doing, Applied, Starved, Stepped, look, is_same_key, is_success, is_kept_kind, is_restart, kept_after, taken, applied, starved, sent, restart, step, store_call, with_row_stored}
 use Rattle.definitions.specs.Replay.{fits}
-use Rattle.definitions.specs.Asking.{hosts_after}
+use Rattle.definition_laws.specs.Asking.{hosts_after}
 use Rattle.definitions.specs.Uses.{new_pair}
 use Rattle.definitions.proofs.MoveLaws.{by_cond}
-use Rattle.definitions.proofs.CallLaws.{holds_first}
-use Rattle.definitions.proofs.StoreLaws.{store_law}
-use Rattle.definitions.proofs.StandingLaws.{shown_law}
-use Rattle.definitions.proofs.MonitoredLaws.{monitored_law}
-use Rattle.definitions.proofs.SideSteps.{settle_keeps}
+use Rattle.definition_laws.proofs.CallLaws.{holds_first}
+use Rattle.definition_laws.proofs.StoreLaws.{store_law}
+use Rattle.definition_laws.proofs.StandingLaws.{shown_law}
+use Rattle.definition_laws.proofs.MonitoredLaws.{monitored_law}
+use Rattle.definition_laws.proofs.SideSteps.{settle_keeps}
 use Rattle.hosts_lasting.proofs.Stays.{store_keeps}
 use Rattle.record_reading.specs.Readings.{IsReading, OneReading}
 use Rattle.restart_laws.specs.Rows.{monitored_by, tells_lock, telling_of, telling, PairHasRow, KeptHaveRows}

@@ -4,7 +4,7 @@ use Rattle.definitions.specs.Bytes.{Bytes}
 use Rattle.definitions.specs.Settings.{Setting, Request}
 use Rattle.definitions.specs.Hosts.{Hosts, has_row}
 use Rattle.definitions.specs.Phases.{Grace}
-use Rattle.definitions.specs.Numbers.{is_beginning}
+use Rattle.definition_laws.specs.Numbers.{is_beginning}
 use Rattle.definitions.specs.Moves.{IsReclaim}
 use Rattle.definitions.specs.Reclaims.{IsHonest, IsUnder}
 use Rattle.definitions.specs.Nsm.{SmSimuCrash}

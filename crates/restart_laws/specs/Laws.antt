@@ -5,7 +5,7 @@ use Rattle.definitions.specs.Settings.{Setting, Request}
 use Rattle.definitions.specs.Phases.{Grace}
 use Rattle.definitions.specs.Nlm.{Version, NlmCall, LockArgs}
 use Rattle.definitions.specs.Hosts.{has_row}
-use Rattle.definitions.specs.Numbers.{is_beginning}
+use Rattle.definition_laws.specs.Numbers.{is_beginning}
 use Rattle.definitions.specs.Replies.{Call, Nlm, Asks}
 use Rattle.definitions.specs.Reclaims.{AreCompatible, IsHonest, IsUnder}
 use Rattle.definitions.specs.Moves.{IsReclaim}

@@ -3,7 +3,7 @@ use Rattle.std.specs.Prelude.{◌≡◌, ℕ, Bool, true, false, ◌||◌, List,
 use Rattle.definitions.specs.Bytes.{Bytes, Holds, is_any}
 use Rattle.definitions.specs.Nlm.{Locks, LockMsg}
 use Rattle.definitions.specs.Hosts.{Hosts, StoreAnswer, has_row}
-use Rattle.definitions.specs.Monitored.{stands}
+use Rattle.definition_laws.specs.Monitored.{stands}
 use Rattle.definitions.specs.Outgoing.{Letter, Message, LockResult}
 use Rattle.definitions.specs.Replies.{Call, Nlm, Nsm, Outcome, Success, ResResult, Asks}
 use Rattle.definitions.specs.World.{the_limits}

@@ -1,5 +1,5 @@
 //! The two functions of the definitions that run: each once on its happy path, with values from the public rule.
-use definitions::carried::make_fresh;
+use definition_laws::carried::make_fresh;
 use definitions::own_state::next_own_state;
 
 #[test]

@@ -4,7 +4,7 @@ use Rattle.std.proofs.lemmas.Bool.{eq-eqb, eqb-true, and_from, and_parts}
 use Rattle.std.proofs.lemmas.List.{take_more, take-append-drop, map-append, append-nil}
 use Rattle.std.proofs.Math.Seq.{drop-cons}
 use Rattle.std.proofs.lemmas.Slice.Eq.{bytes_eq-Decides}
-use Rattle.definitions.proofs.KeptLaws.{local_same, local_is}
+use Rattle.definition_laws.proofs.KeptLaws.{local_same, local_is}
 use Rattle.definitions.specs.Bytes.{Bytes, same_bytes}
 use Rattle.definitions.specs.Step.{Peer}
 use Rattle.book.specs.declared.entry.Entry.{Entry}

@@ -1,0 +1,16 @@
+pub mod ShortForms
+pub mod RowsOfLocks
+pub mod RowsOfWaits
+pub mod RowsOfHosts
+pub mod RowsOfRepeats
+pub mod RowsAtLimits
+pub mod RowsOfReclaims
+pub mod Monitored
+pub mod Numbers
+pub mod Standing
+pub mod RowsOfLines
+pub mod RowsOfQuotas
+pub mod RowsOfGrace
+pub mod RowsOfAnswers
+pub mod RowsOfVersions
+pub mod Asking

@@ -1,5 +1,0 @@
-use Rattle.definitions.proofs.StandingLaws.{grace_shares_law}
-use Rattle.definitions.proofs.laws.grace_shares_are_reclaims.Goals as goal
-
-pub returns : goal.returns
-returns c = grace_shares_law

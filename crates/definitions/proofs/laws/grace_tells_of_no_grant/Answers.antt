@@ -1,5 +1,0 @@
-use Rattle.definitions.proofs.GrantlessLaws.{grace_calls_law}
-use Rattle.definitions.proofs.laws.grace_tells_of_no_grant.Goals as goal
-
-pub returns : goal.returns
-returns c = grace_calls_law

@@ -1,5 +1,0 @@
-use Rattle.definitions.proofs.StoreLaws.{store_law}
-use Rattle.definitions.proofs.laws.hosts_follow_the_store.Goals as goal
-
-pub returns : goal.returns
-returns c = store_law

@@ -1,5 +1,0 @@
-use Rattle.definitions.proofs.KeptLaws.{kept_is_found}
-use Rattle.definitions.proofs.laws.kept_reply_is_found.Goals as goal
-
-pub returns : goal.returns
-returns c = kept_is_found

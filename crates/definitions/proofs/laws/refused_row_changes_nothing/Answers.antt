@@ -1,5 +1,0 @@
-use Rattle.definitions.proofs.MonitoredLaws.{refused_row_law}
-use Rattle.definitions.proofs.laws.refused_row_changes_nothing.Goals as goal
-
-pub returns : goal.returns
-returns c = refused_row_law
