@@ -6,9 +6,8 @@ ghost use Rattle.nsm_types.specs.Call.{view_of_call};
 ghost use Rattle.call_plans.specs.Planned.{IsPlan};
 
 use crate::{crash, notify, stat, watches};
-use call_plans::Plan;
+use call_plans::{Plan, World};
 use hosts_db::HostStore;
-use lock_state::World;
 use nsm_types::{MonitorRes, NsmCall};
 use owner_ids::Starved;
 use range_table::RangeTable;

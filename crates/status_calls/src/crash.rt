@@ -7,9 +7,8 @@ ghost use Rattle.call_plans.specs.Planned.{IsPlan};
 
 use crate::stat;
 use call_outcome::{CallResult, Outcome};
-use call_plans::{Answer, Asked, Change, Plan, Told};
+use call_plans::{Answer, Asked, Change, Plan, Told, World};
 use hosts_db::HostStore;
-use lock_state::World;
 use owner_ids::Starved;
 use range_table::RangeTable;
 

@@ -8,10 +8,9 @@ ghost use Rattle.status_calls.specs.Dropping.{dropped_if_room};
 
 use crate::stat;
 use call_outcome::{CallResult, Outcome};
-use call_plans::{Answer, Asked, Change, Plan, Shared, Told};
+use call_plans::{Answer, Asked, Change, Plan, Shared, Told, World};
 use callbacks::ShortBytes;
 use hosts_db::HostStore;
-use lock_state::World;
 use nsm_types::{Name, StatChge};
 use owner_ids::Starved;
 use range_table::RangeTable;

@@ -8,9 +8,8 @@ ghost use Rattle.nsm_types.specs.Results.{view_of_monitor_res};
 ghost use Rattle.call_plans.specs.Planned.{told_in, FitsDue, IsPlan};
 
 use call_outcome::{CallResult, Outcome};
-use call_plans::{Answer, Change, Plan, Told};
+use call_plans::{Answer, Change, Plan, Told, World};
 use hosts_db::HostStore;
-use lock_state::World;
 use nsm_types::{MonitorRes, SmStat, SmStatRes};
 use owner_ids::Starved;
 use range_table::RangeTable;

@@ -11,10 +11,9 @@ ghost use Rattle.call_plans.specs.Planned.{IsPlan};
 
 use crate::stat;
 use call_outcome::Outcome;
-use call_plans::{Answer, Asked, Change, Plan, Told};
+use call_plans::{Answer, Asked, Change, Plan, Told, World};
 use callbacks::{self, ShortBytes};
 use hosts_db::HostStore;
-use lock_state::World;
 use nsm_types::{Mon, MonId, MonitorRes, MyId};
 use owner_ids::Starved;
 use range_table::RangeTable;
