@@ -1,4 +1,3 @@
-pub mod Firsts
 pub mod Waits
 pub mod Ready
 pub mod Following

@@ -15,7 +15,7 @@ use Rattle.owner_ids.specs.Names.{Names}
 use Rattle.range_table.specs.declared.run.Run.{Run}
 use Rattle.range_table.proofs.Tests.{by_test}
 use Rattle.blocked_list.specs.ByFile.{below, file_at, places_of, moved_up, without_place, IsIndex}
-use Rattle.blocked_list.specs.First.{IsFirstAt}
+use Rattle.definitions.specs.First.{IsFirstAt}
 use Rattle.blocked_list.specs.Ready.{is_ready_on}
 use Rattle.blocked_list.specs.Waiting.{Waiting, AreNamed, waiter_by, waiters_by, same_wanted}
 use Rattle.blocked_list.proofs.Places.{IsKept, kept_place}

@@ -9,14 +9,14 @@ use Rattle.definitions.specs.Quotas.{Quotas}
 use Rattle.definitions.specs.Starts.{is_short}
 use Rattle.definitions.specs.Waits.{Waiter}
 use Rattle.definitions.specs.World.{is_ready, the_limits}
-use Rattle.blocked_list.specs.First.{IsFirstAt, IsFirstPlace}
+use Rattle.definitions.specs.First.{IsFirstAt, IsFirstPlace}
 use Rattle.blocked_list.specs.Ready.{is_ready_on, is_ready_off}
 use Rattle.owner_ids.specs.Names.{Names}
 use Rattle.std.specs.Prelude.{IsSome}
 use Rattle.std.proofs.lemmas.List.{length-map}
 use Rattle.std.proofs.Math.Bool.{and-false}
 use Rattle.blocked_list.specs.Waiting.{Waiting, AreNamed, waiter_by, waiters_by}
-use Rattle.blocked_list.proofs.Firsts.{any_found}
+use Rattle.definitions.proofs.Firsts.{any_found}
 use Rattle.blocked_list.proofs.Waits.{map_at, named_at}
 
 short_off : (quotas : Quotas) (settings : List Setting) → is_short 65536 settings ≡ true → (x : Waiter) → is_ready the_limits quotas settings x ≡ false

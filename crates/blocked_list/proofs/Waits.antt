@@ -13,9 +13,9 @@ use Rattle.range_table.specs.Settings.{same_mode}
 use Rattle.range_table.specs.declared.run.Mode.{Mode}
 use Rattle.range_table.specs.declared.run.Mode.TheVariants.{Shared, Exclusive}
 use Rattle.range_table.specs.declared.run.Run.{Run}
-use Rattle.blocked_list.specs.First.{IsFirstAt}
+use Rattle.definitions.specs.First.{IsFirstAt}
 use Rattle.blocked_list.specs.Waiting.{Waiting, Taken, owner_at, request_by, waiter_by, AreNamed, same_wanted}
-use Rattle.blocked_list.proofs.Firsts.{without_first-at}
+use Rattle.definitions.proofs.Firsts.{without_first-at}
 
 pub modes_same : (a b : Mode) → modes_are_same (view_of_mode a) (view_of_mode b) ≡ same_mode a b
 modes_same Shared Shared = refl

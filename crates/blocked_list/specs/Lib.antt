@@ -1,4 +1,3 @@
-pub mod First
 pub mod Waiting
 pub mod Standing
 pub mod Quotas

@@ -6,7 +6,7 @@ use Rattle.definitions.specs.Settings.{Setting, without_owner_on}
 use Rattle.definitions.specs.Starts.{is_short}
 use Rattle.definitions.specs.Quotas.{Quotas}
 use Rattle.definitions.specs.Moves.{AreRanges}
-use Rattle.blocked_list.specs.First.{IsFirstPlace}
+use Rattle.definitions.specs.First.{IsFirstPlace}
 use Rattle.blocked_list.specs.Quotas.{is_limited}
 use Rattle.definitions.specs.Waits.{Waiter}
 use Rattle.definitions.specs.World.{is_ready, the_limits}

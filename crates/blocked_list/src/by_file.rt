@@ -4,8 +4,8 @@ ghost use Rattle.std.specs.Ordering.{is_lt, is_le};
 ghost use Rattle.range_table.specs.File.{file_cmp};
 ghost use Rattle.blocked_list.specs.ByFile.{AreByFile, IsIndex, IsPoint, below, file_at, moved_up, places_of, without_place};
 
-use crate::slots::MOST_SLOTS;
 use crate::waiter::Waiter;
+use callbacks::MOST_SLOTS;
 use range_table::FileId;
 use std::alloc::{AllocError, Global};
 use std::cmp::Ordering;

@@ -2,8 +2,8 @@
 ghost use Rattle.std.specs.Prelude.{◌≡◌, ◌<◌, ◌≤◌, ◌+◌, ◌-◌, ◌%◌, ◌==◌, [], length, IfOk, slice_index_or, slice_set};
 ghost use Rattle.blocked_list.specs.ByOwner.{AreCounted};
 
-use crate::slots::MOST_SLOTS;
 use crate::waiter::Waiter;
+use callbacks::MOST_SLOTS;
 use owner_ids::OwnerId;
 use std::alloc::{AllocError, Global};
 use std::marker::Model;

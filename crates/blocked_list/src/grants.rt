@@ -1,7 +1,7 @@
 //! Who is granted next.
 ghost use Rattle.std.specs.Prelude.{◌<◌, length, IfSome};
 ghost use Rattle.owner_ids.specs.Names.{named};
-ghost use Rattle.blocked_list.specs.First.{IsFirstPlace};
+ghost use Rattle.definitions.specs.First.{IsFirstPlace};
 ghost use Rattle.blocked_list.specs.Standing.{WhereCounted};
 ghost use Rattle.blocked_list.specs.Ready.{IsFirstReady, IsFirstReadyOn, is_ready_on};
 

@@ -11,8 +11,9 @@ mod quotas;
 mod slots;
 mod waiter;
 
+pub use callbacks::MOST_SLOTS;
 pub use cycles::BlockError;
 pub use owner_ids::Starved;
 pub use quotas::{FULL_QUOTA, Limit, Quotas, limit_of};
-pub use slots::{MOST_SLOTS, NoSlots, NotWaiting, Slots};
+pub use slots::{NoSlots, NotWaiting, Slots};
 pub use waiter::Waiter;

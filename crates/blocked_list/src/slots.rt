@@ -5,20 +5,18 @@ ghost use Rattle.definitions.specs.Owners.{Owner};
 ghost use Rattle.definitions.specs.Waits.{Waiter as OwnerWaiter, is_waiting, without_waiter, without_host_waiters, without_waiters_on};
 ghost use Rattle.owner_ids.specs.Names.{Names, named};
 ghost use Rattle.std.specs.List.{list_any, remove};
-ghost use Rattle.blocked_list.specs.First.{IsFirstAt, IsFirstPlace};
+ghost use Rattle.definitions.specs.First.{IsFirstAt, IsFirstPlace};
 ghost use Rattle.blocked_list.specs.Waiting.{Waiting, AreKnown, AreNamed, free_places, owner_at, request_by, waiter_by, waiters_by, same_wanted};
 
 use crate::by_file::ByFile;
 use crate::by_owner::ByOwner;
 use crate::waiter::Waiter;
+use callbacks::MOST_SLOTS;
 use owner_ids::{Host, HostOf, OwnerId, Owners, Starved};
 use range_table::{FileId, Run, Wanted};
 use std::alloc::Global;
 use std::marker::Model;
 use thiserror::Error;
-
-/// How many waiters and calls of the server's own there are at most, together.
-pub const MOST_SLOTS: usize = 8_192;
 
 /// There are not as many free places.
 #[derive(Clone, Copy, Debug, PartialEq, Eq, Error)]

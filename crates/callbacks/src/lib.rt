@@ -17,3 +17,6 @@ pub use lock::{LocalLock, Lock};
 pub use message::{Message, MyId};
 pub use results::{Holder, Res, TestRes};
 pub use short::ShortBytes;
+
+/// How many waiters and calls of the server's own there are at most, together.
+pub const MOST_SLOTS: usize = 8_192;

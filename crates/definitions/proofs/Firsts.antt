@@ -7,7 +7,7 @@ use Rattle.std.specs.List.{list_any, filter, remove, position_or_len}
 use Rattle.std.specs.Prelude.{slice_index_or}
 use Rattle.std.specs.Option.{is_some}
 use Rattle.definitions.specs.Bytes.{is_any, first_that, without, without_first}
-use Rattle.blocked_list.specs.First.{IsFirstAt, IsFirstPlace}
+use Rattle.definitions.specs.First.{IsFirstAt, IsFirstPlace}
 
 module _ {X : Type 0} (test : X → Bool) where
   pub filter-not : (xs : List X) → filter (λ x. not (test x)) xs ≡ without test xs

@@ -12,3 +12,4 @@ pub mod WaitLaws
 pub mod MoveLaws
 pub mod TableRunLaws
 pub mod HostLaws
+pub mod Firsts

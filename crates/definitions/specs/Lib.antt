@@ -25,3 +25,4 @@ pub mod Replay
 pub mod Reclaims
 pub mod Moves
 pub mod Uses
+pub mod First

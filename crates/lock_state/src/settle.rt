@@ -1,7 +1,7 @@
 //! Who waits is granted once nothing is in the way.
 ghost use Rattle.std.specs.Prelude.{◌≡◌, ◌<◌, true, false, length, IfSome};
 ghost use Rattle.definitions.specs.World.{settled, the_limits, is_ready_in};
-ghost use Rattle.blocked_list.specs.First.{IsFirstPlace};
+ghost use Rattle.definitions.specs.First.{IsFirstPlace};
 ghost use Rattle.definitions.specs.Owners.{Owner as SaidOwner};
 ghost use Rattle.lock_state.specs.Seen.{IsIdle};
 

@@ -7,8 +7,8 @@ use Rattle.std.proofs.lemmas.Bool.{false≢true}
 use Rattle.std.specs.List.{position_or_len, remove}
 use Rattle.definitions.specs.Bytes.{is_any, without}
 use Rattle.definitions.specs.Outgoing.{Outgoing}
-use Rattle.blocked_list.specs.First.{IsFirstAt}
-use Rattle.blocked_list.proofs.Firsts.{first_within}
+use Rattle.definitions.specs.First.{IsFirstAt}
+use Rattle.definitions.proofs.Firsts.{first_within}
 use Rattle.out_calls.specs.Order.{IsInOrder}
 use Rattle.out_calls.proofs.Sendings.{due}
 

@@ -6,8 +6,8 @@ use Rattle.std.specs.Prelude.{slice_index_or}
 use Rattle.std.proofs.lemmas.Bool.Decides.{nat_tests}
 use Rattle.definitions.specs.Bytes.{is_any}
 use Rattle.definitions.specs.Outgoing.{Outgoing, after_sending, after_silence, after_silence_at, after_silence_of, is_numbered, once_more, ends_when_sent, without_call}
-use Rattle.blocked_list.specs.First.{IsFirstAt}
-use Rattle.blocked_list.proofs.Firsts.{first_that-none, first_is, found_at, without_first-at}
+use Rattle.definitions.specs.First.{IsFirstAt}
+use Rattle.definitions.proofs.Firsts.{first_that-none, first_is, found_at, without_first-at}
 
 abbrev pub due : Outgoing → Bool
 due c = c.is_due

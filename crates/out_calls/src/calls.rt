@@ -3,12 +3,11 @@ ghost use Rattle.std.specs.Prelude.{◌≡◌, ◌↔◌, ◌≤◌, ◌<◌, �
 ghost use Rattle.std.specs.List.{position_or_len, remove};
 ghost use Rattle.definitions.specs.Bytes.{first_that, without_first};
 ghost use Rattle.definitions.specs.Outgoing.{Outgoing, Letter as SentLetter, due_now, next_due, is_numbered, without_call, after_sending, after_silence, call_of_xid, call_of_cookie, without_grants_to};
-ghost use Rattle.blocked_list.specs.First.{IsFirstPlace};
+ghost use Rattle.definitions.specs.First.{IsFirstPlace};
 ghost use Rattle.out_calls.specs.Found.{found, kept_or};
 
 use crate::call::{Call, MOST_SENDINGS};
-use blocked_list::MOST_SLOTS;
-use callbacks::Letter;
+use callbacks::{Letter, MOST_SLOTS};
 use owner_ids::Starved;
 use std::alloc::Global;
 use std::marker::Model;

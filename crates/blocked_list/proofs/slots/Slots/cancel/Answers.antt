@@ -2,7 +2,7 @@ use Rattle.std.proofs.Common.{subst, sym, refl, ap, ◌∙◌}
 use Rattle.std.proofs.lemmas.Bool.{false≢true}
 use Rattle.definitions.specs.Waits.{Waiter, same_request}
 use Rattle.blocked_list.specs.Waiting.{Waiting, Taken, AreNamed, same_wanted, request_by, waiter_by, waiters_by}
-use Rattle.blocked_list.proofs.Firsts.{any_at}
+use Rattle.definitions.proofs.Firsts.{any_at}
 use Rattle.blocked_list.proofs.Waits.{any_agrees, removed_agrees, requests_agree, named_remove}
 use Rattle.blocked_list.proofs.slots.Slots.cancel.Goals as goal
 

@@ -1,7 +1,7 @@
 use Rattle.std.proofs.Common.{subst, sym, ap, ◌∙◌}
 use Rattle.std.specs.Prelude.{IsSome}
 use Rattle.blocked_list.specs.Waiting.{Waiting, Taken, AreNamed, waiter_by, waiters_by}
-use Rattle.blocked_list.proofs.Firsts.{found_at, without_first-at}
+use Rattle.definitions.proofs.Firsts.{found_at, without_first-at}
 use Rattle.blocked_list.proofs.Waits.{map_at, map_remove, named_at, named_remove}
 use Rattle.blocked_list.proofs.slots.Slots.grant.Goals as goal
 

@@ -2,7 +2,7 @@ use Rattle.std.proofs.Common.{◌≡◌, ◌∙◌, sym}
 use Rattle.definitions.specs.Bytes.{is_any}
 use Rattle.definitions.specs.Waits.{Waiter, same_request}
 use Rattle.blocked_list.specs.Waiting.{Waiting, same_wanted, waiter_by, request_by}
-use Rattle.blocked_list.proofs.Firsts.{place_found}
+use Rattle.definitions.proofs.Firsts.{place_found}
 use Rattle.blocked_list.proofs.Waits.{any_agrees, requests_agree}
 use Rattle.blocked_list.proofs.slots.Slots.is_waiting.Goals as goal
 

@@ -10,7 +10,7 @@ use Rattle.definitions.specs.World.{World, the_limits, is_ready, is_ready_in, se
 use Rattle.grace.specs.Meanings.{phase_of}
 use Rattle.held_locks.specs.Asked.{setting_by}
 use Rattle.owner_ids.specs.Names.{named}
-use Rattle.blocked_list.specs.First.{IsFirstAt}
+use Rattle.definitions.specs.First.{IsFirstAt}
 use Rattle.blocked_list.specs.Waiting.{owner_at, waiter_by, waiters_by}
 use Rattle.lock_state.specs.Seen.{Seen}
 use Rattle.lock_state.proofs.Idle.{idle_granted}

@@ -9,7 +9,7 @@ use Rattle.owner_ids.specs.Names.{named}
 use Rattle.range_table.specs.Settings.{mode_at}
 use Rattle.range_table.specs.declared.run.Setting.{Setting as NumberSetting}
 use Rattle.range_owners.specs.Stands.{Stands}
-use Rattle.blocked_list.specs.First.{IsFirstPlace}
+use Rattle.definitions.specs.First.{IsFirstPlace}
 use Rattle.blocked_list.specs.Ready.{IsFirstReady, IsFirstReadyOn}
 use Rattle.blocked_list.specs.Standing.{WhereCounted}
 use Rattle.blocked_list.specs.Waiting.{Waiting, AreNamed, waiters_by}

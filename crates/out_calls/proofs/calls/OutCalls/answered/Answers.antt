@@ -1,6 +1,6 @@
 use Rattle.std.proofs.Common.{sym, ◌∙◌}
 use Rattle.definitions.specs.Outgoing.{is_numbered}
-use Rattle.blocked_list.proofs.Firsts.{first_that-none, found_at, without_first-at, without_first-none}
+use Rattle.definitions.proofs.Firsts.{first_that-none, found_at, without_first-at, without_first-none}
 use Rattle.out_calls.proofs.calls.OutCalls.answered.Goals as goal
 
 pub returns-in_err-place-clause-call : goal.returns-in_err-place-clause-call

@@ -1,6 +1,6 @@
 use Rattle.std.proofs.Common.{sym}
 use Rattle.definitions.specs.Outgoing.{Outgoing}
-use Rattle.blocked_list.proofs.Firsts.{first_that-none, found_at}
+use Rattle.definitions.proofs.Firsts.{first_that-none, found_at}
 use Rattle.out_calls.proofs.calls.OutCalls.next_due.Goals as goal
 
 pub returns-in-Some : goal.returns-in-Some

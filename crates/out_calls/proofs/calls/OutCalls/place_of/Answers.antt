@@ -2,7 +2,7 @@ use Rattle.std.proofs.Common.{rules, tests}
 use Rattle.std.proofs.lemmas.Iterator.{YieldsList-from_slice}
 use Rattle.std.proofs.lemmas.Iterator.Search.{position_from_yields_List}
 use Rattle.definitions.specs.Outgoing.{is_numbered}
-use Rattle.blocked_list.proofs.Firsts.{first_place}
+use Rattle.definitions.proofs.Firsts.{first_place}
 use Rattle.out_calls.proofs.calls.OutCalls.place_of.Goals as goal
 
 pub returns : goal.returns

@@ -1,8 +1,8 @@
 use Rattle.std.proofs.Common.{◌≡◌, false, sym, ap, set, arith, ◌∙◌}
 use Rattle.std.proofs.lemmas.List.{length-set}
 use Rattle.definitions.specs.Outgoing.{Outgoing, once_more}
-use Rattle.blocked_list.proofs.Firsts.{same_at}
-use Rattle.blocked_list.specs.First.{IsFirstAt}
+use Rattle.definitions.proofs.Firsts.{same_at}
+use Rattle.definitions.specs.First.{IsFirstAt}
 use Rattle.out_calls.proofs.Order.{in_order-within, in_order-sent}
 use Rattle.out_calls.proofs.Sendings.{due, after_sending-ends, after_sending-waits}
 use Rattle.out_calls.proofs.calls.OutCalls.sent_at.Goals as goal

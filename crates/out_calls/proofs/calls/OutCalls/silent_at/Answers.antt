@@ -1,7 +1,7 @@
 use Rattle.std.proofs.Common.{rules, sym, ap, [], ◌∷◌, ◌++◌, ◌∙◌}
 use Rattle.std.specs.List.{remove}
 use Rattle.definitions.specs.Outgoing.{Outgoing, is_numbered}
-use Rattle.blocked_list.proofs.Firsts.{same_at}
+use Rattle.definitions.proofs.Firsts.{same_at}
 use Rattle.out_calls.proofs.Order.{in_order-push}
 use Rattle.out_calls.proofs.Sendings.{after_silence-due, after_silence-again, after_silence-last}
 use Rattle.out_calls.proofs.calls.OutCalls.silent_at.Goals as goal
