@@ -1,8 +1,9 @@
 -- What is set in place holds what the setting says.
 use Rattle.std.proofs.Common.{◌≡◌, ℕ, ◌≤◌, cond, List, [], ◌∷◌, ◌++◌, Option, Some, refl, sym, ap, subst, ◌∙◌, arith, length}
 use Rattle.range_table.specs.File.{File}
-use Rattle.range_table.specs.Settings.{covers, mode_at, IsIn}
+use Rattle.range_table.specs.Settings.{covers, IsIn}
 use Rattle.range_table.specs.Runs.{mode_in, set_mode, set_runs, IsRunList}
+use Rattle.range_table.specs.Kept.{KeepSettings}
 use Rattle.range_table.specs.declared.run.Mode.{Mode}
 use Rattle.range_table.specs.declared.run.Run.{Run}
 use Rattle.range_table.specs.declared.run.Setting.{Setting}
@@ -34,6 +35,10 @@ set_anew mode c rs new k w h e l =
       few = l;
     }
 
--- and so the new runs hold what is held after one setting more
-pub mode_at-after : (s : Setting) (old new : List Run) (ss : List Setting) → ((f : File) (o b : ℕ) → mode_in old f o b ≡ mode_at ss f o b) → ((f : File) (o b : ℕ) → mode_in new f o b ≡ cond (covers s f o b) s.mode (mode_in old f o b)) → (f : File) (o b : ℕ) → mode_in new f o b ≡ mode_at (ss ++ s ∷ []) f o b
-mode_at-after s old new ss e h f o b = h f o b ∙ ap (λ m. cond (covers s f o b) s.mode m) (e f o b) ∙ sym (mode_at-append ss s f o b)
+-- and so the new runs keep one setting more
+pub kept_after : (s : Setting) (old new : List Run) (ss : List Setting) → KeepSettings old ss → AreSet s.mode s old new → KeepSettings new (ss ++ s ∷ [])
+kept_after s old new ss k e = record {
+  listed = e.listed;
+  held = λ f o b. e.held f o b ∙ ap (λ m. cond (covers s f o b) s.mode m) (k.held f o b) ∙ sym (mode_at-append ss s f o b);
+  few = e.few;
+}

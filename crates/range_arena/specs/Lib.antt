@@ -1,4 +1,3 @@
 pub mod Reaches
-pub mod Arena
 pub mod Indexed
 pub mod Quick

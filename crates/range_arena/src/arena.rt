@@ -6,7 +6,7 @@ use crate::quick;
 use history::History;
 use owner_ids::{Host, OwnerId, OwnerOrder, Starved};
 use range_table::run::{Mode, NoRuns, Run, Setting};
-use range_table::{FileId, RangeTable, Wanted, ordered, sorted};
+use range_table::{FileId, RangeTable, Ranged, Wanted, ordered, sorted};
 use std::alloc::Global;
 use std::marker::Model;
 
@@ -23,11 +23,11 @@ impl Model for ArenaTable {
 
     ghost Value = { List Setting };
 
-    ghost use Rattle.range_arena.specs.Arena.{IsKept};
+    ghost use Rattle.range_table.specs.Kept.{KeepSettings};
 
     ghost view = { λ t. t.history.items };
 
-    ghost invariant = { IsKept };
+    ghost invariant = { λ t. KeepSettings t.runs t.history.items };
 }
 
 impl ArenaTable {
@@ -54,7 +54,7 @@ impl RangeTable for ArenaTable {
         mode: Option<Mode>,
     ) -> Result<(), NoRuns> {
         let setting = Setting::new(file, owner, first, last, mode);
-        quick::set(&mut self.runs, &setting)?;
+        quick::set(&mut self.runs, &Ranged { setting })?;
         self.history = self.history.after(&setting);
         Ok(())
     }
@@ -67,7 +67,8 @@ impl RangeTable for ArenaTable {
         last: u64,
         mode: Option<Mode>,
     ) -> bool {
-        quick::is_full(&self.runs, &Setting::new(file, owner, first, last, mode))
+        let setting = Setting::new(file, owner, first, last, mode);
+        quick::is_full(&self.runs, &Ranged { setting })
     }
 
     fn used(&self) -> u32 {
@@ -117,7 +118,8 @@ impl RangeTable for ArenaTable {
         last: u64,
         mode: Option<Mode>,
     ) -> u32 {
-        quick::used_after(&self.runs, &Setting::new(file, owner, first, last, mode))
+        let setting = Setting::new(file, owner, first, last, mode);
+        quick::used_after(&self.runs, &Ranged { setting })
     }
 
     fn clear(&mut self) {

@@ -1,5 +1,5 @@
 //! A sorted list of runs, set in place, where only the runs of one owner on one file are looked at.
-ghost use Rattle.std.specs.Prelude.{OnOk, OnErr, IsErr, IsTrue, IfSome, ◌↔◌, ◌≡◌, ◌+◌, ◌<◌, ◌≤◌, ◌^◌, length, map, not, Some};
+ghost use Rattle.std.specs.Prelude.{OnOk, OnErr, IsErr, IsTrue, IfSome, ◌↔◌, ◌≡◌, ◌+◌, ◌≤◌, length, map, not, Some};
 ghost use Rattle.std.specs.List.{filter};
 ghost use Rattle.range_table.specs.Settings.{IsIn};
 ghost use Rattle.range_table.specs.Runs.{starts_in, trim, kept, right, cut, low, high, widened, joined, set_runs, is_split, is_full, IsRunList};
@@ -9,7 +9,7 @@ ghost use Rattle.range_arena.specs.Quick.{HoldsAll, AreSet};
 use crate::indexed::Indexed;
 use range_table::run::{Mode, NoRuns, Run, Setting};
 use range_table::run_list::MOST_RUNS;
-use range_table::sorted;
+use range_table::{Ranged, sorted};
 
 // Whether the range's owner holds all of it in the mode by this run.
 fn holds_all(run: &Run, range: &Setting, mode: Mode) -> bool
@@ -40,37 +40,34 @@ fn low(runs: &Indexed, range: &Setting, mode: Mode) -> u64
     }
 }
 
-fn high(runs: &Indexed, range: &Setting, mode: Mode) -> u64
+fn high(runs: &Indexed, range: &Ranged, mode: Mode) -> u64
     requires listed { IsRunList runs.now }
-    requires inside { range.now.last < 2 ^ 63 }
-    ensures { result ≡ high range.now mode runs.now }
+    ensures { result ≡ high range.now.setting mode runs.now }
 {
-    match runs.last_upto(range, range.last + 1) {
-        Some(run) => run.high_beside(range, mode),
-        None => range.last,
+    match runs.last_upto(&range.setting, range.setting.last + 1) {
+        Some(run) => run.high_beside(&range.setting, mode),
+        None => range.setting.last,
     }
 }
 
 // The range with the runs of the mode that it meets.
-fn widened(runs: &Indexed, range: &Setting, mode: Mode) -> Setting
+fn widened(runs: &Indexed, range: &Ranged, mode: Mode) -> Setting
     requires listed { IsRunList runs.now }
-    requires inside { range.now.last < 2 ^ 63 }
-    ensures { result ≡ widened range.now mode runs.now }
+    ensures { result ≡ widened range.now.setting mode runs.now }
 {
     Setting {
-        first: low(runs, range, mode),
+        first: low(runs, &range.setting, mode),
         last: high(runs, range, mode),
-        ..*range
+        ..range.setting
     }
 }
 
-fn is_split(runs: &Indexed, range: &Setting) -> bool
+fn is_split(runs: &Indexed, range: &Ranged) -> bool
     requires listed { IsRunList runs.now }
-    requires ordered { range.now.first ≤ range.now.last }
-    ensures { result ≡ is_split range.now runs.now }
+    ensures { result ≡ is_split range.now.setting runs.now }
 {
-    match last_before(runs, range) {
-        Some(run) => run.splits(range),
+    match last_before(runs, &range.setting) {
+        Some(run) => run.splits(&range.setting),
         None => false,
     }
 }
@@ -148,12 +145,10 @@ fn cut(runs: &mut Indexed, range: &Setting)
 }
 
 // Where the owner may have runs beside the range.
-fn join_beside(runs: &mut Indexed, range: &Setting, mode: Mode)
+fn join_beside(runs: &mut Indexed, range: &Ranged, mode: Mode)
     requires listed { IsRunList runs.old }
-    requires ordered { range.now.first ≤ range.now.last }
-    requires inside { range.now.last < 2 ^ 63 }
-    requires room { length (joined range.now mode runs.old) ≤ MOST_RUNS }
-    ensures { runs.new ≡ joined range.now mode runs.old }
+    requires room { length (joined range.now.setting mode runs.old) ≤ MOST_RUNS }
+    ensures { runs.new ≡ joined range.now.setting mode runs.old }
 {
     let wide = widened(runs, range, mode);
     cut(runs, &wide);
@@ -161,64 +156,57 @@ fn join_beside(runs: &mut Indexed, range: &Setting, mode: Mode)
 }
 
 // Where the owner has a run that starts up to the byte behind the range: this one, the last of them.
-fn join_last(runs: &mut Indexed, range: &Setting, mode: Mode, last: &Run)
+fn join_last(runs: &mut Indexed, range: &Ranged, mode: Mode, last: &Run)
     requires listed { IsRunList runs.old }
-    requires ordered { range.now.first ≤ range.now.last }
-    requires inside { range.now.last < 2 ^ 63 }
-    requires mode { range.now.mode ≡ Some mode }
+    requires mode { range.now.setting.mode ≡ Some mode }
     requires few { length runs.old ≤ MOST_RUNS }
-    requires room { length (joined range.now mode runs.old) ≤ MOST_RUNS }
+    requires room { length (joined range.now.setting mode runs.old) ≤ MOST_RUNS }
     requires stands { IsIn last.now runs.old }
-    ensures { AreSet (Some mode) range.now runs.old runs.new }
+    ensures { AreSet (Some mode) range.now.setting runs.old runs.new }
 {
     // What is held already isn't taken out to be put in again.
-    if !holds_all(last, range, mode) {
+    if !holds_all(last, &range.setting, mode) {
         join_beside(runs, range, mode);
     }
 }
 
-fn join(runs: &mut Indexed, range: &Setting, mode: Mode)
+fn join(runs: &mut Indexed, range: &Ranged, mode: Mode)
     requires listed { IsRunList runs.old }
-    requires ordered { range.now.first ≤ range.now.last }
-    requires inside { range.now.last < 2 ^ 63 }
-    requires mode { range.now.mode ≡ Some mode }
+    requires mode { range.now.setting.mode ≡ Some mode }
     requires few { length runs.old ≤ MOST_RUNS }
-    requires room { length (joined range.now mode runs.old) ≤ MOST_RUNS }
-    ensures { AreSet (Some mode) range.now runs.old runs.new }
+    requires room { length (joined range.now.setting mode runs.old) ≤ MOST_RUNS }
+    ensures { AreSet (Some mode) range.now.setting runs.old runs.new }
 {
-    match runs.last_upto(range, range.last + 1) {
+    match runs.last_upto(&range.setting, range.setting.last + 1) {
         Some(last) => join_last(runs, range, mode, &last),
-        None => runs.insert(&range.run(mode)),
+        None => runs.insert(&range.setting.run(mode)),
     }
 }
 
-pub(crate) fn is_full(runs: &Indexed, setting: &Setting) -> bool
+pub(crate) fn is_full(runs: &Indexed, range: &Ranged) -> bool
     requires listed { IsRunList runs.now }
-    requires ordered { setting.now.first ≤ setting.now.last }
-    ensures { result ≡ is_full setting.now runs.now }
+    ensures { result ≡ is_full range.now.setting runs.now }
 {
     if runs.list().len() + 2 <= MOST_RUNS {
         return false;
     }
-    setting.mode.is_some() || is_split(runs, setting)
+    range.setting.mode.is_some() || is_split(runs, range)
 }
 
 /// In place, in room that is there.
-pub(crate) fn set(runs: &mut Indexed, setting: &Setting) -> Result<(), NoRuns>
-    requires ordered { setting.now.first ≤ setting.now.last }
-    requires inside { setting.now.last < 2 ^ 63 }
+pub(crate) fn set(runs: &mut Indexed, range: &Ranged) -> Result<(), NoRuns>
     requires listed { IsRunList runs.old }
     requires few { length runs.old ≤ MOST_RUNS }
-    ensures refused { IsErr result ↔ IsTrue (is_full setting.now runs.old) }
-    ensures ok { OnOk result (AreSet setting.now.mode setting.now runs.old runs.new) }
+    ensures refused { IsErr result ↔ IsTrue (is_full range.now.setting runs.old) }
+    ensures ok { OnOk result (AreSet range.now.setting.mode range.now.setting runs.old runs.new) }
     ensures err { OnErr result (runs.new ≡ runs.old) }
 {
-    if is_full(runs, setting) {
+    if is_full(runs, range) {
         return Err(NoRuns);
     }
-    match setting.mode {
-        Some(mode) => join(runs, setting, mode),
-        None => cut(runs, setting),
+    match range.setting.mode {
+        Some(mode) => join(runs, range, mode),
+        None => cut(runs, &range.setting),
     }
     Ok(())
 }
@@ -255,14 +243,13 @@ fn used_cut(runs: &Indexed, range: &Setting) -> u32
 }
 
 /// How many runs there would be after a setting.
-pub(crate) fn used_after(runs: &Indexed, setting: &Setting) -> u32
+pub(crate) fn used_after(runs: &Indexed, range: &Ranged) -> u32
     requires listed { IsRunList runs.now }
     requires few { length runs.now ≤ MOST_RUNS }
-    requires inside { setting.now.last < 2 ^ 63 }
-    ensures { result ≡ length (set_runs setting.now runs.now) }
+    ensures { result ≡ length (set_runs range.now.setting runs.now) }
 {
-    match setting.mode {
-        Some(mode) => used_cut(runs, &widened(runs, setting, mode)) + 1,
-        None => used_cut(runs, setting),
+    match range.setting.mode {
+        Some(mode) => used_cut(runs, &widened(runs, range, mode)) + 1,
+        None => used_cut(runs, &range.setting),
     }
 }

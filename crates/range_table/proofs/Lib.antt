@@ -27,5 +27,6 @@ pub mod OneLess
 pub mod Halves
 pub mod Splitting
 pub mod InWay
+pub mod Kept
 pub mod Ascents
 pub mod Spelling

@@ -6,4 +6,4 @@ pub mod Settings
 pub mod Runs
 pub mod Parts
 pub mod RunList
-pub mod Flat
+pub mod Kept

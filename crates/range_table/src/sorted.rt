@@ -1,5 +1,5 @@
 //! A sorted list of runs, set and asked in place.
-ghost use Rattle.std.specs.Prelude.{OnOk, OnErr, IsErr, IsTrue, ◌↔◌, ◌≡◌, ◌+◌, ◌-◌, ◌<◌, ◌≤◌, ◌^◌, length, map, not, true, false, take, drop, List, ◌++◌, ◌&&◌};
+ghost use Rattle.std.specs.Prelude.{OnOk, OnErr, IsErr, IsTrue, ◌↔◌, ◌≡◌, ◌+◌, ◌-◌, ◌<◌, ◌≤◌, length, map, not, true, false, take, drop, List, ◌++◌, ◌&&◌};
 ghost use Rattle.std.specs.List.{filter, list_any, position_or_len, AllByRecursion};
 ghost use Rattle.range_table.specs.Runs.{is_of, starts_in, trim, kept, right, insert_run, cut, low, high, widened, joined, set_runs, is_split, is_full, run_before, before_place, IsPlace, IsRunList, is_better, best_from};
 ghost use Rattle.range_table.specs.Settings.{conflicts, is_against};
@@ -7,6 +7,7 @@ ghost use Rattle.range_table.specs.Parts.{IsPart};
 
 use crate::file::FileId;
 use crate::places::{Part, last_before, last_run, part_of, place_of, place_past};
+use crate::ranged::Ranged;
 use crate::run::{Mode, NoRuns, Run, Setting};
 use crate::run_list::{MOST_RUNS, RunList};
 use owner_ids::{Host, OwnerId, OwnerOrder};
@@ -36,42 +37,39 @@ fn low(runs: &RunList, part: Part, range: &Setting, mode: Mode) -> u64
     }
 }
 
-fn high(runs: &RunList, part: Part, range: &Setting, mode: Mode) -> u64
+fn high(runs: &RunList, part: Part, range: &Ranged, mode: Mode) -> u64
     requires listed { IsRunList runs.now }
-    requires part { IsPart range.now.file runs.now part.begin part.end }
-    requires inside { range.now.last < 2 ^ 63 }
-    ensures { result ≡ high range.now mode runs.now }
+    requires part { IsPart range.now.setting.file runs.now part.begin part.end }
+    ensures { result ≡ high range.now.setting mode runs.now }
 {
-    let place = place_past(runs, part, &range.file, range.last + 1);
-    match last_run(runs, part, range, place) {
-        Some(run) => run.high_beside(range, mode),
-        None => range.last,
+    let place = place_past(runs, part, &range.setting.file, range.setting.last + 1);
+    match last_run(runs, part, &range.setting, place) {
+        Some(run) => run.high_beside(&range.setting, mode),
+        None => range.setting.last,
     }
 }
 
 // The range with the runs of the mode that it meets.
-fn widened(runs: &RunList, part: Part, range: &Setting, mode: Mode) -> Setting
+fn widened(runs: &RunList, part: Part, range: &Ranged, mode: Mode) -> Setting
     requires listed { IsRunList runs.now }
-    requires part { IsPart range.now.file runs.now part.begin part.end }
-    requires inside { range.now.last < 2 ^ 63 }
-    ensures { result ≡ widened range.now mode runs.now }
+    requires part { IsPart range.now.setting.file runs.now part.begin part.end }
+    ensures { result ≡ widened range.now.setting mode runs.now }
 {
     Setting {
-        first: low(runs, part, range, mode),
+        first: low(runs, part, &range.setting, mode),
         last: high(runs, part, range, mode),
-        ..*range
+        ..range.setting
     }
 }
 
-fn is_split(runs: &RunList, part: Part, range: &Setting) -> bool
+fn is_split(runs: &RunList, part: Part, range: &Ranged) -> bool
     requires listed { IsRunList runs.now }
-    requires part { IsPart range.now.file runs.now part.begin part.end }
-    requires ordered { range.now.first ≤ range.now.last }
-    ensures { result ≡ is_split range.now runs.now }
+    requires part { IsPart range.now.setting.file runs.now part.begin part.end }
+    ensures { result ≡ is_split range.now.setting runs.now }
 {
-    let place = place_of(runs, part, &range.file, range.first);
-    match last_run(runs, part, range, place) {
-        Some(run) => run.splits(range),
+    let place = place_of(runs, part, &range.setting.file, range.setting.first);
+    match last_run(runs, part, &range.setting, place) {
+        Some(run) => run.splits(&range.setting),
         None => false,
     }
 }
@@ -217,57 +215,51 @@ fn cut(runs: &mut RunList, part: Part, range: &Setting)
     }
 }
 
-fn join(runs: &mut RunList, part: Part, range: &Setting, mode: Mode)
+fn join(runs: &mut RunList, part: Part, range: &Ranged, mode: Mode)
     requires listed { IsRunList runs.old }
-    requires part { IsPart range.now.file runs.old part.begin part.end }
-    requires ordered { range.now.first ≤ range.now.last }
-    requires inside { range.now.last < 2 ^ 63 }
-    requires room { length (joined range.now mode runs.old) ≤ MOST_RUNS }
-    ensures { runs.new ≡ joined range.now mode runs.old }
+    requires part { IsPart range.now.setting.file runs.old part.begin part.end }
+    requires room { length (joined range.now.setting mode runs.old) ≤ MOST_RUNS }
+    ensures { runs.new ≡ joined range.now.setting mode runs.old }
 {
     let wide = widened(runs, part, range, mode);
     cut(runs, part, &wide);
     insert(runs, wide.run(mode));
 }
 
-fn is_full(runs: &RunList, part: Part, setting: &Setting) -> bool
+fn is_full(runs: &RunList, part: Part, range: &Ranged) -> bool
     requires listed { IsRunList runs.now }
-    requires part { IsPart setting.now.file runs.now part.begin part.end }
-    requires ordered { setting.now.first ≤ setting.now.last }
-    ensures { result ≡ is_full setting.now runs.now }
+    requires part { IsPart range.now.setting.file runs.now part.begin part.end }
+    ensures { result ≡ is_full range.now.setting runs.now }
 {
     if runs.len() + 2 <= MOST_RUNS {
         return false;
     }
-    setting.mode.is_some() || is_split(runs, part, setting)
+    range.setting.mode.is_some() || is_split(runs, part, range)
 }
 
-pub fn refuses(runs: &RunList, setting: &Setting) -> bool
-    requires ordered { setting.now.first ≤ setting.now.last }
+pub fn refuses(runs: &RunList, range: &Ranged) -> bool
     requires listed { IsRunList runs.now }
-    ensures { result ≡ is_full setting.now runs.now }
+    ensures { result ≡ is_full range.now.setting runs.now }
 {
-    is_full(runs, part_of(runs, &setting.file), setting)
+    is_full(runs, part_of(runs, &range.setting.file), range)
 }
 
 /// In place, in room that is there.
-pub fn set(runs: &mut RunList, setting: &Setting) -> Result<(), NoRuns>
-    requires ordered { setting.now.first ≤ setting.now.last }
-    requires inside { setting.now.last < 2 ^ 63 }
+pub fn set(runs: &mut RunList, range: &Ranged) -> Result<(), NoRuns>
     requires listed { IsRunList runs.old }
     requires few { length runs.old ≤ MOST_RUNS }
-    ensures refused { IsErr result ↔ IsTrue (is_full setting.now runs.old) }
-    ensures ok { OnOk result (runs.new ≡ set_runs setting.now runs.old) }
+    ensures refused { IsErr result ↔ IsTrue (is_full range.now.setting runs.old) }
+    ensures ok { OnOk result (runs.new ≡ set_runs range.now.setting runs.old) }
     ensures err { OnErr result (runs.new ≡ runs.old) }
     ensures few { length runs.new ≤ MOST_RUNS }
 {
-    let part = part_of(runs, &setting.file);
-    if is_full(runs, part, setting) {
+    let part = part_of(runs, &range.setting.file);
+    if is_full(runs, part, range) {
         return Err(NoRuns);
     }
-    match setting.mode {
-        Some(mode) => join(runs, part, setting, mode),
-        None => cut(runs, part, setting),
+    match range.setting.mode {
+        Some(mode) => join(runs, part, range, mode),
+        None => cut(runs, part, &range.setting),
     }
     Ok(())
 }
@@ -441,15 +433,14 @@ fn used_cut(runs: &RunList, part: Part, range: &Setting) -> u32
 }
 
 /// How many runs there would be after a setting.
-pub fn used_after(runs: &RunList, setting: &Setting) -> u32
+pub fn used_after(runs: &RunList, range: &Ranged) -> u32
     requires listed { IsRunList runs.now }
     requires few { length runs.now ≤ MOST_RUNS }
-    requires inside { setting.now.last < 2 ^ 63 }
-    ensures { result ≡ length (set_runs setting.now runs.now) }
+    ensures { result ≡ length (set_runs range.now.setting runs.now) }
 {
-    let part = part_of(runs, &setting.file);
-    match setting.mode {
-        Some(mode) => used_cut(runs, part, &widened(runs, part, setting, mode)) + 1,
-        None => used_cut(runs, part, setting),
+    let part = part_of(runs, &range.setting.file);
+    match range.setting.mode {
+        Some(mode) => used_cut(runs, part, &widened(runs, part, range, mode)) + 1,
+        None => used_cut(runs, part, &range.setting),
     }
 }

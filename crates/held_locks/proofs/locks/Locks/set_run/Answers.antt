@@ -1,31 +1,36 @@
-use Rattle.std.proofs.Common.{◌≡◌, ◌≤◌, ◌<◌, ◌^◌, ◌++◌, ◌∷◌, [], Some, sym, subst, true, false, refl, List, Option, IsTrue}
+use Rattle.std.proofs.Common.{◌≡◌, ◌≤◌, ◌<◌, ◌^◌, ◌++◌, ◌∷◌, ◌↔◌, [], Some, sym, subst, false, refl, List, Option, IsTrue}
 use Rattle.std.proofs.lemmas.Bool.{false≢true}
 use Rattle.definitions.specs.Owners.{Owner}
+use Rattle.definitions.specs.Settings.{Setting}
 use Rattle.definitions.specs.Starts.{refuses}
 use Rattle.owner_ids.specs.Said.{view_of_owner}
 use Rattle.owner_ids.specs.Names.{named}
-use Rattle.range_table.specs.Settings.{mode_at}
+use Rattle.range_table.specs.Settings.{Held, IsRefused, mode_at}
 use Rattle.range_table.specs.declared.run.Run.{Run}
+use Rattle.range_table.specs.declared.run.Setting.{Setting as NumberSetting}
 use Rattle.range_owners.proofs.Counting.{refusal_over}
-use Rattle.range_owners.specs.Same.{IsSameSetting}
+use Rattle.range_owners.specs.Stands.{Stands}
 use Rattle.held_locks.specs.Asked.{changed, setting_by}
 use Rattle.held_locks.specs.declared.asked.NewSetting.{NewSetting}
 use Rattle.held_locks.proofs.Ties.{tied_set}
 use Rattle.held_locks.proofs.HostCounts.{hosts_changed, set_alike}
 use Rattle.held_locks.proofs.locks.Locks.set_run.Goals as goal
 
-same : (names : List (Option Owner)) (r : Run) (x : Owner) → named names r.owner ≡ Some x → IsSameSetting (named names) (record { file = r.file; owner = r.owner; first = r.first; last = r.last; mode = Some r.mode }) (setting_by x r)
-same names r x e = record { file = refl; owner = e; first = refl; last = refl; mode = refl }
+abbrev by_number : Run → NumberSetting
+by_number r = record { file = r.file; owner = r.owner; first = r.first; last = r.last; mode = Some r.mode }
+
+-- the run that is set is the one that is wanted, so it is refused by number as by owner
+refused_as : (names : List (Option Owner)) (held : Held) (settings : List Setting) (r wanted : Run) (x : Owner) → r ≡ wanted → Stands (named names) held settings → named names wanted.owner ≡ Some x → IsRefused held (by_number r) ↔ IsTrue (refuses 65536 settings (setting_by x wanted))
+refused_as names held settings r wanted x e h known =
+    let mine = subst (λ (q : Run). named names q.owner ≡ Some x) (sym e) known in
+    let over = refusal_over (named names) held settings (by_number r) (setting_by x r) h (record { file = refl; owner = mine; first = refl; last = refl; mode = refl }) in
+    subst (λ (q : Run). IsRefused held (by_number r) ↔ IsTrue (refuses 65536 settings (setting_by x q))) e over
 
 pub returns-in_err-set-clause-refused : goal.returns-in_err-set-clause-refused
 returns-in_err-set-clause-refused g c = λ x e.
-    let names = c.self.inside.owners in
-    let r = c.run-run.result.now in
-    let is = c.run-run.ensures.run in
-    let known = subst (λ h. named h.names r.owner ≡ Some x) (sym c.self.view_is) (subst (λ (q : Run). named c.args.self.now.names q.owner ≡ Some x) (sym is) e) in
-    let held = mode_at (g.R.RangeTable.settings c.self.inside.table) in
-    let over = refusal_over (named names) held c.self.inside.settings.items (record { file = r.file; owner = r.owner; first = r.first; last = r.last; mode = Some r.mode }) (setting_by x r) c.self.invariant.tied.stands (same names r x known) in
-    rw (← c.self.view_is) ((λ f. subst (λ (q : Run). IsTrue (refuses 65536 c.self.inside.settings.items (setting_by x q))) is (over.0 (c.in_err-set.ensures.refused.0 refl))), λ t. c.from_residual.ensures.0)
+    let known = subst (λ h. named h.names c.args.wanted.now.owner ≡ Some x) (sym c.self.view_is) e in
+    let same = refused_as c.self.inside.owners (mode_at (g.R.RangeTable.settings c.self.inside.table)) c.self.inside.settings.items c.run-run.result.now c.args.wanted.now x c.run-run.ensures.run c.self.invariant.tied.stands known in
+    rw (← c.self.view_is) ((λ f. same.0 (c.in_err-set.ensures.refused.0 refl)), λ t. c.from_residual.ensures.0)
 
 pub invariant_of-self-2 : goal.invariant_of-self-2
 invariant_of-self-2 g c =
@@ -48,10 +53,6 @@ invariant_of-self-2 g c =
 
 pub returns-clause-refused : goal.returns-clause-refused
 returns-clause-refused g c = λ x e.
-    let names = c.self.inside.owners in
-    let r = c.run-run.result.now in
-    let is = c.run-run.ensures.run in
-    let known = subst (λ h. named h.names r.owner ≡ Some x) (sym c.self.view_is) (subst (λ (q : Run). named c.args.self.now.names q.owner ≡ Some x) (sym is) e) in
-    let held = mode_at (g.R.RangeTable.settings c.self.inside.table) in
-    let over = refusal_over (named names) held c.self.inside.settings.items (record { file = r.file; owner = r.owner; first = r.first; last = r.last; mode = Some r.mode }) (setting_by x r) c.self.invariant.tied.stands (same names r x known) in
-    rw (← c.self.view_is) ((λ f. absurd (false≢true f)), λ t. c.in_ok-set.ensures.refused.1 (over.1 (subst (λ (q : Run). IsTrue (refuses 65536 c.self.inside.settings.items (setting_by x q))) (sym is) t)))
+    let known = subst (λ h. named h.names c.args.wanted.now.owner ≡ Some x) (sym c.self.view_is) e in
+    let same = refused_as c.self.inside.owners (mode_at (g.R.RangeTable.settings c.self.inside.table)) c.self.inside.settings.items c.run-run.result.now c.args.wanted.now x c.run-run.ensures.run c.self.invariant.tied.stands known in
+    rw (← c.self.view_is) ((λ f. absurd (false≢true f)), λ t. c.in_ok-set.ensures.refused.1 (same.1 t))

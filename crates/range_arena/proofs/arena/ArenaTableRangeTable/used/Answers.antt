@@ -1,8 +1,8 @@
 use Rattle.std.proofs.Common.{◌≡◌, length, rules}
-use Rattle.range_table.proofs.Tables.{used_runs}
+use Rattle.range_table.proofs.Kept.{used_kept}
 use Rattle.range_arena.proofs.arena.ArenaTableRangeTable.used.Goals as goal
 
 pub returns : goal.returns
 returns c =
     let l : length c.self.inside.runs ≡ c.len.result = search rules in
-    rw (← c.self.view_is, ← l) (used_runs c.self.inside.runs c.self.inside.history.items c.self.invariant.listed c.self.invariant.held)
+    rw (← c.self.view_is, ← l) (used_kept c.self.inside.runs c.self.inside.history.items c.self.invariant)

@@ -1,20 +1,11 @@
-use Rattle.std.proofs.Common.{length, arith}
-use Rattle.range_table.specs.Settings.{mode_at}
-use Rattle.range_table.proofs.Counts.{used_once}
-use Rattle.range_table.proofs.Tables.{used_runs}
-use Rattle.range_table.proofs.RunFacts.{AreRuns-list}
+use Rattle.std.proofs.Common.{arith}
+use Rattle.range_table.proofs.Kept.{count_kept, AreRuns-kept}
 use Rattle.range_table.proofs.flat.FlatTableRangeTable.copy_runs.Goals as goal
 
 pub copy_to-requires : goal.copy_to-requires
 copy_to-requires c =
-    let u = rw c.self.view_is at (used_runs c.self.inside.runs c.self.inside.history.items c.self.invariant.listed c.self.invariant.held) in
-    let n = used_once (mode_at c.args.self.now) c.requires.room.0 (length c.self.inside.runs) c.requires.room.1 u in
-    record { room = (let l = c.requires.room.2 in omega arith) }
+    let n = count_kept c.self.inside.runs c.self.inside.history.items c.self.invariant c.requires.room.0 (rw (← c.self.view_is) at c.requires.room.1) in
+    record { room = omega (arith, n, c.requires.room.2) }
 
 pub returns : goal.returns
-returns c =
-    let rs = c.self.inside.runs in (
-      rs,
-      rw (← c.self.view_is) (AreRuns-list rs (mode_at c.self.inside.history.items) c.self.invariant.listed c.self.invariant.held),
-      c.copy_to.ensures,
-    )
+returns c = (c.self.inside.runs, rw (← c.self.view_is) (AreRuns-kept c.self.inside.runs c.self.inside.history.items c.self.invariant), c.copy_to.ensures)
