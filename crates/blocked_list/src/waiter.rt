@@ -13,7 +13,7 @@ use callbacks::Letter;
 use host_runs::RunsOfHosts;
 use owner_ids::Owners;
 use range_owners::Allowance;
-use range_table::{FileId, RangeTable, Run, Setting, Wanted};
+use range_table::{FileId, RangeTable, Ranged, Run, Setting, Wanted};
 use std::marker::Model;
 
 /// The lock that somebody waits for, whom the tables know by number, and the call that tells of it once it is granted.
@@ -127,16 +127,17 @@ impl Waiter {
     }
 
     // What it sets once it is granted.
-    fn setting(&self) -> Setting
-        ensures { result ≡ setting_wanted self.now.wanted }
+    fn setting(&self) -> Ranged
+        ensures { result.setting ≡ setting_wanted self.now.wanted }
     {
         let run = self.wanted.run();
-        Setting {
+        let setting = Setting {
             file: run.file,
             owner: run.owner,
             first: run.first,
             last: run.last,
             mode: Some(run.mode),
-        }
+        };
+        Ranged { setting }
     }
 }

@@ -39,10 +39,6 @@ abbrev pub WhereMeets : Names → List NumberSetting → NumberRun → ℕ → (
 WhereMeets names ns wanted n Says =
     (settings : List Setting) (r : Request) (y : Owner) → Stands names (held_at ns) settings → IsSameRequest names wanted r → names n ≡ Some y → Says settings r y
 
--- and of one of them alone
-abbrev pub WhereOwns : Names → List NumberSetting → ℕ → (List Setting → Owner → Type 0) → Type 0
-WhereOwns names ns n Says = (settings : List Setting) (x : Owner) → Stands names (held_at ns) settings → names n ≡ Some x → Says settings x
-
 -- ---- what keeps it
 
 abbrev pub SettingLaw : Type 0

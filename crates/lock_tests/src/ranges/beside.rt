@@ -1,9 +1,10 @@
 //! One random script through the arena table and the flat one, which is its definition in code.
-ghost use Rattle.std.specs.Prelude.{◌≡◌, ◌≤◌, ◌<◌, ◌^◌};
+ghost use Rattle.std.specs.Prelude.{◌<◌};
 
+use super::table::{nth, set, used_after};
 use owner_ids::{HostOf, Owner, OwnerId, Owners};
 use range_arena::ArenaTable;
-use range_table::{FileId, FlatTable, Mode, RangeTable, Run, Setting, Wanted};
+use range_table::{FileId, FlatTable, Mode, RangeTable, Ranged, Run, Setting, Wanted};
 use std::alloc::Global;
 use std::test::*;
 
@@ -43,10 +44,7 @@ fn asking(alloc: Global, owners: &mut Owners) -> Result<Asking, Fail> {
 }
 
 // Mostly of a byte or two, now and then of many.
-fn next_setting(random: &mut u32, asking: &Asking) -> Setting
-    ensures ordered { result.first ≤ result.last }
-    ensures inside { result.last < 2 ^ 63 }
-{
+fn next_setting(random: &mut u32, asking: &Asking) -> Ranged {
     let owner = asking[next_random(random, 4) as usize];
     let file = FileId::new(next_random(random, 3).to_be_bytes().as_slice());
     let first = u64::from(next_random(random, BYTES));
@@ -61,7 +59,8 @@ fn next_setting(random: &mut u32, asking: &Asking) -> Setting
         1 => Some(Mode::Shared),
         _ => Some(Mode::Exclusive),
     };
-    Setting::new(&file, owner, first, last, mode)
+    let setting = Setting::new(&file, owner, first, last, mode);
+    Ranged { setting }
 }
 
 // What a run shows.
@@ -79,55 +78,13 @@ fn is_same(run: Option<Run>, other: Option<Run>) -> bool {
     }
 }
 
-fn nth<T: RangeTable>(table: &T, owners: &Owners, i: u32) -> Option<Run> {
-    if i < table.used() {
-        Some(table.runs(owners, i))
-    } else {
-        None
-    }
-}
-
-fn set<T: RangeTable>(table: &mut T, asked: &Setting) -> bool
-    requires ordered { asked.now.first ≤ asked.now.last }
-    requires inside { asked.now.last < 2 ^ 63 }
-{
-    table
-        .set(
-            &asked.file,
-            asked.owner,
-            asked.first,
-            asked.last,
-            asked.mode,
-        )
-        .is_ok()
-}
-
-fn used_after<T: RangeTable>(table: &T, asked: &Setting) -> u32
-    requires ordered { asked.now.first ≤ asked.now.last }
-    requires inside { asked.now.last < 2 ^ 63 }
-{
-    table.used_after(
-        &asked.file,
-        asked.owner,
-        asked.first,
-        asked.last,
-        asked.mode,
-    )
-}
-
 // Whether both count alike what the setting would make. The flat one goes over all its runs for it.
-fn count_alike<T: RangeTable, U: RangeTable>(table: &T, other: &U, asked: &Setting) -> bool
-    requires ordered { asked.now.first ≤ asked.now.last }
-    requires inside { asked.now.last < 2 ^ 63 }
-{
+fn count_alike<T: RangeTable, U: RangeTable>(table: &T, other: &U, asked: &Ranged) -> bool {
     used_after(table, asked) == used_after(other, asked)
 }
 
 // Whether both refuse the setting, or both make it, and then have as many runs as the first one said.
-fn set_alike<T: RangeTable, U: RangeTable>(table: &mut T, other: &mut U, asked: &Setting) -> bool
-    requires ordered { asked.now.first ≤ asked.now.last }
-    requires inside { asked.now.last < 2 ^ 63 }
-{
+fn set_alike<T: RangeTable, U: RangeTable>(table: &mut T, other: &mut U, asked: &Ranged) -> bool {
     let after = used_after(table, asked);
     let done = set(table, asked);
     done == set(other, asked) && (!done || table.used() == after && other.used() == after)
@@ -175,15 +132,16 @@ fn step<T: RangeTable, U: RangeTable>(
             true
         }
         1..10 => {
-            table.drop_owner_on_file(&asked.file, asked.owner);
-            other.drop_owner_on_file(&asked.file, asked.owner);
+            table.drop_owner_on_file(&asked.setting.file, asked.setting.owner);
+            other.drop_owner_on_file(&asked.setting.file, asked.setting.owner);
             true
         }
         10..100 => count_alike(table, other, &asked),
         _ => {
             let owner = asking[next_random(random, 4) as usize];
             // The lock that is asked for, or that would be kept out where it is given up.
-            let wanted = Wanted::new(asked.run(asked.mode.unwrap_or(Mode::Exclusive)));
+            let mode = asked.setting.mode.unwrap_or(Mode::Exclusive);
+            let wanted = Wanted::new(asked.setting.run(mode));
             find_alike(table, other, owners, owner, &wanted) && set_alike(table, other, &asked)
         }
     }

@@ -1,12 +1,12 @@
 //! Random settings and drops, after each of which the table answers as the plain list.
-ghost use Rattle.std.specs.Prelude.{◌≤◌, ◌<◌, ◌^◌};
+ghost use Rattle.std.specs.Prelude.{◌<◌};
 
 use super::plain::{first_against, nth_on, starts_on};
-use super::table::nth;
+use super::table::{nth, set};
 use crate::owner::intern;
-use owner_ids::{OwnerId, Owners};
-use range_owners::{drop_host, drop_owner_on_file, first_conflict, set, used, used_of};
-use range_table::{FileId, FlatTable, Mode, Setting, Wanted};
+use owner_ids::{HostOf, OwnerId, Owners};
+use range_owners::used_of;
+use range_table::{FileId, FlatTable, Mode, RangeTable, Ranged, Setting, Wanted};
 use std::alloc::Global;
 use std::test::*;
 
@@ -47,10 +47,7 @@ fn file_of(number: u32) -> FileId {
     }
 }
 
-fn setting_of(numbers: &mut Numbers, order: &Order) -> Setting
-    ensures ordered { result.first ≤ result.last }
-    ensures inside { result.last < 2 ^ 63 }
-{
+fn setting_of(numbers: &mut Numbers, order: &Order) -> Ranged {
     let owner = order[numbers.below(5) as usize];
     let file = file_of(numbers.below(2));
     let first = u64::from(numbers.below(12));
@@ -60,7 +57,8 @@ fn setting_of(numbers: &mut Numbers, order: &Order) -> Setting
         1 => Some(Mode::Shared),
         _ => Some(Mode::Exclusive),
     };
-    Setting::new(&file, owner, first, last, mode)
+    let setting = Setting::new(&file, owner, first, last, mode);
+    Ranged { setting }
 }
 
 // Whether the runs of a file, of which the table's n-th is the first, are those of the list.
@@ -92,7 +90,7 @@ fn counts_agree(table: &FlatTable, owners: &Owners, settings: &[Setting], order:
     let on_other = starts_on(settings, &file_of(1), order);
     let of_host = starts_on(settings, &file_of(0), &host);
     let of_host_too = starts_on(settings, &file_of(1), &host);
-    used(table, owners) == on_one.saturating_add(on_other)
+    table.used() == on_one.saturating_add(on_other)
         && used_of(table, owners, b"a") == of_host.saturating_add(of_host_too)
         && has_runs(table, owners, settings, order, &file_of(0), 0)
         && has_runs(table, owners, settings, order, &file_of(1), on_one)
@@ -103,20 +101,18 @@ fn conflicts_agree(
     owners: &Owners,
     settings: &[Setting],
     order: &Order,
-    asked: &Setting,
-) -> bool
-    requires ordered { asked.now.first ≤ asked.now.last }
-    requires inside { asked.now.last < 2 ^ 63 }
-{
-    let Some(mode) = asked.mode else {
+    asked: &Ranged,
+) -> bool {
+    let setting = &asked.setting;
+    let Some(mode) = setting.mode else {
         return true;
     };
-    let wanted = Wanted::new(asked.run(mode));
-    let found = match first_conflict(table, owners, &wanted) {
+    let wanted = Wanted::new(setting.run(mode));
+    let found = match table.first_conflict(owners, &wanted) {
         Some(run) => Some((run.owner, run.first)),
         None => None,
     };
-    found == first_against(settings, asked, order)
+    found == first_against(settings, setting, order)
 }
 
 /// The table, and the same as a plain list.
@@ -144,27 +140,32 @@ impl Sides {
     }
 
     fn drops_host(&mut self) {
-        drop_host(&mut self.table, &self.owners, b"a");
+        self.table.drop_host(&HostOf {
+            owners: &self.owners,
+            name: b"a",
+        });
         let (first, second) = (self.order[0], self.order[1]);
         self.settings
             .retain(|s| s.owner != first && s.owner != second);
     }
 
     fn closes(&mut self, file: &FileId, owner: OwnerId) {
-        drop_owner_on_file(&mut self.table, &self.owners, file, owner);
+        self.table.drop_owner_on_file(file, owner);
         self.settings
             .retain(|s| s.owner != owner || !s.file.is_same(file));
     }
 
-    // One random change on both sides. None where there is no memory.
+    // One random change on both sides. None where there is no memory, or no room in the table.
     fn change(&mut self) -> Option<()> {
         let asked = setting_of(&mut self.numbers, &self.order);
         match self.numbers.below(16) {
             0 => self.drops_host(),
-            1 => self.closes(&asked.file, asked.owner),
+            1 => self.closes(&asked.setting.file, asked.setting.owner),
             _ => {
-                set(&mut self.table, &self.owners, &asked).ok()?;
-                self.settings.push(asked).ok()?;
+                if !set(&mut self.table, &asked) {
+                    return None;
+                }
+                self.settings.push(asked.setting).ok()?;
             }
         }
         Some(())

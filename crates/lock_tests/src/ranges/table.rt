@@ -1,14 +1,9 @@
 //! A table with its owners, and the rows that it plays.
-ghost use Rattle.std.specs.Prelude.{◌≡◌, ◌≤◌, ◌<◌, ◌^◌};
-
 use crate::owner::{number, read_owner};
 use crate::row::{Case, Misplayed, Row, Span, play_in};
-use owner_ids::{OwnerId, Owners};
-use range_owners::{
-    clear, drop_owner_on_file, first_conflict, holds_nothing, intern, refuses, release, runs, set,
-    used, used_after, used_of,
-};
-use range_table::{FileId, FlatTable, Mode, RangeTable, Run, Setting, Wanted};
+use owner_ids::{OneOwner, OwnerId, Owners};
+use range_owners::used_of;
+use range_table::{FileId, FlatTable, Mode, RangeTable, Ranged, Run, Setting, Wanted};
 use std::alloc::Global;
 
 fn file() -> FileId {
@@ -16,22 +11,31 @@ fn file() -> FileId {
 }
 
 /// A setting of the file.
-fn of(owner: OwnerId, wanted: (Option<Mode>, Span)) -> Setting
-    ensures ordered { result.first ≤ result.last }
-    ensures inside { result.last < 2 ^ 63 }
-    ensures owner { result.owner ≡ owner }
-{
+fn of(owner: OwnerId, wanted: (Option<Mode>, Span)) -> Ranged {
     let (mode, span) = wanted;
-    Setting::new(&file(), owner, span.first, span.last, mode)
+    let setting = Setting::new(&file(), owner, span.first, span.last, mode);
+    Ranged { setting }
 }
 
 /// The i-th run.
-pub(super) fn nth(table: &FlatTable, owners: &Owners, i: u32) -> Option<Run> {
+pub(super) fn nth<T: RangeTable>(table: &T, owners: &Owners, i: u32) -> Option<Run> {
     if i < table.used() {
-        Some(runs(table, owners, i))
+        Some(table.runs(owners, i))
     } else {
         None
     }
+}
+
+/// Whether it was set.
+pub(super) fn set<T: RangeTable>(table: &mut T, asked: &Ranged) -> bool {
+    let s = &asked.setting;
+    table.set(&s.file, s.owner, s.first, s.last, s.mode).is_ok()
+}
+
+/// How many runs there would be.
+pub(super) fn used_after<T: RangeTable>(table: &T, asked: &Ranged) -> u32 {
+    let s = &asked.setting;
+    table.used_after(&s.file, s.owner, s.first, s.last, s.mode)
 }
 
 #[derive(Drop)]
@@ -57,16 +61,18 @@ impl Held {
 
     fn intern(&mut self, who: &str) -> Option<bool> {
         let owner = read_owner(self.alloc, who)?;
-        Some(intern(&self.table, &mut self.owners, &owner).is_ok())
+        Some(self.owners.intern(&owner).is_ok())
     }
 
     // Whether it was set.
     fn set(&mut self, owner: OwnerId, wanted: (Option<Mode>, Span)) -> bool {
-        set(&mut self.table, &self.owners, &of(owner, wanted)).is_ok()
+        set(&mut self.table, &of(owner, wanted))
     }
 
     fn refuses(&self, owner: OwnerId, wanted: (Option<Mode>, Span)) -> bool {
-        refuses(&self.table, &self.owners, &of(owner, wanted))
+        let (mode, span) = wanted;
+        self.table
+            .refuses(&file(), owner, span.first, span.last, mode)
     }
 
     // Single bytes 4, 6, 8, .. of an owner. Whether all were set.
@@ -93,7 +99,7 @@ impl Held {
             last: span.last,
             mode: Mode::Exclusive,
         });
-        first_conflict(&self.table, &self.owners, &wanted)
+        self.table.first_conflict(&self.owners, &wanted)
     }
 
     fn meets(&self, owner: OwnerId, span: Span, row: &Row<'_>) -> Option<bool> {
@@ -103,12 +109,20 @@ impl Held {
         Some(run.owner == holder && run.first == first && run.last == last)
     }
 
-    // The number is in use. Whether it went out of use.
+    fn is_idle(&self, owner: OwnerId) -> bool {
+        self.table.used_of(&OneOwner { owner }) == 0
+    }
+
+    // The number is in use. Whether it went out of use, which it does where it has no run.
     fn release(&mut self, owner: OwnerId) -> Option<bool> {
         if self.owners.find(owner).is_none() {
             return None;
         }
-        Some(release(&self.table, &mut self.owners, owner))
+        let idle = self.is_idle(owner);
+        if idle {
+            self.owners.release(owner);
+        }
+        Some(idle)
     }
 
     fn is_nth(&self, row: &Row<'_>) -> Option<bool> {
@@ -119,18 +133,18 @@ impl Held {
 
     // How many runs there would be.
     fn after(&self, owner: OwnerId, wanted: (Option<Mode>, Span)) -> u32 {
-        used_after(&self.table, &self.owners, &of(owner, wanted))
+        used_after(&self.table, &of(owner, wanted))
     }
 
     // What an owner does, or is.
     fn goes_by(&mut self, owner: OwnerId, row: &Row<'_>) -> Option<bool> {
         match row.verb {
             "fill" => Some(self.fill(owner)),
-            "idle" => Some(holds_nothing(&self.table, owner)),
+            "idle" => Some(self.is_idle(owner)),
             "leaves" => self.release(owner),
             "stays" => Some(!self.release(owner)?),
             "close" => {
-                drop_owner_on_file(&mut self.table, &self.owners, &file(), owner);
+                self.table.drop_owner_on_file(&file(), owner);
                 Some(true)
             }
             _ => self.asks(owner, row.span()?, row),
@@ -157,14 +171,14 @@ impl Case for Held {
         let [count, ..] = row.numbers;
         match row.verb {
             "owner" => self.intern(row.who),
-            "used" => Some(u64::from(used(&self.table, &self.owners)) == count),
+            "used" => Some(u64::from(self.table.used()) == count),
             "host" => {
                 let used = used_of(&self.table, &self.owners, row.who.as_bytes());
                 Some(u64::from(used) == count)
             }
             "run" => self.is_nth(row),
             "clear" => {
-                clear(&mut self.table, &self.owners);
+                self.table.clear();
                 Some(true)
             }
             _ => self.goes_by(self.number(row.who)?, row),
