@@ -6,7 +6,7 @@ use Rattle.definitions.specs.Settings.{Request}
 use Rattle.definitions.specs.Outgoing.{Letter}
 use Rattle.definitions.specs.Waits.{Waiter, modes_are_same}
 use Rattle.owner_ids.specs.Names.{Names, AreDistinct}
-use Rattle.range_owners.specs.Same.{view_of_mode}
+use Rattle.range_table.specs.Modes.{view_of_mode}
 use Rattle.range_table.specs.declared.run.Run.{Run}
 use Rattle.range_table.specs.declared.run.Setting.{Setting as NumberSetting}
 

@@ -13,7 +13,8 @@ use Rattle.owner_ids.proofs.Orders.{number_agrees}
 use Rattle.range_table.specs.Settings.{Held, IsConflict, IsFirstConflict, IsUpTo, conflicts, excludes}
 use Rattle.range_table.specs.File.{same_file}
 use Rattle.range_table.specs.declared.run.Run.{Run as NumberRun}
-use Rattle.range_owners.specs.Same.{view_of_mode, IsSameRun, IsSameFound}
+use Rattle.range_owners.specs.Same.{IsSameRun, IsSameFound}
+use Rattle.range_table.specs.Modes.{view_of_mode}
 use Rattle.range_owners.specs.Stands.{Stands}
 use Rattle.range_owners.proofs.Words.{number_same, number_other}
 use Rattle.range_owners.proofs.Keeping.{interned}

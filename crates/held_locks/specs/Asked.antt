@@ -6,7 +6,7 @@ use Rattle.definitions.specs.Starts.{Run}
 use Rattle.owner_ids.specs.Said.{view_of_owner}
 use Rattle.range_table.specs.declared.run.Run.{Run as NumberRun}
 use Rattle.range_table.specs.declared.run.Setting.{Setting as NumberSetting}
-use Rattle.range_owners.specs.Same.{view_of_mode, view_of_held_mode}
+use Rattle.range_table.specs.Modes.{view_of_mode, view_of_held_mode}
 use Rattle.held_locks.specs.declared.asked.Request.{Request as HeldRequest}
 use Rattle.held_locks.specs.declared.asked.NewSetting.{NewSetting}
 use Rattle.held_locks.specs.declared.asked.Holder.{Holder}

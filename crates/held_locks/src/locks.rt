@@ -36,7 +36,7 @@ struct OwnerSetting {
 impl Model for OwnerSetting {
     ghost use Rattle.definitions.specs.Settings.{Setting};
     ghost use Rattle.owner_ids.specs.Said.{view_of_owner};
-    ghost use Rattle.range_owners.specs.Same.{view_of_held_mode};
+    ghost use Rattle.range_table.specs.Modes.{view_of_held_mode};
 
     ghost Value = { Setting };
 

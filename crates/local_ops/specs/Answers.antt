@@ -1,7 +1,7 @@
 -- Answers as the definitions have them.
 use Rattle.definitions.specs.Replies as def
 use Rattle.owner_ids.specs.Said.{view_of_owner}
-use Rattle.range_owners.specs.Same.{view_of_mode}
+use Rattle.range_table.specs.Modes.{view_of_mode}
 use Rattle.local_ops.specs.declared.answer.LocalAnswer.{LocalAnswer}
 use Rattle.local_ops.specs.declared.answer.LocalAnswer.TheVariants as answer
 

@@ -2,7 +2,7 @@
 
 ghost use Rattle.std.specs.Prelude.{◌≡◌, ◌+◌, ◌≤◌, ◌++◌, ◌↔◌, length, IsOk, OnOk, OnErr};
 ghost use Rattle.callbacks.specs.Meanings.{local_lock_of};
-ghost use Rattle.range_owners.specs.Same.{view_of_mode};
+ghost use Rattle.range_table.specs.Modes.{view_of_mode};
 ghost use Rattle.local_ops.specs.Texts.{granted_line};
 
 use crate::text::{append_parts, local_text_of, mode_text_of, short_hex};

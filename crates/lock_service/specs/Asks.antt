@@ -10,7 +10,7 @@ use Rattle.callbacks.specs.Meanings.{local_lock_of}
 use Rattle.callbacks.specs.declared.lock.LocalLock as local
 use Rattle.nlm4_types.specs.Lock.{view_of_lock}
 use Rattle.nlm4_types.specs.Version.{view_of_version}
-use Rattle.range_owners.specs.Same.{view_of_mode}
+use Rattle.range_table.specs.Modes.{view_of_mode}
 use Rattle.range_table.specs.declared.run.Mode.{Mode}
 use Rattle.call_plans.specs.Planned.{request_wanted}
 use Rattle.lock_service.specs.declared.lock_ask.NewHost as host

@@ -7,7 +7,7 @@ use Rattle.definitions.specs.Rulings.{Told}
 use Rattle.definitions.specs.Replies.{Line, LineReply, SetLock, SetLockWait}
 use Rattle.callbacks.specs.Meanings.{local_lock_of}
 use Rattle.local_ops.specs.Answers.{view_of_local_answer}
-use Rattle.range_owners.specs.Same.{view_of_mode, view_of_held_mode}
+use Rattle.range_table.specs.Modes.{view_of_mode, view_of_held_mode}
 use Rattle.range_table.specs.declared.run.Mode.{Mode}
 use Rattle.call_plans.specs.Planned.{changed}
 use Rattle.lock_service.specs.declared.local.LinePlan.{LinePlan}

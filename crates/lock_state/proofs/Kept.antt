@@ -12,7 +12,7 @@ use Rattle.definitions.specs.Settings.{Setting, without_host}
 use Rattle.definitions.specs.Quotas.{Quotas}
 use Rattle.definitions.specs.Waits.{Waiter, without_host_waiters}
 use Rattle.owner_ids.specs.Names.{named, AreDistinct}
-use Rattle.range_owners.specs.Same.{view_of_mode}
+use Rattle.range_table.specs.Modes.{view_of_mode}
 use Rattle.blocked_list.specs.Waiting.{Waiting, Taken, AreNamed, owner_at, waiter_by, waiters_by}
 use Rattle.definitions.specs.Moves.{AreRanges}
 use Rattle.definitions.proofs.MoveLaws.{ranges_without}

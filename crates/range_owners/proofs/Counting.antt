@@ -26,7 +26,8 @@ use Rattle.range_table.proofs.Files.{file_tests}
 use Rattle.range_table.proofs.Tests.{by_test}
 use Rattle.range_table.proofs.Counts.{used_once}
 use Rattle.owner_ids.specs.Names.{Names, AreDistinct, is_owned_by, is_some_of_host}
-use Rattle.range_owners.specs.Same.{view_of_held_mode, IsSameSetting, AreOfHost}
+use Rattle.range_owners.specs.Same.{IsSameSetting, AreOfHost}
+use Rattle.range_table.specs.Modes.{view_of_held_mode}
 use Rattle.range_owners.specs.Stands.{Stands, UsedLaw, UsedOfLaw, UsedAfterLaw, RefusalLaw}
 use Rattle.range_owners.proofs.Words.{some_none}
 use Rattle.range_owners.proofs.Keeping.{stands_set}

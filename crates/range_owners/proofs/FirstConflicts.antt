@@ -26,7 +26,8 @@ use Rattle.range_table.proofs.Tests.{by_test}
 use Rattle.range_table.proofs.Counts.{same_mode-refl}
 use Rattle.range_table.proofs.RunFacts.{run_once}
 use Rattle.owner_ids.specs.Names.{Names}
-use Rattle.range_owners.specs.Same.{view_of_mode, view_of_held_mode, IsSameRun, IsSameRequest, IsSameFound}
+use Rattle.range_owners.specs.Same.{IsSameRun, IsSameRequest, IsSameFound}
+use Rattle.range_table.specs.Modes.{view_of_mode, view_of_held_mode}
 use Rattle.range_owners.specs.Stands.{Stands, OrdersNames, RunsLaw, FirstConflictLaw}
 use Rattle.range_owners.proofs.Words.{some_none, file_same, owner_test}
 use Rattle.range_owners.proofs.Counting.{held_once, starts_same}

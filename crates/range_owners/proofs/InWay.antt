@@ -12,7 +12,8 @@ use Rattle.owner_ids.specs.Names.{Names}
 use Rattle.range_table.specs.Settings.{Held, IsConflict, IsConflictBy, excludes as excludes_number}
 use Rattle.range_table.specs.declared.run.Run.{Run as NumberRun}
 use Rattle.range_table.proofs.Tests.{by_test}
-use Rattle.range_owners.specs.Same.{view_of_mode, IsSameRequest}
+use Rattle.range_owners.specs.Same.{IsSameRequest}
+use Rattle.range_table.specs.Modes.{view_of_mode}
 use Rattle.range_owners.specs.Stands.{Stands, ConflictsLaw}
 use Rattle.range_owners.proofs.Words.{owner_test}
 use Rattle.range_owners.proofs.FirstConflicts.{excludes_same, conflict_back}

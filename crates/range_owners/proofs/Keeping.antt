@@ -13,7 +13,8 @@ use Rattle.range_table.specs.declared.run.Setting.{Setting as NumberSetting}
 use Rattle.range_table.proofs.Tests.{by_test}
 use Rattle.range_table.proofs.Tables.{mode_at-append, mode_at-filter}
 use Rattle.owner_ids.specs.Names.{Names, Renames, WasFor}
-use Rattle.range_owners.specs.Same.{view_of_held_mode, IsSameSetting}
+use Rattle.range_owners.specs.Same.{IsSameSetting}
+use Rattle.range_table.specs.Modes.{view_of_held_mode}
 use Rattle.range_owners.specs.Stands.{Stands, SettingLaw, DropHostLaw, DropOwnerLaw, InternLaw, ReleaseLaw, ClearLaw}
 use Rattle.range_owners.proofs.Words.{some_none, none_or, held_cond, cond_none, number_is, number_other, owner_test, covers_same, covers_owner, file_same}
 

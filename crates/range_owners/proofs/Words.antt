@@ -13,7 +13,8 @@ use Rattle.range_table.specs.declared.run.Mode.{Mode as NumberMode}
 use Rattle.range_table.specs.declared.run.Setting.{Setting as NumberSetting}
 use Rattle.range_table.proofs.Files.{file_tests}
 use Rattle.owner_ids.specs.Names.{Names, AreDistinct}
-use Rattle.range_owners.specs.Same.{view_of_held_mode, IsSameSetting}
+use Rattle.range_owners.specs.Same.{IsSameSetting}
+use Rattle.range_table.specs.Modes.{view_of_held_mode}
 
 pub some_none : {A : Type 0} (a : A) → Some a ≡ None → ⊥
 some_none a e = cc

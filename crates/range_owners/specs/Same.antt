@@ -3,20 +3,11 @@ use Rattle.std.specs.Prelude.{ℕ, ◌≡◌, Bool, Option, Some, None}
 use Rattle.definitions.specs.Owners.{Owner, is_of_host}
 use Rattle.owner_ids.specs.Names.{Names}
 use Rattle.definitions.specs.Bytes.{Bytes}
-use Rattle.definitions.specs.Settings.{Mode, Shared, Exclusive, Setting, Request}
+use Rattle.definitions.specs.Settings.{Setting, Request}
 use Rattle.definitions.specs.Starts.{Run}
-use Rattle.range_table.specs.declared.run.Mode.{Mode as NumberMode}
-use Rattle.range_table.specs.declared.run.Mode.TheVariants.{Shared as NumberShared, Exclusive as NumberExclusive}
+use Rattle.range_table.specs.Modes.{view_of_mode, view_of_held_mode}
 use Rattle.range_table.specs.declared.run.Run.{Run as NumberRun}
 use Rattle.range_table.specs.declared.run.Setting.{Setting as NumberSetting}
-
-abbrev pub view_of_mode : NumberMode → Mode
-view_of_mode NumberShared = Shared
-view_of_mode NumberExclusive = Exclusive
-
-abbrev pub view_of_held_mode : Option NumberMode → Option Mode
-view_of_held_mode None = None
-view_of_held_mode (Some m) = Some (view_of_mode m)
 
 -- one setting, by number and by owner
 pub record IsSameSetting (names : Names) (s : NumberSetting) (t : Setting) : Type 0 where

@@ -12,7 +12,8 @@ use Rattle.range_table.specs.Settings.{Held, IsUsed, IsRefused, IsConflict, IsFi
 use Rattle.range_table.specs.declared.run.Run.{Run as NumberRun}
 use Rattle.range_table.specs.declared.run.Setting.{Setting as NumberSetting}
 use Rattle.owner_ids.specs.Names.{Names, AreDistinct, Renames, number_cmp}
-use Rattle.range_owners.specs.Same.{view_of_held_mode, IsSameSetting, IsSameRun, IsSameRequest, IsSameFound, AreOfHost}
+use Rattle.range_owners.specs.Same.{IsSameSetting, IsSameRun, IsSameRequest, IsSameFound, AreOfHost}
+use Rattle.range_table.specs.Modes.{view_of_held_mode}
 
 -- a number in use holds what its owner holds, one not in use holds nothing, and who holds something has a number
 pub record Stands (names : Names) (held : Held) (settings : List Setting) : Type 0 where

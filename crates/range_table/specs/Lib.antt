@@ -7,3 +7,4 @@ pub mod Runs
 pub mod Parts
 pub mod RunList
 pub mod Kept
+pub mod Modes

@@ -2,7 +2,7 @@ use Rattle.std.proofs.Common.{◌≡◌, List, ℕ, [], ◌∷◌, ◌++◌, sub
 use Rattle.std.specs.Fmt.{decimal}
 use Rattle.hex.specs.Hex.{encode_lower}
 use Rattle.owner_ids.specs.Said.{view_of_owner}
-use Rattle.range_owners.specs.Same.{view_of_mode}
+use Rattle.range_table.specs.Modes.{view_of_mode}
 use Rattle.held_locks.specs.Asked.{shown}
 use Rattle.held_locks.specs.declared.asked.Holder.{Holder}
 use Rattle.local_ops.specs.Texts.{spaced, owner_text, mode_text, run_line}

@@ -5,7 +5,7 @@ use Rattle.owner_ids.specs.Said.{view_of_owner}
 use Rattle.owner_ids.specs.Names.{named}
 use Rattle.range_table.specs.Settings.{mode_at}
 use Rattle.range_owners.proofs.Counting.{refusal_over}
-use Rattle.range_owners.specs.Same.{view_of_held_mode}
+use Rattle.range_table.specs.Modes.{view_of_held_mode}
 use Rattle.held_locks.specs.Held.{IsKnown}
 use Rattle.held_locks.specs.Asked.{changed, change_by_number}
 use Rattle.held_locks.proofs.Ties.{tied_set, tied_stranger, stranger_mode, stranger_is_not_refused, same_change}
