@@ -1,6 +1,6 @@
 //! What holds an owner back besides the locks of others: its host's quota of runs.
 ghost use Rattle.std.specs.Prelude.{◌≡◌};
-ghost use Rattle.owner_ids.specs.Said.{view_of_owner};
+ghost use Rattle.owner_ids.specs.Views.{view_of_owner};
 ghost use Rattle.blocked_list.specs.Quotas.{IsLimit};
 
 use owner_ids::Owner;

@@ -7,7 +7,7 @@ use Rattle.definitions.specs.Settings.{Setting, mode_at}
 use Rattle.definitions.specs.Waits.{Waiter}
 use Rattle.definitions.specs.World.{World, with_all_due}
 use Rattle.owner_ids.specs.Names.{named}
-use Rattle.owner_ids.specs.Said.{view_of_owner}
+use Rattle.owner_ids.specs.Views.{view_of_owner}
 use Rattle.lock_state.specs.Seen.{Seen, Knows, IsIdle}
 use Rattle.lock_state.proofs.Notices.{due_settings, due_waiters}
 use Rattle.call_plans.specs.declared.plans.Change.{Change}

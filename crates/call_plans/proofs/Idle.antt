@@ -7,7 +7,7 @@ use Rattle.definitions.specs.Settings.{Request}
 use Rattle.definitions.specs.Starts.{refuses}
 use Rattle.definitions.specs.World.{World, with_setting, with_waiter}
 use Rattle.range_table.specs.declared.run.Mode.{Mode}
-use Rattle.owner_ids.specs.Said.{view_of_owner}
+use Rattle.owner_ids.specs.Views.{view_of_owner}
 use Rattle.range_table.specs.Modes.{view_of_mode}
 use Rattle.lock_state.specs.Seen.{Seen, IsIdle}
 use Rattle.lock_state.proofs.Idle.{holds_it, waits_now}

@@ -15,7 +15,7 @@ use Rattle.definitions.specs.Rulings.{Ruling, decided, ruled}
 use Rattle.definitions.specs.Answer.{Answered}
 use Rattle.callbacks.specs.Meanings.{my_id_of}
 use Rattle.nlm4_types.specs.Stat.{view_of_stat}
-use Rattle.owner_ids.specs.Said.{view_of_owner}
+use Rattle.owner_ids.specs.Views.{view_of_owner}
 use Rattle.range_table.specs.Modes.{view_of_mode, view_of_held_mode}
 use Rattle.call_outcome.specs.Values.{view_of_outcome}
 use Rattle.lock_state.specs.Seen.{Seen, Knows, KeepsKnown, IsIdle}

@@ -7,7 +7,7 @@ use Rattle.definitions.specs.Nsm as nsm
 use Rattle.definitions.specs.Outgoing as outgoing
 use Rattle.nlm4_types.specs.Stat.{view_of_stat}
 use Rattle.nlm4_types.specs.Version.{view_of_version}
-use Rattle.owner_ids.specs.Said.{view_of_owner}
+use Rattle.owner_ids.specs.Views.{view_of_owner}
 use Rattle.range_table.specs.Modes.{view_of_mode}
 use Rattle.callbacks.specs.declared.lock.Lock as lock_declared
 use Rattle.callbacks.specs.declared.lock.LocalLock as local_declared

@@ -1,7 +1,7 @@
 //! Who asked for a lock.
 ghost use Rattle.std.specs.Prelude.{◌≡◌, ◌≤◌, length, IfOk};
 ghost use Rattle.definitions.specs.Owners.{Remote};
-ghost use Rattle.owner_ids.specs.Said.{view_of_owner};
+ghost use Rattle.owner_ids.specs.Views.{view_of_owner};
 
 use owner_ids::Owner;
 use std::alloc::{AllocError, Global};
@@ -17,7 +17,7 @@ pub struct Caller {
 
 impl Model for Caller {
     ghost use Rattle.definitions.specs.Owners.{Caller as SaidCaller};
-    ghost use Rattle.owner_ids.specs.Said.{view_of_owner};
+    ghost use Rattle.owner_ids.specs.Views.{view_of_owner};
     ghost use Rattle.callbacks.specs.Callers.{caller_of, IsCaller};
 
     ghost Value = { SaidCaller };

@@ -2,7 +2,7 @@
 ghost use Rattle.std.specs.Prelude.{◌≡◌, ◌≤◌, ◌<◌, ◌^◌, true, false, length};
 ghost use Rattle.definitions.specs.Ranges.{is_stale, is_too_far, last_of};
 ghost use Rattle.callbacks.specs.Locals.{is_local};
-ghost use Rattle.owner_ids.specs.Said.{view_of_owner};
+ghost use Rattle.owner_ids.specs.Views.{view_of_owner};
 
 use crate::caller::Caller;
 use crate::short::ShortBytes;

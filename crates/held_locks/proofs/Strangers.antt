@@ -7,7 +7,7 @@ use Rattle.definitions.specs.Owners.{Owner}
 use Rattle.definitions.specs.Settings.{Setting}
 use Rattle.definitions.specs.Conflict.{conflicts as conflicts_said}
 use Rattle.definitions.specs.Starts.{Run, first_conflict}
-use Rattle.owner_ids.specs.Said.{view_of_owner}
+use Rattle.owner_ids.specs.Views.{view_of_owner}
 use Rattle.owner_ids.specs.Names.{Names, Renames, number_cmp}
 use Rattle.owner_ids.proofs.Orders.{number_agrees}
 use Rattle.range_table.specs.Settings.{Held, IsConflict, IsFirstConflict, IsUpTo, conflicts, excludes}

@@ -24,7 +24,7 @@ use Rattle.range_owners.proofs.Words.{number_same, number_other, number_is, cove
 use Rattle.range_owners.proofs.Keeping.{cleared, stands_after, released, had_or_interned, stands_without_owner, stands_without_host}
 use Rattle.range_owners.specs.Same.{IsSameSetting}
 use Rattle.range_table.specs.Modes.{view_of_held_mode}
-use Rattle.owner_ids.specs.Said.{view_of_owner}
+use Rattle.owner_ids.specs.Views.{view_of_owner}
 use Rattle.held_locks.specs.declared.asked.NewSetting.{NewSetting}
 use Rattle.held_locks.specs.Asked.{changed, change_by_number}
 use Rattle.range_owners.proofs.Counting.{used_is, of_host}

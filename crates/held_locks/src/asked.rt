@@ -58,7 +58,7 @@ impl<'a> Request<'a> {
 
 impl<'a> Holder<'a> {
     ghost use Rattle.held_locks.specs.Asked.{shown, shown_by};
-    ghost use Rattle.owner_ids.specs.Said.{view_of_owner};
+    ghost use Rattle.owner_ids.specs.Views.{view_of_owner};
 
     /// Of a run, and the owner of its number.
     pub(crate) fn of(run: &Run, owner: &'a Owner) -> Holder<'a>

@@ -5,7 +5,7 @@ ghost use Rattle.definitions.specs.Owners.{Owner as SaidOwner};
 ghost use Rattle.owner_ids.specs.Names.{named, is_owned_by};
 ghost use Rattle.range_table.specs.Settings.{Held, IsRefused, IsUsed, mode_at, is_by};
 ghost use Rattle.held_locks.specs.Asked.{change_by_number};
-ghost use Rattle.owner_ids.specs.Said.{view_of_owner};
+ghost use Rattle.owner_ids.specs.Views.{view_of_owner};
 ghost use Rattle.held_locks.specs.Tied.{AreCounts, IsCountedAnew, WereCounted};
 
 use crate::asked::NewSetting;

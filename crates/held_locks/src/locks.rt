@@ -4,7 +4,7 @@ ghost use Rattle.definitions.specs.Owners.{Owner as SaidOwner, is_of_host};
 ghost use Rattle.definitions.specs.Settings.{without_host, without_owner_on};
 ghost use Rattle.definitions.specs.Conflict.{conflicts};
 ghost use Rattle.definitions.specs.Starts.{first_conflict, is_short, refuses, used, used_of, runs};
-ghost use Rattle.owner_ids.specs.Said.{view_of_owner};
+ghost use Rattle.owner_ids.specs.Views.{view_of_owner};
 ghost use Rattle.owner_ids.specs.Names.{named};
 ghost use Rattle.range_owners.specs.Stands.{Stands};
 ghost use Rattle.range_table.specs.Settings.{mode_at};
@@ -35,7 +35,7 @@ struct OwnerSetting {
 
 impl Model for OwnerSetting {
     ghost use Rattle.definitions.specs.Settings.{Setting};
-    ghost use Rattle.owner_ids.specs.Said.{view_of_owner};
+    ghost use Rattle.owner_ids.specs.Views.{view_of_owner};
     ghost use Rattle.range_table.specs.Modes.{view_of_held_mode};
 
     ghost Value = { Setting };

@@ -3,7 +3,7 @@ ghost use Rattle.std.specs.Prelude.{◌≡◌, true};
 ghost use Rattle.definitions.specs.Owners.{is_of_host};
 ghost use Rattle.definitions.specs.Quotas.{is_past};
 ghost use Rattle.definitions.specs.Starts.{used_of};
-ghost use Rattle.owner_ids.specs.Said.{view_of_owner};
+ghost use Rattle.owner_ids.specs.Views.{view_of_owner};
 ghost use Rattle.held_locks.specs.Asked.{changed};
 
 use crate::asked::NewSetting;

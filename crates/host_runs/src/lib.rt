@@ -5,7 +5,7 @@
 ghost use Rattle.std.specs.Prelude.{◌≡◌, ◌≢◌, ◌-◌, ℕ, true, false, cond};
 ghost use Rattle.definitions.specs.Bytes.{Bytes, same_bytes};
 ghost use Rattle.definitions.specs.Owners.{is_of_host};
-ghost use Rattle.owner_ids.specs.Said.{view_of_owner};
+ghost use Rattle.owner_ids.specs.Views.{view_of_owner};
 ghost use Rattle.host_runs.specs.HostRuns.{runs_of, IsRecounted, Puts};
 
 use owner_ids::Owner;

@@ -1,6 +1,6 @@
 -- Answers as the definitions have them.
 use Rattle.definitions.specs.Replies as def
-use Rattle.owner_ids.specs.Said.{view_of_owner}
+use Rattle.owner_ids.specs.Views.{view_of_owner}
 use Rattle.range_table.specs.Modes.{view_of_mode}
 use Rattle.local_ops.specs.declared.answer.LocalAnswer.{LocalAnswer}
 use Rattle.local_ops.specs.declared.answer.LocalAnswer.TheVariants as answer

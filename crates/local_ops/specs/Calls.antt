@@ -2,7 +2,7 @@
 use Rattle.std.specs.Prelude.{Result, Ok, Err}
 use Rattle.definitions.specs.Replies as def
 use Rattle.callbacks.specs.Meanings.{local_lock_of}
-use Rattle.owner_ids.specs.Said.{view_of_owner}
+use Rattle.owner_ids.specs.Views.{view_of_owner}
 use Rattle.range_table.specs.Modes.{view_of_mode, view_of_held_mode}
 use Rattle.local_ops.specs.declared.call.LocalCall.{LocalCall}
 use Rattle.local_ops.specs.declared.call.LocalCall.TheVariants as call

@@ -4,7 +4,7 @@ ghost use Rattle.std.specs.Prelude.{◌≡◌, ◌≤◌, ◌↔◌, [], ◌∷�
 ghost use Rattle.std.specs.List.{position};
 ghost use Rattle.std.specs.Option.{option_and_then};
 ghost use Rattle.callbacks.specs.Locals.{is_local};
-ghost use Rattle.owner_ids.specs.Said.{view_of_owner};
+ghost use Rattle.owner_ids.specs.Views.{view_of_owner};
 ghost use Rattle.range_table.specs.Modes.{view_of_held_mode};
 ghost use Rattle.local_ops.specs.Reading.{Gives, GivesRest, is_space, fields_of, fields_left, first_field, number_in, owner_in, hex_in, change_in, process_of, runs_of, runs_in, owned_in, quota_in, lock_in};
 ghost use Rattle.callbacks.specs.Meanings.{local_lock_of};

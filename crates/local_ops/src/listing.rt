@@ -4,7 +4,7 @@ ghost use Rattle.std.specs.Prelude.{◌≡◌, List};
 ghost use Rattle.definitions.specs.Hosts.{HostRow};
 ghost use Rattle.definitions.specs.Replies.{LineTable, LineHosts};
 ghost use Rattle.definitions.specs.Starts.{Run};
-ghost use Rattle.owner_ids.specs.Said.{view_of_owner};
+ghost use Rattle.owner_ids.specs.Views.{view_of_owner};
 ghost use Rattle.range_table.specs.Modes.{view_of_mode};
 ghost use Rattle.local_ops.specs.Texts.{reply_text};
 

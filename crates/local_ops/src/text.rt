@@ -4,7 +4,7 @@ ghost use Rattle.std.specs.Prelude.{◌≡◌, ◌+◌, ◌≤◌, ◌++◌, ◌
 ghost use Rattle.std.specs.List.{flat_map};
 ghost use Rattle.std.specs.Fmt.{decimal};
 ghost use Rattle.callbacks.specs.Locals.{is_local};
-ghost use Rattle.owner_ids.specs.Said.{view_of_owner};
+ghost use Rattle.owner_ids.specs.Views.{view_of_owner};
 ghost use Rattle.range_table.specs.Modes.{view_of_mode};
 ghost use Rattle.hex.specs.Hex.{encode_lower};
 ghost use Rattle.local_ops.specs.Texts.{owner_text, mode_text};

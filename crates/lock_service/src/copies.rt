@@ -2,7 +2,7 @@
 ghost use Rattle.std.specs.Prelude.{◌≡◌, IfOk};
 ghost use Rattle.definitions.specs.Ranges.{owner_of as owner_said, mode_of as mode_said, last_of, request_of};
 ghost use Rattle.nlm4_types.specs.Lock.{view_of_lock};
-ghost use Rattle.owner_ids.specs.Said.{view_of_owner};
+ghost use Rattle.owner_ids.specs.Views.{view_of_owner};
 ghost use Rattle.range_table.specs.Modes.{view_of_mode as held_mode_of};
 ghost use Rattle.lock_state.specs.Whole.{IsShown};
 ghost use Rattle.call_plans.specs.Planned.{request_wanted};

@@ -7,7 +7,7 @@ ghost use Rattle.definitions.specs.Ranges.{last_of as last_byte, line_unlock};
 ghost use Rattle.definitions.specs.Replies.{Close};
 ghost use Rattle.definitions.specs.Rulings.{ruled};
 ghost use Rattle.definitions.specs.Lines.{line_refusal, line_answer, line_told, line_word, get_unless, shown_run};
-ghost use Rattle.owner_ids.specs.Said.{view_of_owner};
+ghost use Rattle.owner_ids.specs.Views.{view_of_owner};
 ghost use Rattle.range_table.specs.Modes.{view_of_mode};
 ghost use Rattle.callbacks.specs.Meanings.{local_lock_of};
 ghost use Rattle.held_locks.specs.Asked.{shown};

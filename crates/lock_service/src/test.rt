@@ -8,7 +8,7 @@ ghost use Rattle.definitions.specs.Answer.{nlm_answer, test_answer};
 ghost use Rattle.nlm4_types.specs.Version.{view_of_version};
 ghost use Rattle.nlm4_types.specs.Arguments.{view_of_testargs};
 ghost use Rattle.nlm4_types.specs.Stat.{view_of_stat};
-ghost use Rattle.owner_ids.specs.Said.{view_of_owner};
+ghost use Rattle.owner_ids.specs.Views.{view_of_owner};
 ghost use Rattle.callbacks.specs.Meanings.{test_res_of, holder_of as holder_told};
 ghost use Rattle.held_locks.specs.Asked.{shown};
 ghost use Rattle.lock_state.specs.Whole.{IsShown};

@@ -7,7 +7,7 @@ use Rattle.definitions.specs.Bytes.{same_bytes, first_that, placed, put, in_orde
 use Rattle.definitions.specs.Owners.{same_owner}
 use Rattle.definitions.specs.Settings.{Setting, Request, mode_at}
 use Rattle.definitions.specs.Starts.{Start, Run, start_cmp, is_start, ends, starts, run_at, changes_behind, least, least_or, same_mode, stands_against, first_conflict}
-use Rattle.owner_ids.specs.Said.{view_of_owner}
+use Rattle.owner_ids.specs.Views.{view_of_owner}
 use Rattle.held_locks.specs.declared.asked.Holder.{Holder}
 use Rattle.held_locks.specs.Asked.{shown, shown_found}
 use Rattle.lock_state.specs.Whole.{IsShown, AreShown}

@@ -7,7 +7,7 @@ use Rattle.definitions.specs.Outgoing.{Outgoing}
 use Rattle.definitions.specs.Settings.{Setting}
 use Rattle.definitions.specs.Quotas.{Quotas}
 use Rattle.definitions.specs.Waits.{Waiter, same_request, without_waiter}
-use Rattle.owner_ids.specs.Said.{view_of_owner}
+use Rattle.owner_ids.specs.Views.{view_of_owner}
 use Rattle.owner_ids.specs.Names.{Names, named}
 use Rattle.range_table.specs.declared.run.Run.{Run}
 use Rattle.held_locks.specs.declared.asked.Request.{Request as HeldRequest}

@@ -5,7 +5,7 @@ ghost use Rattle.definitions.specs.Phases.{Normal};
 ghost use Rattle.definitions.specs.Starts.{refuses};
 ghost use Rattle.definitions.specs.Shares.{is_denied, has_no_room, with_share, without_share};
 ghost use Rattle.definitions.specs.World.{with_setting, without_host_of};
-ghost use Rattle.owner_ids.specs.Said.{view_of_owner};
+ghost use Rattle.owner_ids.specs.Views.{view_of_owner};
 ghost use Rattle.held_locks.specs.Asked.{changed};
 ghost use Rattle.lock_state.specs.Seen.{IsIdle, Knows, KeepsKnown};
 ghost use Rattle.lock_state.specs.Whole.{IsShown};

@@ -1,7 +1,7 @@
 //! What the close of a file takes from its owner.
 ghost use Rattle.std.specs.Prelude.{◌≡◌};
 ghost use Rattle.definitions.specs.World.{closed_by};
-ghost use Rattle.owner_ids.specs.Said.{view_of_owner};
+ghost use Rattle.owner_ids.specs.Views.{view_of_owner};
 ghost use Rattle.definitions.specs.Waits.{without_waiters_on};
 ghost use Rattle.owner_ids.specs.Names.{named};
 ghost use Rattle.blocked_list.specs.Waiting.{AreKnown, AreNamed, waiters_by};

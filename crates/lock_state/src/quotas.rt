@@ -2,7 +2,7 @@
 ghost use Rattle.std.specs.Prelude.{◌≡◌, ◌||◌, false};
 ghost use Rattle.definitions.specs.Quotas.{quotas_of, exceeds, is_refused, lacks_room};
 ghost use Rattle.definitions.specs.Starts.{is_short, refuses};
-ghost use Rattle.owner_ids.specs.Said.{view_of_owner};
+ghost use Rattle.owner_ids.specs.Views.{view_of_owner};
 ghost use Rattle.blocked_list.specs.Quotas.{is_limited};
 ghost use Rattle.held_locks.specs.Asked.{asked, changed};
 

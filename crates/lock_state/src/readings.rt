@@ -3,7 +3,7 @@ ghost use Rattle.std.specs.Prelude.{◌≡◌, ◌<◌, ◌^◌, IfSome};
 ghost use Rattle.definitions.specs.Quotas.{quotas_of, lacks_room, is_refused};
 ghost use Rattle.definitions.specs.Starts.{first_conflict};
 ghost use Rattle.definitions.specs.Conflict.{conflicts};
-ghost use Rattle.owner_ids.specs.Said.{view_of_owner};
+ghost use Rattle.owner_ids.specs.Views.{view_of_owner};
 ghost use Rattle.held_locks.specs.Asked.{asked, changed, shown_found};
 ghost use Rattle.lock_state.specs.Whole.{IsShown};
 

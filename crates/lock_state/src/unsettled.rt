@@ -3,7 +3,7 @@ ghost use Rattle.std.specs.Prelude.{◌≡◌, ◌⊎◌, ◌↔◌, ◌++◌, �
 ghost use Rattle.definitions.specs.Moves.{AreRanges};
 ghost use Rattle.definitions.specs.Starts.{refuses};
 ghost use Rattle.definitions.specs.Waits.{Waiter as SaidWaiter};
-ghost use Rattle.owner_ids.specs.Said.{view_of_owner};
+ghost use Rattle.owner_ids.specs.Views.{view_of_owner};
 ghost use Rattle.held_locks.specs.Asked.{changed};
 ghost use Rattle.held_locks.specs.Held.{IsKnown};
 ghost use Rattle.lock_state.specs.ReadyAt.{IsReadyAt, with_file, after_change, after_grant};

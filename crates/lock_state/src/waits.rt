@@ -2,7 +2,7 @@
 ghost use Rattle.std.specs.Prelude.{◌≡◌, ◌↔◌, ◌<◌, false, IsErr, OnOk, OnErr};
 ghost use Rattle.definitions.specs.Waits.{is_waiting, without_waiter, closes_cycle};
 ghost use Rattle.definitions.specs.World.{with_waiter, slots_free, the_limits};
-ghost use Rattle.owner_ids.specs.Said.{view_of_owner};
+ghost use Rattle.owner_ids.specs.Views.{view_of_owner};
 ghost use Rattle.held_locks.specs.Asked.{asked};
 ghost use Rattle.lock_state.specs.Seen.{Knows};
 ghost use Rattle.lock_state.specs.Whole.{IsShown};

@@ -9,17 +9,17 @@ use Rattle.definitions.specs.Owners.{Owner}
 use Rattle.definitions.proofs.OwnerLaws.{same_owner-Decides}
 use Rattle.slab.specs.Slab.{Slab, get, Updates}
 use Rattle.owner_ids.specs.declared.owner.Owner.{Owner as HeldOwner}
-use Rattle.owner_ids.specs.Said.{view_of_owner, said_some, same_held}
+use Rattle.owner_ids.specs.Views.{view_of_owner, view_of_slot, same_held}
 use Rattle.owner_ids.specs.Names.{Names, Renames, named}
 
-pub named_said : (s : Slab HeldOwner) (n : ℕ) → named (map said_some s.slots) n ≡ said_some (get s n)
-named_said s n = get_or-map said_some s.slots n None
+pub named_slot : (s : Slab HeldOwner) (n : ℕ) → named (map view_of_slot s.slots) n ≡ view_of_slot (get s n)
+named_slot s n = get_or-map view_of_slot s.slots n None
 
-pub renames_from : (xs : List (Option HeldOwner)) (old new : Slab HeldOwner) (key : ℕ) (slot : Option HeldOwner) → old.slots ≡ xs → Updates old new key slot → Renames (named (map said_some xs)) (named (map said_some new.slots)) key (said_some slot)
+pub renames_from : (xs : List (Option HeldOwner)) (old new : Slab HeldOwner) (key : ℕ) (slot : Option HeldOwner) → old.slots ≡ xs → Updates old new key slot → Renames (named (map view_of_slot xs)) (named (map view_of_slot new.slots)) key (view_of_slot slot)
 renames_from xs old new key slot e u =
-    subst (λ ys. Renames (named (map said_some ys)) (named (map said_some new.slots)) key (said_some slot)) e (record {
-      there = named_said new key ∙ ap said_some u.changed;
-      others = λ k o. named_said new k ∙ ap said_some (u.others k o) ∙ sym (named_said old k);
+    subst (λ ys. Renames (named (map view_of_slot ys)) (named (map view_of_slot new.slots)) key (view_of_slot slot)) e (record {
+      there = named_slot new key ∙ ap view_of_slot u.changed;
+      others = λ k o. named_slot new k ∙ ap view_of_slot (u.others k o) ∙ sym (named_slot old k);
     })
 
 -- two owners in memory say one owner, or they don't

@@ -4,11 +4,11 @@ use Rattle.std.specs.BTreeMap.{get}
 use Rattle.definitions.specs.Owners.{Owner}
 use Rattle.owner_ids.specs.declared.owners.Owners.TheInside.{Inside}
 use Rattle.owner_ids.specs.declared.owner.Owner.{Owner as HeldOwner}
-use Rattle.owner_ids.specs.Said.{view_of_owner, said_some, held_cmp}
+use Rattle.owner_ids.specs.Views.{view_of_owner, view_of_slot, held_cmp}
 use Rattle.owner_ids.specs.Names.{named}
 
 abbrev pub view_of_owners : Inside → List (Option Owner)
-view_of_owners o = map said_some o.slots.slots
+view_of_owners o = map view_of_slot o.slots.slots
 
 -- the map has the number of each owner in use, and nothing else; one number is nobody's
 pub record IsKept (o : Inside) : Type 0 where

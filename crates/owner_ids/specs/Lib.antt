@@ -1,4 +1,4 @@
-pub mod Said
+pub mod Views
 pub mod Held
 pub mod Names
 pub mod Orders

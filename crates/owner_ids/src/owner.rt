@@ -2,7 +2,7 @@
 ghost use Rattle.std.specs.Prelude.{◌≡◌, refl, Some};
 ghost use Rattle.std.specs.Cmp.{partial_equiv_from_equiv, partial_order_from_agreeing_total};
 ghost use Rattle.definitions.specs.Owners.{is_of_host, is_description};
-ghost use Rattle.owner_ids.specs.Said.{view_of_owner, held_cmp, same_held, IsCopy};
+ghost use Rattle.owner_ids.specs.Views.{view_of_owner, held_cmp, same_held, IsCopy};
 ghost use Rattle.owner_ids.specs.Held.{held_total, held_equiv};
 
 use std::alloc::AllocError;

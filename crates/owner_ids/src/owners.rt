@@ -1,7 +1,7 @@
 //! Owners by number.
 ghost use Rattle.std.specs.Prelude.{◌≡◌, ◌≢◌, ◌<◌, ◌^◌, ℕ, [], Some, None, Ok, IfOk, OnErr, IfSome, IfNone, IsSome, true};
 ghost use Rattle.definitions.specs.Owners.{owner_cmp};
-ghost use Rattle.owner_ids.specs.Said.{view_of_owner, said_some, said_found};
+ghost use Rattle.owner_ids.specs.Views.{view_of_owner, view_of_slot, view_of_found};
 ghost use Rattle.owner_ids.specs.Names.{named, number_cmp, Renames, WasFor};
 ghost use Rattle.owner_ids.specs.Orders.{number_total, number_exact};
 
@@ -142,7 +142,7 @@ impl Owners {
 
     /// The owner of a number, if it is in use.
     pub fn find(&self, number: OwnerId) -> Option<&Owner>
-        ensures { named self.now number ≡ said_found result }
+        ensures { named self.now number ≡ view_of_found result }
     {
         self.slots.get(number as usize)
     }

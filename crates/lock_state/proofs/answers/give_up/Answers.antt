@@ -1,6 +1,6 @@
 use Rattle.std.proofs.Common.{◌<◌, ◌^◌, None, sym, subst, arith}
 use Rattle.definitions.specs.Settings.{Setting}
-use Rattle.owner_ids.specs.Said.{view_of_owner}
+use Rattle.owner_ids.specs.Views.{view_of_owner}
 use Rattle.lock_state.specs.Whole.{IsShown}
 use Rattle.lock_state.proofs.Shown.{shown_set}
 use Rattle.lock_state.proofs.answers.give_up.Goals as goal

@@ -4,7 +4,7 @@ use Rattle.definitions.specs.Replies.{Close, SetQuota, LineOk}
 use Rattle.definitions.specs.Step.{State}
 use Rattle.call_plans.specs.Planned.{view_of_stored}
 use Rattle.local_ops.specs.Answers.{view_of_local_answer}
-use Rattle.owner_ids.specs.Said.{view_of_owner}
+use Rattle.owner_ids.specs.Views.{view_of_owner}
 use Rattle.book.proofs.Lines.{done}
 use Rattle.book.proofs.shared.Shared.asked.Goals as goal
 

@@ -1,4 +1,4 @@
-use Rattle.owner_ids.specs.Said.{view_of_owner}
+use Rattle.owner_ids.specs.Views.{view_of_owner}
 use Rattle.held_locks.proofs.Ties.{tied_counts, tied_admitted, tied_back}
 use Rattle.held_locks.proofs.locks.Locks.admit.Goals as goal
 

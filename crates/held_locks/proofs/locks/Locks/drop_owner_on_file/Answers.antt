@@ -1,7 +1,7 @@
 use Rattle.std.proofs.Common.{◌≢◌, ℕ, Some}
 use Rattle.std.proofs.lemmas.Option.{none-some}
 use Rattle.definitions.specs.Settings.{without_owner_on}
-use Rattle.owner_ids.specs.Said.{view_of_owner}
+use Rattle.owner_ids.specs.Views.{view_of_owner}
 use Rattle.owner_ids.specs.Names.{named}
 use Rattle.held_locks.proofs.Ties.{tied_dropped, tied_undropped}
 use Rattle.held_locks.proofs.HostCounts.{hosts_changed, hosts_kept, drop_alike}

@@ -1,5 +1,5 @@
 use Rattle.definitions.specs.Settings.{without_owner_on}
-use Rattle.owner_ids.specs.Said.{view_of_owner}
+use Rattle.owner_ids.specs.Views.{view_of_owner}
 use Rattle.held_locks.proofs.locks.Locks.drop_owner_on_file.Given as goal
 
 abbrev pub ghost-after : goal.ghost-after

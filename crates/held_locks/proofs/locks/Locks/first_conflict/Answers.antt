@@ -1,6 +1,6 @@
 use Rattle.std.proofs.Common.{Some, sym, ap, ◌∙◌, subst}
 use Rattle.definitions.specs.Starts.{first_conflict}
-use Rattle.owner_ids.specs.Said.{view_of_owner}
+use Rattle.owner_ids.specs.Views.{view_of_owner}
 use Rattle.owner_ids.specs.Names.{named, number_cmp}
 use Rattle.range_table.specs.Settings.{mode_at, IsFirstConflict}
 use Rattle.held_locks.specs.Asked.{asked}

@@ -1,6 +1,6 @@
 use Rattle.std.proofs.Common.{◌<◌, Some, sym, ap, ◌∙◌, subst}
 use Rattle.definitions.specs.Starts.{used}
-use Rattle.owner_ids.specs.Said.{view_of_owner}
+use Rattle.owner_ids.specs.Views.{view_of_owner}
 use Rattle.owner_ids.specs.Names.{named}
 use Rattle.range_table.specs.Settings.{mode_at}
 use Rattle.range_owners.proofs.RunOrders.{run_order_over}

@@ -1,6 +1,6 @@
 use Rattle.std.proofs.Common.{◌≡◌, sym, ◌∙◌, subst, slice_index_or}
 use Rattle.std.proofs.lemmas.Grind.{get_or_default_zero}
-use Rattle.owner_ids.specs.Said.{view_of_owner}
+use Rattle.owner_ids.specs.Views.{view_of_owner}
 use Rattle.held_locks.proofs.Ties.{owner_idle, nothing_counted}
 use Rattle.held_locks.proofs.locks.Locks.idle_number.Goals as goal
 

@@ -2,7 +2,7 @@ use Rattle.std.proofs.Common.{◌≢◌, ℕ, false, Some, None, is_some, refl, 
 use Rattle.std.specs.Cmp.{both_ways}
 use Rattle.std.proofs.lemmas.Option.{none-some}
 use Rattle.definitions.specs.Starts.{refuses}
-use Rattle.owner_ids.specs.Said.{view_of_owner}
+use Rattle.owner_ids.specs.Views.{view_of_owner}
 use Rattle.owner_ids.specs.Names.{named}
 use Rattle.range_table.specs.Settings.{mode_at}
 use Rattle.definitions.proofs.Lists.{none_from_is_some}

@@ -3,7 +3,7 @@ use Rattle.std.proofs.lemmas.Bool.{false≢true}
 use Rattle.definitions.specs.Owners.{Owner}
 use Rattle.definitions.specs.Settings.{Setting}
 use Rattle.definitions.specs.Starts.{refuses}
-use Rattle.owner_ids.specs.Said.{view_of_owner}
+use Rattle.owner_ids.specs.Views.{view_of_owner}
 use Rattle.owner_ids.specs.Names.{named}
 use Rattle.range_table.specs.Settings.{Held, IsRefused, mode_at}
 use Rattle.range_table.specs.declared.run.Run.{Run}

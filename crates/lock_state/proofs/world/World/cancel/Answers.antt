@@ -2,7 +2,7 @@ use Rattle.std.proofs.Common.{◌≡◌, ◌≢◌, ℕ, Some, refl, sym, subst}
 use Rattle.definitions.specs.Quotas.{quotas_of}
 use Rattle.std.proofs.lemmas.Option.{none-some}
 use Rattle.owner_ids.specs.Names.{named, AreDistinct}
-use Rattle.owner_ids.specs.Said.{view_of_owner}
+use Rattle.owner_ids.specs.Views.{view_of_owner}
 use Rattle.held_locks.specs.Asked.{asked}
 use Rattle.blocked_list.specs.Waiting.{AreKnown}
 use Rattle.lock_state.proofs.Strangers.{stranger_waits}

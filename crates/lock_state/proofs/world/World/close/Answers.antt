@@ -1,7 +1,7 @@
 use Rattle.std.proofs.Common.{◌≡◌, refl, sym, subst}
 use Rattle.definitions.specs.Quotas.{quotas_of}
 use Rattle.definitions.specs.Waits.{without_waiters_on}
-use Rattle.owner_ids.specs.Said.{view_of_owner}
+use Rattle.owner_ids.specs.Views.{view_of_owner}
 use Rattle.owner_ids.specs.Names.{named}
 use Rattle.blocked_list.specs.Waiting.{AreNamed, waiters_by}
 use Rattle.lock_state.proofs.Closed.{whole_closed}

@@ -4,7 +4,7 @@ use Rattle.definitions.specs.Settings.{Request}
 use Rattle.definitions.specs.Waits.{closes_cycle}
 use Rattle.range_table.specs.Settings.{mode_at}
 use Rattle.owner_ids.specs.Names.{named}
-use Rattle.owner_ids.specs.Said.{view_of_owner}
+use Rattle.owner_ids.specs.Views.{view_of_owner}
 use Rattle.held_locks.specs.Asked.{asked}
 use Rattle.blocked_list.specs.Waiting.{AreNamed, AreKnown, waiters_by}
 use Rattle.lock_state.specs.Seen.{Seen}

@@ -1,5 +1,5 @@
 use Rattle.std.proofs.Common.{◌≡◌, ℕ, Bool, true, false, Some, refl, sym, ◌∙◌, subst}
-use Rattle.owner_ids.specs.Said.{view_of_owner}
+use Rattle.owner_ids.specs.Views.{view_of_owner}
 use Rattle.owner_ids.specs.Names.{named, AreDistinct}
 use Rattle.definitions.specs.Bytes.{is_any}
 use Rattle.definitions.specs.Owners.{same_owner}

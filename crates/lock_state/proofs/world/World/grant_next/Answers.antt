@@ -2,7 +2,7 @@ use Rattle.std.proofs.Common.{◌≡◌, ◌↔◌, ◌≤◌, ◌<◌, ◌^◌,
 use Rattle.definitions.specs.Quotas.{quotas_of}
 use Rattle.std.proofs.lemmas.List.{length-map}
 use Rattle.definitions.specs.Owners.{Owner, Process}
-use Rattle.owner_ids.specs.Said.{view_of_owner}
+use Rattle.owner_ids.specs.Views.{view_of_owner}
 use Rattle.blocked_list.specs.Quotas.{is_limited}
 use Rattle.definitions.specs.Starts.{refuses}
 use Rattle.definitions.specs.Bytes.{is_any}

@@ -1,7 +1,7 @@
 use Rattle.std.proofs.Common.{◌≡◌, ◌≢◌, ℕ, Some, sym, subst}
 use Rattle.std.proofs.lemmas.Option.{none-some}
 use Rattle.owner_ids.specs.Names.{named}
-use Rattle.owner_ids.specs.Said.{view_of_owner}
+use Rattle.owner_ids.specs.Views.{view_of_owner}
 use Rattle.held_locks.specs.Asked.{asked}
 use Rattle.lock_state.proofs.Strangers.{stranger_waits}
 use Rattle.lock_state.proofs.world.World.is_waiting.Goals as goal

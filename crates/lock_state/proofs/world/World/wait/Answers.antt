@@ -3,7 +3,7 @@ use Rattle.definitions.specs.Quotas.{quotas_of}
 use Rattle.definitions.specs.Settings.{Request}
 use Rattle.definitions.specs.World.{the_limits, slots_free}
 use Rattle.owner_ids.specs.Names.{named}
-use Rattle.owner_ids.specs.Said.{view_of_owner}
+use Rattle.owner_ids.specs.Views.{view_of_owner}
 use Rattle.held_locks.specs.Asked.{asked}
 use Rattle.blocked_list.specs.Waiting.{Taken, waiter_by, waiters_by}
 use Rattle.lock_state.specs.Seen.{Seen}

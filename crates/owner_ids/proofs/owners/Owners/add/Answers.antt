@@ -3,10 +3,10 @@ use Rattle.std.specs.BTreeMap.{get}
 use Rattle.std.specs.Ordering.{is_eq}
 use Rattle.slab.specs.Slab.{Updates as SlabUpdates}
 use Rattle.definitions.specs.Owners.{owner_cmp}
-use Rattle.owner_ids.specs.Said.{view_of_owner, said_some, held_cmp}
+use Rattle.owner_ids.specs.Views.{view_of_owner, view_of_slot, held_cmp}
 use Rattle.owner_ids.specs.Names.{named, Renames}
 use Rattle.owner_ids.specs.Kept.{view_of_owners}
-use Rattle.owner_ids.proofs.Slots.{named_said, renames_from, lists_added, still_nobody, when_ok}
+use Rattle.owner_ids.proofs.Slots.{named_slot, renames_from, lists_added, still_nobody, when_ok}
 use Rattle.owner_ids.proofs.owners.Owners.add.Goals as goal
 
 renamed : (c : goal.After-insert_reserved) → Renames (named (view_of_owners c.self.inside)) (named (view_of_owners (record { slots = c.insert_reserved.new.self; numbers = c.insert.new.self; recent = c.self.inside.recent }))) c.vacant_key-place.result (Some (view_of_owner c.args.owner))
@@ -20,7 +20,7 @@ pub invariant_of-self-2 : goal.invariant_of-self-2
 invariant_of-self-2 c =
     let names = named (view_of_owners c.self.inside) in
     let u = when_ok c.insert.result (sym c.is_err.ensures.value ∙ c.if-is_err.false) c.insert.ensures.updates in
-    let free : names c.vacant_key-place.result ≡ None = ap (λ s. named s c.vacant_key-place.result) (ap (λ s. view_of_owners (record { slots = s; numbers = c.self.inside.numbers; recent = c.self.inside.recent })) (sym c.reserve.ensures.rest_kept)) ∙ named_said c.reserve.new.self c.vacant_key-place.result ∙ ap said_some c.vacant_key-place.ensures.vacant in
+    let free : names c.vacant_key-place.result ≡ None = ap (λ s. named s c.vacant_key-place.result) (ap (λ s. view_of_owners (record { slots = s; numbers = c.self.inside.numbers; recent = c.self.inside.recent })) (sym c.reserve.ensures.rest_kept)) ∙ named_slot c.reserve.new.self c.vacant_key-place.result ∙ ap view_of_slot c.vacant_key-place.ensures.vacant in
     let kept = lists_added names _ (get held_cmp c.self.inside.numbers) (get held_cmp c.insert.new.self) c.args.owner c.vacant_key-place.result
     (record { found = c.self.invariant.found; listed = c.self.invariant.listed })
     (λ k e. c.requires.absent k (ap (λ o. named o k) (sym c.self.view_is) ∙ e))

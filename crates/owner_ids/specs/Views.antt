@@ -12,9 +12,9 @@ view_of_owner (HeldRemote name svid oh) = Remote (record { name = name.items; sv
 view_of_owner (HeldProcess pid) = Process pid
 view_of_owner (HeldDescription number) = Description number
 
-abbrev pub said_some : Option HeldOwner → Option Owner
-said_some None = None
-said_some (Some x) = Some (view_of_owner x)
+abbrev pub view_of_slot : Option HeldOwner → Option Owner
+view_of_slot None = None
+view_of_slot (Some x) = Some (view_of_owner x)
 
 -- owners in memory compare as what they say
 abbrev pub held_cmp : HeldOwner → HeldOwner → Ordering
@@ -27,6 +27,6 @@ same_held = eq_by_cmp held_cmp
 abbrev pub IsCopy : HeldOwner → HeldOwner → Type 0
 IsCopy x copy = view_of_owner copy ≡ view_of_owner x
 
-abbrev pub said_found : Option (Bor HeldOwner) → Option Owner
-said_found None = None
-said_found (Some x) = Some (view_of_owner x.now)
+abbrev pub view_of_found : Option (Bor HeldOwner) → Option Owner
+view_of_found None = None
+view_of_found (Some x) = Some (view_of_owner x.now)
