@@ -1,52 +1,19 @@
 //! Who would wait for whom in a circle.
-ghost use Rattle.std.specs.Prelude.{◌≡◌, ◌<◌, ◌≤◌, ◌+◌, ◌-◌, ◌||◌, ◌↔◌, ℕ, not, true, false, Some, IsSome, IfSome, IfNone, length, slice_get, slice_index_or};
+ghost use Rattle.std.specs.Prelude.{◌≡◌, ◌<◌, ◌≤◌, ◌+◌, ◌-◌, ◌||◌, ℕ, not, true, false, Some, IsSome, IfSome, IfNone, length, slice_get, slice_index_or};
 ghost use Rattle.definitions.specs.Owners.{is_description};
 ghost use Rattle.definitions.specs.Waits.{Waiter as OwnerWaiter, closes_cycle};
 ghost use Rattle.owner_ids.specs.Names.{named};
 ghost use Rattle.blocked_list.specs.Reach.{leads, MarksLed};
-ghost use Rattle.blocked_list.specs.Waiting.{free_places, owner_at};
+ghost use Rattle.blocked_list.specs.Waiting.{owner_at};
 ghost use Rattle.blocked_list.specs.Standing.{WhereWants};
 
 use crate::slots::Slots;
 use owner_ids::{OwnerId, Owners};
 use range_table::{RangeTable, Wanted};
-use thiserror::Error;
-
-/// Why one may not wait.
-#[derive(Clone, Copy, Debug, PartialEq, Eq, Error)]
-pub enum BlockError {
-    /// Waiting would close a cycle of waits back to the one who asks (POSIX fcntl, EDEADLK).
-    #[error("18 Deadlock")]
-    Deadlock,
-    /// No place is free.
-    #[error("16 NoSlots")]
-    NoSlots,
-}
 
 impl Slots {
-    /// Whether one may wait for this lock, while so many of the free places are spoken for. `Deadlock` comes before
-    /// `NoSlots`.
-    pub fn may_block<T: RangeTable>(
-        &self,
-        table: &T,
-        owners: &Owners,
-        wanted: &Wanted,
-        spoken_for: usize,
-    ) -> Result<(), BlockError>
-        ensures deadlock { WhereWants (named owners.now) (T.settings table.now) self.now.waiters wanted.now (λ settings waiters r. (result ≡ Err BlockError.Deadlock) ↔ (closes_cycle settings waiters r ≡ true)) }
-        ensures no_slots { WhereWants (named owners.now) (T.settings table.now) self.now.waiters wanted.now (λ settings waiters r. (result ≡ Err BlockError.NoSlots) ↔ ((closes_cycle settings waiters r ≡ false) × (free_places self.now ≤ spoken_for))) }
-    {
-        if self.closes_cycle(table, owners, wanted) {
-            return Err(BlockError::Deadlock);
-        }
-        if self.free() <= spoken_for {
-            return Err(BlockError::NoSlots);
-        }
-        Ok(())
-    }
-
-    /// Whether one who waited for this lock would wait, directly or through others, for itself. Open file descriptions
-    /// are neither askers nor steps of a cycle.
+    /// Whether one who waited for this lock would wait, directly or through others, for itself (POSIX fcntl, EDEADLK).
+    /// Open file descriptions are neither askers nor steps of a cycle.
     pub fn closes_cycle<T: RangeTable>(&self, table: &T, owners: &Owners, wanted: &Wanted) -> bool
         ensures { WhereWants (named owners.now) (T.settings table.now) self.now.waiters wanted.now (λ settings waiters r. result ≡ closes_cycle settings waiters r) }
     {

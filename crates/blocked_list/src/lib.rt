@@ -12,7 +12,6 @@ mod slots;
 mod waiter;
 
 pub use callbacks::MOST_SLOTS;
-pub use cycles::BlockError;
 pub use owner_ids::Starved;
 pub use quotas::{FULL_QUOTA, Limit, Quotas, limit_of};
 pub use slots::{NoSlots, NotWaiting, Slots};

@@ -12,7 +12,7 @@
 //! - `waits a/7/`, `waits-not a/7/`: whether it waits. `free 1`, `waiters 7`: so many places are free, so many wait.
 use super::tables::play_rows;
 use crate::row::Misplayed;
-use blocked_list::{BlockError, NoSlots, NotWaiting};
+use blocked_list::{NoSlots, NotWaiting};
 use std::alloc::AllocError;
 use std::test::*;
 
@@ -96,8 +96,6 @@ fn reads(text: Result<String, AllocError>, shown: &str) -> bool {
 
 #[test]
 fn error_texts(rt: HostRuntime) {
-    assert!(rt; reads(BlockError::Deadlock.to_string(rt.alloc()), "18 Deadlock"));
-    assert!(rt; reads(BlockError::NoSlots.to_string(rt.alloc()), "16 NoSlots"));
     assert!(rt; reads(NoSlots.to_string(rt.alloc()), "16 NoSlots"));
     assert!(rt; reads(NotWaiting.to_string(rt.alloc()), "17 NotWaiting"));
 }

@@ -3,7 +3,7 @@ ghost use Rattle.std.specs.Prelude.{None};
 
 use crate::owner::{intern, number};
 use crate::row::{Case, Misplayed, Row, Span, play_in};
-use blocked_list::{BlockError, NoSlots, NotWaiting, Quotas, Slots, Waiter};
+use blocked_list::{NoSlots, NotWaiting, Quotas, Slots, Waiter};
 use callbacks::{Destination, Letter, Message, ShortBytes};
 use host_runs::RunsOfHosts;
 use owner_ids::{OwnerId, Owners};
@@ -115,9 +115,9 @@ impl Tables {
         )
     }
 
-    // Whether one may wait, with no place spoken for.
-    fn may_block(&self, wanted: &Wanted) -> Result<(), BlockError> {
-        self.slots.may_block(&self.table, &self.owners, wanted, 0)
+    // Whether waiting for it would close a cycle.
+    fn is_deadlock(&self, wanted: &Wanted) -> bool {
+        self.slots.closes_cycle(&self.table, &self.owners, wanted)
     }
 
     // So many wait, on files by turns.
@@ -178,9 +178,9 @@ impl Tables {
         match row.verb {
             "block" => self.block(wanted, row.numbers[2]),
             "full" => Some(!self.block(wanted, row.numbers[2])?),
-            "may-block" => Some(self.may_block(&wanted) == Ok(())),
-            "deadlock" => Some(self.may_block(&wanted) == Err(BlockError::Deadlock)),
-            "no-slots" => Some(self.may_block(&wanted) == Err(BlockError::NoSlots)),
+            "may-block" => Some(!self.is_deadlock(&wanted) && self.slots.free() > 0),
+            "deadlock" => Some(self.is_deadlock(&wanted)),
+            "no-slots" => Some(!self.is_deadlock(&wanted) && self.slots.free() == 0),
             "cancel" => Some(self.slots.cancel(&wanted) == Ok(())),
             "absent" => Some(self.slots.cancel(&wanted) == Err(NotWaiting)),
             _ => None,
