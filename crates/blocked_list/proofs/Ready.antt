@@ -16,7 +16,7 @@ use Rattle.std.specs.Prelude.{IsSome}
 use Rattle.std.proofs.lemmas.List.{length-map}
 use Rattle.std.proofs.Math.Bool.{and-false}
 use Rattle.blocked_list.specs.Waiting.{Waiting, AreNamed, waiter_by, waiters_by}
-use Rattle.definitions.proofs.Firsts.{any_found}
+use Rattle.definitions.proofs.Lists.{any_found}
 use Rattle.blocked_list.proofs.Waits.{map_at, named_at}
 
 short_off : (quotas : Quotas) (settings : List Setting) → is_short 65536 settings ≡ true → (x : Waiter) → is_ready the_limits quotas settings x ≡ false

@@ -1,5 +1,5 @@
 -- What a call comes to whose reply isn't kept.
-use Rattle.std.proofs.Common.{◌≡◌, ◌≢◌, ℕ, Bool, true, false, cond, List, [], Option, Some, None, refl, sym, ap, ◌∙◌, true≢false}
+use Rattle.std.proofs.Common.{◌≡◌, ◌≢◌, ℕ, Bool, true, cond, List, [], Option, Some, None, refl, sym, ap, ◌∙◌, true≢false}
 use Rattle.definitions.specs.Bytes.{Bytes}
 use Rattle.definitions.specs.Nlm.{Locks, LockMsg}
 use Rattle.definitions.specs.Hosts.{StoreCall, StoreAnswer, NotAsked, Yes, Refused, after_store}
@@ -9,26 +9,13 @@ use Rattle.definitions.specs.Rulings.{Ruling, ruled}
 use Rattle.definitions.specs.Answer.{Answered, ruling}
 use Rattle.definitions.specs.Step.{Peer, KeptPair, State, Take, Applied, Starved, Replies, with_world, look, store_call, asked_unless_kept, with_row_stored, is_kept_kind, is_restart, kept_after}
 use Rattle.definitions.specs.Replay.{fits, may_leave_row}
-use Rattle.definition_laws.proofs.AskingLaws.{starved_law}
+use Rattle.definition_laws.proofs.AskingLaws.{not_asked, refused_is_no_yes, starved_law}
 use Rattle.call_plans.specs.declared.plans.Plan.{Plan}
 use Rattle.call_plans.specs.declared.plans.Plan.TheVariants as plan
 use Rattle.lock_service.specs.MayAsk.{may_ask}
 use Rattle.call_plans.specs.Planned.{planned, stored, asked_of, IsPlan, IsAnswerTo, IsWithin, AsksOnlyIf}
 use Rattle.book.specs.Given.{comes_to}
 use Rattle.book.specs.Notes.{IsStep}
-
-agrees : StoreAnswer → Bool
-agrees NotAsked = false
-agrees Yes = true
-agrees Refused = false
-
-not_asked : NotAsked ≢ Yes
-unfolding agrees
-not_asked e = true≢false (sym (ap agrees e))
-
-refused_is_no_yes : Refused ≢ Yes
-unfolding agrees
-refused_is_no_yes e = true≢false (sym (ap agrees e))
 
 row_stored : (s : State) (call : Call) (store : StoreCall) → may_leave_row call ≡ true → with_row_stored s call (Some store) Yes ≡ with_world s (with_hosts s.world (after_store s.world.hosts store))
 row_stored s (Nlm version (Locks a)) store h = refl

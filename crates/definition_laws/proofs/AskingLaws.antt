@@ -1,5 +1,6 @@
 -- Where the store isn't asked there is one outcome, and what starved leaves all but hosts as it was.
-use Rattle.std.proofs.Common.{◌≡◌, ◌≢◌, ℕ, ◌-◌, Bool, true, false, cond, not, ◌&&◌, eqb, leb, length, refl, ap, Option, Some, None}
+use Rattle.std.proofs.Common.{◌≡◌, ◌≢◌, ℕ, ◌-◌, Bool, true, false, cond, not, ◌&&◌, eqb, leb, length, refl, sym, ap, Option, Some, None}
+use Rattle.std.proofs.lemmas.Bool.{true≢false}
 use Rattle.std.specs.Ordering.{int_eq}
 use Rattle.definitions.specs.Bytes.{Bytes}
 use Rattle.definitions.specs.Settings.{Setting, Request, setting_of}
@@ -8,7 +9,7 @@ use Rattle.definitions.specs.Quotas.{quotas_of, lacks_room, is_refused}
 use Rattle.definitions.specs.Phases.{Locking, Cancelling, Unlocking}
 use Rattle.definitions.specs.Nlm.{Version, Stat, GRANTED, DENIED, DENIED_NOLOCKS, BLOCKED, DEADLCK, LockArgs, CancelArgs, UnlockArgs, NlmCall, Null, Test, Locks, Cancel, Unlock, TestMsg, LockMsg, CancelMsg, UnlockMsg, GrantedRes, ShareCall, Unshare, NmLock, FreeAll}
 use Rattle.definitions.specs.Nsm.{NsmCall, SmNull, SmStat, SmMon, SmUnmon, SmUnmonAll, SmSimuCrash, SmNotify}
-use Rattle.definitions.specs.Hosts.{HostRow, StoreCall, Begin, Seen, Watched, Unwatched, StoreAnswer, Yes, row_of, watches_of}
+use Rattle.definitions.specs.Hosts.{HostRow, StoreCall, Begin, Seen, Watched, Unwatched, StoreAnswer, NotAsked, Yes, Refused, row_of, watches_of}
 use Rattle.definitions.specs.Outgoing.{Outgoing, Letter, Message, Granted, GrantedMsg, Notify, Destination, ToHost, ToConnection, call_of_xid}
 use Rattle.definitions.specs.Ranges.{range_refusal, request_of, unlock_of}
 use Rattle.definitions.specs.Replies.{Call, Nlm, Nsm, SystemErr, Ignored, Turned, Asks, AnswerReading, Unreadable, AcceptedSuccess, OtherAnswer}
@@ -21,6 +22,20 @@ use Rattle.definitions.specs.Answer.{Answered, gives, lock_ask, caller_row, lock
 use Rattle.definitions.specs.Step.{State, Event, Take, Local, Starved, step, with_world, with_row_stored, store_call}
 use Rattle.definition_laws.specs.Asking.{IsUnasked, UnaskedLaw, StarvedLaw}
 use Rattle.definitions.proofs.MoveLaws.{by_cond}
+
+-- no other answer of the store is a yes
+agrees : StoreAnswer → Bool
+agrees Yes = true
+agrees NotAsked = false
+agrees Refused = false
+
+pub not_asked : NotAsked ≢ Yes
+unfolding agrees
+not_asked e = true≢false (sym (ap agrees e))
+
+pub refused_is_no_yes : Refused ≢ Yes
+unfolding agrees
+refused_is_no_yes e = true≢false (sym (ap agrees e))
 
 asked : (call : StoreCall) → Some call ≡ None → ⊥
 asked call e = cc

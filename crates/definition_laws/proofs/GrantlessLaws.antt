@@ -19,6 +19,7 @@ use Rattle.definitions.specs.Replay.{Done, after, state_after}
 use Rattle.definition_laws.specs.Numbers.{numbered, AreLeft, NoneLeft, IsGone, IsLeft, IsSameCall, AreRenewed}
 use Rattle.definition_laws.specs.Standing.{IsGrantless, is_grant_call, GraceCallsLaw}
 use Rattle.definitions.specs.Uses.{new_pair}
+use Rattle.definitions.proofs.Lists.{have_without_first}
 use Rattle.definitions.proofs.MoveLaws.{by_cond}
 use Rattle.definitions.specs.Moves.{Moves}
 use Rattle.definitions.proofs.WorldLaws.{due_keeps}
@@ -96,12 +97,7 @@ kept_one (j ∷ kept) k (inl e) a = subst (λ (x : KeptPair). AllOf IsPlain x.le
 kept_one (j ∷ kept) k (inr h) a = kept_one kept k h a.1
 
 kept_fewer : (p : KeptPair → Bool) (kept : List KeptPair) → AllKept kept → AllKept (without_first p kept)
-kept_fewer p [] a = tt
-kept_fewer p (k ∷ kept) a = go (p k) (kept_fewer p kept a.1)
-  where
-    go : (b : Bool) → AllKept (without_first p kept) → AllKept (cond b kept (k ∷ without_first p kept))
-    go true h = a.1
-    go false h = (a.0, h)
+kept_fewer = have_without_first (λ (k : KeptPair). AllOf IsPlain k.letters) AllKept (λ k kept a. a) (λ k kept h a. (h, a))
 
 kept_first : (n : ℕ) (kept : List KeptPair) → AllKept kept → AllKept (take n kept)
 kept_first zero kept a = tt

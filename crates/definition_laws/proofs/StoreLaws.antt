@@ -15,7 +15,7 @@ use Rattle.definitions.specs.Step.{Peer, KeptPair, State, Event, Applied, Starve
 use Rattle.definitions.specs.Replay.{Done, after, state_after, may_leave_row, fits, all_fit}
 use Rattle.definition_laws.specs.Asking.{hosts_after, StoreLaw, HostRunLaw}
 use Rattle.definitions.proofs.MoveLaws.{by_cond}
-use Rattle.definition_laws.proofs.AskingLaws.{starved_law}
+use Rattle.definition_laws.proofs.AskingLaws.{not_asked, refused_is_no_yes, starved_law}
 use Rattle.definition_laws.proofs.StoreRules.{Answer_follows, due_hosts, answer_follows, call_follows, line_follows, Line_follows}
 use Rattle.definitions.proofs.HostLaws.{hosts_law}
 use Rattle.definition_laws.proofs.SideSteps.{settle_keeps}
@@ -31,19 +31,6 @@ unasked : (hosts : Hosts) (store : StoreAnswer) → hosts_after hosts None store
 unasked hosts NotAsked = refl
 unasked hosts Yes = refl
 unasked hosts Refused = refl
-
-agrees : StoreAnswer → Bool
-agrees Yes = true
-agrees NotAsked = false
-agrees Refused = false
-
-not_asked : NotAsked ≢ Yes
-unfolding agrees
-not_asked e = true≢false (sym (ap agrees e))
-
-refused_is_no_yes : Refused ≢ Yes
-unfolding agrees
-refused_is_no_yes e = true≢false (sym (ap agrees e))
 
 module _ (limits : Limits) (s : State) where
   ruled_follows : (store : StoreAnswer) (r : Ruling Answered) → Answer_follows s.world r → (ruled store r).world.hosts ≡ hosts_after s.world.hosts r.asks store

@@ -2,25 +2,13 @@
 use Rattle.std.proofs.Common.{◌≡◌, ◌<◌, Bool, true, false, cond, not, ℕ, suc, ◌||◌, ◌+◌, ltb, List, [], ◌∷◌, ◌++◌, length, Option, Some, None, refl, sym, ap, arith, ◌∙◌}
 use Rattle.std.proofs.lemmas.Bool.{false≢true}
 use Rattle.std.proofs.lemmas.Bool.Decides.{nat_tests}
-use Rattle.std.proofs.lemmas.List.Recursion.{same_from_clauses}
-use Rattle.std.specs.List.{list_any, filter, remove, position_or_len}
+use Rattle.std.specs.List.{remove, position_or_len}
 use Rattle.std.specs.Prelude.{slice_index_or}
 use Rattle.std.specs.Option.{is_some}
-use Rattle.definitions.specs.Bytes.{is_any, first_that, without, without_first}
+use Rattle.definitions.specs.Bytes.{is_any, first_that, without_first}
 use Rattle.definitions.specs.First.{IsFirstAt, IsFirstPlace}
 
 module _ {X : Type 0} (test : X → Bool) where
-  pub filter-not : (xs : List X) → filter (λ x. not (test x)) xs ≡ without test xs
-  filter-not [] = refl
-  filter-not (x ∷ xs) = go (test x) (filter-not xs)
-    where
-      go : (b : Bool) → filter (λ y. not (test y)) xs ≡ without test xs → cond (not b) (x ∷ filter (λ y. not (test y)) xs) (filter (λ y. not (test y)) xs) ≡ cond b (without test xs) (x ∷ without test xs)
-      go true h = h
-      go false h = ap (λ l. x ∷ l) h
-
-  pub any_found : (xs : List X) → list_any test xs ≡ is_any test xs
-  any_found xs = same_from_clauses (list_any test) (is_any test) (λ x b. test x || b) refl (λ _ _. refl) (λ _ _. refl) xs
-
   -- one more in front
   more : (x : X) (xs : List X) (i : ℕ) → test x ≡ false → IsFirstAt test xs i → IsFirstAt test (x ∷ xs) (1 + i)
   more x xs i e f = record {

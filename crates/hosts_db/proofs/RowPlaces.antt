@@ -1,9 +1,9 @@
 -- What the places of rows and watches say in the words of the definitions.
-use Rattle.std.proofs.Common.{◌≡◌, ◌<◌, ◌≤◌, ℕ, ℤ, Bool, true, false, cond, not, ◌&&◌, ◌⊎◌, inl, inr, leb, List, [], ◌∷◌, length, get_or, set, refl, sym, ap, ◌∙◌, subst, arith, Some, None, Result, Ok, Err, is_ok}
+use Rattle.std.proofs.Common.{◌≡◌, ◌<◌, ◌≤◌, ℕ, ℤ, true, false, cond, not, ◌&&◌, ◌⊎◌, inl, inr, leb, List, [], ◌∷◌, length, get_or, set, refl, sym, ap, ◌∙◌, subst, arith, Some, None, Result, Ok, Err, is_ok}
 use Rattle.std.proofs.lemmas.Bool.{true≢false}
 use Rattle.std.proofs.lemmas.Bool.Decides.{nat_tests}
-use Rattle.std.specs.List.{filter, insert}
-use Rattle.definitions.specs.Bytes.{Bytes, same_bytes, is_any, first_that, put, without, IsAscending}
+use Rattle.std.specs.List.{insert}
+use Rattle.definitions.specs.Bytes.{Bytes, same_bytes, is_any, first_that, put, IsAscending}
 use Rattle.definitions.specs.Nsm.{MyId}
 use Rattle.definitions.specs.Hosts.{HostRow, Watch, row_cmp, watch_cmp, is_watch, with_seen, with_epoch, with_quota}
 use Rattle.hosts_db.specs.Changes.{is_named, change, changed}
@@ -109,12 +109,3 @@ module _ (watches : List Watch) (w : Watch) (count room : ℕ) (counted : length
         inside = (subst (λ n. at ≤ n) counted h.inside, omega (arith, s, counted));
         few = omega (arith, s, counted);
       }
-
--- `retain` of what doesn't pass leaves the list without what does
-pub filter-not : {X : Type 0} (test : X → Bool) (xs : List X) → filter (λ x. not (test x)) xs ≡ without test xs
-filter-not test [] = refl
-filter-not test (x ∷ xs) = go (test x) (filter-not test xs)
-  where
-    go : (b : Bool) → filter (λ y. not (test y)) xs ≡ without test xs → cond (not b) (x ∷ filter (λ y. not (test y)) xs) (filter (λ y. not (test y)) xs) ≡ cond b (without test xs) (x ∷ without test xs)
-    go true h = h
-    go false h = ap (λ l. x ∷ l) h

@@ -3,29 +3,12 @@ use Rattle.std.proofs.Common.{◌≡◌, Bool, true, false, cond, List, [], ◌�
 use Rattle.definitions.specs.Bytes.{is_any, without, without_first, first_that}
 use Rattle.definitions.specs.Settings.{Setting}
 use Rattle.definitions.specs.Waits.{Waiter}
+use Rattle.definitions.proofs.Lists.{have_without, have_without_first}
 use Rattle.lock_state.specs.Whole.{IsShown, CanShow, AreShown, AreWaitersShown}
 
 pub shown_more : (settings : List Setting) (s : Setting) → AreShown settings → CanShow s → AreShown (settings ++ s ∷ [])
 shown_more [] s a h = (h, tt)
 shown_more (t ∷ settings) s a h = (a.0, shown_more settings s a.1 h)
-
--- what all elements have, those that are left have
-module _ {X : Type 0} (Has : X → Type 0) (Have : List X → Type 0) (parts : (x : X) (xs : List X) → Have (x ∷ xs) → Has x × Have xs) (both : (x : X) (xs : List X) → Has x → Have xs → Have (x ∷ xs)) (test : X → Bool) where
-  have_without : (xs : List X) → Have xs → Have (without test xs)
-  have_without [] a = a
-  have_without (x ∷ xs) a = go (test x) (have_without xs (parts x xs a).1)
-    where
-      go : (b : Bool) → Have (without test xs) → Have (cond b (without test xs) (x ∷ without test xs))
-      go true more = more
-      go false more = both x (without test xs) (parts x xs a).0 more
-
-  have_without_first : (xs : List X) → Have xs → Have (without_first test xs)
-  have_without_first [] a = a
-  have_without_first (x ∷ xs) a = go (test x) (have_without_first xs (parts x xs a).1)
-    where
-      go : (b : Bool) → Have (without_first test xs) → Have (cond b xs (x ∷ without_first test xs))
-      go true more = (parts x xs a).1
-      go false more = both x (without_first test xs) (parts x xs a).0 more
 
 pub shown_without : (test : Setting → Bool) (settings : List Setting) → AreShown settings → AreShown (without test settings)
 shown_without = have_without CanShow AreShown (λ s settings a. a) (λ s settings h a. (h, a))

@@ -2,7 +2,7 @@ use Rattle.std.proofs.Common.{rules, not, ap, ◌∙◌}
 use Rattle.std.proofs.lemmas.Fn.{filter_same}
 use Rattle.definitions.specs.Bytes.{same_bytes, without}
 use Rattle.definitions.specs.Shares.{Share}
-use Rattle.dos_shares.proofs.Words.{filter-not}
+use Rattle.definitions.proofs.Lists.{filter-not}
 use Rattle.dos_shares.proofs.shares.Shares.drop_host.Goals as goal
 
 pub returns : goal.returns

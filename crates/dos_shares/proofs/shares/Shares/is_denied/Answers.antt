@@ -3,7 +3,7 @@ use Rattle.std.proofs.lemmas.Iterator.{YieldsList-from_slice}
 use Rattle.std.proofs.lemmas.Iterator.Search.{any_from_yields_List}
 use Rattle.definitions.specs.Bytes.{is_any}
 use Rattle.definitions.specs.Shares.{shares_clash}
-use Rattle.dos_shares.proofs.Words.{any_found}
+use Rattle.definitions.proofs.Lists.{any_found}
 use Rattle.dos_shares.proofs.shares.Shares.is_denied.Goals as goal
 
 pub returns : goal.returns

@@ -2,7 +2,7 @@ use Rattle.std.proofs.Common.{rules, not, ap, ◌∙◌}
 use Rattle.std.proofs.lemmas.Fn.{filter_same}
 use Rattle.definitions.specs.Bytes.{without}
 use Rattle.definitions.specs.Shares.{Share, is_same_place}
-use Rattle.dos_shares.proofs.Words.{filter-not}
+use Rattle.definitions.proofs.Lists.{filter-not}
 use Rattle.dos_shares.proofs.shares.Shares.unshare.Goals as goal
 
 pub returns : goal.returns

@@ -4,7 +4,7 @@ use Rattle.std.specs.Option.{option_copied}
 use Rattle.definitions.specs.Bytes.{without, IsAscending}
 use Rattle.definitions.specs.Hosts.{Hosts, Watch, watch_cmp, is_watch, Unwatched, after_store}
 use Rattle.definitions.proofs.HostLaws.{hosts_law}
-use Rattle.hosts_db.proofs.RowPlaces.{filter-not}
+use Rattle.definitions.proofs.Lists.{filter-not}
 use Rattle.hosts_db.proofs.host_rows.HostRows.unwatch.Goals as goal
 
 left : (c : goal.After-retain) → c.retain.new.self.items ≡ without (is_watch (option_copied c.args.mon_name) c.args.my_id.now) c.self.inside.watches.items

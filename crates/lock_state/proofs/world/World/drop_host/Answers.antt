@@ -1,5 +1,5 @@
 use Rattle.std.proofs.Common.{◌≡◌, length, refl, ap, subst, arith}
-use Rattle.definitions.proofs.WaitLaws.{length_without}
+use Rattle.definitions.proofs.Lists.{length_without}
 use Rattle.definitions.specs.Quotas.{quotas_of}
 use Rattle.definitions.specs.Outgoing.{is_grant_to}
 use Rattle.definitions.specs.Waits.{without_host_waiters}

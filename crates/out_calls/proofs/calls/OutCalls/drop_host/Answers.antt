@@ -2,7 +2,7 @@ use Rattle.std.proofs.Common.{rules, not, ap, ◌∙◌}
 use Rattle.std.proofs.lemmas.Fn.{filter_same}
 use Rattle.definitions.specs.Bytes.{without}
 use Rattle.definitions.specs.Outgoing.{Outgoing, is_grant_to}
-use Rattle.definitions.proofs.Firsts.{filter-not}
+use Rattle.definitions.proofs.Lists.{filter-not}
 use Rattle.std.specs.List.{position_or_len}
 use Rattle.out_calls.proofs.Sendings.{due}
 use Rattle.out_calls.proofs.Order.{in_order-kept}
