@@ -3,10 +3,11 @@ use Rattle.std.proofs.Common.{◌≡◌, ℕ, zero, suc, ◌<◌, get_or, subst,
 use Rattle.std.specs.Io.KnownBytes.{Appends}
 use Rattle.std.specs.Prelude.{Result, IsErr, codes}
 use Rattle.std.specs.List.{flat_map}
+use Rattle.std.proofs.KnownBytes.{Appends-trans}
 use Rattle.hex.specs.Hex.{encode_with}
 use Rattle.local_ops.specs.Texts.{spaced, line}
 use Rattle.written.specs.Written.{WroteFront, Wrote}
-use Rattle.written.proofs.Appending.{Appends-more, WroteFront-after, WroteFront-longer, Wrote-failed}
+use Rattle.written.proofs.Appending.{WroteFront-after, WroteFront-longer, Wrote-failed}
 
 pub encode_with-append : (t xs ys : List ℕ) → encode_with t (xs ++ ys) ≡ encode_with t xs ++ encode_with t ys
 unfolding encode_with
@@ -39,7 +40,7 @@ pub hex-next : (a b e : Option (List ℕ)) (t front part shown : List ℕ) → A
     → Appends a e (encode_with t (front ++ part))
 hex-next a b e t front part shown before wrote is =
     subst (Appends a e) (ap (λ (s : List ℕ). encode_with t front ++ s) is ∙ sym (encode_with-append t front part))
-    (Appends-more a b e (encode_with t front) shown before wrote)
+    (Appends-trans a b e (encode_with t front) shown before wrote)
 
 pub hex-failed : (a b e : Option (List ℕ)) (t front part behind bytes shown : List ℕ) → Appends a b (encode_with t front) → WroteFront b e shown → shown ≡ encode_with t part
     → (front ++ part) ++ behind ≡ bytes → WroteFront a e (encode_with t bytes)

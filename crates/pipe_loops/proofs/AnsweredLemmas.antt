@@ -4,6 +4,7 @@ use Rattle.std.specs.Prelude.{is_some, IsSome, Result, Ok, Err}
 use Rattle.std.specs.Io.KnownBytes.{Appends}
 use Rattle.std.proofs.lemmas.Grind.{flat_map-append}
 use Rattle.std.proofs.lemmas.List.{append-nil}
+use Rattle.std.proofs.KnownBytes.{Appends-nil, Appends-trans}
 use Rattle.daemon_core.specs.declared.event.Event.TheVariants.{Take}
 use Rattle.daemon_core.specs.declared.event.Refusal.{Refusal}
 use Rattle.daemon_core.specs.declared.outputs.Outputs.{Outputs}
@@ -14,7 +15,6 @@ use Rattle.pipe_loops.specs.declared.fault.Fault.{Fault}
 use Rattle.pipe_loops.specs.FaultOf.{fault_of}
 use Rattle.written.specs.Written.{WroteFront}
 use Rattle.pipe_loops.specs.Answered.{NothingDue, Sends, AnswersRecord, AnswersEach, in_order, SendsAll, SendsSome, SendsDue, AnswersBegun, AnswersNext}
-use Rattle.written.proofs.Appending.{Appends-nil, Appends-more}
 use Rattle.pipe_loops.proofs.DueCalls.{finds_none, starves}
 use Rattle.pipe_loops.proofs.PipeLemmas.{bytes-append, bytes-more, Breaks-after}
 
@@ -43,7 +43,7 @@ module _ (old mid new : Hub) (before between after : Option (List ℕ)) (calls :
   due-more s = (
     calls ++ s.0 ∷ [],
     Sends-append old mid new calls (s.0 ∷ []) sends (new, s.1, s.2, refl),
-    let P : List ℕ → Type 0 = λ b. Appends before after b in subst P (sym (bytes-more calls s.0)) (Appends-more before between after (all_bytes_sent calls) _ wrote s.3),
+    let P : List ℕ → Type 0 = λ b. Appends before after b in subst P (sym (bytes-more calls s.0)) (Appends-trans before between after (all_bytes_sent calls) _ wrote s.3),
   )
 
   pub due-done : (new ≡ mid) × NothingDue new × (after ≡ between) → SendsAll old new before after
@@ -85,7 +85,7 @@ module _ (old mid new : Hub) (before between after : Option (List ℕ)) (reply :
   record-answered (Ok done) wrote s = record {
     outs = reply ∷ s.calls;
     answers = record { reply = reply; mid = mid; takes = step; calls = s.calls; sends = s.sends; all = refl; none_left = s.none_left };
-    wrote = Appends-more before between after (bytes_sent reply.sent) (all_bytes_sent s.calls) wrote s.wrote;
+    wrote = Appends-trans before between after (bytes_sent reply.sent) (all_bytes_sent s.calls) wrote s.wrote;
   }
   record-answered (Err fault) wrote s = record {
     outs = reply ∷ s.calls;
@@ -109,4 +109,4 @@ pub each-bytes : (a b d : Option (List ℕ)) (answers : List (List Outputs)) (ou
 each-bytes a b d answers outs p q =
     let P : List ℕ → Type 0 = λ x. Appends a d x in
     let e = ap (λ (os : List Outputs). all_bytes_sent os) (in_order-more answers outs) ∙ bytes-append (in_order answers) outs in
-    subst P (sym e) (Appends-more a b d _ _ p q)
+    subst P (sym e) (Appends-trans a b d _ _ p q)

@@ -1,4 +1,3 @@
-pub mod ReadLemmas
 pub mod Lent
 pub mod DueCalls
 pub mod PipeLemmas

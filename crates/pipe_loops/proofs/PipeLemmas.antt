@@ -3,6 +3,7 @@ use Rattle.std.proofs.Common.{◌≡◌, ℕ, ◌<◌, ◌≤◌, ◌⊎◌, inl
 use Rattle.std.specs.Option.{option_to_list}
 use Rattle.std.specs.Prelude.{Err}
 use Rattle.std.specs.Io.KnownBytes.{Appends, Keeps, Consumes}
+use Rattle.std.proofs.KnownBytes.{Consumes-nil, Consumes-trans, Consumes-kept, Appends-nil, Appends-trans, Appends-kept, Keeps-refl}
 use Rattle.std.proofs.lemmas.Grind.{flat_map-append}
 use Rattle.std.proofs.lemmas.List.{append-nil, length-append}
 use Rattle.daemon_core.specs.declared.event.Event.{Event}
@@ -22,8 +23,7 @@ use Rattle.pipe_loops.specs.FaultOf.{fault_of}
 use Rattle.written.specs.Written.{WroteFront}
 use Rattle.pipe_loops.specs.Answered.{in_order, Breaks}
 use Rattle.pipe_loops.specs.Pipe.{IsPiece, Hears, Turn, Turns, met_by, beginning, PipeRun, joined, AnswersAll, AnswersSome, WholeTurn, BrokenTurn, TurnEnds, BeginsAll, BeginsSome, EndsAt, BrokenPipe, StreamEnds}
-use Rattle.written.proofs.Appending.{Appends-nil, Appends-more, Appends-kept, Keeps-same, WroteFront-whole, WroteFront-after}
-use Rattle.pipe_loops.proofs.ReadLemmas.{Consumes-nil, Consumes-more, Consumes-kept}
+use Rattle.written.proofs.Appending.{WroteFront-whole, WroteFront-after}
 
 pub bytes-append : (outs more : List Outputs) → all_bytes_sent (outs ++ more) ≡ all_bytes_sent outs ++ all_bytes_sent more
 bytes-append outs more = flat_map-append (λ (o : Outputs). bytes_sent o.sent) outs more
@@ -66,7 +66,7 @@ pub Breaks-after : (fault : Fault) (old new : Hub) (a b d : Option (List ℕ)) (
 Breaks-after Fault.WriteFault old new a b d outs more w h =
     let P : List ℕ → Type 0 = λ x. WroteFront a d x in (h.0, subst P (sym (bytes-append outs more)) (WroteFront-after a b d _ _ w h.1))
 Breaks-after Fault.Starved old new a b d outs more w h =
-    let P : List ℕ → Type 0 = λ x. Appends a d x in (h.0, subst P (sym (bytes-append outs more)) (Appends-more a b d _ _ w h.1))
+    let P : List ℕ → Type 0 = λ x. Appends a d x in (h.0, subst P (sym (bytes-append outs more)) (Appends-trans a b d _ _ w h.1))
 Breaks-after Fault.RecordTooLong old new a b d outs more w h = absurd h
 Breaks-after Fault.StoreRefused old new a b d outs more w h = absurd h
 Breaks-after Fault.ReadFault old new a b d outs more w h = absurd h
@@ -227,7 +227,7 @@ module _ (events : List Event) (start : Hub) (most next : ℕ) (one_more : most 
     outs = so_far.outs;
     run = so_far.run;
     read = let P : List ℕ → Type 0 = λ x. Consumes unread later x in
-        subst P (append-nil (joined so_far.pieces)) (Consumes-more unread left later (joined so_far.pieces) [] so_far.read (let Q : List ℕ → Type 0 = λ x. Consumes left later x in subst Q e read));
+        subst P (append-nil (joined so_far.pieces)) (Consumes-trans unread left later (joined so_far.pieces) [] so_far.read (let Q : List ℕ → Type 0 = λ x. Consumes left later x in subst Q e read));
     wrote = so_far.wrote;
   }
 
@@ -239,8 +239,8 @@ module _ (events : List Event) (start : Hub) (most next : ℕ) (one_more : most 
       outs = so_far.outs ++ t.outs;
       run = let P : List Refusal → Type 0 = λ rs. PipeRun events start (so_far.pieces ++ piece ∷ []) (so_far.outs ++ t.outs) rs new in
           subst P t.met_is (PipeRun-more events start so_far.pieces so_far.outs t.outs [] mid new piece so_far.run t.turn);
-      read = let P : List ℕ → Type 0 = λ x. Consumes unread later x in subst P (sym (joined-more so_far.pieces piece)) (Consumes-more unread left later _ piece so_far.read read);
-      wrote = let P : List ℕ → Type 0 = λ x. Appends before written x in subst P (sym (bytes-append so_far.outs t.outs)) (Appends-more before after written _ _ so_far.wrote t.wrote);
+      read = let P : List ℕ → Type 0 = λ x. Consumes unread later x in subst P (sym (joined-more so_far.pieces piece)) (Consumes-trans unread left later _ piece so_far.read read);
+      wrote = let P : List ℕ → Type 0 = λ x. Appends before written x in subst P (sym (bytes-append so_far.outs t.outs)) (Appends-trans before after written _ _ so_far.wrote t.wrote);
     }
 
     turn-broken : (fault : Fault) → BrokenTurn fault mid new piece after written → BrokenPipe fault events start next unread later before written
@@ -255,7 +255,7 @@ module _ (events : List Event) (start : Hub) (most next : ℕ) (one_more : most 
       next = t.mid;
       turn = t.turn;
       end = new;
-      read = Consumes-more unread left later _ piece so_far.read read;
+      read = Consumes-trans unread left later _ piece so_far.read read;
       breaks = Breaks-after fault t.mid new before after written so_far.outs t.outs so_far.wrote t.breaks;
     }
 
@@ -302,6 +302,6 @@ at-start grace start hub unread before b = record {
 }
 
 pub unbegun : (events : List Event) (start hub : Hub) (bound : ℕ) (why : Refusal) (unread before : Option (List ℕ)) (end : Hub) → BeginsSome events why start hub → (why ≡ Refusal.RecordTooLong → ⊥) → StreamEnds events start bound (Err (fault_of why)) unread unread before before end
-unbegun events start hub bound Refusal.Starved unread before end some short = inl (inr (record { end = hub; some = some; untouched = record { read = Keeps-same unread; wrote = Keeps-same before } }))
+unbegun events start hub bound Refusal.Starved unread before end some short = inl (inr (record { end = hub; some = some; untouched = record { read = Keeps-refl unread; wrote = Keeps-refl before } }))
 unbegun events start hub bound Refusal.RecordTooLong unread before end some short = absurd (short refl)
-unbegun events start hub bound Refusal.StoreRefused unread before end some short = record { end = hub; some = some; untouched = record { read = Keeps-same unread; wrote = Keeps-same before } }
+unbegun events start hub bound Refusal.StoreRefused unread before end some short = record { end = hub; some = some; untouched = record { read = Keeps-refl unread; wrote = Keeps-refl before } }

@@ -1,4 +1,3 @@
-pub mod Reading
 pub mod LineLemmas
 pub mod CallLemmas
 pub mod PartLemmas

@@ -3,6 +3,7 @@ use Rattle.std.proofs.Common.{◌≡◌, ℕ, ◌+◌, ◌<◌, inl, inr, Bool, 
 use Rattle.std.specs.Prelude.{Result, Ok, Err, IfOk, IfErr}
 use Rattle.std.proofs.lemmas.Bool.{eqb-true}
 use Rattle.std.specs.Io.KnownBytes.{Appends, Consumes, Keeps, IsAtEnd}
+use Rattle.std.proofs.KnownBytes.{Consumes-nil, Consumes-trans, Consumes-kept, Appends-nil, Appends-trans, Appends-kept}
 use Rattle.std.proofs.lemmas.Grind.{flat_map-append}
 use Rattle.std.proofs.lemmas.List.{append-nil, take_more, take-append-drop}
 use Rattle.std.proofs.lemmas.List.Folds.{list_any-append}
@@ -15,11 +16,10 @@ use Rattle.book.specs.Notes.{Happening, AsksLine, Steps, view_of_event}
 use Rattle.workers.specs.Holds.{Held, Notes}
 use Rattle.written.specs.Written.{WroteFront, Wrote}
 use Rattle.written.specs.declared.WriteFault.{WriteFault}
-use Rattle.written.proofs.Appending.{Appends-nil, Appends-more, Appends-kept, WroteFront-whole}
+use Rattle.written.proofs.Appending.{WroteFront-whole}
 use Rattle.serve_loops.specs.declared.ending.Ending.{Ending}
 use Rattle.serve_loops.specs.declared.ending.Ending.TheVariants as ending
 use Rattle.serve_loops.specs.Lines.{IsOpen, AreOpen, ended, kept, text_of, texts, IsAnswered, AreAnswered, Serves, ServesFront, Breaks, Cuts, Ends, Turns, Takes, AnswersLine, Finishes, Hears, StarvesAs, TellsOf}
-use Rattle.serve_loops.proofs.Reading.{Consumes-nil, Consumes-more, Keeps-consumes}
 
 pub open-append : (xs ys : Bytes) → IsOpen xs → IsOpen ys → IsOpen (xs ++ ys)
 open-append xs ys p q = list_any-append (λ b. eqb b 10) xs ys ∙ (λ i. p i || q i)
@@ -65,7 +65,7 @@ Serves-append c p q r bs cs x y z s t = record {
   whole = open-all s.lines t.lines s.whole t.whole;
   unended = t.unended;
   answered = answered-all c s.lines t.lines s.givens t.givens s.answered t.answered;
-  wrote = subst (λ bytes. Appends x z bytes) (sym (flat_map-append text_of s.givens t.givens)) (Appends-more x y z (texts s.givens) (texts t.givens) s.wrote t.wrote);
+  wrote = subst (λ bytes. Appends x z bytes) (sym (flat_map-append text_of s.givens t.givens)) (Appends-trans x y z (texts s.givens) (texts t.givens) s.wrote t.wrote);
 }
 
 -- ---- ends
@@ -111,11 +111,11 @@ module _ (c : ℕ) (p q : Bytes) (bs : Bytes) (x y : Option Bytes) (s : Serves c
   Takes-after (Some e) cs r z h = Cuts-after e cs z h
 
   pub Ends-after : (u m l : Option Bytes) → Consumes u m bs → (e : Ending) (z : Option Bytes) → Ends e c q m l y z → Ends e c p u l x z
-  Ends-after u m l read ending.Over z h = (bs ++ h.0, Consumes-more u m l bs h.0 read h.1, h.2, (h.3.0, Serves-append c p q h.3.0 bs h.0 x y z s h.3.1))
-  Ends-after u m l read ending.Stopped z h = (bs ++ h.0, Consumes-more u m l bs h.0 read h.1, Front-after h.0 z h.2)
-  Ends-after u m l read ending.Starved z h = (bs ++ h.0, Consumes-more u m l bs h.0 read h.1, Front-after h.0 z h.2)
-  Ends-after u m l read ending.ReadFault z h = (bs ++ h.0, Consumes-more u m l bs h.0 read h.1, Front-after h.0 z h.2)
-  Ends-after u m l read ending.WriteFault z h = (bs ++ h.0, Consumes-more u m l bs h.0 read h.1, Breaks-after h.0 z h.2)
+  Ends-after u m l read ending.Over z h = (bs ++ h.0, Consumes-trans u m l bs h.0 read h.1, h.2, (h.3.0, Serves-append c p q h.3.0 bs h.0 x y z s h.3.1))
+  Ends-after u m l read ending.Stopped z h = (bs ++ h.0, Consumes-trans u m l bs h.0 read h.1, Front-after h.0 z h.2)
+  Ends-after u m l read ending.Starved z h = (bs ++ h.0, Consumes-trans u m l bs h.0 read h.1, Front-after h.0 z h.2)
+  Ends-after u m l read ending.ReadFault z h = (bs ++ h.0, Consumes-trans u m l bs h.0 read h.1, Front-after h.0 z h.2)
+  Ends-after u m l read ending.WriteFault z h = (bs ++ h.0, Consumes-trans u m l bs h.0 read h.1, Breaks-after h.0 z h.2)
 
 -- more bytes may stand behind those that cut it
 pub Cuts-longer : (e : Ending) (c : ℕ) (p bs cs : Bytes) (x y : Option Bytes) → Cuts e c p bs x y → Cuts e c p (bs ++ cs) x y
@@ -187,10 +187,10 @@ takes-hears (Some ending.WriteFault) c part bytes rest x y h = h
 
 -- nothing was read
 pub nothing-read : (c : ℕ) (part : Bytes) (u l x : Option Bytes) → IsOpen part → Keeps u l → Turns None c part part u l x x
-nothing-read c part u l x o keeps = ([], Keeps-consumes u l keeps, Serves-none c part x o)
+nothing-read c part u l x o keeps = ([], Consumes-kept u u l [] (Consumes-nil u) keeps, Serves-none c part x o)
 
 pub read-failed : (c : ℕ) (part : Bytes) (u l x : Option Bytes) → IsOpen part → Keeps u l → Ends ending.ReadFault c part u l x x
-read-failed c part u l x o keeps = ([], Keeps-consumes u l keeps, Front-none c part [] x o)
+read-failed c part u l x o keeps = ([], Consumes-kept u u l [] (Consumes-nil u) keeps, Front-none c part [] x o)
 
 pub unplaced : (c : ℕ) (part : Bytes) (u x : Option Bytes) → IsOpen part → Ends ending.Starved c part u u x x
 unplaced c part u x o = ([], Consumes-nil u, Front-none c part [] x o)

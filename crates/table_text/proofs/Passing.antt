@@ -4,9 +4,10 @@ use Rattle.std.proofs.lemmas.List.{append-nil, take_all}
 use Rattle.std.proofs.lemmas.Option.{get_or_from_slice_get, slice_get_within}
 use Rattle.std.specs.Prelude.{Result, Ok, Err, IsErr, slice_get}
 use Rattle.std.specs.List.{flat_map}
+use Rattle.std.proofs.KnownBytes.{Appends-nil, Appends-trans}
 use Rattle.hex.specs.Hex.{encode_with}
 use Rattle.written.specs.Written.{WroteFront, Wrote}
-use Rattle.written.proofs.Appending.{Appends-nil, Appends-more, WroteFront-longer, Wrote-after}
+use Rattle.written.proofs.Appending.{WroteFront-longer, Wrote-after}
 use Rattle.local_ops.proofs.Writing.{encode_with-append}
 use Rattle.table_text.specs.Blocks.{WroteAllBut, Passed}
 
@@ -20,7 +21,7 @@ pub WroteAllBut-then : (a b d : Option (List ℕ)) (p x q y s : List ℕ) → Wr
 WroteAllBut-then a b d p x q y s v w = record {
   front = v.front ++ w.front;
   parts = joined v.front w.front p x q y s v.parts w.parts;
-  appends = Appends-more a b d v.front w.front v.appends w.appends;
+  appends = Appends-trans a b d v.front w.front v.appends w.appends;
 }
 
 pub WroteFront-then : (a b d : Option (List ℕ)) (p x q y : List ℕ) → WroteAllBut a b q (p ++ x) → WroteFront b d (q ++ y) → WroteFront a d (p ++ (x ++ y))
@@ -28,7 +29,7 @@ WroteFront-then a b d p x q y v w = record {
   front = v.front ++ w.front;
   rest = w.rest;
   parts = joined v.front w.front p x q y w.rest v.parts w.parts;
-  appends = Appends-more a b d v.front w.front v.appends w.appends;
+  appends = Appends-trans a b d v.front w.front v.appends w.appends;
 }
 
 pub Passed-then : {E : Type 0} (a b d : Option (List ℕ)) (r : Result (Unit {0}) E) (p x q y s : List ℕ) → WroteAllBut a b q (p ++ x) → Passed b d r s (q ++ y) → Passed a d r s (p ++ (x ++ y))

@@ -109,10 +109,6 @@ SoFar-none o before a w s new split = record {
   serves = subst (λ (b : Assembled). Serves (jobs_of o b.given) w w s s) (sym new) (Serves-none w s);
 }
 
--- it goes on from here
-pub Consumes-rest : (a b d : Option (List ℕ)) (bs : List ℕ) → Consumes a b bs → Consumes b d [] → Consumes a d (bs ++ [])
-Consumes-rest a b d bs p q = Consumes-trans a b d bs [] p q
-
 module _ (o p : Origin) (before mid after : Option (List ℕ)) (a : Assembled) (v w : Worker) (s s' : List Sent) (so_far : SoFar o p before mid a v w s s') where
   whole : Splits a.received a.given false
   whole = subst (λ fault. Splits a.received a.given fault) so_far.going so_far.split
@@ -121,7 +117,7 @@ module _ (o p : Origin) (before mid after : Option (List ℕ)) (a : Assembled) (
   all_of ending none ends = record {
     bytes = a.received;
     lost = [];
-    consumed = Consumes-rest before mid after a.received so_far.consumed none;
+    consumed = Consumes-trans before mid after a.received [] so_far.consumed none;
     records = a.given;
     fault = false;
     splits = whole;

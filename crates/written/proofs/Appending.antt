@@ -1,31 +1,10 @@
 -- Appending goes on.
-use Rattle.std.proofs.Common.{◌≡◌, ℕ, ◌-◌, List, [], ◌++◌, Option, Some, None, take, drop, refl, sym, ◌∙◌, ap, subst, append_assoc}
+use Rattle.std.proofs.Common.{◌≡◌, ℕ, List, [], ◌++◌, Option, take, drop, sym, ◌∙◌, ap, append_assoc}
 use Rattle.std.proofs.lemmas.List.{append-nil, take-append-drop}
-use Rattle.std.specs.Io.KnownBytes.{Appends, Keeps}
+use Rattle.std.specs.Io.KnownBytes.{Appends}
+use Rattle.std.proofs.KnownBytes.{Appends-trans}
 use Rattle.std.specs.Prelude.{Result, Ok, Err, IsErr}
 use Rattle.written.specs.Written.{WroteFront, Wrote}
-
-pub Appends-nil : (a : Option (List ℕ)) → Appends a a []
-Appends-nil None = tt
-Appends-nil (Some xs) = sym (append-nil xs)
-
-pub Appends-more : (a b d : Option (List ℕ)) (x y : List ℕ) → Appends a b x → Appends b d y → Appends a d (x ++ y)
-Appends-more None b d x y p q = tt
-Appends-more (Some xs) None d x y p q = absurd p
-Appends-more (Some xs) (Some ys) None x y p q = absurd q
-Appends-more (Some xs) (Some ys) (Some zs) x y p q = q ∙ (ap (λ (s : List ℕ). s ++ y) p ∙ append_assoc xs x y)
-
-pub Keeps-same : (a : Option (List ℕ)) → Keeps a a
-Keeps-same None = tt
-Keeps-same (Some xs) = refl
-
-Keeps-appends : (a b : Option (List ℕ)) → Keeps a b → Appends a b []
-Keeps-appends None b k = tt
-Keeps-appends (Some xs) None k = absurd k
-Keeps-appends (Some xs) (Some ys) k = k ∙ sym (append-nil xs)
-
-pub Appends-kept : (a b d : Option (List ℕ)) (x : List ℕ) → Appends a b x → Keeps b d → Appends a d x
-Appends-kept a b d x p k = let P : List ℕ → Type 0 = λ s. Appends a d s in subst P (append-nil x) (Appends-more a b d x [] p (Keeps-appends b d k))
 
 -- a front, and then a front of the rest
 pub WroteFront-after : (a b d : Option (List ℕ)) (x y : List ℕ) → Appends a b x → WroteFront b d y → WroteFront a d (x ++ y)
@@ -33,7 +12,7 @@ WroteFront-after a b d x y p w = record {
   front = x ++ w.front;
   rest = w.rest;
   parts = append_assoc x w.front w.rest ∙ ap (λ (s : List ℕ). x ++ s) w.parts;
-  appends = Appends-more a b d x w.front p w.appends;
+  appends = Appends-trans a b d x w.front p w.appends;
 }
 
 -- a front of the bytes, whatever else was to be written after them
@@ -50,7 +29,7 @@ WroteFront-whole a b x p = record { front = x; rest = []; parts = append-nil x; 
 
 -- what is written after other bytes
 pub Wrote-after : {E : Type 0} (a b d : Option (List ℕ)) (r : Result (Unit {0}) E) (x y : List ℕ) → Appends a b x → Wrote b d r y → Wrote a d r (x ++ y)
-Wrote-after a b d (Ok done) x y p w = Appends-more a b d x y p w
+Wrote-after a b d (Ok done) x y p w = Appends-trans a b d x y p w
 Wrote-after a b d (Err fault) x y p w = WroteFront-after a b d x y p w
 
 pub Wrote-failed : {E : Type 0} (a b : Option (List ℕ)) (r : Result (Unit {0}) E) (x : List ℕ) → IsErr r → WroteFront a b x → Wrote a b r x

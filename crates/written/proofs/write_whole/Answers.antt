@@ -1,6 +1,7 @@
 use Rattle.std.proofs.Common.{◌++◌, take, ap, ◌∙◌}
 use Rattle.std.proofs.lemmas.List.{take_rest}
-use Rattle.written.proofs.Appending.{Appends-more, parts-next}
+use Rattle.std.proofs.KnownBytes.{Appends-trans}
+use Rattle.written.proofs.Appending.{parts-next}
 use Rattle.written.proofs.write_whole.Goals as goal
 
 pub loop-rest-preserved : goal.loop-rest-preserved
@@ -10,5 +11,5 @@ loop-rest-preserved g c =
     let count = c.in-Ok.count in (
       before.0 ++ take count left,
       ap (λ x. (before.0 ++ take count left) ++ x) (take_rest left count) ∙ parts-next before.0 left _ count before.1,
-      Appends-more _ _ _ before.0 (take count left) before.2 c.in-Ok.ensures.bytes,
+      Appends-trans _ _ _ before.0 (take count left) before.2 c.in-Ok.ensures.bytes,
     )

@@ -3,9 +3,10 @@ use Rattle.std.specs.Prelude.{ℤ}
 use Rattle.std.proofs.lemmas.Int.{to_z-of_z}
 use Rattle.std.specs.Io.KnownBytes.{Appends}
 use Rattle.std.specs.Fmt.{signed_decimal}
+use Rattle.std.proofs.KnownBytes.{Appends-trans}
 use Rattle.hex.specs.Hex.{encode_lower}
 use Rattle.written.specs.Written.{Wrote, WroteFront}
-use Rattle.written.proofs.Appending.{Appends-more, Wrote-after}
+use Rattle.written.proofs.Appending.{Wrote-after}
 use Rattle.local_ops.proofs.Writing.{failed-first, failed-then, remote_text}
 use Rattle.local_ops.proofs.answer.write_remote.Goals as goal
 
@@ -23,7 +24,7 @@ returns-in_err-write_svid g c =
     let oh = encode_lower c.args.oh.now in
     let P : ℤ → Type 0 = λ z. WroteFront (g.W.Write.contents c.write_hex.new.writer) (g.W.Write.contents c.write_svid.new.writer) (47 ∷ (signed_decimal z ++ 47 ∷ [])) in
     failed-then _ _ _ _ (104 ∷ name) (47 ∷ (signed_decimal c.args.svid ++ 47 ∷ [])) oh _ (remote_text name (signed_decimal c.args.svid) oh)
-    c.from_residual-in_err-write_svid.ensures.0 (Appends-more _ _ _ (104 ∷ []) name c.in_ok-write_parts.ensures c.in_ok-write_hex.ensures)
+    c.from_residual-in_err-write_svid.ensures.0 (Appends-trans _ _ _ (104 ∷ []) name c.in_ok-write_parts.ensures c.in_ok-write_hex.ensures)
     (subst P (to_z-of_z w32 c.args.svid c.ranges.svid) c.in_err-write_svid.ensures)
 
 pub returns : goal.returns

@@ -1,6 +1,6 @@
 use Rattle.std.proofs.Common.{inl}
 use Rattle.std.proofs.lemmas.Result.{err_from_is_err_and}
-use Rattle.written.proofs.Appending.{Keeps-same}
+use Rattle.std.proofs.KnownBytes.{Keeps-refl}
 use Rattle.daemon_core.specs.Hub.{opening}
 use Rattle.pipe_loops.proofs.pipe.pipe_loop.Goals as goal
 
@@ -8,4 +8,4 @@ pub returns-in_err-daemon : goal.returns-in_err-daemon
 returns-in_err-daemon g c =
     let p = err_from_is_err_and c.from_residual.result c.from_residual.ensures.1 in
     let start = opening c.args.server.own_name (g.S.HostStore.rows c.args.server.store) (g.S.HostStore.refusals c.args.server.store) in
-    rw (p.1, p.2) (start, inl (inl (record { read = Keeps-same _; wrote = Keeps-same _ })))
+    rw (p.1, p.2) (start, inl (inl (record { read = Keeps-refl _; wrote = Keeps-refl _ })))

@@ -1,5 +1,5 @@
 use Rattle.std.proofs.Common.{[], ◌++◌}
-use Rattle.serve_loops.proofs.Reading.{Consumes-nil, Consumes-more}
+use Rattle.std.proofs.KnownBytes.{Consumes-nil, Consumes-trans}
 use Rattle.serve_loops.proofs.LineLemmas.{Serves-none, Serves-append, Ends-after, Front-all}
 use Rattle.serve_loops.proofs.lines.serve.Goals as goal
 
@@ -16,7 +16,7 @@ pub loop-preserved : goal.loop-preserved
 loop-preserved g c =
     let i = c.loop.invariant in
     let t = c.in-None-turn.ensures in
-    (i.0 ++ t.0, Consumes-more _ _ _ _ _ i.1 t.1, Serves-append _ _ _ _ _ _ _ _ _ i.2 t.2)
+    (i.0 ++ t.0, Consumes-trans _ _ _ _ _ i.1 t.1, Serves-append _ _ _ _ _ _ _ _ _ i.2 t.2)
 
 pub returns : goal.returns
 returns g c = let i = c.loop.invariant in (i.0, i.1, Front-all _ _ _ _ _ _ i.2)
