@@ -5,5 +5,6 @@ mod callee;
 mod dest;
 mod record;
 
-pub use dest::{Dest, HostName};
+pub use dest::Dest;
+pub use local_ops::HostName;
 pub use record::put_record;

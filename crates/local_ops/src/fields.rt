@@ -10,7 +10,7 @@ ghost use Rattle.local_ops.specs.Reading.{Gives, GivesRest, is_space, fields_of,
 ghost use Rattle.callbacks.specs.Meanings.{local_lock_of};
 ghost use Rattle.local_ops.specs.Words.{word_in};
 
-use crate::quota::HostName;
+use crate::host_name::HostName;
 use callbacks::LocalLock;
 use itoa::Buffer;
 use owner_ids::Owner;
@@ -119,7 +119,7 @@ fn read_file(field: &[u8]) -> Result<FileId, BadLine>
 
 /// 2 to 480 hexadecimal digits.
 #[tactic(auto, unfolding(crate::specs::Reading::hex_in))]
-fn read_name(field: &[u8]) -> Result<HostName, BadLine>
+fn read_name(field: &[u8]) -> Result<HostName<240>, BadLine>
     ensures { Gives (λ name. name) result (hex_in 480 field.now) }
 {
     let count = field.len() / 2;
@@ -273,7 +273,7 @@ impl<'a> Fields<'a> {
         Ok((owner, self.file()?))
     }
 
-    fn name(&mut self) -> Result<HostName, BadLine>
+    fn name(&mut self) -> Result<HostName<240>, BadLine>
         ensures { GivesRest (λ name. name) result self.new (first_field (hex_in 480) self.old) }
     {
         read_name(self.next()?)
@@ -288,7 +288,7 @@ impl<'a> Fields<'a> {
 
     /// NAME N.
     #[tactic(auto, unfolding(crate::specs::Reading::quota_in))]
-    pub(crate) fn quota(&mut self) -> Result<(HostName, u32), BadLine>
+    pub(crate) fn quota(&mut self) -> Result<(HostName<240>, u32), BadLine>
         ensures gives { GivesRest (λ quota. (quota.0, quota.1)) result self.new (quota_in self.old) }
         ensures most { IfOk result (λ quota. quota.1 ≤ 65536) }
     {
