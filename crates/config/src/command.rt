@@ -10,6 +10,13 @@ use std::alloc::{AllocError, Global};
 /// The program's version.
 const VERSION: &str = "1.0.0";
 
+/// What each command does.
+const PIPE_ABOUT: &str = "Serve one record-marked stream on standard input";
+
+const TABLE_ABOUT: &str = "Serve the same, and print nothing but the locks at its end";
+
+const SERVE_ABOUT: &str = "Serve over TCP";
+
 /// An option with a value.
 fn value<'a>(alloc: Global, id: &'a str, shown: &'a str, help: &'a str) -> Arg<'a>
     ensures rule { rule_of result ≡ value_rule id.entry.now }
@@ -55,6 +62,20 @@ fn flag<'a>(alloc: Global, id: &'a str, help: &'a str) -> Arg<'a>
         .action(ArgAction::SetTrue)
 }
 
+/// The server's own name.
+fn own_name<'a>(alloc: Global) -> Arg<'a>
+    ensures rule { rule_of result ≡ default_rule (codes "name") (codes "server") }
+    ensures local { result.global ≡ false }
+{
+    defaulted(
+        alloc,
+        "name",
+        "NAME",
+        "server",
+        "The server's own name, 1 to 1,024 bytes",
+    )
+}
+
 fn bare<'a>(alloc: Global, name: &'a str, about: &'a str) -> Command<'a>
     ensures { app_of result ≡ bare_app name.entry.now }
 {
@@ -66,14 +87,7 @@ fn with_grace<'a>(alloc: Global, command: Command<'a>) -> Result<Command<'a>, Al
 {
     let grace = flag(alloc, "grace", "Begin in the grace period, and stay in it");
     let command = command.arg(grace)?;
-    let name = defaulted(
-        alloc,
-        "name",
-        "NAME",
-        "server",
-        "The server's own name, 1 to 1,024 bytes",
-    );
-    let command = command.arg(name)?;
+    let command = command.arg(own_name(alloc))?;
     let db = value(
         alloc,
         "db",
@@ -135,14 +149,7 @@ fn with_places<'a>(alloc: Global, command: Command<'a>) -> Result<Command<'a>, A
         "The file of peers: lines of a name, a space and an IP address",
     );
     let command = command.arg(peers)?;
-    let name = defaulted(
-        alloc,
-        "name",
-        "NAME",
-        "server",
-        "The server's own name, 1 to 1,024 bytes",
-    );
-    let command = command.arg(name)?;
+    let command = command.arg(own_name(alloc))?;
     let bind = defaulted(
         alloc,
         "bind",
@@ -201,11 +208,7 @@ fn with_work<'a>(alloc: Global, command: Command<'a>) -> Result<Command<'a>, All
 pub(crate) fn pipe_command<'a>(alloc: Global) -> Result<Command<'a>, AllocError>
     ensures { IfOk result (λ r. app_of r ≡ pipe_app) }
 {
-    let command = bare(
-        alloc,
-        "lockd pipe",
-        "Serve one record-marked stream on standard input",
-    );
+    let command = bare(alloc, "lockd pipe", PIPE_ABOUT);
     with_grace(alloc, command)
 }
 
@@ -213,11 +216,7 @@ pub(crate) fn pipe_command<'a>(alloc: Global) -> Result<Command<'a>, AllocError>
 pub(crate) fn table_command<'a>(alloc: Global) -> Result<Command<'a>, AllocError>
     ensures { IfOk result (λ r. app_of r ≡ table_app) }
 {
-    let command = bare(
-        alloc,
-        "lockd table",
-        "Serve the same, and print nothing but the locks at its end",
-    );
+    let command = bare(alloc, "lockd table", TABLE_ABOUT);
     with_grace(alloc, command)
 }
 
@@ -225,7 +224,7 @@ pub(crate) fn table_command<'a>(alloc: Global) -> Result<Command<'a>, AllocError
 pub(crate) fn serve_command<'a>(alloc: Global) -> Result<Command<'a>, AllocError>
     ensures { IfOk result (λ r. app_of r ≡ serve_app) }
 {
-    let command = bare(alloc, "lockd serve", "Serve over TCP");
+    let command = bare(alloc, "lockd serve", SERVE_ABOUT);
     let command = with_own_ports(alloc, command)?;
     let command = with_peer_ports(alloc, command)?;
     let command = with_places(alloc, command)?;
@@ -241,18 +240,10 @@ pub(crate) fn lockd_command<'a>(alloc: Global) -> Result<Command<'a>, AllocError
         .no_binary_name(true)
         .subcommand_required(true)
         .disable_help_subcommand(true);
-    let pipe = bare(
-        alloc,
-        "pipe",
-        "Serve one record-marked stream on standard input",
-    );
+    let pipe = bare(alloc, "pipe", PIPE_ABOUT);
     let command = command.subcommand(pipe)?;
-    let table = bare(
-        alloc,
-        "table",
-        "Serve the same, and print nothing but the locks at its end",
-    );
+    let table = bare(alloc, "table", TABLE_ABOUT);
     let command = command.subcommand(table)?;
-    let serve = bare(alloc, "serve", "Serve over TCP");
+    let serve = bare(alloc, "serve", SERVE_ABOUT);
     command.subcommand(serve)
 }
