@@ -10,11 +10,13 @@ use std::alloc::{AllocError, Global};
 /// The program's version.
 const VERSION: &str = "1.0.0";
 
-/// What each command does.
+/// What `pipe` does.
 const PIPE_ABOUT: &str = "Serve one record-marked stream on standard input";
 
+/// What `table` does.
 const TABLE_ABOUT: &str = "Serve the same, and print nothing but the locks at its end";
 
+/// What `serve` does.
 const SERVE_ABOUT: &str = "Serve over TCP";
 
 /// An option with a value.
