@@ -1,5 +1,5 @@
 //! The message forms: an empty reply at once, and the result in a call of the server's own (XNFS, NLM_TEST_MSG and NLM_LOCK_MSG).
-use crate::servers::{Misplayed, play, play_in_both};
+use crate::servers::{Misplayed, play};
 
 const TEST_MESSAGE: &[&str] = &[
     "begins",
@@ -30,7 +30,7 @@ const MESSAGE_LOCK_AND_RESTART: &[&str] = &[
 
 #[test]
 fn message_lock_and_restart(rt: HostRuntime) -> Result<(), Misplayed> {
-    play_in_both(rt.alloc(), MESSAGE_LOCK_AND_RESTART)
+    play(rt.alloc(), MESSAGE_LOCK_AND_RESTART)
 }
 
 /// A repeat gets the kept reply, and the kept result in a call under the next number.

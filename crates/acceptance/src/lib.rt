@@ -1,6 +1,6 @@
 //! The worked rows, from bytes to bytes: what a client sends, what it is sent, and what the server calls. Each is a script,
 //! which `script` plays through `Daemon::run`: that cuts streams into records, reads them, does them in the book and writes
-//! what each is answered.
+//! what each is answered. The store is one in memory; rows over a database stand in `hosts_trials`.
 #![tactic(auto)]
 
 #[cfg(test)]

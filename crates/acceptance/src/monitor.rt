@@ -1,5 +1,5 @@
 //! The status monitor: what hosts tell, who is called then, and how the server begins anew (XNFS, NSM).
-use crate::servers::{Misplayed, play, play_in_both, play_in_sql, play_with_hosts};
+use crate::servers::{Misplayed, play, play_with_hosts};
 
 /// A state that was seen changes nothing; another drops the host, once.
 const NOTIFY: &[&str] = &[
@@ -19,7 +19,7 @@ const NOTIFY: &[&str] = &[
 
 #[test]
 fn notify(rt: HostRuntime) -> Result<(), Misplayed> {
-    play_in_both(rt.alloc(), NOTIFY)
+    play(rt.alloc(), NOTIFY)
 }
 
 /// Only a local peer may have a host watched and the server begin anew, which keeps the connections.
@@ -53,14 +53,10 @@ const MONITOR_AND_SIMULATED_CRASH: &[&str] = &[
 
 #[test]
 fn monitor_and_simulated_crash(rt: HostRuntime) -> Result<(), Misplayed> {
-    play_in_both(rt.alloc(), MONITOR_AND_SIMULATED_CRASH)
+    play(rt.alloc(), MONITOR_AND_SIMULATED_CRASH)
 }
 
 const STATE_WRAPS: &[&str] = &["begins", "12 stat a = monitored 1"];
-
-/// A row of `a`, the watch of it, and the highest own state.
-const HIGHEST: &str =
-    "INSERT INTO hosts2 VALUES (x'61', 1, 3, 65536); INSERT INTO watches VALUES (x'61', x'736572766572', 200000, 1, 1, x'07070707070707070707070707070707'); UPDATE own SET state = 2147483647";
 
 /// Who acknowledges a notice has the own state that it told as its epoch.
 const EPOCH_NOTED: &[&str] = &[
@@ -80,8 +76,7 @@ const EPOCH_NOTED: &[&str] = &[
 fn state_wraps(rt: HostRuntime) -> Result<(), Misplayed> {
     let alloc = rt.alloc();
     play_with_hosts(alloc, 2_147_483_647, b"", STATE_WRAPS)?;
-    play_in_sql(alloc, Some(HIGHEST), STATE_WRAPS)?;
-    play_in_both(alloc, EPOCH_NOTED)
+    play(alloc, EPOCH_NOTED)
 }
 
 const STAT_CALL: &[&str] = &["begins", "1 sm-null = done", "2 stat a = monitored 1"];

@@ -1,5 +1,5 @@
 //! What the server itself calls once it has begun anew.
-use crate::servers::{Misplayed, play_in_both, play_with_hosts};
+use crate::servers::{Misplayed, play, play_with_hosts};
 
 /// Each host is told once, in order of name, and then nothing is due. A notice that nobody answers is sent three times, with
 /// the same bytes, and then forgotten. A silence of no call changes nothing.
@@ -57,7 +57,7 @@ const STRAY_ANSWERS: &[&str] = &[
 
 #[test]
 fn stray_answers(rt: HostRuntime) -> Result<(), Misplayed> {
-    play_in_both(rt.alloc(), STRAY_ANSWERS)
+    play(rt.alloc(), STRAY_ANSWERS)
 }
 
 /// A call that was not sent yet can't be answered. Who answers has the new own state as its epoch, who refuses has not.

@@ -1,5 +1,5 @@
 //! The rows of the lock manager, under their own names.
-use crate::servers::{Misplayed, play, play_cut, play_in_both, play_with_all_hosts};
+use crate::servers::{Misplayed, play, play_cut, play_with_all_hosts};
 
 const NULL: &[&str] = &["begins", "1 null = done"];
 
@@ -61,7 +61,7 @@ const GRACE: &[&str] = &[
 
 #[test]
 fn grace(rt: HostRuntime) -> Result<(), Misplayed> {
-    play_in_both(rt.alloc(), GRACE)
+    play(rt.alloc(), GRACE)
 }
 
 const ABSENT_UNLOCK: &[&str] = &[
@@ -112,7 +112,7 @@ pub(crate) const SHARE_CONFLICT: &[&str] = &[
 
 #[test]
 fn share_conflict(rt: HostRuntime) -> Result<(), Misplayed> {
-    play_in_both(rt.alloc(), SHARE_CONFLICT)
+    play(rt.alloc(), SHARE_CONFLICT)
 }
 
 /// A store that has all its hosts refuses the row of one more: its LOCK changes nothing; an NM_LOCK asks for no row.

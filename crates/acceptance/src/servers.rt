@@ -7,10 +7,8 @@ use crate::script::wrong_line;
 use callbacks::ShortBytes;
 use daemon_core::Daemon;
 use hosts_db::{FULL_QUOTA, HostRow, HostStore, MemHosts};
-use hosts_sql::SqlHosts;
 use range_arena::ArenaTable;
 use range_table::RangeTable;
-use sqlite::{Alter, Connection, MemStore};
 use std::alloc::Global;
 
 /// Why a script is not played as it says.
@@ -166,51 +164,4 @@ fn put_all_hosts(alloc: Global, hosts: &mut Vec<HostRow>) -> Option<()> {
         hosts.push(HostRow::new(name, 1, 0, FULL_QUOTA)).ok()?;
     }
     Some(())
-}
-
-/// Of a server over a database in memory that these statements have changed, once it was started, if it was.
-pub(crate) fn play_in_sql(
-    alloc: Global,
-    changes: Option<&str>,
-    lines: &[&str],
-) -> Result<(), Misplayed> {
-    match database(alloc, changes) {
-        Some(store) => play_over(alloc, store, PIECE, lines),
-        None => Err(Misplayed::NoServer),
-    }
-}
-
-/// Of a server of no hosts, over memory and over a database.
-pub(crate) fn play_in_both(alloc: Global, lines: &[&str]) -> Result<(), Misplayed> {
-    play(alloc, lines)?;
-    play_in_sql(alloc, None, lines)
-}
-
-/// A fresh database; or one that was started, and then changed by these statements.
-pub(crate) fn database(alloc: Global, changes: Option<&str>) -> Option<SqlHosts<MemStore>> {
-    adopted(alloc, Connection::open_in_memory(alloc).ok()?, changes)
-}
-
-// The same of a connection. This and the next are generic, so that their proofs see no more of a database than its trait.
-fn adopted<S: Alter + Drop>(
-    alloc: Global,
-    conn: Connection<S>,
-    changes: Option<&str>,
-) -> Option<SqlHosts<S>> {
-    let store = SqlHosts::adopt(alloc, conn).ok()?;
-    match changes {
-        Some(statements) => SqlHosts::adopt(alloc, changed(store, statements)?).ok(),
-        None => Some(store),
-    }
-}
-
-fn changed<S: Alter + Drop>(mut store: SqlHosts<S>, statements: &str) -> Option<Connection<S>> {
-    if store.start().is_err() {
-        return None;
-    }
-    let mut conn = store.into_connection();
-    match conn.execute_batch(statements) {
-        Ok(_) => Some(conn),
-        Err(_) => None,
-    }
 }

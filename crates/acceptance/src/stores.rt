@@ -1,56 +1,12 @@
-//! Stores that refuse, and stores that are lent: which rows they hold, and how often they are asked.
+//! Stores that are lent: which rows they hold behind a server, and how often they are asked. `hosts_trials` has the same over a
+//! database, and over one that refuses.
 use crate::rows::{REFUSED_HOST, SHARE_CONFLICT};
-use crate::servers::{Misplayed, PIECE, all_hosts, database, memory, play_in_sql, play_over};
+use crate::servers::{Misplayed, PIECE, all_hosts, memory, play_over};
 use crate::state::are_rows;
 use hosts_db::HostStore;
 use hosts_lent::Lent;
 use std::alloc::Global;
 use std::test::*;
-
-/// A row of `a`, and the watch of it.
-const WATCHED: &str =
-    "INSERT INTO hosts2 VALUES (x'61', 1, 3, 65536); INSERT INTO watches VALUES (x'61', x'736572766572', 200000, 1, 1, x'07070707070707070707070707070707')";
-
-/// A database that was not started since refuses each row, and nothing changes but what asks for none.
-const ROWS_REFUSED: &[&str] = &[
-    "grace-over",
-    "connect pipe",
-    "48 lock b 0 1 = no-locks",
-    "49 test c 0 0 = granted",
-    "50 notify a 5 = system-err",
-    "51 unmon a 1 = system-err",
-    "52 mon b 1 = not-monitored 1",
-    "53 lock a 0 1 = granted",
-    "quiet",
-    "rows a 1 3",
-];
-
-const QUOTA_REFUSED: &[&str] = &[
-    "grace-over",
-    "local |quota 61 5| refused",
-    "local |quota 62 5| absent",
-    "quota a 65536",
-];
-
-#[test]
-fn rows_refused(rt: HostRuntime) -> Result<(), Misplayed> {
-    play_in_sql(rt.alloc(), Some(WATCHED), ROWS_REFUSED)?;
-    play_in_sql(rt.alloc(), Some(WATCHED), QUOTA_REFUSED)
-}
-
-/// Where the row of a new host is refused, its LOCK changes nothing; an NM_LOCK asks for no row.
-const HOST_REFUSED: &[&str] = &[
-    "grace-over",
-    "connect pipe",
-    "48 lock b 0 1 = no-locks",
-    "stored refused",
-    "49 test a 0 0 = granted",
-    "stored not-asked",
-    "50 nm-lock b 0 1 = granted",
-    "stored not-asked",
-    "51 lock a 0 1 = denied",
-    "stored not-asked",
-];
 
 /// The first LOCK of a host stores its row, and no other call does.
 const FIRST_HOST: &[&str] = &[
@@ -110,6 +66,21 @@ const BOTH_HOSTS: &[&str] = &[
     "stored yes",
 ];
 
+/// A server's script, how often it asks the store, and what that holds behind it: the own state, and the rows.
+type Server<'a> = (&'a [&'a str], usize, u32, &'a str);
+
+/// The rows are those of the hosts that had a LOCK granted, and a new server keeps them.
+const TWO_SERVERS: &[Server<'static>] = &[
+    (FIRST_HOST, 2, 1, "a 1 3"),
+    (SECOND_HOST, 2, 3, "a 1 3 b 3 3"),
+];
+
+/// The same of one server that begins anew.
+const ONE_SERVER: &[Server<'static>] = &[(BOTH_HOSTS, 4, 3, "a 1 3 b 3 3")];
+
+/// A restart is all that a server asks for where no host locks.
+const NO_LOCK: &[Server<'static>] = &[(SHARE_CONFLICT, 1, 1, "")];
+
 // Whether a server over the store that is lent to it plays the lines, and how often it asks the store.
 fn played<S: HostStore>(
     alloc: Global,
@@ -121,87 +92,35 @@ fn played<S: HostStore>(
     (played, writes)
 }
 
-fn holds<S: HostStore>(store: &S, own: u32, rows: &str) -> bool {
-    store.own() == own && are_rows(store, rows)
-}
-
-/// What is to hold of a store that begins without rows.
-trait Trial {
-    fn holds<S: HostStore>(&self, alloc: Global, store: &mut S) -> bool;
-}
-
-/// The rows are those of the hosts that had a LOCK granted, and a new server keeps them.
-#[derive(Clone, Copy)]
-struct TwoServers;
-
-impl Trial for TwoServers {
-    fn holds<S: HostStore>(&self, alloc: Global, store: &mut S) -> bool {
-        played(alloc, store, FIRST_HOST) == (Ok(()), 2)
-            && holds(store, 1, "a 1 3")
-            && played(alloc, store, SECOND_HOST) == (Ok(()), 2)
-            && holds(store, 3, "a 1 3 b 3 3")
+// Whether it goes so with these servers, one after the other.
+fn goes<S: HostStore>(alloc: Global, store: &mut S, servers: &[Server<'_>]) -> bool {
+    for (lines, asked, own, rows) in servers {
+        if played(alloc, store, lines) != (Ok(()), *asked)
+            || store.own() != *own
+            || !are_rows(store, rows)
+        {
+            return false;
+        }
     }
+    true
 }
 
-/// The same of one server that begins anew.
-#[derive(Clone, Copy)]
-struct OneServer;
-
-impl Trial for OneServer {
-    fn holds<S: HostStore>(&self, alloc: Global, store: &mut S) -> bool {
-        played(alloc, store, BOTH_HOSTS) == (Ok(()), 4) && holds(store, 3, "a 1 3 b 3 3")
-    }
-}
-
-/// A database that was never started refuses each row.
-#[derive(Clone, Copy)]
-struct Unstarted;
-
-impl Trial for Unstarted {
-    fn holds<S: HostStore>(&self, alloc: Global, store: &mut S) -> bool {
-        played(alloc, store, HOST_REFUSED) == (Ok(()), 1) && holds(store, 0, "")
-    }
-}
-
-/// A restart is all that a server asks for where no host locks.
-#[derive(Clone, Copy)]
-struct NoLock;
-
-impl Trial for NoLock {
-    fn holds<S: HostStore>(&self, alloc: Global, store: &mut S) -> bool {
-        played(alloc, store, SHARE_CONFLICT) == (Ok(()), 1)
-    }
-}
-
-fn in_memory<T: Trial>(alloc: Global, trial: &T) -> bool {
+// The same over a fresh store.
+fn goes_in_memory(alloc: Global, servers: &[Server<'_>]) -> bool {
     match memory(alloc, 0, Vec::new(alloc)) {
-        Some(mut store) => trial.holds(alloc, &mut store),
-        None => false,
-    }
-}
-
-fn in_sql<T: Trial>(alloc: Global, trial: &T) -> bool {
-    match database(alloc, None) {
-        Some(mut store) => trial.holds(alloc, &mut store),
+        Some(mut store) => goes(alloc, &mut store, servers),
         None => false,
     }
 }
 
 #[test]
 fn hosts_of_locks(rt: HostRuntime) {
-    assert!(rt; in_memory(rt.alloc(), &TwoServers));
-    assert!(rt; in_sql(rt.alloc(), &TwoServers));
+    assert!(rt; goes_in_memory(rt.alloc(), TWO_SERVERS));
 }
 
 #[test]
 fn hosts_after_a_restart(rt: HostRuntime) {
-    assert!(rt; in_memory(rt.alloc(), &OneServer));
-    assert!(rt; in_sql(rt.alloc(), &OneServer));
-}
-
-#[test]
-fn refused_host(rt: HostRuntime) {
-    assert!(rt; in_sql(rt.alloc(), &Unstarted));
+    assert!(rt; goes_in_memory(rt.alloc(), ONE_SERVER));
 }
 
 // A full store is asked for one row, and stays.
@@ -213,6 +132,6 @@ fn stays_full(alloc: Global) -> Option<bool> {
 
 #[test]
 fn share_conflict(rt: HostRuntime) {
-    assert!(rt; in_memory(rt.alloc(), &NoLock));
+    assert!(rt; goes_in_memory(rt.alloc(), NO_LOCK));
     assert!(rt; stays_full(rt.alloc()) == Some(true));
 }

@@ -1,6 +1,6 @@
 //! Locks that are waited for, from bytes to bytes: who waits, who is granted, and what the server calls then (XNFS, NLM_LOCK,
 //! NLM_CANCEL and NLM_GRANTED).
-use crate::servers::{Misplayed, play, play_in_both};
+use crate::servers::{Misplayed, play};
 
 /// A grant that narrows its own lock frees whoever stood before it.
 const SETTLE_TWICE: &[&str] = &[
@@ -175,7 +175,7 @@ const ROWS_OF_WAITERS: &[&str] = &[
 
 #[test]
 fn rows_of_waiters(rt: HostRuntime) -> Result<(), Misplayed> {
-    play_in_both(rt.alloc(), ROWS_OF_WAITERS)
+    play(rt.alloc(), ROWS_OF_WAITERS)
 }
 
 /// A GRANTED isn't answered by a GRANTED_RES.

@@ -59,15 +59,41 @@ fn starts(alloc: Global, files: Trials) -> bool {
     start.0
 }
 
+/// What both files hold.
+#[derive(Drop)]
+struct Bytes {
+    log: Vec<u8>,
+    db: Vec<u8>,
+}
+
+impl Bytes {
+    // Whether there is memory for them.
+    fn note(&mut self, files: &Trials) -> bool {
+        self.log
+            .extend_from_slice(files.log.inner().bytes())
+            .is_ok()
+            && self.db.extend_from_slice(files.db.inner().bytes()).is_ok()
+    }
+
+    fn are_of(&self, files: &Trials) -> bool {
+        files.log.inner().bytes() == self.log.as_slice()
+            && files.db.inner().bytes() == self.db.as_slice()
+    }
+}
+
 // Whether the store takes these tables and rows as is wanted, and leaves each byte of the files.
-fn adopts(alloc: Global, sql: [&str; 2], want: Option<Shown>) -> Option<bool> {
-    let files = made(alloc, sql)?;
-    let log = Vec::from_slice(alloc, files.log.inner().bytes()).ok()?;
-    let db = Vec::from_slice(alloc, files.db.inner().bytes()).ok()?;
+fn adopts(alloc: Global, sql: [&str; 2], want: Option<Shown>) -> bool {
+    let Some(files) = made(alloc, sql) else {
+        return false;
+    };
+    let mut before = Bytes {
+        log: Vec::new(alloc),
+        db: Vec::new(alloc),
+    };
+    let is_noted = before.note(&files);
     let (is_so, files) = shows(alloc, files, want);
-    let is_left = files.log.inner().bytes() == log.as_slice()
-        && files.db.inner().bytes() == db.as_slice();
-    Some(is_so && is_left && starts(alloc, files) == want.is_some())
+    let is_left = is_noted && before.are_of(&files);
+    is_so && is_left && starts(alloc, files) == want.is_some()
 }
 
 // A literal of so many zero bytes.
@@ -80,25 +106,22 @@ fn push_zeros(to: &mut String, count: usize) -> Result<(), AllocError> {
 }
 
 // The text, with the literals that it stands for.
-fn spelled(alloc: Global, text: &str) -> Result<String, AllocError> {
-    let mut sql = String::new(alloc);
+fn push_spelled(to: &mut String, text: &str) -> Result<(), AllocError> {
     for part in text.split('<') {
         match part.split_once('>') {
             Some((count, rest)) => {
-                push_zeros(&mut sql, count.parse().unwrap_or(0))?;
-                sql.push_str(rest)?;
+                push_zeros(to, count.parse().unwrap_or(0))?;
+                to.push_str(rest)?;
             }
-            None => sql.push_str(part)?,
+            None => to.push_str(part)?,
         }
     }
-    Ok(sql)
+    Ok(())
 }
 
 fn is_so(alloc: Global, tables: &str, row: Row) -> bool {
-    match spelled(alloc, row.0) {
-        Ok(sql) => adopts(alloc, [tables, &sql], row.1) == Some(true),
-        Err(_) => false,
-    }
+    let mut sql = String::new(alloc);
+    push_spelled(&mut sql, row.0).is_ok() && adopts(alloc, [tables, &sql], row.1)
 }
 
 // The first row that isn't so.

@@ -1,35 +1,14 @@
 //! A stop of the disk at each of its calls while a daemon plays a script from bytes to bytes: what the files hold then, and a daemon
 //! that begins anew over them.
-use crate::plays::{Line, are_rows_after, goes, notifies, opened, parted, played};
+use crate::plays::{Deed, Line, are_rows_after, goes, notifies, parted, played, with_daemon};
 use crate::shown::shown;
 use crate::stops::{Stop, Trial, after_crash, are_met, stopping};
 use crate::visits::{Trials, Work, visit_files};
 use daemon_core::{Daemon, Frame};
 use hosts_db::HostStore;
-use hosts_lent::Lent;
 use range_table::RangeTable;
 use std::alloc::Global;
 use std::test::*;
-
-/// What is done with a daemon.
-trait Deed {
-    fn act<T: RangeTable, S: HostStore>(&mut self, daemon: &mut Daemon<T, S>);
-}
-
-// Lends a daemon, if there is one. It is generic, so that what has to drop it sees no more of its parts than their traits.
-fn lend<T: RangeTable + Drop, S: HostStore + Drop, D: Deed>(
-    daemon: Option<Daemon<T, S>>,
-    deed: &mut D,
-) {
-    if let Some(mut daemon) = daemon {
-        deed.act(&mut daemon);
-    }
-}
-
-fn with_daemon<S: HostStore, D: Deed>(alloc: Global, store: &mut S, deed: &mut D) {
-    let mut writes = 0;
-    lend(opened(alloc, Lent::new(store, &mut writes)), deed);
-}
 
 /// Plays the script up to the first line that the store refuses.
 #[derive(Clone, Copy)]
@@ -70,8 +49,8 @@ impl Anew<'_> {
             return false;
         };
         let rows = text.trim();
-        are_rows_after(self.script, self.done, rows)
-            || are_rows_after(self.script, self.done.saturating_add(1), rows)
+        are_rows_after("0;", self.script, self.done, rows)
+            || are_rows_after("0;", self.script, self.done.saturating_add(1), rows)
     }
 
     // Whether a host whose lock was granted, or waited, has a row, and who had one granted is granted it again.
@@ -86,10 +65,11 @@ impl Anew<'_> {
         if !is_granted && !answer.ends_with(" blocked") {
             return true;
         }
-        let (_, name) = event.split_once("-").unwrap_or((event, ""));
+        let (_, behind) = event.split_once("-").unwrap_or((event, ""));
+        let (name, _) = behind.split_once(" ").unwrap_or((behind, ""));
         daemon.store().host(name.as_bytes()).is_some()
             && (!is_granted
-                || goes(self.alloc, daemon, room, "9 reclaim-a = 9 granted") == Some(true))
+                || goes(self.alloc, daemon, room, "9 reclaim-a 0 10 = 9 granted") == Some(true))
     }
 
     // Whether the daemon begins anew, tells just the stored hosts of it, and leaves whoever had a lock its row and its lock.
@@ -186,23 +166,23 @@ const LOCK: &str = "\
 restart -> 1;
 over
 connect
-2 lock-a = 2 granted or 2 no-locks -> 1; a 1 3 65536;
+2 lock-a 0 10 = 2 granted or 2 no-locks -> 1; a 1 3 65536;
 ";
 
 const BLOCKED_LOCK: &str = "\
 restart -> 1;
 over
 connect
-2 lock-a = 2 granted or 2 no-locks -> 1; a 1 3 65536;
-3 block-b = 3 blocked or 3 no-locks -> 1; a 1 3 65536; b 1 3 65536;
+2 lock-a 0 10 = 2 granted or 2 no-locks -> 1; a 1 3 65536;
+3 block-b 0 10 = 3 blocked or 3 no-locks -> 1; a 1 3 65536; b 1 3 65536;
 ";
 
 const NOTIFY: &str = "\
 restart -> 1;
 over
 connect
-2 lock-a = 2 granted or 2 no-locks -> 1; a 1 3 65536;
-3 notify-a = 3 done or 3 system-err -> 1; a 1 5 65536;
+2 lock-a 0 10 = 2 granted or 2 no-locks -> 1; a 1 3 65536;
+3 notify-a 5 = 3 done or 3 system-err -> 1; a 1 5 65536;
 ";
 
 /// The host has its lock again when it answers.
@@ -210,11 +190,11 @@ const NOTICE_ANSWERED: &str = "\
 restart -> 1;
 over
 connect
-2 lock-a = 2 granted or 2 no-locks -> 1; a 1 3 65536;
+2 lock-a 0 10 = 2 granted or 2 no-locks -> 1; a 1 3 65536;
 restart -> 3; a 1 3 65536;
 connect
-3 reclaim-a = 3 granted
-send = 1 notice 3
+3 reclaim-a 0 10 = 3 granted
+send a = 1 notice 3
 answer 1 agreed -> 3; a 3 3 65536;
 ";
 
@@ -229,7 +209,7 @@ const MON_OF_STORED: &str = "\
 restart -> 1;
 over
 connect
-2 lock-a = 2 granted or 2 no-locks -> 1; a 1 3 65536;
+2 lock-a 0 10 = 2 granted or 2 no-locks -> 1; a 1 3 65536;
 3 mon-a = 3 monitored 1 or 3 not-monitored 1 -> 1; a 1 3 65536; a server 200000 1 1 000102030405060708090a0b0c0d0e0f;
 ";
 
@@ -252,7 +232,7 @@ const QUOTA: &str = "\
 restart -> 1;
 over
 connect
-2 lock-a = 2 granted or 2 no-locks -> 1; a 1 3 65536;
+2 lock-a 0 10 = 2 granted or 2 no-locks -> 1; a 1 3 65536;
 local quota 61 5 = ok or refused -> 1; a 1 3 5;
 ";
 
@@ -260,7 +240,7 @@ const CRASH: &str = "\
 restart -> 1;
 over
 connect
-2 lock-a = 2 granted or 2 no-locks -> 1; a 1 3 65536;
+2 lock-a 0 10 = 2 granted or 2 no-locks -> 1; a 1 3 65536;
 3 crash = 3 done or 3 system-err -> 3; a 1 3 65536;
 ";
 

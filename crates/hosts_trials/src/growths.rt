@@ -3,7 +3,7 @@ use crate::calls::call;
 use crate::shown::{are_same, model};
 use crate::visits::{Came, Work, visit};
 use hosts_db::{HostStore, MemHosts};
-use sqlite::Connection;
+use sqlite::{Alter, Connection};
 use std::alloc::Global;
 use std::test::*;
 
@@ -59,17 +59,29 @@ impl Work for Growths {
     }
 }
 
-// The line at which it goes wrong. Where a growth is refused before there is a store, nothing does. The database is in memory,
-// since a file that wants memory fails, and then the store refuses until it is opened again.
+// Visits a database, and lets go of it. It is generic, so that its proof sees no more of that than its trait.
+fn visited<S: Alter + Drop, W: Work>(alloc: Global, conn: Connection<S>, work: &mut W) -> Came {
+    let (came, _store) = visit(alloc, conn, ["", ""], work);
+    came
+}
+
+// What came of a visit of a database in memory, since a file that wants memory fails, and then the store refuses until it is opened
+// again. Where there is no memory for a database, nothing goes wrong.
+fn came(alloc: Global, growths: &mut Growths) -> Came {
+    match Connection::open_in_memory(alloc) {
+        Ok(conn) => visited(alloc, conn, growths),
+        Err(_) => Came::Starved,
+    }
+}
+
+// The line at which it goes wrong. Where a growth is refused before there is a store, nothing does.
 fn wrong(alloc: Global) -> Option<&'static str> {
     let mut growths = Growths {
         alloc,
         model: model(alloc)?,
         wrong: None,
     };
-    let conn = Connection::open_in_memory(alloc).ok()?;
-    let (came, _store) = visit(alloc, conn, ["", ""], &mut growths);
-    match came {
+    match came(alloc, &mut growths) {
         Came::Unopened | Came::Unfilled => Some("no database"),
         _ => growths.wrong,
     }

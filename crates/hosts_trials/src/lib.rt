@@ -1,5 +1,5 @@
-//! Trials of the store of hosts over a database: stops of its disk, alone and below a daemon, refused growths, its limits, and files
-//! that it takes and refuses. There is nothing in it but tests.
+//! Trials of the store of hosts over a database: rows that a daemon plays over it, stops of its disk, alone and below a daemon,
+//! refused growths, its limits, and files that it takes and refuses. There is nothing in it but tests.
 #![tactic(auto)]
 
 #[cfg(test)]
@@ -16,6 +16,8 @@ mod messages;
 mod pairs;
 #[cfg(test)]
 mod plays;
+#[cfg(test)]
+mod rows;
 #[cfg(test)]
 mod shown;
 #[cfg(test)]

@@ -1,7 +1,7 @@
 //! A store over a database and one in memory, which get the same calls: one script of all calls, files of schema 1, and
 //! full stores.
 use crate::calls::{answers, call, run};
-use crate::shown::{are_same, model, shown};
+use crate::shown::{are_same, does_show, model};
 use crate::tables::FIRST;
 use crate::visits::{Came, Work, fresh, visit_files};
 use hosts_db::{HostStore, MemHosts};
@@ -26,13 +26,6 @@ fn are_made<S: HostStore>(store: &mut S, calls: &str) -> bool {
     run(store, calls, usize::MAX) == calls.lines().count()
 }
 
-fn does_show<S: HostStore>(alloc: Global, store: &S, want: &str) -> bool {
-    match shown(alloc, store) {
-        Some(text) => text.as_str() == want,
-        None => false,
-    }
-}
-
 fn step<S: HostStore>(alloc: Global, store: &mut S, model: &mut MemHosts, line: &str) -> bool {
     if let Some(made) = line.strip_prefix("unready ") {
         return call(store, made) == "refused";
@@ -45,6 +38,9 @@ fn step<S: HostStore>(alloc: Global, store: &mut S, model: &mut MemHosts, line: 
 
 impl Work for Both<'_> {
     fn work<S: HostStore>(&mut self, store: &mut S) {
+        if self.wrong.is_some() {
+            return;
+        }
         if !are_made(store, self.first) || !are_made(&mut self.model, self.first) {
             self.wrong = Some("the first calls");
             return;
@@ -83,8 +79,7 @@ fn wrong<'a>(alloc: Global, story: Story<'a>) -> Option<&'a str> {
     }
 }
 
-fn wrong_from<'a>(alloc: Global, mut model: MemHosts, story: Story<'a>) -> Option<&'a str> {
-    run(&mut model, story.past, usize::MAX);
+fn wrong_from<'a>(alloc: Global, model: MemHosts, story: Story<'a>) -> Option<&'a str> {
     let mut both = Both {
         alloc,
         model,
@@ -92,21 +87,24 @@ fn wrong_from<'a>(alloc: Global, mut model: MemHosts, story: Story<'a>) -> Optio
         script: story.script,
         wrong: None,
     };
-    let (came, files) = visit_files(alloc, fresh(alloc), story.sql, &mut both);
-    if came != Came::Worked || both.wrong.is_some() {
-        return both.wrong.or(Some("the first visit"));
-    }
+    run(&mut both.model, story.past, usize::MAX);
+    let unlike = unlike(alloc, &mut both, story);
+    both.wrong.or(unlike)
+}
+
+// The first visit that comes out otherwise than it should. All are made, so that the files are let go of in one place.
+fn unlike<'a>(alloc: Global, both: &mut Both<'a>, story: Story<'a>) -> Option<&'static str> {
+    let (first, files) = visit_files(alloc, fresh(alloc), story.sql, both);
     both.first = "";
     both.script = story.again;
-    let (came, files) = visit_files(alloc, files, ["", story.found], &mut both);
-    if came != Came::Worked || both.wrong.is_some() {
-        return both.wrong.or(Some("the second visit"));
+    let (second, files) = visit_files(alloc, files, ["", story.found], both);
+    let (third, _files) = visit_files(alloc, files, ["", story.more], both);
+    match (first, second, third) {
+        (Came::Worked, Came::Worked, Came::Refused) => None,
+        (Came::Worked, Came::Worked, _) => Some("one row more"),
+        (Came::Worked, _, _) => Some("the second visit"),
+        _ => Some("the first visit"),
     }
-    let (came, _files) = visit_files(alloc, files, ["", story.more], &mut both);
-    if came != Came::Refused {
-        return Some("one row more");
-    }
-    None
 }
 
 /// One call of each kind at least.
@@ -228,13 +226,17 @@ fn schema_upgrade(rt: HostRuntime) {
 }
 
 // A start, and a call for each number below this.
-fn numbered(alloc: Global, before: &str, count: u32, after: &str) -> Result<String, AllocError> {
-    let mut calls = String::new(alloc);
+fn push_numbered(
+    calls: &mut String,
+    before: &str,
+    count: u32,
+    after: &str,
+) -> Result<(), AllocError> {
     calls.push_str("start\n")?;
     for number in 0..count {
         write!(calls, "{before}{number}{after}\n")?;
     }
-    Ok(calls)
+    Ok(())
 }
 
 // Whether a store is as this script says once it has got these calls, and keeps that, but takes no more rows.
@@ -251,6 +253,17 @@ fn is_full<'a>(alloc: Global, first: &'a str, script: &'a str, more: &'a str) ->
     wrong(alloc, story).is_none()
 }
 
+// The same after a call for each number.
+fn is_full_of(
+    alloc: Global,
+    (before, count, after): (&str, u32, &str),
+    script: &str,
+    more: &str,
+) -> bool {
+    let mut calls = String::new(alloc);
+    push_numbered(&mut calls, before, count, after).is_ok() && is_full(alloc, &calls, script, more)
+}
+
 /// A host more is refused and changes nothing, and a stored one is no new row.
 const HOSTS_FULL: &str = "\
 monitor 4096 0 -> refused
@@ -264,11 +277,8 @@ const HOST_MORE: &str = "INSERT INTO hosts2 VALUES (x'616161', 1, 0, 65536)";
 
 #[test]
 fn hosts_full(rt: HostRuntime) {
-    let is_so = match numbered(rt.alloc(), "monitor ", 4096, " 0") {
-        Ok(calls) => is_full(rt.alloc(), &calls, HOSTS_FULL, HOST_MORE),
-        Err(_) => false,
-    };
-    assert!(rt; is_so);
+    let hosts = ("monitor ", 4096, " 0");
+    assert!(rt; is_full_of(rt.alloc(), hosts, HOSTS_FULL, HOST_MORE));
 }
 
 /// A watch more is refused and changes nothing, and a stored one with other bytes is no new watch.
@@ -286,9 +296,6 @@ const WATCH_MORE: &str =
 
 #[test]
 fn watches_full(rt: HostRuntime) {
-    let is_so = match numbered(rt.alloc(), "watch 1 ", 1024, " 7") {
-        Ok(calls) => is_full(rt.alloc(), &calls, WATCHES_FULL, WATCH_MORE),
-        Err(_) => false,
-    };
-    assert!(rt; is_so);
+    let watches = ("watch 1 ", 1024, " 7");
+    assert!(rt; is_full_of(rt.alloc(), watches, WATCHES_FULL, WATCH_MORE));
 }

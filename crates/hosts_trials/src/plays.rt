@@ -1,15 +1,18 @@
 //! Scripts of a daemon, from bytes to bytes. A line is an event, with what is sent for it and what the store holds then:
-//! `3 notify-a = 3 done or 3 system-err -> 1; a 1 5 65536;`. Behind ` or ` stands what is sent where the store refuses. Where nothing
-//! stands behind ` -> ` the rows stay.
+//! `3 notify-a 5 = 3 done or 3 system-err -> 1; a 1 5 65536;`. Behind ` or ` stands what is sent where the store refuses. Where
+//! nothing stands behind ` -> ` the store isn't asked; where `refused` does, it is, and refuses.
 //!
-//! - `restart`, `over`, `connect`: the server begins anew, its grace period ends, the pipe's connection begins.
-//! - `2 lock-a`: this record comes, and is answered (`messages`).
-//! - `send`: the server's own call that is due is sent. `answer 1 agreed`: it is answered.
+//! - `restart`, `over`, `connect`, `connect afar`, `disconnect`: the server begins anew, its grace period ends, the connection of the
+//!   pipe or of a peer that isn't local begins, and ends.
+//! - `2 lock-a 0 10`: this record comes, and is answered (`messages`).
+//! - `send a`: the server's own call that is due is sent to `a`; `send`: none is due. `answer 1 agreed`: it is answered;
+//!   `answer-cut 1 agreed`: by the first three bytes of that. `silent 1 9`: nobody answers the ninth call in the own state 1.
 //! - `local quota 61 5`: a local program's line.
 use crate::messages::message;
+use crate::shown::shown;
 use callbacks::ShortBytes;
-use daemon_core::{Addressee, Daemon, Event, Frame, Outputs, Peer, Posting, StoreAnswer};
-use hosts_db::{HostRow, HostStore};
+use daemon_core::{Addressee, Daemon, Event, Frame, Outputs, Peer, Posting, Refusal, StoreAnswer};
+use hosts_db::HostStore;
 use hosts_lent::Lent;
 use range_table::{FlatTable, RangeTable};
 use std::alloc::Global;
@@ -41,20 +44,44 @@ pub(crate) fn parted(line: &str) -> Line<'_> {
     }
 }
 
-/// Whether a store holds these rows after so many lines that went well.
-pub(crate) fn are_rows_after(script: &str, most: usize, rows: &str) -> bool {
-    let mut is_so = rows == "0;";
+// What the store is to say.
+fn wanted(rows: &str) -> StoreAnswer {
+    match rows {
+        "" => StoreAnswer::NotAsked,
+        "refused" => StoreAnswer::Refused,
+        _ => StoreAnswer::Yes,
+    }
+}
+
+/// Whether a store that held those found holds these rows after so many lines that went as they say.
+pub(crate) fn are_rows_after(found: &str, script: &str, most: usize, rows: &str) -> bool {
+    let mut is_so = rows == found;
     for line in script.lines().take(most) {
         let Line { rows: told, .. } = parted(line);
-        if !told.is_empty() {
+        if wanted(told) == StoreAnswer::Yes {
             is_so = rows == told;
         }
     }
     is_so
 }
 
-/// A daemon over a store that is lent.
-pub(crate) fn opened<'a, S: HostStore>(
+/// What is done with a daemon.
+pub(crate) trait Deed {
+    fn act<T: RangeTable, S: HostStore>(&mut self, daemon: &mut Daemon<T, S>);
+}
+
+// Lends a daemon, if there is one. It is generic, so that what has to drop it sees no more of its parts than their traits.
+fn lend<T: RangeTable + Drop, S: HostStore + Drop, D: Deed>(
+    daemon: Option<Daemon<T, S>>,
+    deed: &mut D,
+) {
+    if let Some(mut daemon) = daemon {
+        deed.act(&mut daemon);
+    }
+}
+
+// A daemon over a store that is lent.
+fn opened<'a, S: HostStore>(
     alloc: Global,
     lent: Lent<'a, S>,
 ) -> Option<Daemon<FlatTable, Lent<'a, S>>> {
@@ -65,9 +92,38 @@ pub(crate) fn opened<'a, S: HostStore>(
     Daemon::new(alloc, table, lent, name).ok()
 }
 
+/// Does it with a daemon over this store. How often that asks the store to write.
+pub(crate) fn with_daemon<S: HostStore, D: Deed>(
+    alloc: Global,
+    store: &mut S,
+    deed: &mut D,
+) -> usize {
+    let mut writes = 0;
+    lend(opened(alloc, Lent::new(store, &mut writes)), deed);
+    writes
+}
+
 fn send(alloc: Global) -> Option<Event> {
     let posting = Box::new(alloc, Posting::new()).ok()?;
     Some(Event::Send { posting })
+}
+
+// The first three bytes of a message.
+fn front(alloc: Global, text: &str) -> Option<Vec<u8>> {
+    let mut bytes = message(alloc, text)?;
+    bytes.truncate(3);
+    Some(bytes)
+}
+
+// The own state, and the number of the call under it.
+fn silent(rest: &str) -> Option<Event> {
+    let (own, number) = rest.split_once(" ")?;
+    let own: u32 = own.parse().ok()?;
+    let number: u64 = number.parse().ok()?;
+    let first = own as u64 * 0x1_0000_0000;
+    Some(Event::Silent {
+        number: first.wrapping_add(number),
+    })
 }
 
 // The event of a line. None where it can't be read.
@@ -78,12 +134,22 @@ fn event_of(alloc: Global, event: &str) -> Option<Event> {
         "over" => Some(Event::GraceOver),
         "connect" => Some(Event::Connect {
             connection: CONNECTION,
-            peer: Peer::PIPE,
+            peer: Peer {
+                is_local: rest != "afar",
+                ..Peer::PIPE
+            },
+        }),
+        "disconnect" => Some(Event::Disconnect {
+            connection: CONNECTION,
         }),
         "send" => send(alloc),
         "answer" => Some(Event::Answer {
             bytes: message(alloc, rest)?,
         }),
+        "answer-cut" => Some(Event::Answer {
+            bytes: front(alloc, rest)?,
+        }),
+        "silent" => silent(rest),
         "local" => Some(Event::Local {
             connection: LOCAL,
             line: Vec::from_slice(alloc, rest.as_bytes()).ok()?,
@@ -127,24 +193,58 @@ fn is_sent(alloc: Global, room: &mut Frame, outputs: &Outputs, text: &str) -> bo
     put_sent(room, outputs, &mut bytes) && bytes.as_slice() == told.as_slice()
 }
 
-/// Whether a line goes well, or the store has refused. None where it goes otherwise than the line says. The room is lent for
-/// what is sent, as below.
+// Whether what is sent, if anything, is for whom the event says.
+fn is_theirs(outputs: &Outputs, event: &str) -> bool {
+    let Some(sent) = &outputs.sent else {
+        return true;
+    };
+    let (verb, rest) = event.split_once(" ").unwrap_or((event, ""));
+    match sent.to() {
+        Addressee::Client(number) => number == CONNECTION && verb != "send" && verb != "local",
+        Addressee::Local(number) => number == LOCAL && verb == "local",
+        Addressee::Host(name) => verb == "send" && name == rest.as_bytes(),
+    }
+}
+
+// A refusal comes just of a store that refuses what nobody is answered.
+fn is_heard(outputs: &Outputs) -> bool {
+    match outputs.refusal {
+        Some(Refusal::StoreRefused) => {
+            outputs.store == StoreAnswer::Refused && outputs.sent.is_none()
+        }
+        Some(_) => false,
+        None => true,
+    }
+}
+
+// What the store said, if a line goes as it says. The room is lent for what is sent, as below.
+fn told<T: RangeTable, S: HostStore>(
+    alloc: Global,
+    daemon: &mut Daemon<T, S>,
+    room: &mut Frame,
+    line: &Line<'_>,
+) -> Option<StoreAnswer> {
+    let outputs = happens(alloc, daemon, line.event)?;
+    let store = outputs.store;
+    let text = if store == StoreAnswer::Refused {
+        line.refusal
+    } else {
+        line.answer
+    };
+    let is_so = is_heard(&outputs)
+        && is_theirs(&outputs, line.event)
+        && is_sent(alloc, room, &outputs, text);
+    is_so.then_some(store)
+}
+
+/// Whether a line goes well, or the store has refused. None where it goes otherwise than the line says.
 pub(crate) fn goes<T: RangeTable, S: HostStore>(
     alloc: Global,
     daemon: &mut Daemon<T, S>,
     room: &mut Frame,
     line: &str,
 ) -> Option<bool> {
-    let Line {
-        event,
-        answer,
-        refusal,
-        ..
-    } = parted(line);
-    let outputs = happens(alloc, daemon, event)?;
-    let is_refused = outputs.store == StoreAnswer::Refused;
-    let text = if is_refused { refusal } else { answer };
-    is_sent(alloc, room, &outputs, text).then_some(!is_refused)
+    Some(told(alloc, daemon, room, &parted(line))? != StoreAnswer::Refused)
 }
 
 /// How many lines go well, up to the first that the store refuses. None where one goes otherwise than it says.
@@ -162,35 +262,49 @@ pub(crate) fn played<T: RangeTable, S: HostStore>(
     Some(script.lines().count())
 }
 
-fn notice(alloc: Global, at: usize, own: u32) -> Option<String> {
-    let mut text = String::new(alloc);
-    match write!(text, "{} notice {own}", at.saturating_add(1)) {
-        Ok(()) => Some(text),
-        Err(_) => None,
-    }
-}
-
-fn is_to(outputs: &Outputs, host: &HostRow) -> bool {
-    match &outputs.sent {
-        Some(sent) => match sent.to() {
-            Addressee::Host(name) => name == host.name(),
-            _ => false,
-        },
+// Whether the store shows what so many lines leave.
+fn does_show_after<S: HostStore>(
+    alloc: Global,
+    store: &S,
+    found: &str,
+    script: &str,
+    most: usize,
+) -> bool {
+    match shown(alloc, store) {
+        Some(text) => are_rows_after(found, script, most, text.trim()),
         None => false,
     }
 }
 
-// Whether this is the notice to the host at this place.
-fn is_notice<S: HostStore>(
+/// The first line that goes otherwise than it says, or behind which the store holds other rows than were told last. It holds those
+/// found when the script begins.
+pub(crate) fn wrong_line<'a, T: RangeTable, S: HostStore>(
     alloc: Global,
-    store: &S,
-    room: &mut Frame,
-    outputs: &Outputs,
-    at: usize,
-) -> bool {
-    match (notice(alloc, at, store.own()), store.hosts().get(at)) {
-        (Some(text), Some(host)) => { is_to(outputs, host) && is_sent(alloc, room, outputs, &text) }
-        _ => false,
+    daemon: &mut Daemon<T, S>,
+    found: &str,
+    script: &'a str,
+) -> Option<&'a str> {
+    let mut room = Frame::new();
+    for (at, line) in script.lines().enumerate() {
+        let parts = parted(line);
+        let most = at.saturating_add(1);
+        if told(alloc, daemon, &mut room, &parts) != Some(wanted(parts.rows))
+            || !does_show_after(alloc, daemon.store(), found, script, most)
+        {
+            return Some(line);
+        }
+    }
+    None
+}
+
+// The line that sends its notice to the host at this place.
+fn notice<S: HostStore>(alloc: Global, store: &S, at: usize) -> Option<String> {
+    let name = str::from_utf8(store.hosts().get(at)?.name()).ok()?;
+    let number = at.saturating_add(1);
+    let mut line = String::new(alloc);
+    match write!(line, "send {name} = {number} notice {}", store.own()) {
+        Ok(()) => Some(line),
+        Err(_) => None,
     }
 }
 
@@ -200,11 +314,8 @@ fn notifies_one<T: RangeTable, S: HostStore>(
     room: &mut Frame,
     at: usize,
 ) -> bool {
-    match send(alloc) {
-        Some(event) => {
-            let outputs = daemon.step(event);
-            is_notice(alloc, daemon.store(), room, &outputs, at)
-        }
+    match notice(alloc, daemon.store(), at) {
+        Some(line) => goes(alloc, daemon, room, &line) == Some(true),
         None => false,
     }
 }
@@ -220,8 +331,5 @@ pub(crate) fn notifies<T: RangeTable, S: HostStore>(
             return false;
         }
     }
-    match send(alloc) {
-        Some(event) => daemon.step(event).sent.is_none(),
-        None => false,
-    }
+    goes(alloc, daemon, room, "send") == Some(true)
 }

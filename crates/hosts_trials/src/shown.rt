@@ -35,27 +35,36 @@ fn write_watches(to: &mut String, watches: &[Watch]) -> Result<(), AllocError> {
     Ok(())
 }
 
-fn written<S: HostStore>(alloc: Global, store: &S) -> Result<String, AllocError> {
-    let mut all = String::new(alloc);
-    write!(all, "{}; ", store.own())?;
-    write_rows(&mut all, store.hosts())?;
-    write_watches(&mut all, store.watches())?;
-    Ok(all)
+fn write_all<S: HostStore>(to: &mut String, store: &S) -> Result<(), AllocError> {
+    to.clear();
+    write!(to, "{}; ", store.own())?;
+    write_rows(to, store.hosts())?;
+    write_watches(to, store.watches())
 }
 
 /// What the store shows. One growth that is refused is asked for again.
 pub(crate) fn shown<S: HostStore>(alloc: Global, store: &S) -> Option<String> {
-    match written(alloc, store) {
-        Ok(text) => Some(text),
-        Err(_) => written(alloc, store).ok(),
+    let mut all = String::new(alloc);
+    if write_all(&mut all, store).is_ok() || write_all(&mut all, store).is_ok() {
+        Some(all)
+    } else {
+        None
+    }
+}
+
+/// Whether it shows this, whatever white space stands around it.
+pub(crate) fn does_show<S: HostStore>(alloc: Global, store: &S, want: &str) -> bool {
+    match shown(alloc, store) {
+        Some(text) => text.trim() == want.trim(),
+        None => false,
     }
 }
 
 /// Whether both show the same.
 pub(crate) fn are_same<A: HostStore, B: HostStore>(alloc: Global, one: &A, other: &B) -> bool {
-    match (shown(alloc, one), shown(alloc, other)) {
-        (Some(one), Some(other)) => one == other,
-        _ => false,
+    match shown(alloc, one) {
+        Some(text) => does_show(alloc, other, &text),
+        None => false,
     }
 }
 

@@ -41,7 +41,7 @@ struct Script<'a> {
 }
 
 /// Makes the calls up to the first that isn't answered by Ok.
-#[derive(Drop)]
+#[derive(Clone, Copy)]
 struct Calls<'a> {
     script: &'a str,
     done: usize,
@@ -74,6 +74,13 @@ fn copied(alloc: Global, file: &Fuse<Memory>, calls: u64) -> Option<Fuse<Memory>
     Some(Fuse::new(copy, calls))
 }
 
+fn both_copied(alloc: Global, files: &Trials, [log, db]: [u64; 2]) -> Option<Trials> {
+    match (copied(alloc, &files.log, log), copied(alloc, &files.db, db)) {
+        (Some(log), Some(db)) => Some(Files { log, db }),
+        _ => None,
+    }
+}
+
 /// Files that hold these tables and rows, of which one answers so many calls more.
 pub(crate) fn stopping(alloc: Global, sql: [&str; 2], stop: Stop, calls: u64) -> Option<Trials> {
     let mut files = fresh(alloc);
@@ -81,14 +88,11 @@ pub(crate) fn stopping(alloc: Global, sql: [&str; 2], stop: Stop, calls: u64) ->
         let mut look = Look { alloc, text: None };
         files = visit_files(alloc, files, sql, &mut look).1;
     }
-    let (log, db) = match stop {
-        Stop::Log => (calls, u64::MAX),
-        Stop::Database => (u64::MAX, calls),
+    let calls = match stop {
+        Stop::Log => [calls, u64::MAX],
+        Stop::Database => [u64::MAX, calls],
     };
-    Some(Files {
-        log: copied(alloc, &files.log, log)?,
-        db: copied(alloc, &files.db, db)?,
-    })
+    both_copied(alloc, &files, calls)
 }
 
 /// Has a store over these files do the work after a crash, which takes what no sync has kept.
@@ -96,6 +100,16 @@ pub(crate) fn after_crash<W: Work>(alloc: Global, mut files: Trials, work: &mut 
     files.log.crash();
     files.db.crash();
     visit_files(alloc, files, ["", ""], work);
+}
+
+impl Script<'_> {
+    // Whether a store shows what so many calls leave.
+    fn is_left(&self, alloc: Global, shown: &str, calls: usize) -> bool {
+        match shown_after(alloc, self.past, self.script, calls) {
+            Some(text) => text.as_str() == shown,
+            None => false,
+        }
+    }
 }
 
 impl Trial for Script<'_> {
@@ -117,10 +131,13 @@ impl Trial for Script<'_> {
         let (_, left) = visit_files(alloc, files, ["", ""], &mut made);
         let mut look = Look { alloc, text: None };
         after_crash(alloc, left, &mut look);
-        let text = look.text?;
         let next = made.done.saturating_add(1);
-        let is_either = text == shown_after(alloc, self.past, self.script, made.done)?
-            || text == shown_after(alloc, self.past, self.script, next)?;
+        let is_either = match &look.text {
+            Some(text) => {
+                self.is_left(alloc, text, made.done) || self.is_left(alloc, text, next)
+            }
+            None => false,
+        };
         is_either.then_some(made.done)
     }
 }
