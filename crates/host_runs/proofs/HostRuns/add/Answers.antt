@@ -1,5 +1,4 @@
 use Rattle.std.proofs.Common.{◌≡◌, Some, cond, refl, sym, subst, ◌∙◌}
-use Rattle.std.specs.declared.result.Result.TheVariants.{Ok}
 use Rattle.owner_ids.proofs.Slots.{when_ok}
 use Rattle.definitions.specs.Bytes.{same_bytes}
 use Rattle.host_runs.specs.HostRuns.{count_in}

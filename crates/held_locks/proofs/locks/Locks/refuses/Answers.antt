@@ -1,4 +1,4 @@
-use Rattle.std.proofs.Common.{◌≢◌, ℕ, false, Some, None, is_some, refl, sym, ap, ◌∙◌}
+use Rattle.std.proofs.Common.{◌≢◌, ℕ, Some, is_some, refl, sym, ap, ◌∙◌}
 use Rattle.std.specs.Cmp.{both_ways}
 use Rattle.std.proofs.lemmas.Option.{none-some}
 use Rattle.definitions.specs.Starts.{refuses}
