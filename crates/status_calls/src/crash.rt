@@ -22,12 +22,15 @@ pub(crate) fn plan<R: RangeTable, S: HostStore>(
         return stat::nothing(world);
     }
     let alloc = world.alloc();
+    let notices = world.notices()?;
+    let told = Told::reply(alloc, Outcome::Success(CallResult::Nothing))?;
+    let refused = Told::reply(alloc, Outcome::SystemErr)?;
     Ok(Plan::AfterStore {
         asked: Asked::Begin,
         agreed: Answer {
-            told: Told::reply(alloc, Outcome::Success(CallResult::Nothing))?,
-            change: Change::Restart(world.notices()?),
+            told,
+            change: Change::Restart(notices),
         },
-        refused: Told::reply(alloc, Outcome::SystemErr)?,
+        refused,
     })
 }

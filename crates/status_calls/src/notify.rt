@@ -41,17 +41,18 @@ fn dropped<R: RangeTable, S: HostStore>(
     if world.watch_count(name.bytes) > world.free_slots() {
         return stat::failed(world);
     }
-    let told = Told {
-        outcome: Shared::of(alloc, Outcome::Success(CallResult::Nothing))?,
-        due: world.status_letters(name.bytes, state)?,
-    };
+    let outcome = Shared::of(alloc, Outcome::Success(CallResult::Nothing))?;
+    let due = world.status_letters(name.bytes, state)?;
+    let asked = seen(alloc, name, state)?;
+    let gone = Vec::from_slice(alloc, name.bytes)?;
+    let refused = Told::reply(alloc, Outcome::SystemErr)?;
     Ok(Plan::AfterStore {
-        asked: seen(alloc, name, state)?,
+        asked,
         agreed: Answer {
-            told,
-            change: Change::DropHost(Vec::from_slice(alloc, name.bytes)?),
+            told: Told { outcome, due },
+            change: Change::DropHost(gone),
         },
-        refused: Told::reply(alloc, Outcome::SystemErr)?,
+        refused,
     })
 }
 

@@ -1,13 +1,13 @@
 //! SM_MON, SM_UNMON and SM_UNMON_ALL: who watches which host (XNFS). They act for a local peer alone.
 ghost use Rattle.std.specs.Prelude.{◌≡◌, true, IfOk};
-ghost use Rattle.definitions.specs.Hosts.{Unwatched};
+ghost use Rattle.definitions.specs.Hosts.{Unwatched, Watched};
 ghost use Rattle.definitions.specs.Nsm.{SmMon, SmUnmon, SmUnmonAll};
 ghost use Rattle.definitions.specs.Replies.{SystemErr};
-ghost use Rattle.definitions.specs.World.{the_limits};
+ghost use Rattle.definitions.specs.World.{World as SaidWorld, the_limits};
 ghost use Rattle.definitions.specs.Answer.{gives, gives_state, nsm_answer, stored};
 ghost use Rattle.callbacks.specs.Meanings.{my_id_of};
 ghost use Rattle.nsm_types.specs.Arguments.{view_of_my_id};
-ghost use Rattle.call_plans.specs.Planned.{IsPlan};
+ghost use Rattle.call_plans.specs.Planned.{asked_of, CanAskFor, IsPlan};
 
 use crate::stat;
 use call_outcome::Outcome;
@@ -30,21 +30,32 @@ pub(crate) fn mon<R: RangeTable, S: HostStore>(
     if !local {
         return stat::plan(world, MonitorRes::Fail);
     }
-    let alloc = world.alloc();
-    let mut private_bytes = [0; 16];
-    private_bytes.copy_from_slice(args.private_bytes.bytes);
-    let asked = Asked::Watched {
-        mon_name: ShortBytes::copy_of(alloc, args.mon_name.bytes)?,
-        my_id: copy_of(alloc, &args.my_id)?,
-        private_bytes,
-    };
+    let told = stat::monitored(world, MonitorRes::Succ)?;
+    let refused = stat::monitored(world, MonitorRes::Fail)?;
+    let asked = watched(world.alloc(), args)?;
     Ok(Plan::AfterStore {
         asked,
         agreed: Answer {
-            told: stat::monitored(world, MonitorRes::Succ)?,
+            told,
             change: Change::Nothing,
         },
-        refused: stat::monitored(world, MonitorRes::Fail)?,
+        refused,
+    })
+}
+
+// What the store is asked to keep.
+fn watched(alloc: Global, args: &Mon<'_>) -> Result<Asked, Starved>
+    ensures asked { IfOk result (λ asked. asked_of asked ≡ Watched args.now.mon_name.bytes.now (view_of_my_id args.now.my_id) args.now.private_bytes.bytes.now) }
+    ensures asks { IfOk result (λ asked. (w : SaidWorld) → CanAskFor asked w) }
+{
+    let mut private_bytes = [0; 16];
+    private_bytes.copy_from_slice(args.private_bytes.bytes);
+    let mon_name = ShortBytes::copy_of(alloc, args.mon_name.bytes)?;
+    let my_id = copy_of(alloc, &args.my_id)?;
+    Ok(Asked::Watched {
+        mon_name,
+        my_id,
+        private_bytes,
     })
 }
 
@@ -85,15 +96,16 @@ fn unwatched<R: RangeTable, S: HostStore>(
 ) -> Result<Plan, Starved>
     ensures { IfOk result (λ made. IsPlan (stored world.now.world (Unwatched mon_name (view_of_my_id my_id.now)) gives_state (gives world.now.world SystemErr)) world.now.world made) }
 {
-    let alloc = world.alloc();
-    let my_id = copy_of(alloc, my_id)?;
+    let my_id = copy_of(world.alloc(), my_id)?;
+    let told = stat::own(world)?;
+    let refused = Told::reply(world.alloc(), Outcome::SystemErr)?;
     Ok(Plan::AfterStore {
         asked: Asked::Unwatched { mon_name, my_id },
         agreed: Answer {
-            told: stat::own(world)?,
+            told,
             change: Change::Nothing,
         },
-        refused: Told::reply(alloc, Outcome::SystemErr)?,
+        refused,
     })
 }
 
