@@ -15,8 +15,10 @@ pub(crate) fn plan(alloc: Global, args: &Notify<'_>) -> Result<Plan, Starved>
     ensures plan { IfOk result (λ made. (w : SaidWorld) (version : nlm.Version) → IsPlan (nlm_answer the_limits w version (nlm.FreeAll args.now.name.bytes.now args.now.state)) w made) }
     ensures asks { IfOk result (AsksOnlyIf false) }
 {
+    let told = Told::reply(alloc, Outcome::Success(CallResult::Nothing))?;
+    let name = Vec::from_slice(alloc, args.name.bytes)?;
     Ok(Plan::Decided(Answer {
-        told: Told::reply(alloc, Outcome::Success(CallResult::Nothing))?,
-        change: Change::DropHost(Vec::from_slice(alloc, args.name.bytes)?),
+        told,
+        change: Change::DropHost(name),
     }))
 }

@@ -17,10 +17,12 @@ pub(crate) fn plan(alloc: Global, args: &Res<'_>) -> Result<Plan, Starved>
     ensures plan { IfOk result (λ made. (w : SaidWorld) (version : nlm.Version) → IsPlan (nlm_answer the_limits w version (nlm.GrantedRes (view_of_res args.now))) w made) }
     ensures asks { IfOk result (AsksOnlyIf false) }
 {
+    let told = Told::reply(alloc, Outcome::Success(CallResult::Nothing))?;
+    let cookie = cookie_of(alloc, &args.cookie)?;
     Ok(Plan::Decided(Answer {
-        told: Told::reply(alloc, Outcome::Success(CallResult::Nothing))?,
+        told,
         change: Change::GrantAnswered {
-            cookie: cookie_of(alloc, &args.cookie)?,
+            cookie,
             stat: args.stat,
         },
     }))

@@ -247,8 +247,9 @@ pub fn set_lock<R: RangeTable, S: HostStore>(
     ensures refusals { world.new.refusals ≡ world.old.refusals }
     ensures forgotten { IfOk result (λ _. IsForgottenIfIdle (view_of_owner line.now.lock.now.owner) world.new.world world.new) }
 {
-    let LinePlan { answer, change } = plan_set(world, line)?;
-    prepare_change(world, &change)?;
+    let plan = plan_set(world, line)?;
+    prepare_change(world, &plan.change)?;
+    let LinePlan { answer, change } = plan;
     call_plans::make_change(world, change);
     world.forget_idle(&line.lock.owner);
     world.settle();

@@ -111,12 +111,12 @@ fn after_row(
     ensures verdict { IfOk result (λ made. IsAfterRow (Monitor host.now.name.now host.now.state) stat change made) }
     ensures asks { IfOk result (OnlyAsksIf true) }
 {
-    let asked = Asked::Monitor {
-        name: ShortBytes::copy_of(alloc, host.name)?,
-        state: host.state,
-    };
+    let name = ShortBytes::copy_of(alloc, host.name)?;
     Ok(Verdict::AfterStore {
-        asked,
+        asked: Asked::Monitor {
+            name,
+            state: host.state,
+        },
         stat,
         change,
     })
@@ -159,9 +159,11 @@ impl GrantCall<'_> {
     {
         let name = self.lock.caller_name.bytes;
         let host = ShortBytes::copy_of(alloc, name)?;
+        let caller = Caller::copy_of(alloc, name, self.lock.svid, self.lock.oh.bytes)?;
+        let fh = ShortBytes::copy_of(alloc, self.lock.fh.bytes)?;
         let lock = callbacks::Lock {
-            caller: Caller::copy_of(alloc, name, self.lock.svid, self.lock.oh.bytes)?,
-            fh: ShortBytes::copy_of(alloc, self.lock.fh.bytes)?,
+            caller,
+            fh,
             l_offset: self.lock.l_offset,
             l_len: self.lock.l_len,
         };

@@ -14,8 +14,9 @@ pub(crate) fn plan(alloc: Global) -> Result<Plan, Starved>
     ensures plan { IfOk result (λ made. (w : SaidWorld) (version : nlm.Version) → IsPlan (nlm_answer the_limits w version nlm.Null) w made) }
     ensures asks { IfOk result (AsksOnlyIf false) }
 {
+    let told = Told::reply(alloc, Outcome::Success(CallResult::Nothing))?;
     Ok(Plan::Decided(Answer {
-        told: Told::reply(alloc, Outcome::Success(CallResult::Nothing))?,
+        told,
         change: Change::Nothing,
     }))
 }

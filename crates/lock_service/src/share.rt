@@ -69,23 +69,18 @@ pub(crate) fn told(
         stat: stat.shown_in(version),
         sequence: 0,
     };
-    Ok(Plan::Decided(Answer {
-        told: Told::reply(alloc, Outcome::Success(CallResult::ShareRes(res)))?,
-        change,
-    }))
+    let told = Told::reply(alloc, Outcome::Success(CallResult::ShareRes(res)))?;
+    Ok(Plan::Decided(Answer { told, change }))
 }
 
 /// The share that a call names.
 pub(crate) fn share_of(alloc: Global, args: &ShareArgs<'_>) -> Result<Share, Starved>
     ensures { IfOk result (λ share. share ≡ share_said (view_of_shareargs args.now)) }
 {
-    Ok(Share::new(
-        Vec::from_slice(alloc, args.fh.bytes)?,
-        Vec::from_slice(alloc, args.caller_name.bytes)?,
-        Vec::from_slice(alloc, args.oh.bytes)?,
-        access_of(args.mode),
-        access_of(args.access),
-    ))
+    let file = Vec::from_slice(alloc, args.fh.bytes)?;
+    let name = Vec::from_slice(alloc, args.caller_name.bytes)?;
+    let oh = Vec::from_slice(alloc, args.oh.bytes)?;
+    Ok(Share::new(file, name, oh, access_of(args.mode), access_of(args.access)))
 }
 
 fn access_of(asked: AskedAccess) -> Access

@@ -9,7 +9,7 @@ ghost use Rattle.call_outcome.specs.Values.{view_of_outcome};
 ghost use Rattle.nlm4_types.specs.Call.{view_of_call as view_of_nlm_call};
 ghost use Rattle.nlm4_types.specs.Version.{view_of_version};
 ghost use Rattle.record_reading.specs.Values.{view_of_call};
-ghost use Rattle.call_plans.specs.Planned.{view_of_stored, AsksOnlyIf, IsPlan};
+ghost use Rattle.call_plans.specs.Planned.{view_of_stored, counted, stored, AsksOnlyIf, FitsUnder, IsAnswerTo, IsPlan, IsReady, IsWithin};
 ghost use Rattle.lock_service.specs.MayAsk.{may_ask};
 
 use crate::lock::LockCall;
@@ -68,6 +68,28 @@ fn plan_nlm<R: RangeTable, S: HostStore>(
     }
 }
 
+/// A call is planned, all memory is got for that, and the store is asked. The plan is that of the rules for the world before;
+/// since then its hosts alone have changed, as the store answered. Starved: the world stays.
+pub fn agreed<R: RangeTable, S: HostStore>(
+    world: &mut World<R, S>,
+    local: bool,
+    call: &Call<'_>,
+) -> Result<(Plan, StoreAnswer), Starved>
+    ensures plan { IfOk result (λ made. IsPlan (ruling the_limits world.old.world local (view_of_call call.now)) world.old.world made.0) }
+    ensures asks { IfOk result (λ made. AsksOnlyIf (may_ask (view_of_call call.now)) made.0) }
+    ensures answer { IfOk result (λ made. IsAnswerTo made.0 (view_of_stored made.1)) }
+    ensures limit { IfOk result (λ made. IsWithin made.0 (view_of_stored made.1) world.old.world) }
+    ensures world { IfOk result (λ made. world.new.world ≡ stored made.0 (view_of_stored made.1) world.old.world) }
+    ensures counts { IfOk result (λ made. world.new.refusals ≡ counted (view_of_stored made.1) world.old.refusals) }
+    ensures fits { IfOk result (λ made. FitsUnder (view_of_stored made.1) made.0 world.new.world) }
+    ensures ready { IfOk result (λ made. IsReady made.0 world.new) }
+    ensures err { OnErr result ((world.new.world ≡ world.old.world) × (world.new.refusals ≡ world.old.refusals)) }
+{
+    let plan = plan(world, local, call)?;
+    let store = agree(world, &plan)?;
+    Ok((plan, store))
+}
+
 /// Answers a call, and then grants what waited for it: the plan is made and prepared, the store is asked, and the plan is
 /// done. The reply and the world after it are those of the rules under the store's answer. Starved: the world stays.
 pub fn answer<R: RangeTable, S: HostStore>(
@@ -79,8 +101,7 @@ pub fn answer<R: RangeTable, S: HostStore>(
     ensures world { IfOk result (λ told. world.new.world ≡ settled the_limits (ruled (view_of_stored told.1) (ruling the_limits world.old.world local (view_of_call call.now))).world) }
     ensures err { OnErr result (world.new.world ≡ world.old.world) }
 {
-    let plan = plan(world, local, call)?;
-    let store = agree(world, &plan)?;
+    let (plan, store) = agreed(world, local, call)?;
     let outcome = commit(world, plan, store);
     world.settle();
     Ok((outcome.told, store))

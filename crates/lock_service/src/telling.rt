@@ -114,24 +114,25 @@ impl Verdict {
         ensures plan { IfOk result (λ made. (w : SaidWorld) → IsToldIn w telling.now self made) }
         ensures asks { IfOk result (λ made. (allowed : Bool) → OnlyAsksIf allowed self → AsksOnlyIf allowed made) }
     {
-        Ok(match self {
-            Verdict::Decided { stat, change } => Plan::Decided(Answer {
-                told: telling.told(alloc, stat)?,
-                change,
-            }),
+        match self {
+            Verdict::Decided { stat, change } => {
+                let told = telling.told(alloc, stat)?;
+                Ok(Plan::Decided(Answer { told, change }))
+            }
             Verdict::AfterStore {
                 asked,
                 stat,
                 change,
-            } => Plan::AfterStore {
-                asked,
-                agreed: Answer {
-                    told: telling.told(alloc, stat)?,
-                    change,
-                },
-                refused: telling.told(alloc, Stat::DeniedNolocks)?,
-            },
-        })
+            } => {
+                let told = telling.told(alloc, stat)?;
+                let refused = telling.told(alloc, Stat::DeniedNolocks)?;
+                Ok(Plan::AfterStore {
+                    asked,
+                    agreed: Answer { told, change },
+                    refused,
+                })
+            }
+        }
     }
 }
 
@@ -140,8 +141,9 @@ pub(crate) fn no_place(alloc: Global) -> Result<Plan, Starved>
     ensures plan { IfOk result (λ made. (w : SaidWorld) → IsPlan (decided (gives w SystemErr)) w made) }
     ensures asks { IfOk result (λ made. (allowed : Bool) → AsksOnlyIf allowed made) }
 {
+    let told = Told::reply(alloc, Outcome::SystemErr)?;
     Ok(Plan::Decided(Answer {
-        told: Told::reply(alloc, Outcome::SystemErr)?,
+        told,
         change: Change::Nothing,
     }))
 }

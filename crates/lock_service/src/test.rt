@@ -65,8 +65,9 @@ pub(crate) fn plan_message<R: RangeTable, S: HostStore>(
         Destination::Host(host),
         Message::TestResult { version, res },
     );
+    let told = Told::message(alloc, letter)?;
     Ok(Plan::Decided(Answer {
-        told: Told::message(alloc, letter)?,
+        told,
         change: Change::Nothing,
     }))
 }
@@ -95,11 +96,14 @@ fn test_res<R: RangeTable, S: HostStore>(
     };
     match world.first_conflict(&wanted) {
         None => unheld(alloc, version, cookie, Stat::Granted),
-        Some(found) => Ok(TestRes {
-            cookie,
-            stat: Stat::Denied,
-            holder: Some(holder_of(alloc, version, &found)?),
-        }),
+        Some(found) => {
+            let holder = holder_of(alloc, version, &found)?;
+            Ok(TestRes {
+                cookie,
+                stat: Stat::Denied,
+                holder: Some(holder),
+            })
+        }
     }
 }
 

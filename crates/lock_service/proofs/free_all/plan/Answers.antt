@@ -8,7 +8,7 @@ use Rattle.lock_service.proofs.free_all.plan.Goals as goal
 
 pub returns-clause-plan : goal.returns-clause-plan
 returns-clause-plan c = λ w version. record {
-  ruled = ap decided (c.in_ok-reply.ensures.told (without_host_of w c.in_ok-from_slice.field-0.items)) ∙ ap (λ (name : Bytes). says (without_host_of w name) NoResult) c.in_ok-from_slice.ensures.items;
-  fits = (tt, c.in_ok-reply.ensures.fits (without_host_of w c.in_ok-from_slice.field-0.items));
+  ruled = ap decided (c.in_ok-told.ensures.told (without_host_of w c.in_ok-name.name.items)) ∙ ap (λ (name : Bytes). says (without_host_of w name) NoResult) c.in_ok-name.ensures.items;
+  fits = (tt, c.in_ok-told.ensures.fits (without_host_of w c.in_ok-name.name.items));
   asks = tt;
 }
