@@ -1,5 +1,5 @@
 -- What a call comes to whose reply isn't kept.
-use Rattle.std.proofs.Common.{◌≡◌, ◌≢◌, ℕ, Bool, true, cond, List, [], Option, Some, None, refl, sym, ap, ◌∙◌, true≢false}
+use Rattle.std.proofs.Common.{◌≡◌, ℕ, Bool, true, cond, List, [], Option, Some, None, refl, sym, ap, ◌∙◌, true≢false}
 use Rattle.definitions.specs.Bytes.{Bytes}
 use Rattle.definitions.specs.Nlm.{Locks, LockMsg}
 use Rattle.definitions.specs.Hosts.{StoreCall, StoreAnswer, NotAsked, Yes, Refused, after_store}

@@ -78,11 +78,17 @@ impl<R: RangeTable + Drop, S: HostStore + Drop> Book<R, S> {
         ensures closed { result ≡ self.journal }
         ensures legal { IsLegal result }
     {
-        let end = Seen::of(&self.shared);
+        let Book {
+            shared,
+            base,
+            entries,
+            newest,
+        } = self;
+        let end = Seen::of(&shared);
         Closed {
-            newest: self.newest,
-            base: self.base,
-            entries: self.entries,
+            newest,
+            base,
+            entries,
             end,
         }
     }

@@ -20,7 +20,7 @@ use call_outcome::Outcome;
 use call_plans::Told;
 use hosts_db::HostStore;
 use kept_replies::{KeptReplies, Key, Peer};
-use lock_service::{Call, StoreAnswer, abandon, agree, commit, plan};
+use lock_service::{Call, StoreAnswer, abandon, agreed, commit};
 use nlm4_types::NlmCall;
 use nsm_types::NsmCall;
 use owner_ids::Starved;
@@ -37,10 +37,7 @@ impl<R: RangeTable, S: HostStore> Shared<R, S> {
         ensures counts { self.new.refusals ≡ counted result.0.store self.old.refusals }
     {
         let peer = key.peer;
-        let Ok(plan) = plan(&self.world, peer.is_local, call) else {
-            return starved(StoreAnswer::NotAsked, xid);
-        };
-        let Ok(store) = agree(&mut self.world, &plan) else {
+        let Ok((plan, store)) = agreed(&mut self.world, peer.is_local, call) else {
             return starved(StoreAnswer::NotAsked, xid);
         };
         let alloc = self.world.alloc();

@@ -35,10 +35,12 @@ impl KeptReply {
         ensures outcome { IfOk result (λ kept. view_of_outcome kept.outcome.value ≡ view_of_outcome told.now.outcome.told.value) }
         ensures letters { IfOk result (λ kept. kept.letters.items ≡ told.now.due.items) }
     {
+        let letters = copies_of(alloc, &told.due)?;
+        let outcome = Arc::try_clone(&told.outcome.told)?;
         Ok(KeptReply {
             xid,
-            outcome: Arc::try_clone(&told.outcome.told)?,
-            letters: copies_of(alloc, &told.due)?,
+            outcome,
+            letters,
         })
     }
 }
