@@ -36,10 +36,12 @@ pub(crate) struct Office {
 
 impl Office {
     pub(crate) fn new<R: Net>(rt: &R, alloc: Global) -> io::Result<Office> {
+        let events = Events::with_capacity(alloc, EVENTS)?;
+        let poll = Poll::new(rt)?;
         Ok(Office {
             alloc,
-            poll: Poll::new(rt)?,
-            events: Events::with_capacity(alloc, EVENTS)?,
+            poll,
+            events,
             peers: Vec::new(alloc),
             ready: Vec::new(alloc),
             open: Vec::new(alloc),

@@ -54,15 +54,18 @@ impl<'a, R: Net + Clock, D: Locals> Sender<'a, R, D> {
     ) -> io::Result<Sender<'a, R, D>>
         ensures { IfOk result (λ s. s ≡ []) }
     {
+        let now = Instant::now(rt)?;
+        let awaited = Awaited::new(alloc)?;
+        let office = Office::new(rt, alloc)?;
         Ok(Sender {
             rt,
             locals,
             settings,
             peers,
-            office: Office::new(rt, alloc)?,
-            awaited: Awaited::new(alloc)?,
+            office,
+            awaited,
             kept: None,
-            now: Instant::now(rt)?,
+            now,
             all: History::new(),
         })
     }
