@@ -18,7 +18,7 @@ use peers::Peers;
 use range_arena::ArenaTable;
 use range_table::RangeTable;
 use sender::Sender;
-use server_threads::{Service, Staff, run};
+use server_threads::{NoThread, Service, Staff, run};
 use staff::{Cutter, Gatherer};
 use std::alloc::Global;
 use std::io::{self, Print};
@@ -91,14 +91,16 @@ where
     R: Net + Threads + Wait + Clock + Print + Log + Sync,
 {
     let mut sends = Sends::new(sender, context.shared, context.bells);
-    let back = match run(rt, context, staff, &mut sends) {
-        Ok(back) => back,
-        Err(_) => return Err(Fault::Starved),
-    };
-    if sends.is_told() {
-        Ok(back)
-    } else {
-        Err(Fault::WriteFault)
+    let ran = run(rt, context, staff, &mut sends);
+    if_told(ran, sends.is_told())
+}
+
+// What came back, where it was said that the server is ready.
+fn if_told<W: Drop>(ran: Result<Vec<W>, NoThread>, is_told: bool) -> Result<Vec<W>, Fault> {
+    match ran {
+        Ok(back) if is_told => Ok(back),
+        Ok(_) => Err(Fault::WriteFault),
+        Err(NoThread) => Err(Fault::Starved),
     }
 }
 
@@ -198,10 +200,19 @@ fn shared_over<T: RangeTable + Drop, S: HostStore + Drop, L: Ledger>(
     requires empty { T.settings table ≡ [] }
     requires total { total.total ≡ 0 }
 {
-    let book = Book::new(alloc, table, store, own_name).map_err(|_| Fault::Starved)?;
-    let mut shared = Shared::new(alloc, book, total, is_audited);
-    restart(&mut shared)?;
-    Ok(shared)
+    match Book::new(alloc, table, store, own_name) {
+        Ok(book) => begun_anew(Shared::new(alloc, book, total, is_audited)),
+        Err(_) => Err(Fault::Starved),
+    }
+}
+
+fn begun_anew<T: RangeTable + Drop, S: HostStore + Drop, L: Ledger>(
+    mut shared: Shared<T, S, L>,
+) -> Result<Shared<T, S, L>, Fault> {
+    match restart(&mut shared) {
+        Ok(()) => Ok(shared),
+        Err(fault) => Err(fault),
+    }
 }
 
 // What connections and workers have before the first comes.
@@ -238,7 +249,7 @@ fn serve_seated<P, L, T, S, G, R>(
     peers: Peers,
     channel: Channel<P>,
     shared: Shared<T, S, L>,
-    cutter: Cutter<P, L>,
+    mut cutter: Cutter<P, L>,
     parts: u64,
 ) -> Result<u64, Fault>
 where
@@ -256,15 +267,19 @@ where
         + Sync,
     requires { parts ≡ L.parts }
 {
-    let mut cutter = cutter;
-    let Seated { rosters, workers } = seat_all(alloc, &mut cutter, &channel, settings.workers)?;
-    let inside = Inside {
-        channel,
-        shared: Mutex::new(shared),
-        rosters,
-    };
-    let back = serve_inside(rt, alloc, settings, gate, peers, &inside, workers)?;
-    end(cutter.into_gatherer(), inside, back, parts)
+    match seat_all(alloc, &mut cutter, &channel, settings.workers) {
+        Ok(seated) => {
+            let inside = Inside {
+                channel,
+                shared: Mutex::new(shared),
+                rosters: seated.rosters,
+            };
+            let gatherer = cutter.into_gatherer();
+            let back = serve_inside(rt, alloc, settings, gate, peers, &inside, seated.workers);
+            end_with(gatherer, inside, back, parts)
+        }
+        Err(fault) => Err(fault),
+    }
 }
 
 // Everything is put together, served, and taken apart.
@@ -309,6 +324,21 @@ where
     serve_seated(
         rt, alloc, settings, gate, peers, channel, shared, cutter, parts,
     )
+}
+
+// The end, where all came back.
+fn end_with<P: Place, L: Ledger, T: RangeTable + Drop, S: HostStore + Drop>(
+    gatherer: Gatherer<P, L>,
+    inside: Inside<P, L, T, S>,
+    back: Result<Vec<Worker<P, L>>, Fault>,
+    parts: u64,
+) -> Result<u64, Fault>
+    requires { parts ≡ L.parts }
+{
+    match back {
+        Ok(workers) => end(gatherer, inside, workers, parts),
+        Err(fault) => Err(fault),
+    }
 }
 
 // What was cut is taken back, and the journal is checked.
