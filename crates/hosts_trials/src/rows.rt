@@ -316,8 +316,8 @@ fn wrong_in(alloc: Global, (sql, servers): Row) -> Option<&'static str> {
 }
 
 fn wrong(alloc: Global) -> Option<&'static str> {
-    for row in ROWS {
-        let wrong = wrong_in(alloc, row);
+    for row in &ROWS {
+        let wrong = wrong_in(alloc, *row);
         if wrong.is_some() {
             return wrong;
         }

@@ -38,10 +38,12 @@ fn serve_over<S: HostStore + Drop>(
     store: S,
 ) -> Result<(), Fault> {
     let alloc = rt.alloc();
+    let own_name = own_name(alloc, &asked.name)?;
+    let table = ArenaTable::new(alloc)?;
     let server = Server {
-        table: ArenaTable::new(alloc)?,
+        table,
         store,
-        own_name: own_name(alloc, &asked.name)?,
+        own_name,
         is_grace: asked.grace,
     };
     let mut reader = rt.reader();
