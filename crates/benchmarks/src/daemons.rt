@@ -3,7 +3,7 @@
 use crate::asked::{Asked, Procedure, is_granted};
 use anyhow::{Result, anyhow};
 use callbacks::ShortBytes;
-use daemon_core::{Daemon, Event, Frame, Peer};
+use daemon_core::{Daemon, Event, Frame, Outputs, Peer};
 use hosts_db::{HostStore, MemHosts};
 use range_arena::ArenaTable;
 use range_table::RangeTable;
@@ -35,26 +35,32 @@ fn call(is_null: bool, round: u32) -> Asked {
     }
 }
 
-fn is_answered<T: RangeTable, S: HostStore>(
-    alloc: Global,
-    daemon: &mut Daemon<T, S>,
-    room: &mut Frame,
-    asked: Asked,
-) -> Result<bool> {
-    daemon.step(Event::Piece {
-        connection: 0,
-        bytes: asked.fragment(alloc)?,
-    });
-    let outputs = daemon.step(Event::Take {
-        connection: 0,
-        index: 0,
-    });
+// Whether what an event sends grants something.
+fn tells_grant(alloc: Global, outputs: &Outputs, room: &mut Frame) -> Result<bool> {
     let mut reply = Vec::new(alloc);
     if let Some(sent) = &outputs.sent {
         sent.write(room, &mut reply)?;
     }
     // The mark stands in front.
     Ok(is_granted(reply.as_slice().get(4..).unwrap_or(&[])))
+}
+
+fn is_answered<T: RangeTable, S: HostStore>(
+    alloc: Global,
+    daemon: &mut Daemon<T, S>,
+    room: &mut Frame,
+    asked: Asked,
+) -> Result<bool> {
+    let bytes = asked.fragment(alloc)?;
+    daemon.step(Event::Piece {
+        connection: 0,
+        bytes,
+    });
+    let outputs = daemon.step(Event::Take {
+        connection: 0,
+        index: 0,
+    });
+    tells_grant(alloc, &outputs, room)
 }
 
 fn run<T: RangeTable, S: HostStore>(

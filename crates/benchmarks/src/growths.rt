@@ -72,10 +72,13 @@ struct Page {
 
 impl Page {
     fn new(alloc: Global) -> Result<Page> {
+        let sent = Vec::with_capacity(alloc, MOST_BYTES)?;
+        let told = String::with_capacity(alloc, MOST_PRINTED)?;
+        let printed = String::with_capacity(alloc, MOST_PRINTED)?;
         Ok(Page {
-            sent: Vec::with_capacity(alloc, MOST_BYTES)?,
-            told: String::with_capacity(alloc, MOST_PRINTED)?,
-            printed: String::with_capacity(alloc, MOST_PRINTED)?,
+            sent,
+            told,
+            printed,
             room: Frame::new(),
         })
     }
@@ -126,6 +129,25 @@ impl Page {
             writeln!(self.printed, "wrong {number} {}", self.told)?;
         }
         Ok(())
+    }
+
+    /// Prints what an event was told, or that it came to want of memory otherwise than it should: whether it came to that.
+    fn take(
+        &mut self,
+        number: u32,
+        outputs: &Outputs,
+        starved: &str,
+        is_left: bool,
+    ) -> Result<bool> {
+        if outputs.outcome == Outcome::Applied {
+            self.print(number, outputs)?;
+            return Ok(false);
+        }
+        self.print_if_not(number, outputs, starved)?;
+        if !is_left {
+            writeln!(self.printed, "wrong {number} leaves other rows of hosts")?;
+        }
+        Ok(true)
     }
 }
 
@@ -190,43 +212,73 @@ struct Steps {
     steps: Vec<Step>,
 }
 
+// A new connection, and on it the record whole.
+fn sent_anew(alloc: Global, record: &str) -> Result<Vec<Event>> {
+    let whole = piece(alloc, record)?;
+    let end = Event::Disconnect {
+        connection: CONNECTION,
+    };
+    Ok(vec![in alloc; end, connect(), whole]?)
+}
+
+fn taken_again(alloc: Global, record: &str) -> Result<Vec<Event>> {
+    let whole = piece(alloc, record)?;
+    Ok(vec![in alloc; whole, take()]?)
+}
+
+fn said_again(alloc: Global, text: &str) -> Result<Vec<Event>> {
+    let line = line(alloc, text)?;
+    Ok(vec![in alloc; line]?)
+}
+
+// What a local program is told.
+fn starved_line(alloc: Global) -> Result<String> {
+    let mut told = String::with_capacity(alloc, MOST_BYTES)?;
+    write!(told, "local {LOCAL} ")?;
+    put_hex(&mut told, STARVED_LINE)?;
+    Ok(told)
+}
+
 impl Steps {
-    // Two of this event, the second of which makes the first again.
-    fn put_twice(&mut self, event: Event, same: Event) -> Result<()> {
-        let step = Step {
-            event,
-            starved: refusal(self.alloc)?,
-            again: vec![in self.alloc; same]?,
-            is_rest: false,
-        };
+    fn put_step(&mut self, step: Step) -> Result<()> {
         self.steps.push(step)?;
         Ok(())
+    }
+
+    // Two of this event, the second of which makes the first again.
+    fn put_twice(&mut self, event: Event, same: Event) -> Result<()> {
+        let again = vec![in self.alloc; same]?;
+        let starved = refusal(self.alloc)?;
+        self.put_step(Step {
+            event,
+            starved,
+            again,
+            is_rest: false,
+        })
     }
 
     // After a piece that starved the connection receives no more: a new one gets the record whole.
     fn put_piece(&mut self, part: &str, record: &str, is_rest: bool) -> Result<()> {
-        let end = Event::Disconnect {
-            connection: CONNECTION,
-        };
-        let step = Step {
-            event: piece(self.alloc, part)?,
-            starved: refusal(self.alloc)?,
-            again: vec![in self.alloc; end, connect(), piece(self.alloc, record)?]?,
+        let again = sent_anew(self.alloc, record)?;
+        let starved = refusal(self.alloc)?;
+        let event = piece(self.alloc, part)?;
+        self.put_step(Step {
+            event,
+            starved,
+            again,
             is_rest,
-        };
-        self.steps.push(step)?;
-        Ok(())
+        })
     }
 
     fn put_take(&mut self, record: &str) -> Result<()> {
-        let step = Step {
+        let again = taken_again(self.alloc, record)?;
+        let starved = system_err(self.alloc, record)?;
+        self.put_step(Step {
             event: take(),
-            starved: system_err(self.alloc, record)?,
-            again: vec![in self.alloc; piece(self.alloc, record)?, take()]?,
+            starved,
+            again,
             is_rest: false,
-        };
-        self.steps.push(step)?;
-        Ok(())
+        })
     }
 
     fn put_call(&mut self, record: &str) -> Result<()> {
@@ -241,17 +293,15 @@ impl Steps {
     }
 
     fn put_line(&mut self, text: &str) -> Result<()> {
-        let mut starved = String::with_capacity(self.alloc, MOST_BYTES)?;
-        write!(starved, "local {LOCAL} ")?;
-        put_hex(&mut starved, STARVED_LINE)?;
-        let step = Step {
-            event: line(self.alloc, text)?,
+        let again = said_again(self.alloc, text)?;
+        let starved = starved_line(self.alloc)?;
+        let event = line(self.alloc, text)?;
+        self.put_step(Step {
+            event,
             starved,
-            again: vec![in self.alloc; line(self.alloc, text)?]?,
+            again,
             is_rest: false,
-        };
-        self.steps.push(step)?;
-        Ok(())
+        })
     }
 
     fn put(&mut self, row: &str) -> Result<()> {
@@ -274,10 +324,8 @@ fn send(alloc: Global) -> Result<Event> {
 }
 
 fn script(alloc: Global) -> Result<Vec<Step>> {
-    let mut steps = Steps {
-        alloc,
-        steps: Vec::with_capacity(alloc, SCRIPT.len())?,
-    };
+    let steps = Vec::with_capacity(alloc, SCRIPT.len())?;
+    let mut steps = Steps { alloc, steps };
     for row in SCRIPT {
         steps.put(row)?;
     }
@@ -288,6 +336,33 @@ fn script(alloc: Global) -> Result<Vec<Step>> {
 // What starved stored a host's row, or nothing.
 fn is_left(rows: usize, before: usize) -> bool {
     rows == before || rows == before.saturating_add(1)
+}
+
+// Makes an event: whether it came to want of memory.
+fn starves<T: RangeTable, S: HostStore>(
+    daemon: &mut Daemon<T, S>,
+    page: &mut Page,
+    number: u32,
+    event: Event,
+    told: &str,
+) -> Result<bool> {
+    let before = daemon.store().hosts().len();
+    let outputs = daemon.step(event);
+    let is_left = is_left(daemon.store().hosts().len(), before);
+    page.take(number, &outputs, told, is_left)
+}
+
+fn go_again<T: RangeTable, S: HostStore>(
+    daemon: &mut Daemon<T, S>,
+    page: &mut Page,
+    number: u32,
+    again: Vec<Event>,
+) -> Result<()> {
+    for event in again {
+        let outputs = daemon.step(event);
+        page.print(number, &outputs)?;
+    }
+    Ok(())
 }
 
 /// Whether the event came to want of memory, and so was made again.
@@ -303,20 +378,10 @@ fn goes<T: RangeTable, S: HostStore>(
         again,
         ..
     } = step;
-    let before = daemon.store().hosts().len();
-    let outputs = daemon.step(event);
-    if outputs.outcome == Outcome::Applied {
-        page.print(number, &outputs)?;
+    if !starves(daemon, page, number, event, &starved)? {
         return Ok(false);
     }
-    page.print_if_not(number, &outputs, &starved)?;
-    if !is_left(daemon.store().hosts().len(), before) {
-        writeln!(page.printed, "wrong {number} leaves other rows of hosts")?;
-    }
-    for event in again {
-        let outputs = daemon.step(event);
-        page.print(number, &outputs)?;
-    }
+    go_again(daemon, page, number, again)?;
     Ok(true)
 }
 

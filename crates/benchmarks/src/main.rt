@@ -9,12 +9,15 @@
 //!   `flat` in front, over the flat table;
 //! - `daemon null` or `daemon mixed`, and a number of calls: the daemon;
 //! - `growths`: no number but what a daemon sends in a script of events, the same whichever of its growths is refused.
+//!
+//! With the word `load` in front of all, it is a client of a server over loopback, or the floor that one is measured against.
 #![tactic(auto)]
 
 mod asked;
 mod books;
 mod daemons;
 mod growths;
+mod load;
 mod ranges;
 mod replies;
 mod waits;
@@ -94,6 +97,17 @@ fn done(alloc: Global, words: &[&str]) -> Result<u32> {
     }
 }
 
+// Does one thing after the other, and prints what each comes to.
+fn print_all(rt: &HostRuntime, alloc: Global, words: &[&str]) -> Result<()> {
+    for part in words.split(|word| *word == "and") {
+        match part {
+            ["growths"] => print!(rt; "{}", growths::printed(alloc)?)?,
+            _ => println!(rt; "{}", done(alloc, part)?)?,
+        }
+    }
+    Ok(())
+}
+
 fn main(rt: HostRuntime) -> Result<()> {
     let alloc = rt.alloc();
     let mut arguments = Vec::new(alloc);
@@ -104,11 +118,8 @@ fn main(rt: HostRuntime) -> Result<()> {
     for word in &arguments {
         words.push(word.as_str())?;
     }
-    for part in words.split(|word| *word == "and") {
-        match part {
-            ["growths"] => print!(rt; "{}", growths::printed(alloc)?)?,
-            _ => println!(rt; "{}", done(alloc, part)?)?,
-        }
+    match words.as_slice() {
+        ["load", rest @ ..] => load::done(&rt, alloc, rest),
+        all => print_all(&rt, alloc, all),
     }
-    Ok(())
 }

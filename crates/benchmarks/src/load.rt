@@ -6,8 +6,6 @@
 //! - `load mute PORT CONNECTIONS` has so many connections make calls and read no reply, and begins anew once all are cut off, until
 //!   it is killed: what is measured beside it shows whether such a client holds up others;
 //! - `load floor PORT` answers each record with one fixed reply, a thread for each connection, until it is killed.
-#![tactic(auto)]
-
 mod asking;
 mod calls;
 mod floor;
@@ -17,7 +15,6 @@ use anyhow::{Result, bail};
 use asking::{Plan, ask_all};
 use calls::Cell;
 use std::alloc::Global;
-use std::env;
 use std::io::Print;
 use std::net::{Net, TcpListener, TcpStream};
 use std::sync::Wait;
@@ -38,7 +35,8 @@ where
     Ok(())
 }
 
-fn done<R>(rt: &R, alloc: Global, words: &[&str]) -> Result<()>
+/// Does what the words behind `load` say.
+pub(crate) fn done<R>(rt: &R, alloc: Global, words: &[&str]) -> Result<()>
 where
     R: Net<Listener = TcpListener, Stream = TcpStream> + Threads + Wait + Clock + Print + Sync,
 {
@@ -60,19 +58,6 @@ where
             };
             measure(rt, alloc, &plan)
         }
-        _ => bail!("nothing is done by {} words", words.len()),
+        _ => bail!("no load is made by {} words", words.len()),
     }
-}
-
-fn main(rt: HostRuntime) -> Result<()> {
-    let alloc = rt.alloc();
-    let mut arguments = Vec::new(alloc);
-    for word in env::args(&rt)?.skip(1) {
-        arguments.push(word)?;
-    }
-    let mut words = Vec::new(alloc);
-    for word in &arguments {
-        words.push(word.as_str())?;
-    }
-    done(&rt, alloc, &words)
 }
