@@ -2,42 +2,14 @@
 ghost use Rattle.std.specs.Prelude.{◌≡◌, ◌<◌};
 ghost use Rattle.book.specs.Journal.{room_of};
 
+use crate::threads::parts;
 use book::{Book, BookEvent, Closed, Peer, Receipt, SEGMENT, Segment, Taken, newest_entered};
 use bytes::Bytes;
-use callbacks::ShortBytes;
-use hosts_db::{HostStore, MemHosts};
-use range_table::{FlatTable, RangeTable};
+use hosts_db::HostStore;
+use range_table::RangeTable;
 use std::alloc::Global;
 use std::test::*;
 use xdr_core::Frame;
-
-// The book of a server named `server`, over a table without runs and no hosts.
-fn opened(alloc: Global) -> Option<Book<FlatTable, MemHosts>> {
-    let store = MemHosts::new(alloc, 0, Vec::new(alloc), Vec::new(alloc)).ok()?;
-    begun(alloc, store)
-}
-
-fn begun<S: HostStore + Drop>(alloc: Global, store: S) -> Option<Book<FlatTable, S>> {
-    let table = FlatTable::new(alloc).ok()?;
-    let name = ShortBytes::copy_of(alloc, b"server").ok()?;
-    Book::new(alloc, table, store, name).ok()
-}
-
-fn put(bytes: &mut Vec<u8>, words: &[u32]) -> Option<()> {
-    for word in words {
-        bytes.extend_from_slice(word.to_be_bytes().as_slice()).ok()?;
-    }
-    Some(())
-}
-
-// The record of a NULL of this xid (RFC 5531).
-fn record(alloc: Global, xid: u32) -> Option<Bytes> {
-    let mut bytes = Vec::new(alloc);
-    if put(&mut bytes, &[xid, 0, 2, 100_021, 4, 0, 0, 0, 0, 0]).is_none() {
-        return None;
-    }
-    Bytes::from_vec(bytes).ok()
-}
 
 // Whether the receipt has a SUCCESS of this xid.
 fn is_success(receipt: &Receipt, xid: u32) -> bool {
@@ -67,7 +39,7 @@ fn null<R: RangeTable, S: HostStore>(
     book: &mut Book<R, S>,
     xid: u32,
 ) -> Option<Receipt> {
-    let call = record(alloc, xid)?;
+    let call = parts::null(alloc, xid)?;
     let same = call.clone().ok()?;
     if book.room() == 0 {
         return None;
@@ -120,7 +92,7 @@ fn rotates<R: RangeTable, S: HostStore>(alloc: Global, book: &mut Book<R, S>) ->
 }
 
 fn is_rotated(alloc: Global) -> Option<bool> {
-    let mut book = opened(alloc)?;
+    let mut book = parts::begun(alloc)?;
     let went = rotates(alloc, &mut book);
     drop(book);
     went

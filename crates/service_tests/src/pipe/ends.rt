@@ -1,5 +1,5 @@
-//! A reader and a writer in memory, which fail where they are told to.
-use std::io::{self, Error, ErrorKind, Read, Write};
+//! A reader in memory, which fails where it is told to.
+use std::io::{self, Error, ErrorKind, Read};
 
 /// Gives its bytes by at most so many at once, and fails at one of its reads.
 #[derive(Drop)]
@@ -19,29 +19,5 @@ impl<'a> Read for Source<'a> {
         buf[..count].copy_from_slice(&self.rest[..count]);
         self.rest = &self.rest[count..];
         Ok(count)
-    }
-}
-
-/// Holds so many bytes, and then fails.
-#[derive(Drop)]
-pub(crate) struct Sink {
-    pub(crate) held: Vec<u8>,
-    pub(crate) room: usize,
-}
-
-impl Write for Sink {
-    fn write(&mut self, buf: &[u8]) -> io::Result<usize> {
-        let count = buf.len().min(self.room.saturating_sub(self.held.len()));
-        if count == 0 {
-            return Err(Error::from(ErrorKind::Other));
-        }
-        match self.held.extend_from_slice(&buf[..count]) {
-            Ok(()) => Ok(count),
-            Err(_) => Err(Error::from(ErrorKind::OutOfMemory)),
-        }
-    }
-
-    fn flush(&mut self) -> io::Result<()> {
-        Ok(())
     }
 }

@@ -2,7 +2,8 @@
 //! of a record its mark; `00*9` is nine bytes 00.
 ghost use Rattle.std.specs.Prelude.{◌≡◌, [], IfOk};
 
-use super::ends::{Sink, Source};
+use super::ends::Source;
+use crate::sink::Sink;
 use callbacks::ShortBytes;
 use hosts_db::{FULL_QUOTA, HostRow, MemHosts};
 use pipe_loops::{Fault, Server, pipe_loop, table_loop};
@@ -113,9 +114,11 @@ fn server(alloc: Global, which: Loop) -> Result<Server<FlatTable, MemHosts>, Fau
     let Ok(own_name) = ShortBytes::copy_of(alloc, b"server") else {
         return Err(Fault::Starved);
     };
+    let store = store(alloc, which)?;
+    let table = FlatTable::new(alloc)?;
     Ok(Server {
-        table: FlatTable::new(alloc)?,
-        store: store(alloc, which)?,
+        table,
+        store,
         own_name,
         is_grace: which == Loop::RepliesInGrace,
     })

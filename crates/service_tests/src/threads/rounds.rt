@@ -1,0 +1,106 @@
+//! A round: workers are cut, do what a test tells them, and are gathered. There are no early ends once there is a book: each
+//! would drop all that is alive, and is a proof of its own.
+ghost use Rattle.std.specs.Prelude.{◌≡◌, []};
+
+use super::overlapping::Plan;
+use super::parts::{Kept, begun};
+use super::reading::Reading;
+use book::Book;
+use hosts_db::MemHosts;
+use jobs::{Channel, Opened, Place};
+use range_table::FlatTable;
+use staff::{Cutter, Gatherer};
+use std::alloc::Global;
+use std::marker::Brand;
+use std::sync::ledger::{Blank, Ledger};
+use std::sync::{Mutex, Wait};
+use std::thread::Threads;
+use workers::{Shared, Worker};
+
+/// How many workers there are, and whether what they do is kept for the audit.
+#[derive(Clone, Copy)]
+pub(crate) struct Crew {
+    pub(crate) count: u16,
+    pub(crate) is_audited: bool,
+}
+
+/// What workers do in a round: whether it goes as it should is told by its `goes`.
+#[derive(Clone, Copy)]
+pub(crate) enum Turn<'a> {
+    Overlaps(Plan),
+    Reads(Reading<'a>),
+}
+
+// All are taken in, and what they did is audited.
+fn ended<P: Place, L: Ledger>(
+    channel: &Channel<P>,
+    mut gatherer: Gatherer<P, L>,
+    workers: Vec<Worker<P, L>>,
+    shared: Kept<L>,
+    crew: Crew,
+) -> Option<u64>
+    requires { crew.count ≡ L.parts }
+{
+    let are_in = gatherer.take_all(channel, workers).is_ok();
+    let audited = gatherer.settle(channel, shared, u64::from(crew.count));
+    if are_in { audited.ok() } else { None }
+}
+
+// Where there is no memory for the workers, none are taken in, and so they don't settle.
+fn work<P: Place + Send + Sync, L: Ledger + Send + Sync, R: Threads + Wait + Sync>(
+    rt: &R,
+    alloc: Global,
+    channel: &Channel<P>,
+    mut cutter: Cutter<P, L>,
+    shared: Mutex<Kept<L>>,
+    crew: Crew,
+    turn: Turn<'_>,
+) -> Option<u64>
+    requires { crew.count ≡ L.parts }
+{
+    let mut workers = cutter
+        .cut_all(channel, crew.count)
+        .unwrap_or(Vec::new(alloc));
+    let goes = match turn {
+        Turn::Overlaps(plan) => plan.goes(rt, alloc, channel, &shared, &mut workers),
+        Turn::Reads(reading) => reading.goes(rt, alloc, channel, &shared, &mut workers),
+    };
+    let gatherer = cutter.into_gatherer();
+    let audited = ended(channel, gatherer, workers, shared.into_inner(), crew);
+    if goes { audited } else { None }
+}
+
+fn play<P: Place + Send + Sync, L: Ledger + Send + Sync, R: Threads + Wait + Sync>(
+    rt: &R,
+    alloc: Global,
+    opened: Opened,
+    blank: Blank,
+    book: Book<FlatTable, MemHosts>,
+    crew: Crew,
+    turn: Turn<'_>,
+) -> Option<u64>
+    requires table { opened.slip.table_id ≡ P.table }
+    requires key { opened.slip.me.0.of ≡ P.key }
+    requires name { blank.name ≡ L.name }
+    requires parts { (blank.parts ≡ L.parts) × (blank.parts ≡ crew.count) }
+    requires new { (book.journal.notes ≡ []) × (book.journal.first ≡ 1) }
+{
+    let (channel, keeper) = opened.named::<P>();
+    let (total, share) = blank.open::<L>();
+    let cutter = Cutter::new(alloc, keeper, share, u64::from(crew.count), crew.is_audited);
+    let shared = Mutex::new(Shared::new(alloc, book, total, crew.is_audited));
+    work(rt, alloc, &channel, cutter, shared, crew, turn)
+}
+
+/// How many calls the audit finds behind a round: 0 where nothing was kept for it. None where the turn or the audit went wrong.
+pub(crate) fn audited<R: Threads + Wait + Sync>(
+    rt: &R,
+    alloc: Global,
+    crew: Crew,
+    turn: Turn<'_>,
+) -> Option<u64> {
+    let opened = Opened::new(alloc).ok()?;
+    let book = begun(alloc)?;
+    let blank = Blank::new(u64::from(crew.count));
+    play::<Brand, Brand, _>(rt, alloc, opened, blank, book, crew, turn)
+}
