@@ -79,7 +79,8 @@ impl<P: Place, L: Ledger> Cutter<P, L> {
     ) -> Result<Vec<Worker<P, L>>, StaffFault> {
         let mut workers = Vec::new(self.alloc);
         for _ in 0..count {
-            if workers.push(self.cut(channel)?).is_err() {
+            let worker = self.cut(channel)?;
+            if workers.push(worker).is_err() {
                 return Err(StaffFault::Starved);
             }
         }

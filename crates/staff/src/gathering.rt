@@ -8,7 +8,7 @@ use jobs::{Channel, Keeper, Place};
 use range_table::RangeTable;
 use std::alloc::Global;
 use std::sync::ledger::{Ledger, Share};
-use workers::{Leaves, Shared, Worker, audit};
+use workers::{Ends, Leaves, Shared, Worker, audit};
 
 /// Parts of the ledger that came back.
 #[derive(Drop)]
@@ -65,7 +65,13 @@ impl<P: Place, L: Ledger> Gatherer<P, L> {
         if self.keeper.gather(channel, seat).is_err() {
             return Err(StaffFault::AuditMismatch);
         }
-        self.back.add(share)?;
+        match self.back.add(share) {
+            Ok(()) => self.keep(receipts),
+            Err(fault) => Err(fault),
+        }
+    }
+
+    fn keep(&mut self, receipts: Option<Vec<Receipt>>) -> Result<(), StaffFault> {
         if let Some(mut receipts) = receipts {
             self.receipts.append(&mut receipts)?;
         }
@@ -97,20 +103,29 @@ impl<P: Place, L: Ledger> Gatherer<P, L> {
         let Gatherer {
             mut keeper,
             mut back,
-            mut receipts,
+            receipts,
         } = self;
         if back.count != parts || !keeper.settle(channel) {
             return Err(StaffFault::AuditMismatch);
         }
-        let ends = shared
-            .finish(&mut back.share)
-            .map_err(|_| StaffFault::Starved)?;
-        let Some(segments) = ends.segments else {
-            return Ok(0);
-        };
-        match audit(&segments, &mut receipts) {
+        match shared.finish(&mut back.share) {
+            Ok(ends) => audited(ends, receipts),
+            Err(_) => Err(StaffFault::Starved),
+        }
+    }
+}
+
+// Whether the journal and all receipts agree: how many calls were taken, where that was kept, and else 0.
+fn audited<T: RangeTable + Drop, S: HostStore + Drop>(
+    ends: Ends<T, S>,
+    mut receipts: Vec<Receipt>,
+) -> Result<u64, StaffFault> {
+    let Ends { segments } = ends;
+    match segments {
+        None => Ok(0),
+        Some(segments) => match audit(&segments, &mut receipts) {
             Ok(()) => Ok(receipts.len() as u64),
             Err(_) => Err(StaffFault::AuditMismatch),
-        }
+        },
     }
 }

@@ -1,0 +1,57 @@
+//! A gate that holds jobs until enough of them are inside.
+use jobs::Job;
+use std::sync::atomic::{AtomicBool, AtomicU64, Ordering};
+use std::thread;
+use std::time::{Clock, Duration};
+use workers::Gate;
+
+/// How long is waited for all to be inside, in milliseconds.
+const TURNS: u32 = 10_000;
+
+/// Holds jobs until so many were inside; nobody, where that is none.
+#[derive(Drop)]
+pub(crate) struct Hall<'a, R> {
+    rt: &'a R,
+    wanted: u64,
+    inside: AtomicU64,
+    is_missed: AtomicBool,
+}
+
+impl<'a, R: Clock> Hall<'a, R> {
+    pub(crate) fn new(rt: &'a R, wanted: u64) -> Hall<'a, R> {
+        Hall {
+            rt,
+            wanted,
+            inside: AtomicU64::new(0),
+            is_missed: AtomicBool::new(false),
+        }
+    }
+
+    // Whether so many were inside in time.
+    pub(crate) fn waits(&self, count: u64) -> bool {
+        for _ in 0..TURNS {
+            if self.inside.load(Ordering::SeqCst) >= count {
+                return true;
+            }
+            thread::sleep(self.rt, Duration::from_millis(1));
+        }
+        false
+    }
+
+    pub(crate) fn was_full(&self) -> bool {
+        !self.is_missed.load(Ordering::SeqCst)
+    }
+}
+
+impl<'a, R: Clock> Gate for Hall<'a, R> {
+    fn may_hold(&self) -> bool {
+        self.wanted > 0
+    }
+
+    fn before(&self, _job: &Job) {
+        self.inside.fetch_add(1, Ordering::SeqCst);
+        if !self.waits(self.wanted) {
+            self.is_missed.store(true, Ordering::SeqCst);
+        }
+    }
+}

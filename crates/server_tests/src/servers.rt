@@ -1,0 +1,135 @@
+//! A server, and who talks to it.
+use crate::hall::Hall;
+use crate::talks::{Talk, Told};
+use callbacks::ShortBytes;
+use hosts_db::MemHosts;
+use log::Log;
+use peers::Peers;
+use server::{Backing, CallSettings, Settings, serve};
+use std::alloc::Global;
+use std::io::{self, Print};
+use std::net::{Ipv4Addr, Net, SocketAddr, SocketAddrV4, TcpListener, TcpStream};
+use std::sync::Wait;
+use std::thread;
+use std::thread::Threads;
+use std::time::{Clock, Duration};
+
+/// The ports of a server and of its peer.
+#[derive(Clone, Copy)]
+pub(crate) struct Ports {
+    pub(crate) rpc: u16,
+    pub(crate) local: u16,
+    pub(crate) peer: u16,
+}
+
+/// This port of loopback.
+pub(crate) fn loopback(port: u16) -> SocketAddr {
+    SocketAddr::V4(SocketAddrV4::new(Ipv4Addr::LOCALHOST, port))
+}
+
+// A port that nobody listens on.
+fn free_port<R: Net<Listener = TcpListener, Stream = TcpStream>>(rt: &R) -> io::Result<u16> {
+    Ok(TcpListener::bind(rt, loopback(0))?.local_addr()?.port())
+}
+
+impl Ports {
+    pub(crate) fn free<R>(rt: &R) -> io::Result<Ports>
+    where
+        R: Net<Listener = TcpListener, Stream = TcpStream>,
+    {
+        Ok(Ports {
+            rpc: free_port(rt)?,
+            local: free_port(rt)?,
+            peer: free_port(rt)?,
+        })
+    }
+
+    fn settings(&self, workers: u16) -> Settings {
+        Settings {
+            rpc: loopback(self.rpc),
+            local_port: self.local,
+            calls: CallSettings {
+                nlm_port: self.peer,
+                nsm_port: self.peer,
+                watch_port: self.peer,
+                grace: Duration::from_millis(1),
+                silence: Duration::from_secs(5),
+            },
+            idle: Duration::from_secs(60),
+            workers,
+            is_audited: true,
+        }
+    }
+}
+
+fn backing(alloc: Global) -> Option<Backing<MemHosts>> {
+    let store = MemHosts::new(alloc, 0, Vec::new(alloc), Vec::new(alloc)).ok()?;
+    let peers = Peers::read(alloc, b"client 127.0.0.1\n").ok()?;
+    let own_name = ShortBytes::copy_of(alloc, b"server").ok()?;
+    Some(Backing {
+        store,
+        peers,
+        own_name,
+    })
+}
+
+/// How many calls the server took, by its audit, what the talk came to, and whether enough jobs were inside at once.
+pub(crate) type Served = (u64, Told, bool);
+
+fn served<R>(
+    rt: &R,
+    alloc: Global,
+    settings: Settings,
+    backing: Backing<MemHosts>,
+    wanted: u64,
+    talk: (Ports, Talk),
+) -> Option<Served>
+where
+    R: Net<Listener = TcpListener, Stream = TcpStream>
+        + Threads
+        + Wait
+        + Clock
+        + Print
+        + Log
+        + Sync,
+{
+    let hall = Hall::new(rt, wanted);
+    let gate = &hall;
+    let (ports, talk) = talk;
+    let (taken, told) = thread::join(
+        rt,
+        move || serve(rt, alloc, &settings, backing, gate),
+        move || talk.told(rt, alloc, ports, gate),
+    );
+    match (taken, told) {
+        (Ok(taken), Ok(told)) => Some((taken, told, hall.was_full())),
+        _ => None,
+    }
+}
+
+/// Has a server with so many workers, which holds jobs until so many are inside, talked to. None where one of both
+/// fails.
+pub(crate) fn served_to<R>(
+    rt: &R,
+    alloc: Global,
+    workers: u16,
+    wanted: u64,
+    talk: Talk,
+) -> Option<Served>
+where
+    R: Net<Listener = TcpListener, Stream = TcpStream>
+        + Threads
+        + Wait
+        + Clock
+        + Print
+        + Log
+        + Sync,
+{
+    match (Ports::free(rt), backing(alloc)) {
+        (Ok(ports), Some(backing)) => {
+            let settings = ports.settings(workers);
+            served(rt, alloc, settings, backing, wanted, (ports, talk))
+        }
+        _ => None,
+    }
+}
