@@ -3,14 +3,13 @@
 use crate::stores::stored_hosts;
 use callbacks::ShortBytes;
 use config::ServeConfig;
-use hosts_lasting::Lasting;
-use hosts_sql::SqlHosts;
+use hosts_db::HostStore;
 use jobs::Job;
 use log::Log;
 use peers::{Peers, PeersFault};
 use pipe_loops::Fault as StoreFault;
 use server::{Backing, CallSettings, Settings, serve};
-use sqlite::Alter;
+use sqlite::{Alter, Connection};
 use std::alloc::Global;
 use std::fs;
 use std::io::Print;
@@ -85,16 +84,15 @@ fn settings_of(asked: &ServeConfig) -> Settings {
     }
 }
 
-// It is generic, so that the proof of a call sees no more of a database than its trait.
-fn serve_database<S, R>(
+fn serve_over<S, R>(
     rt: &R,
     alloc: Global,
     asked: &ServeConfig,
     peers: Peers,
-    store: SqlHosts<S>,
+    store: S,
 ) -> Result<u64, ServeFault>
 where
-    S: Alter + Drop + Send,
+    S: HostStore + Drop + Send,
     R: Net<Listener = TcpListener, Stream = TcpStream>
         + Threads
         + Wait
@@ -108,11 +106,35 @@ where
         return Err(ServeFault::Starved);
     };
     let backing = Backing {
-        store: Lasting::new(store),
+        store,
         peers,
         own_name,
     };
     serve(rt, alloc, &settings_of(asked), backing, &Open).map_err(ServeFault::Server)
+}
+
+// It is generic, so that the proof of a call sees no more of a database than its trait.
+fn serve_database<S, R>(
+    rt: &R,
+    alloc: Global,
+    asked: &ServeConfig,
+    peers: Peers,
+    conn: Connection<S>,
+) -> Result<u64, ServeFault>
+where
+    S: Alter + Drop + Send,
+    R: Net<Listener = TcpListener, Stream = TcpStream>
+        + Threads
+        + Wait
+        + Clock
+        + Print
+        + Log
+        + Sync,
+{
+    match stored_hosts(alloc, conn) {
+        Ok(store) => serve_over(rt, alloc, asked, peers, store),
+        Err(fault) => Err(ServeFault::Store(fault)),
+    }
 }
 
 /// Serves until a local program says `stop`: how many calls were taken, where that was kept.
@@ -131,6 +153,8 @@ where
         + Sync,
 {
     let peers = read_peers(host, asked.peers.as_str())?;
-    let store = stored_hosts(host, &asked.db).map_err(ServeFault::Store)?;
-    serve_database(rt, host.alloc(), asked, peers, store)
+    match Connection::open(host, asked.db.as_str()) {
+        Ok(conn) => serve_database(rt, host.alloc(), asked, peers, conn),
+        Err(_) => Err(ServeFault::Store(StoreFault::StoreRefused)),
+    }
 }

@@ -2,9 +2,10 @@
 
 use config::FilePath;
 use hosts_db::{MemHosts, StoreError};
+use hosts_lasting::Lasting;
 use hosts_sql::SqlHosts;
 use pipe_loops::Fault;
-use sqlite::{Connection, File, FileStore};
+use sqlite::{Alter, Connection};
 use std::alloc::Global;
 
 fn fault_of(refusal: StoreError) -> Fault {
@@ -19,16 +20,13 @@ pub(crate) fn no_hosts(alloc: Global) -> Result<MemHosts, Fault> {
     MemHosts::new(alloc, 0, Vec::new(alloc), Vec::new(alloc)).map_err(fault_of)
 }
 
-/// The hosts that the file stores, which is made where it isn't there. What is no database of hosts is left as it was.
-pub(crate) fn stored_hosts(
-    rt: &HostRuntime,
-    path: &FilePath,
-) -> Result<SqlHosts<FileStore<File>>, Fault> {
-    let Ok(conn) = Connection::open(rt, path.as_str()) else {
-        return Err(Fault::StoreRefused);
-    };
-    match SqlHosts::adopt(rt.alloc(), conn) {
-        Ok(store) => Ok(store),
+/// The hosts that a database stores. What is no database of hosts is left as it was.
+pub(crate) fn stored_hosts<S: Alter + Drop>(
+    alloc: Global,
+    conn: Connection<S>,
+) -> Result<Lasting<SqlHosts<S>>, Fault> {
+    match SqlHosts::adopt(alloc, conn) {
+        Ok(store) => Ok(Lasting::new(store)),
         Err((refusal, _conn)) => Err(fault_of(refusal)),
     }
 }

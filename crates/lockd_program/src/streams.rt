@@ -4,11 +4,9 @@ use crate::stores::{no_hosts, stored_hosts};
 use callbacks::ShortBytes;
 use config::{Name, StreamConfig};
 use hosts_db::HostStore;
-use hosts_lasting::Lasting;
-use hosts_sql::SqlHosts;
 use pipe_loops::{Fault, Server, pipe_loop, table_loop};
 use range_arena::ArenaTable;
-use sqlite::Alter;
+use sqlite::{Alter, Connection};
 use std::alloc::Global;
 use std::io::{self, BufWriter};
 
@@ -61,12 +59,15 @@ fn serve_database<S: Alter + Drop>(
     rt: &HostRuntime,
     told: Told,
     asked: &StreamConfig,
-    store: SqlHosts<S>,
+    conn: Connection<S>,
 ) -> Result<(), Fault> {
-    serve_over(rt, told, asked, Lasting::new(store))
+    match stored_hosts(rt.alloc(), conn) {
+        Ok(store) => serve_over(rt, told, asked, store),
+        Err(fault) => Err(fault),
+    }
 }
 
-/// Serves the stream on standard input, with the hosts of the file or none.
+/// Serves the stream on standard input, with the hosts of the file, which is made where it isn't there, or none.
 pub(crate) fn serve_stream(
     rt: &HostRuntime,
     told: Told,
@@ -74,6 +75,9 @@ pub(crate) fn serve_stream(
 ) -> Result<(), Fault> {
     match &asked.db {
         None => serve_over(rt, told, asked, no_hosts(rt.alloc())?),
-        Some(path) => serve_database(rt, told, asked, stored_hosts(rt, path)?),
+        Some(path) => match Connection::open(rt, path.as_str()) {
+            Ok(conn) => serve_database(rt, told, asked, conn),
+            Err(_) => Err(Fault::StoreRefused),
+        },
     }
 }
