@@ -1,6 +1,6 @@
 //! Tests of the book apart from the daemon above it, and of what serves it: where a segment of its journal is full and where its
-//! store is begun, the loops of `lockd pipe`, the threads over one book, and a server over loopback. There is nothing in it but
-//! tests; the book's other rows are played from bytes to bytes in `acceptance`.
+//! store is begun, the loops of `lockd pipe`, and the threads over one book. There is nothing in it but tests; the book's other
+//! rows are played from bytes to bytes in `acceptance`.
 #![tactic(auto)]
 
 #[cfg(test)]
@@ -9,8 +9,6 @@ mod lasting;
 mod pipe;
 #[cfg(test)]
 mod rotation;
-#[cfg(test)]
-mod serving;
 #[cfg(test)]
 mod sink;
 #[cfg(test)]

@@ -1,8 +1,0 @@
-//! A server over loopback.
-mod calls;
-mod client;
-mod hall;
-mod overlapping;
-mod sending;
-mod servers;
-mod talks;
