@@ -269,14 +269,14 @@ where
 {
     match seat_all(alloc, &mut cutter, &channel, settings.workers) {
         Ok(seated) => {
+            let Seated { rosters, workers } = seated;
             let inside = Inside {
                 channel,
                 shared: Mutex::new(shared),
-                rosters: seated.rosters,
+                rosters,
             };
-            let gatherer = cutter.into_gatherer();
-            let back = serve_inside(rt, alloc, settings, gate, peers, &inside, seated.workers);
-            end_with(gatherer, inside, back, parts)
+            let back = serve_inside(rt, alloc, settings, gate, peers, &inside, workers);
+            end_with(cutter.into_gatherer(), inside, back, parts)
         }
         Err(fault) => Err(fault),
     }
