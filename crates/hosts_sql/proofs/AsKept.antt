@@ -11,7 +11,7 @@ use Rattle.definitions.specs.Hosts.{HostRow, Hosts, row_cmp, watch_cmp, row_of, 
 use Rattle.hosts_statements.specs.Maps.{listed}
 use Rattle.hosts_statements.specs.Shown.{shown}
 use Rattle.hosts_statements.specs.Wrote.{IsAsKept, MayLeave, MayWriteHosts, hosts_in}
-use Rattle.hosts_statements.proofs.Permuted.{gave, on_then}
+use Rattle.hosts_transactions.proofs.Results.{gave, on_then}
 use Rattle.hosts_statements.proofs.Commits.{CommitsHosts}
 use Rattle.hosts_statements.proofs.Listed.{bytes_exact}
 use Rattle.hosts_statements.proofs.OwnIds.{eq_equal}

@@ -18,7 +18,8 @@ use Rattle.sqlite.specs.Effect.{Database}
 use Rattle.hosts_statements.specs.Maps.{Host, WatchKey, Rows, key_cmp, host_row, watch_row, listed, made_now, is_key_of, with_host, with_watch, without_host, without_watches}
 use Rattle.hosts_statements.specs.Shown.{shown}
 use Rattle.hosts_statements.specs.Tables.{monitor_text, watch_text, delete_host_text, delete_watch_text}
-use Rattle.hosts_statements.specs.Wrote.{IsWhole, RanTwo, RanThree}
+use Rattle.hosts_transactions.specs.Work.{RanTwo, RanThree}
+use Rattle.hosts_statements.specs.Wrote.{IsWhole}
 use Rattle.hosts_statements.specs.declared.tables.Version.TheVariants.{Second}
 use Rattle.hosts_statements.proofs.Monitor.{params}
 use Rattle.hosts_statements.proofs.Watch.{watch_params, watch_total, watch_exact}

@@ -5,8 +5,9 @@ use Rattle.sqlite.specs.State.{State, HasCleanDisk, Survives}
 use Rattle.sqlite.proofs.StateLemmas.{survives_weaker}
 use Rattle.definitions.specs.Hosts.{Hosts}
 use Rattle.hosts_statements.specs.Maps.{Rows, listed, with_own}
-use Rattle.hosts_statements.specs.Wrote.{Committed, MayWork, WroteHosts, MayWriteHosts, rows_in, hosts_in}
-use Rattle.hosts_statements.proofs.Permuted.{on_then}
+use Rattle.hosts_transactions.specs.Work.{Committed, MayWork}
+use Rattle.hosts_statements.specs.Wrote.{WroteHosts, MayWriteHosts, rows_in, hosts_in}
+use Rattle.hosts_transactions.proofs.Results.{on_then}
 use Rattle.hosts_statements.proofs.Rows.{Makes}
 use Rattle.hosts_statements.proofs.Listed.{wrote, may_write}
 

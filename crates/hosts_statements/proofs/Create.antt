@@ -26,7 +26,8 @@ use Rattle.sqlite.proofs.Callers.{IsPlain, command_of, statement_of, runs_as, on
 use Rattle.hosts_statements.specs.Maps.{no_rows, with_own}
 use Rattle.hosts_statements.specs.Tables.{Fresh, own_text, hosts_text, watches_text, first_own_text, own_table, hosts_table, watches_table, own_checks, host_schema, no_schema}
 use Rattle.hosts_statements.specs.Shown.{number_at, shown, shown_if_listed}
-use Rattle.hosts_statements.specs.Wrote.{HasMade, HasOwnRow, HasWorked, IsWhole, AreMade}
+use Rattle.hosts_transactions.specs.Work.{HasWorked}
+use Rattle.hosts_statements.specs.Wrote.{HasMade, HasOwnRow, IsWhole, AreMade}
 use Rattle.hosts_statements.specs.declared.tables.Version.TheVariants.{Second}
 use Rattle.hosts_statements.proofs.Places.{IsSecond, whole_second}
 use Rattle.hosts_statements.specs.Own.{is_host, is_watched, AreOwn}

@@ -19,7 +19,7 @@ use Rattle.sqlite_rules.specs.Calls.{ids_of}
 use Rattle.sqlite_tied.specs.Compute.{everything}
 use Rattle.sqlite.specs.Listing.{understood}
 use Rattle.sqlite.specs.Given.{IsPlain}
-use Rattle.hosts_statements.specs.Reading.{command_in}
+use Rattle.hosts_transactions.specs.Work.{command_in}
 use Rattle.hosts_statements.specs.Tables.{Place, Fresh, Upgraded, hosts_tree, hosts_at, host_schema, delete_host_text, delete_watch_text, delete_watches_text}
 
 -- the rowids of the rows of a tree that pass

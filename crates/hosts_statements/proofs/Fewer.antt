@@ -31,7 +31,8 @@ use Rattle.hosts_statements.specs.Maps.{is_key_of, without_host, without_watches
 use Rattle.hosts_statements.specs.Own.{is_blob, is_host, is_watched, AreOwn}
 use Rattle.hosts_statements.specs.Tables.{Place, hosts_tree, hosts_at, host_tables, host_schema, hosts_table, watches_table, delete_host_text, delete_watch_text, delete_watches_text}
 use Rattle.hosts_statements.specs.Shown.{host_of, watch_of, number_at, shown_in_tables}
-use Rattle.hosts_statements.specs.Wrote.{IsWhole, Ran}
+use Rattle.hosts_transactions.specs.Work.{Ran}
+use Rattle.hosts_statements.specs.Wrote.{IsWhole}
 use Rattle.hosts_statements.specs.declared.tables.Version.TheVariants.{Second}
 use Rattle.hosts_statements.proofs.Places.{IsSecond, second, hosts_changed, watches_changed, whole_second, reads_tree, at_hosts, at_watches, on_table, one_change, Stays, stays, own_apart, watches_apart, catalog_apart, hosts_not_watches}
 use Rattle.hosts_statements.proofs.Monitor.{went, same_value}

@@ -6,8 +6,6 @@ pub mod Lists
 pub mod Monitor
 pub mod Watch
 pub mod Steps
-pub mod Ran
-pub mod Transactions
 pub mod Permuted
 pub mod Kept
 pub mod Gone

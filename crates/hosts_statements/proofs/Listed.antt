@@ -17,7 +17,8 @@ use Rattle.sqlite_trees.specs.Tree.{Trees}
 use Rattle.sqlite.specs.State.{State}
 use Rattle.sqlite.specs.Effect.{Database}
 use Rattle.hosts_statements.specs.Shown.{shown}
-use Rattle.hosts_statements.specs.Wrote.{Committed, MayWork, WroteHosts, MayWriteHosts, rows_in, hosts_in}
+use Rattle.hosts_transactions.specs.Work.{Committed, MayWork}
+use Rattle.hosts_statements.specs.Wrote.{WroteHosts, MayWriteHosts, rows_in, hosts_in}
 use Rattle.hosts_statements.proofs.Rows.{Makes}
 use Rattle.hosts_statements.proofs.Watch.{watch_total, watch_exact}
 

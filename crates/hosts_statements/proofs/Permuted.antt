@@ -1,5 +1,5 @@
 -- Maps from the same entries in another order.
-use Rattle.std.proofs.Common.{◌≡◌, ◌<◌, ℕ, zero, suc, List, [], ◌∷◌, ◌++◌, map, length, Bool, true, false, cond, None, Some, Option, is_some, refl, sym, ap, subst, ◌∙◌, arith, append-nil, append_assoc, slice_index_or, Result, Ok, Err, is_err, IfOk, OnOk}
+use Rattle.std.proofs.Common.{◌≡◌, ◌<◌, ℕ, zero, suc, List, [], ◌∷◌, ◌++◌, map, length, Bool, true, false, cond, None, Some, Option, is_some, refl, sym, ap, subst, ◌∙◌, arith, append-nil, append_assoc, slice_index_or}
 use Rattle.std.specs.declared.cmp.Ordering.{Ordering}
 use Rattle.std.specs.Ordering.{eq_by_cmp}
 use Rattle.std.specs.Cmp.{IsTotalOrder, eq_by_cmp_equiv}
@@ -81,23 +81,3 @@ module _ {K X : Type 0} {R : K → K → Ordering} (o : IsTotalOrder R) (same : 
 
   pub keeps_rows : (rows : List Row) (after : FinMap R X) → KeepsAll f empty rows after → (after ≡ from_entries (map f rows)) × AreApart R (map f rows)
   keeps_rows rows after h = kept_all [] rows after tt h
-
-pub if_then : {X E : Type 0} {P Q : X → Type 0} (r : Result X E) → IfOk r P → ((x : X) → P x → Q x) → IfOk r Q
-if_then (Ok x) p f = f x p
-if_then (Err e) p f = tt
-
-pub on_if : {X E : Type 0} {P : X → Type 0} {Q : Type 0} (r : Result X E) → IfOk r P → ((x : X) → P x → Q) → OnOk r Q
-on_if (Ok x) p f = f x p
-on_if (Err e) p f = tt
-
-pub on_both : {X E : Type 0} {P Q Z : Type 0} (r : Result X E) → OnOk r P → OnOk r Q → (P → Q → Z) → OnOk r Z
-on_both (Ok x) p q f = f p q
-on_both (Err e) p q f = tt
-
-pub on_then : {X E : Type 0} {P Q : Type 0} (r : Result X E) → OnOk r P → (P → Q) → OnOk r Q
-on_then (Ok x) p f = f p
-on_then (Err e) p f = tt
-
-pub gave : {X E : Type 0} {P : Type 0} (r : Result X E) → is_err r ≡ false → OnOk r P → P
-gave (Ok x) e p = p
-gave (Err x) e p = absurd cc

@@ -26,11 +26,12 @@ use Rattle.sqlite_catalog.specs.Listing.{IsSound, IsTableRow, is_table_row}
 use Rattle.std.specs.List.{flat_map, AllZip}
 use Rattle.std.specs.Cmp.Lexicographic.{nat_list_cmp_total}
 use Rattle.std.specs.FinMap.{from_entries, slice_cmp-IsAntisymmetric, nat_cmp-IsAntisymmetric}
-use Rattle.hosts_statements.proofs.Ran.{same_command}
+use Rattle.hosts_transactions.proofs.Ran.{same_command}
 use Rattle.hosts_statements.specs.Maps.{key_cmp}
 use Rattle.definitions.specs.Bytes.{bytes_cmp}
 use Rattle.hosts_statements.specs.Shown.{host_of, watch_of, number_at, upgraded_row, shown, shown_with, shown_if_listed, shown_in_tables, shown_in_first}
-use Rattle.hosts_statements.specs.Reading.{command_in, host_shown, watch_shown, AreApart, ShowsOwn, Tells}
+use Rattle.hosts_transactions.specs.Work.{command_in}
+use Rattle.hosts_statements.specs.Reading.{host_shown, watch_shown, AreApart, ShowsOwn, Tells}
 use Rattle.hosts_statements.specs.Own.{is_host, is_watched, has_host_numbers, AreOwn, AllFit}
 use Rattle.hosts_statements.proofs.OwnIds.{own_moved, own_of_map, fit_of_map}
 use Rattle.hosts_statements.proofs.Permuted.{same_entries}

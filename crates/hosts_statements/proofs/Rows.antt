@@ -21,10 +21,11 @@ use Rattle.sqlite.specs.Listing.{understood}
 use Rattle.definitions.specs.Bytes.{bytes_cmp}
 use Rattle.hosts_statements.specs.Maps.{Host, WatchKey, Rows, with_host, with_watch}
 use Rattle.hosts_statements.specs.Own.{is_host, is_watched, AreOwn}
-use Rattle.hosts_statements.specs.Reading.{command_in}
+use Rattle.hosts_transactions.specs.Work.{command_in}
 use Rattle.hosts_statements.specs.Tables.{Place, Fresh, Upgraded, hosts_tree, hosts_at, host_tables, host_schema, monitor_text, watch_text}
 use Rattle.hosts_statements.specs.Shown.{host_of, watch_of, number_at, shown, shown_if_listed, shown_in_tables, shown_in_first}
-use Rattle.hosts_statements.specs.Wrote.{own_shown, HasOwnRow, IsWhole, IsRowWrite, Ran}
+use Rattle.hosts_transactions.specs.Work.{IsRowWrite, Ran}
+use Rattle.hosts_statements.specs.Wrote.{own_shown, HasOwnRow, IsWhole}
 use Rattle.hosts_statements.specs.declared.tables.Version.TheVariants.{Second}
 use Rattle.hosts_statements.proofs.Places.{second, hosts_changed, watches_changed, whole_second}
 use Rattle.hosts_statements.proofs.OwnIds.{own_put}

@@ -8,7 +8,7 @@ use Rattle.sqlite_resolve.specs.Compile.{table_defined_by}
 use Rattle.sqlite_tied.specs.Compute.{everything}
 use Rattle.sqlite.specs.Listing.{understood}
 use Rattle.sqlite.specs.Given.{IsPlain}
-use Rattle.hosts_statements.specs.Reading.{command_in}
+use Rattle.hosts_transactions.specs.Work.{command_in}
 use Rattle.hosts_statements.specs.Tables.{Place, Fresh, Upgraded, hosts_at, own_text, hosts_text, watches_text, own_table, hosts_table, watches_table, own_checks, host_schema, monitor_text, watch_text}
 
 pub hosts_is : table_defined_by hosts_text ≡ Ok (hosts_table 0)

@@ -24,10 +24,11 @@ use Rattle.sqlite.specs.Listing.{understood}
 use Rattle.sqlite.specs.Given.{IsPlain}
 use Rattle.sqlite.proofs.Callers.{one_permutation}
 use Rattle.hosts_statements.specs.Own.{is_host, is_watched, AreOwn}
-use Rattle.hosts_statements.specs.Reading.{command_in}
+use Rattle.hosts_transactions.specs.Work.{command_in}
 use Rattle.hosts_statements.specs.Maps.{with_own}
 use Rattle.hosts_statements.specs.Shown.{host_of, watch_of, number_at, shown, shown_in_tables}
-use Rattle.hosts_statements.specs.Wrote.{own_row_at, own_shown, HasOwnRow, IsWhole, Ran}
+use Rattle.hosts_transactions.specs.Work.{Ran}
+use Rattle.hosts_statements.specs.Wrote.{own_row_at, own_shown, HasOwnRow, IsWhole}
 use Rattle.hosts_statements.specs.declared.tables.Version.TheVariants.{Second}
 use Rattle.hosts_statements.proofs.Places.{FirstStays, IsSecond, second, whole_second, at_own, on_table, one_change, stays, hosts_not_own}
 use Rattle.hosts_statements.proofs.Rows.{Makes, did_at, show_tables}

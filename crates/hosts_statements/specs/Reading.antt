@@ -1,5 +1,5 @@
 -- What is read of the tables.
-use Rattle.std.specs.Prelude.{◌≡◌, ℕ, false, pos, [], ◌∷◌, map, List, Result, Ok, Err, None, ⊤}
+use Rattle.std.specs.Prelude.{◌≡◌, ℕ, false, pos, [], ◌∷◌, map, List, None, ⊤}
 use Rattle.std.specs.FinMap.{FinMap, find, get, insert, entries, from_entries}
 use Rattle.definitions.specs.Bytes.{bytes_cmp}
 use Rattle.definitions.specs.Hosts.{HostRow, Watch}
@@ -8,17 +8,11 @@ use Rattle.hosts_statements.specs.Shown.{host_of, watch_of}
 use Rattle.sqlite_value.specs.declared.value.Value.TheVariants.{Int}
 use Rattle.sqlite_value.specs.Order.{Row, column}
 use Rattle.sqlite_schema.specs.declared.program.Program.{Program}
-use Rattle.sqlite_schema.specs.declared.command.Command.{Command}
-use Rattle.sqlite_schema.specs.declared.command.Command.TheVariants.{Select, Nothing}
-use Rattle.sqlite_resolve.specs.declared.compiled.Compiled.{Compiled}
-use Rattle.sqlite_resolve.specs.declared.error.CompileError.{CompileError}
+use Rattle.sqlite_schema.specs.declared.command.Command.TheVariants.{Select}
+use Rattle.hosts_transactions.specs.Work.{command_in}
 use Rattle.sqlite.specs.Listing.{understood, reads_listing}
 use Rattle.sqlite.specs.Effect.{Database, Answers}
 use Rattle.std.specs.declared.cmp.Ordering.{Ordering}
-
-abbrev pub command_in : Result Compiled CompileError → Command
-command_in (Ok c) = c.command
-command_in (Err e) = Nothing
 
 -- the rows are what the query shows
 abbrev pub Tells : List ℕ → Database → List Row → Type 0

@@ -1,5 +1,5 @@
 -- What a statement of this crate leaves of a connection.
-use Rattle.std.specs.Prelude.{◌≡◌, ℕ, pos, true, None, Option, Ok, List, [], ◌∷◌, map, IsTrue, Result, OnOk}
+use Rattle.std.specs.Prelude.{◌≡◌, ℕ, pos, true, List, [], ◌∷◌, map, IsTrue}
 use Rattle.sqlite_value.specs.declared.value.Value.TheVariants.{Null, Int}
 use Rattle.sqlite_value.specs.Order.{Row, column}
 use Rattle.sqlite_value.specs.contracts.row.Row as row
@@ -7,23 +7,16 @@ use Rattle.std.specs.Coded.{Coded-set, coded_list, →_prop, ×_prop}
 use Rattle.sqlite_schema.specs.contracts.schema.Schema.{the_row}
 use Rattle.sqlite_sql.specs.Term.{Term}
 use Rattle.sqlite_trees.specs.Tree.{Trees}
-use Rattle.sqlite_schema.specs.declared.command.Command.{Command}
-use Rattle.sqlite_schema.specs.declared.command.Command.TheVariants.{Insert, Update, Delete}
 use Rattle.sqlite_schema.specs.declared.schema.Table.{Table}
 use Rattle.sqlite_schema.specs.declared.schema.Schema.{Schema}
-use Rattle.sqlite.specs.declared.run.Mode.{Mode}
-use Rattle.sqlite.specs.Does.{Tally, Does}
 use Rattle.sqlite.specs.State.{State, HasCleanDisk}
-use Rattle.sqlite.specs.Given.{IsPlain}
-use Rattle.sqlite.specs.Listing.{understood}
 use Rattle.definitions.specs.Hosts.{Hosts}
 use Rattle.hosts_statements.specs.Maps.{Rows, listed}
-use Rattle.sqlite.specs.Effect.{Database, IsDatabase}
+use Rattle.sqlite.specs.Effect.{Database}
 use Rattle.hosts_statements.specs.Tables.{Place, Fresh, Upgraded, hosts_tree, own_checks, host_schema, first_schema, no_schema, read_hosts_text, read_first_hosts_text}
 use Rattle.hosts_statements.specs.declared.tables.Version.{Version}
 use Rattle.hosts_statements.specs.declared.tables.Version.TheVariants.{First, Second}
 use Rattle.hosts_statements.specs.Own.{is_host, is_watched, AreOwn, AreOwn-prop}
-use Rattle.hosts_statements.specs.Reading.{command_in}
 use Rattle.hosts_statements.specs.Shown.{number_at, upgraded_row, shown}
 
 -- the CHECKs of the first table
@@ -132,46 +125,3 @@ pub record HasMade (old new : State) : Type 0 where
   pub made : AreMade new.now
   pub committed : new.committed ≡ old.committed
   pub mode : new.in_transaction ≡ true
-
--- ---- texts that ran
-
--- it writes the rows of one table
-abbrev pub IsRowWrite : Command → Type 0
-IsRowWrite (Insert at from) = Unit {0}
-IsRowWrite (Update at q) = Unit {0}
-IsRowWrite (Delete at q) = Unit {0}
-IsRowWrite _ = ⊥
-
--- a text did what its command does
-abbrev pub Ran : List ℕ → Row → Database → Database → Type 0
-Ran sql params from to = (k : Command) → IsRowWrite k → command_in (understood from.schema sql) ≡ k → IsPlain (understood from.schema sql)
-    → (text : List ℕ) × (limit : Option ℕ) × (mode : Mode) × (tally : Tally) × Does limit mode params from text None k (Ok (tally, to)) × IsDatabase to
-
--- two texts in turn
-abbrev pub RanTwo : List ℕ → Row → List ℕ → Row → Database → Database → Type 0
-RanTwo one given two more from to = (mid : Database) × Ran one given from mid × Ran two more mid to
-
--- three texts in turn
-abbrev pub RanThree : List ℕ → Row → List ℕ → Row → List ℕ → Row → Database → Database → Type 0
-RanThree one given two more three last from to = (mid : Database) × RanTwo one given two more from mid × Ran three last mid to
-
--- a transaction's work is the last commit
-pub record Committed (Work : Database → Database → Type 0) (old new : State) : Type 0 where
-  pub was_open : IsTrue old.is_open
-  pub is_open : IsTrue new.is_open
-  pub work : Work old.committed new.committed
-
--- what the transaction commits, if it gets that far
-abbrev pub MayWork : (Database → Database → Type 0) → State → Trees → Type 0
-MayWork Work old db = IsTrue old.is_open × (to : Database) × (to.trees ≡ db) × Work old.committed to
-
--- the work of a transaction so far, which has committed nothing
-pub record HasWorked (Work : Database → Database → Type 0) (old new : State) : Type 0 where
-  pub was_open : IsTrue old.is_open
-  pub work : Work old.now new.now
-  pub committed : new.committed ≡ old.committed
-  pub mode : new.in_transaction ≡ true
-
--- in a transaction that is open, and on a disk that stayed clean, what didn't fail has done this work
-abbrev pub WorksInside : {X E : Type 0} → Result X E → (Database → Database → Type 0) → State → State → Type 0
-WorksInside result Work old new = HasCleanDisk new → IsTrue old.in_transaction → OnOk result (HasWorked Work old new)

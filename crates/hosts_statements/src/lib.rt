@@ -3,6 +3,5 @@
 
 pub mod loading;
 mod rowids;
-pub mod running;
 pub mod statements;
 pub mod tables;

@@ -9,8 +9,8 @@ ghost use Rattle.hosts_statements.specs.Tables.{no_schema};
 ghost use Rattle.hosts_statements.specs.Wrote.{HasMade, HasTables, IsFresh, MayWriteHosts, WroteHosts, hosts_in};
 ghost use Rattle.hosts_statements.specs.declared.tables.Version.TheVariants.{Second};
 
-use crate::running::{One, Then, run_one, run_two, transact};
 use hosts_db::MyId;
+use hosts_transactions::{One, Then, run_one, run_two, transact};
 use sqlite::{Alter, Connection, Error, ErrorCode, Transaction, params};
 
 /// Adds the row of a new host.

@@ -10,7 +10,7 @@ use Rattle.sqlite_catalog.specs.Change.{created}
 use Rattle.sqlite_tied.specs.Compute.{everything}
 use Rattle.sqlite.specs.Listing.{understood}
 use Rattle.sqlite.specs.Given.{IsPlain}
-use Rattle.hosts_statements.specs.Reading.{command_in}
+use Rattle.hosts_transactions.specs.Work.{command_in}
 use Rattle.hosts_statements.specs.Tables.{Upgraded, hosts_text, hosts_table, host_schema, first_schema, copy_hosts_text, empty_hosts_text, second_own_text}
 use Rattle.hosts_statements.proofs.Texts.{hosts_is}
 use Rattle.hosts_statements.proofs.Create.{Defines}

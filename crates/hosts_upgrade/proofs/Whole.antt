@@ -20,7 +20,8 @@ use Rattle.hosts_statements.specs.Maps.{with_own}
 use Rattle.hosts_statements.specs.Tables.{Upgraded, first_hosts_table, hosts_table, host_schema, first_schema, hosts_text, copy_hosts_text, empty_hosts_text, second_own_text}
 use Rattle.hosts_statements.specs.Shown.{host_of, watch_of, number_at, upgraded_row, shown, shown_in_tables, shown_in_first}
 use Rattle.hosts_statements.specs.Own.{is_host, is_watched, AreOwn}
-use Rattle.hosts_statements.specs.Wrote.{checks_in, HasOwnRow, HasWorked, IsHostSchema, IsWhole, RanThree}
+use Rattle.hosts_transactions.specs.Work.{HasWorked, RanThree}
+use Rattle.hosts_statements.specs.Wrote.{checks_in, HasOwnRow, IsHostSchema, IsWhole}
 use Rattle.hosts_statements.specs.declared.tables.Version.TheVariants.{First, Second}
 use Rattle.hosts_statements.proofs.Create.{create_step}
 use Rattle.hosts_statements.proofs.Delete.{delete_query, passes}

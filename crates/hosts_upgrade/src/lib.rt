@@ -8,7 +8,7 @@ ghost use Rattle.hosts_statements.specs.Wrote.{HasTables, IsHostSchema, MayWrite
 ghost use Rattle.hosts_statements.specs.declared.tables.Version.TheVariants.{First};
 ghost use Rattle.hosts_upgrade.specs.Made.{HasMadeHosts};
 
-use hosts_statements::running::do_three;
+use hosts_transactions::do_three;
 use sqlite::{Alter, Connection, Error, ErrorCode, Transaction, params};
 
 /// Makes the table of the hosts with quotas, beside those of schema 1.

@@ -3,9 +3,10 @@ use Rattle.sqlite_value.specs.declared.value.Value.TheVariants.{Int}
 use Rattle.sqlite.specs.State.{HasCleanDisk}
 use Rattle.sqlite.specs.Held.{state}
 use Rattle.hosts_statements.specs.Tables.{copy_hosts_text, empty_hosts_text, second_own_text}
-use Rattle.hosts_statements.specs.Wrote.{HasWorked, IsWhole, RanThree}
+use Rattle.hosts_transactions.specs.Work.{HasWorked, RanThree}
+use Rattle.hosts_statements.specs.Wrote.{IsWhole}
 use Rattle.hosts_statements.specs.declared.tables.Version.TheVariants.{First}
-use Rattle.hosts_statements.proofs.Transactions.{Transacts, survives_both, work_committed, work_survives}
+use Rattle.hosts_transactions.proofs.Transactions.{Transacts, survives_both, work_committed, work_survives}
 use Rattle.hosts_statements.proofs.Commits.{own_wrote, own_survives}
 use Rattle.hosts_upgrade.specs.Made.{HasMadeHosts}
 use Rattle.hosts_upgrade.proofs.Whole.{IsUpgraded, upgraded_inside, upgraded_makes}

@@ -6,7 +6,8 @@ use Rattle.sqlite.specs.State.{State, HasCleanDisk, IsUnchanged, Survives}
 use Rattle.sqlite.specs.Held.{state}
 use Rattle.sqlite.proofs.StateLemmas.{survives_then}
 use Rattle.sqlite.proofs.Callers.{unchanged_then, never_commits}
-use Rattle.hosts_statements.proofs.Steps.{keeps_then, keeps_unchanged, keeps_not_run, keeps_unread, shows_same}
+use Rattle.hosts_transactions.proofs.Keeping.{keeps_unchanged}
+use Rattle.hosts_statements.proofs.Steps.{keeps_then, keeps_not_run, keeps_unread, shows_same}
 use Rattle.hosts_statements.proofs.Reading.{tells}
 use Rattle.hosts_statements.proofs.loading.read.Goals as goal
 use Rattle.hosts_statements.proofs.loading.read.Goals.{After-query_all}

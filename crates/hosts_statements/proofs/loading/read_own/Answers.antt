@@ -3,7 +3,7 @@ use Rattle.sqlite.specs.State.{HasCleanDisk}
 use Rattle.sqlite.specs.Held.{state}
 use Rattle.hosts_statements.specs.Tables.{read_own_text}
 use Rattle.hosts_statements.specs.Reading.{Tells}
-use Rattle.hosts_statements.proofs.Permuted.{if_then, on_if}
+use Rattle.hosts_transactions.proofs.Results.{if_then, on_if}
 use Rattle.hosts_statements.proofs.Reading.{own_plain_at, own_from}
 use Rattle.hosts_statements.proofs.loading.read_own.Goals as goal
 

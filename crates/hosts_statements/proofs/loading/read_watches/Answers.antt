@@ -5,7 +5,7 @@ use Rattle.sqlite.specs.Held.{state}
 use Rattle.hosts_statements.specs.Maps.{watch_row}
 use Rattle.hosts_statements.specs.Tables.{read_watches_text}
 use Rattle.hosts_statements.specs.Reading.{Tells}
-use Rattle.hosts_statements.proofs.Permuted.{on_both, on_then}
+use Rattle.hosts_transactions.proofs.Results.{on_both, on_then}
 use Rattle.hosts_statements.proofs.Reading.{watches_plain_at, watches_from, own_watches_from}
 use Rattle.hosts_statements.proofs.loading.read_watches.Goals as goal
 

@@ -4,7 +4,8 @@ use Rattle.definitions.specs.Bytes.{same_bytes, without}
 use Rattle.definitions.specs.Hosts.{Hosts, HostRow}
 use Rattle.hosts_statements.specs.Maps.{without_host}
 use Rattle.hosts_statements.specs.Tables.{delete_host_text}
-use Rattle.hosts_statements.specs.Wrote.{Ran, rows_in}
+use Rattle.hosts_transactions.specs.Work.{Ran}
+use Rattle.hosts_statements.specs.Wrote.{rows_in}
 use Rattle.hosts_statements.proofs.Fewer.{host_given, made_without_host}
 use Rattle.hosts_statements.proofs.Commits.{CommitsWork, commits_work, hosts_by_work}
 use Rattle.hosts_statements.proofs.Changed.{host_gone}

@@ -4,7 +4,8 @@ use Rattle.sqlite.specs.Held.{state}
 use Rattle.definitions.specs.Hosts.{Hosts, after_store, Unwatched}
 use Rattle.hosts_statements.specs.Maps.{without_watches}
 use Rattle.hosts_statements.specs.Tables.{delete_watch_text}
-use Rattle.hosts_statements.specs.Wrote.{Ran, rows_in}
+use Rattle.hosts_transactions.specs.Work.{Ran}
+use Rattle.hosts_statements.specs.Wrote.{rows_in}
 use Rattle.hosts_statements.proofs.Fewer.{watch_given, made_without_watch}
 use Rattle.hosts_statements.proofs.Commits.{CommitsWork, commits_work, hosts_by_work}
 use Rattle.hosts_statements.proofs.Changed.{watches_gone}

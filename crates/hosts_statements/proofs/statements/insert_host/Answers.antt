@@ -4,7 +4,8 @@ use Rattle.sqlite.specs.Held.{state}
 use Rattle.definitions.specs.Hosts.{Hosts, after_store, Monitor}
 use Rattle.hosts_statements.specs.Maps.{made_now, with_host}
 use Rattle.hosts_statements.specs.Tables.{monitor_text}
-use Rattle.hosts_statements.specs.Wrote.{Ran, rows_in}
+use Rattle.hosts_transactions.specs.Work.{Ran}
+use Rattle.hosts_statements.specs.Wrote.{rows_in}
 use Rattle.hosts_statements.proofs.Monitor.{params}
 use Rattle.hosts_statements.proofs.Rows.{made_host}
 use Rattle.hosts_statements.proofs.Listed.{no_host, monitored_at}

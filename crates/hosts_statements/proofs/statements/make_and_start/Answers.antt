@@ -6,7 +6,7 @@ use Rattle.hosts_statements.specs.Maps.{with_own}
 use Rattle.hosts_statements.specs.Wrote.{HasMade}
 use Rattle.hosts_statements.proofs.Create.{started}
 use Rattle.hosts_statements.proofs.Rows.{Makes}
-use Rattle.hosts_statements.proofs.Transactions.{Transacts, survives_both, work_committed, work_survives}
+use Rattle.hosts_transactions.proofs.Transactions.{Transacts, survives_both, work_committed, work_survives}
 use Rattle.hosts_statements.proofs.Commits.{own_wrote, own_survives}
 use Rattle.hosts_statements.proofs.statements.make_and_start.Goals as goal
 use Rattle.hosts_statements.proofs.statements.make_and_start.Goals.{After-branch-commit}

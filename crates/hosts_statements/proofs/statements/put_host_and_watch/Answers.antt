@@ -4,7 +4,8 @@ use Rattle.sqlite.specs.Held.{state}
 use Rattle.definitions.specs.Hosts.{Hosts, after_store, Watched}
 use Rattle.hosts_statements.specs.Maps.{WatchKey, made_now, with_host, with_watch, without_watches}
 use Rattle.hosts_statements.specs.Tables.{monitor_text, watch_text, delete_watch_text}
-use Rattle.hosts_statements.specs.Wrote.{RanThree, rows_in}
+use Rattle.hosts_transactions.specs.Work.{RanThree}
+use Rattle.hosts_statements.specs.Wrote.{rows_in}
 use Rattle.hosts_statements.proofs.Monitor.{params}
 use Rattle.hosts_statements.proofs.Watch.{watch_params}
 use Rattle.hosts_statements.proofs.Fewer.{watch_given}

@@ -5,7 +5,8 @@ use Rattle.definitions.specs.Bytes.{put}
 use Rattle.definitions.specs.Hosts.{Hosts, watch_cmp}
 use Rattle.hosts_statements.specs.Maps.{WatchKey, with_watch, without_watches, watch_row}
 use Rattle.hosts_statements.specs.Tables.{watch_text, delete_watch_text}
-use Rattle.hosts_statements.specs.Wrote.{RanTwo, rows_in}
+use Rattle.hosts_transactions.specs.Work.{RanTwo}
+use Rattle.hosts_statements.specs.Wrote.{rows_in}
 use Rattle.hosts_statements.proofs.Watch.{watch_params}
 use Rattle.hosts_statements.proofs.Fewer.{watch_given}
 use Rattle.hosts_statements.proofs.Commits.{CommitsWork, commits_work, hosts_by_work}

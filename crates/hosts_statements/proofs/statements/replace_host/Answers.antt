@@ -5,7 +5,8 @@ use Rattle.definitions.specs.Bytes.{put}
 use Rattle.definitions.specs.Hosts.{Hosts, row_cmp}
 use Rattle.hosts_statements.specs.Maps.{Host, with_host, without_host, host_row}
 use Rattle.hosts_statements.specs.Tables.{monitor_text, delete_host_text}
-use Rattle.hosts_statements.specs.Wrote.{RanTwo, rows_in}
+use Rattle.hosts_transactions.specs.Work.{RanTwo}
+use Rattle.hosts_statements.specs.Wrote.{rows_in}
 use Rattle.hosts_statements.proofs.Monitor.{params}
 use Rattle.hosts_statements.proofs.Fewer.{host_given}
 use Rattle.hosts_statements.proofs.Commits.{CommitsWork, commits_work, hosts_by_work}

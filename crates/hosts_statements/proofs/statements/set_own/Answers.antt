@@ -4,7 +4,7 @@ use Rattle.sqlite.specs.Held.{state}
 use Rattle.definitions.specs.Hosts.{Hosts}
 use Rattle.hosts_statements.specs.Maps.{with_own}
 use Rattle.hosts_statements.specs.Tables.{set_own_text}
-use Rattle.hosts_statements.specs.Wrote.{Ran}
+use Rattle.hosts_transactions.specs.Work.{Ran}
 use Rattle.hosts_statements.proofs.Update.{made_own}
 use Rattle.hosts_statements.proofs.Commits.{CommitsWork, commits_work, hosts_by_work}
 use Rattle.hosts_statements.proofs.statements.set_own.Goals as goal

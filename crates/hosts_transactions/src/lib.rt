@@ -1,16 +1,18 @@
 //! Statements that are run in one transaction.
+#![tactic(auto)]
+
 ghost use Rattle.std.specs.Prelude.{◌≡◌, IsTrue, OnOk, OnErr};
 ghost use Rattle.sqlite.specs.Values.{bound};
 ghost use Rattle.sqlite.specs.Effect.{Database};
 ghost use Rattle.sqlite.specs.State.{HasCleanDisk, KeepsCommit, Survives};
 ghost use Rattle.sqlite.specs.Held.{state};
-ghost use Rattle.hosts_statements.specs.Wrote.{Committed, MayWork, Ran, RanThree, RanTwo, WorksInside};
+ghost use Rattle.hosts_transactions.specs.Work.{Committed, MayWork, Ran, RanThree, RanTwo, WorksInside};
 
 use sqlite::types::ValueRef;
 use sqlite::{Alter, Connection, Error, ErrorCode, Transaction};
 
 /// What one transaction does. Where it fails, the last commit stays.
-pub(crate) trait Work {
+pub trait Work {
     ghost works: { Self → Database → Database → Type 0 };
 
     fn run<S: Alter>(&self, tx: &mut Transaction<'_, S>) -> Result<(), Error>
@@ -22,7 +24,7 @@ pub(crate) trait Work {
 
 /// One statement, and its parameters.
 #[derive(Clone, Copy)]
-pub(crate) struct One<'a>(pub(crate) &'a str, pub(crate) &'a [ValueRef<'a>]);
+pub struct One<'a>(pub &'a str, pub &'a [ValueRef<'a>]);
 
 impl Work for One<'_> {
     ghost works = { λ one. Ran one.0.now (bound one.1.now) };
@@ -35,7 +37,7 @@ impl Work for One<'_> {
 
 /// One work behind the other.
 #[derive(Clone, Copy)]
-pub(crate) struct Then<A, B>(pub(crate) A, pub(crate) B);
+pub struct Then<A, B>(pub A, pub B);
 
 impl<A: Work, B: Work> Work for Then<A, B> {
     ghost works = { λ then from to. (mid : Database) × A.works then.0 from mid × B.works then.1 mid to };
@@ -47,7 +49,7 @@ impl<A: Work, B: Work> Work for Then<A, B> {
 }
 
 /// Does this work in a transaction of its own.
-pub(crate) fn transact<S: Alter, W: Work>(conn: &mut Connection<S>, work: &W) -> Result<(), Error>
+pub fn transact<S: Alter, W: Work>(conn: &mut Connection<S>, work: &W) -> Result<(), Error>
     ensures ok { HasCleanDisk (state S.Store conn.new) → OnOk result (Committed (W.works work.now) (state S.Store conn.old) (state S.Store conn.new)) }
     ensures err { HasCleanDisk (state S.Store conn.new) → OnErr result (KeepsCommit (state S.Store conn.old) (state S.Store conn.new)) }
     ensures crash { Survives (state S.Store conn.old) (state S.Store conn.new) (MayWork (W.works work.now) (state S.Store conn.old)) }
@@ -80,7 +82,7 @@ pub fn do_three<S: Alter>(
 }
 
 /// Runs a statement, in a transaction of its own.
-pub(crate) fn run_one<S: Alter>(
+pub fn run_one<S: Alter>(
     conn: &mut Connection<S>,
     sql: &str,
     params: &[ValueRef<'_>],
@@ -93,7 +95,7 @@ pub(crate) fn run_one<S: Alter>(
 }
 
 /// Runs two statements in one transaction.
-pub(crate) fn run_two<S: Alter>(
+pub fn run_two<S: Alter>(
     conn: &mut Connection<S>,
     first: &str,
     given: &[ValueRef<'_>],

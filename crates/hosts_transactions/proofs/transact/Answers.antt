@@ -1,7 +1,7 @@
 use Rattle.std.proofs.Common.{◌≡◌, rules, IsTrue}
-use Rattle.hosts_statements.proofs.Transactions.{Transacts, transacts, work_committed, work_survives, work_undone}
-use Rattle.hosts_statements.proofs.running.transact.Goals as goal
-use Rattle.hosts_statements.proofs.running.transact.Goals.{After-branch-commit}
+use Rattle.hosts_transactions.proofs.Transactions.{Transacts, transacts, work_committed, work_survives, work_undone}
+use Rattle.hosts_transactions.proofs.transact.Goals as goal
+use Rattle.hosts_transactions.proofs.transact.Goals.{After-branch-commit}
 
 transaction : (g : _) (c : After-branch-commit g) → Transacts g.S.Store (g.W.Work.works c.args.work.now) c.args.conn.now c.run.new.tx.conn.now c.commit.new.self.0 c.conn-2-1.given.0
 transaction g c =

@@ -8,8 +8,8 @@ use Rattle.sqlite.specs.Steps.{FailsToCommit}
 use Rattle.sqlite.specs.Held.{Held, state}
 use Rattle.sqlite.proofs.StateLemmas.{survives_then}
 use Rattle.sqlite.proofs.Callers.{survives_begin}
-use Rattle.hosts_statements.specs.Wrote.{Committed, HasWorked, MayWork}
-use Rattle.hosts_statements.proofs.Steps.{keeps_uncommitted}
+use Rattle.hosts_transactions.specs.Work.{Committed, HasWorked, MayWork}
+use Rattle.hosts_transactions.proofs.Keeping.{keeps_uncommitted}
 
 -- the work is done inside, from where the last commit stood, and a crash before the commit leaves none of it
 pub record Transacts {S : Type 0} (g : Ghosts S) (Work : Database → Database → Type 0) (old last end new : Held S) : Type 0 where

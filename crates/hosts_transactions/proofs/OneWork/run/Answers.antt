@@ -1,7 +1,7 @@
 use Rattle.sqlite.specs.Held.{state}
 use Rattle.sqlite.specs.Values.{bound}
-use Rattle.hosts_statements.proofs.Ran.{ran_of}
-use Rattle.hosts_statements.proofs.running.OneWork.run.Goals as goal
+use Rattle.hosts_transactions.proofs.Ran.{ran_of}
+use Rattle.hosts_transactions.proofs.OneWork.run.Goals as goal
 
 pub returns-clause-ok : goal.returns-clause-ok
 returns-clause-ok g c clean inside =

@@ -11,8 +11,7 @@ use Rattle.sqlite.specs.Effect.{IsDatabase}
 use Rattle.sqlite.specs.Listing.{understood}
 use Rattle.sqlite.specs.State.{State, Executes, Runs, mode_of}
 use Rattle.sqlite.proofs.Callers.{command_of, statement_of, runs_as}
-use Rattle.hosts_statements.specs.Reading.{command_in}
-use Rattle.hosts_statements.specs.Wrote.{IsRowWrite, Ran}
+use Rattle.hosts_transactions.specs.Work.{command_in, IsRowWrite, Ran}
 
 pub same_command : (r : Result Compiled CompileError) → command_of r ≡ command_in r
 same_command (Ok c) = refl

@@ -1,8 +1,8 @@
 use Rattle.std.proofs.Common.{◌∙◌, arith}
 use Rattle.sqlite.specs.State.{HasCleanDisk}
 use Rattle.sqlite.specs.Held.{state}
-use Rattle.hosts_statements.proofs.Permuted.{on_then}
-use Rattle.hosts_statements.proofs.running.ThenWork.run.Goals as goal
+use Rattle.hosts_transactions.proofs.Results.{on_then}
+use Rattle.hosts_transactions.proofs.ThenWork.run.Goals as goal
 
 pub returns-clause-ok : goal.returns-clause-ok
 returns-clause-ok g c clean inside =

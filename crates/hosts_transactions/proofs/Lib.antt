@@ -1,0 +1,4 @@
+pub mod Results
+pub mod Keeping
+pub mod Ran
+pub mod Transactions
