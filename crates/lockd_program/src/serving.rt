@@ -84,33 +84,20 @@ fn settings_of(asked: &ServeConfig) -> Settings {
     }
 }
 
-fn serve_over<S, R>(
-    rt: &R,
+fn backing_of<S: HostStore + Drop>(
     alloc: Global,
     asked: &ServeConfig,
     peers: Peers,
     store: S,
-) -> Result<u64, ServeFault>
-where
-    S: HostStore + Drop + Send,
-    R: Net<Listener = TcpListener, Stream = TcpStream>
-        + Threads
-        + Wait
-        + Clock
-        + Print
-        + Log
-        + Sync,
-{
-    let name = asked.name.as_str().as_bytes();
-    let Ok(own_name) = ShortBytes::copy_of(alloc, name) else {
-        return Err(ServeFault::Starved);
-    };
-    let backing = Backing {
-        store,
-        peers,
-        own_name,
-    };
-    serve(rt, alloc, &settings_of(asked), backing, &Open).map_err(ServeFault::Server)
+) -> Result<Backing<S>, ServeFault> {
+    match ShortBytes::copy_of(alloc, asked.name.as_str().as_bytes()) {
+        Ok(own_name) => Ok(Backing {
+            store,
+            peers,
+            own_name,
+        }),
+        Err(_) => Err(ServeFault::Starved),
+    }
 }
 
 // It is generic, so that the proof of a call sees no more of a database than its trait.
@@ -131,9 +118,15 @@ where
         + Log
         + Sync,
 {
-    match stored_hosts(alloc, conn) {
-        Ok(store) => serve_over(rt, alloc, asked, peers, store),
+    let backed = match stored_hosts(alloc, conn) {
+        Ok(store) => backing_of(alloc, asked, peers, store),
         Err(fault) => Err(ServeFault::Store(fault)),
+    };
+    match backed {
+        Ok(backing) => {
+            serve(rt, alloc, &settings_of(asked), backing, &Open).map_err(ServeFault::Server)
+        }
+        Err(fault) => Err(fault),
     }
 }
 
