@@ -57,4 +57,13 @@ impl<T: Drop> Archive<T> {
     {
         self.kept
     }
+
+    /// The items and a last one, where they were kept.
+    pub(crate) fn into_kept_with(mut self, last: T) -> Result<Option<Vec<T>>, Starved>
+        ensures { IfOk result (λ kept. IfSome kept (λ items. items.items ≡ self.all.items ++ last ∷ [])) }
+    {
+        self.reserve()?;
+        self.add(last);
+        Ok(self.into_kept())
+    }
 }

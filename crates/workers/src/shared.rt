@@ -212,15 +212,12 @@ impl<R: RangeTable + Drop, S: HostStore + Drop, L: Ledger> Shared<R, S, L> {
     {
         let Shared {
             book,
-            mut archive,
+            archive,
             mut total,
             ..
         } = self;
         total.audit(all);
-        archive.reserve()?;
-        archive.add(book.close());
-        Ok(Ends {
-            segments: archive.into_kept(),
-        })
+        let segments = archive.into_kept_with(book.close())?;
+        Ok(Ends { segments })
     }
 }
