@@ -1,2 +1,3 @@
 pub mod Founds
+pub mod Made
 pub mod Refusals

@@ -1,11 +1,12 @@
 -- Where nothing is asked.
-use Rattle.std.proofs.Common.{◌≡◌, List, [], ◌∷◌, true, inl, inr, Option, Some, None, refl, sym, subst}
-use Rattle.std.specs.Prelude.{Result, Ok, Err, IsErrAnd, codes}
+use Rattle.std.proofs.Common.{◌≡◌, List, [], ◌∷◌, length, map, arith, true, inl, inr, Option, Some, None, refl, sym, subst}
+use Rattle.std.specs.Prelude.{Result, Ok, Err, IsOkAnd, IsErrAnd, MatchResult, codes}
 use Rattle.std.proofs.lemmas.Bool.{and_parts}
 use Rattle.clap.specs.Words.{App, Row, Text, found_of, matches_of, rows_of, is_simple, is_simple_and_free, kind_of, HasKind, HasMatchesOf, Kinds}
 use Rattle.clap.specs.declared.error.Error.{Error}
 use Rattle.clap.specs.declared.parser.matches.ArgMatches.{ArgMatches}
-use Rattle.config.specs.Reads.{ReadsAddress, ReadsServe}
+use Rattle.std.specs.declared.net.ip_addr.IpAddr.{IpAddr}
+use Rattle.config.specs.Reads.{IsBound, IsWrong, Reads, ReadsAddress, ReadsServe, serve_in}
 use Rattle.clap.specs.declared.error.kind.ErrorKind.TheVariants.{OutOfMemory}
 use Rattle.clap.proofs.OnLiterals.{clap_on_literals}
 use Rattle.config.specs.Lockd.{pipe_app, table_app, serve_app}
@@ -35,6 +36,19 @@ pub unasked : {X : Type 0} (asks : X → Type 0) (f : ConfigFault) → ((x : X) 
 unasked asks fault.Starved h = tt
 unasked asks (fault.Refused e) h = h
 
+-- a setting that isn't read is refused, but for want of memory
+pub unread_refused : {X : Type 0} (asks : X → Type 0) (u : Unread) (f : ConfigFault) → (u ≡ unread.Starved → f ≡ fault.Starved) → (IsWrong u → (x : X) → asks x → ⊥) → Answers asks (Err f)
+unread_refused asks unread.Starved f h k = subst (λ (g : ConfigFault). Answers asks (Err g)) (sym (h refl)) tt
+unread_refused asks (unread.Wrong w) f h k = unasked asks f (k tt)
+
+pub none_read : {X : Type 0} (u : Unread) (read : Option X) → Reads (λ (x : X). x) (Err u) read → IsWrong u → read ≡ None
+none_read unread.Starved read h w = absurd w
+none_read (unread.Wrong x) read h w = h
+
+pub none_served : (u : Unread) (rows : List Row) → ReadsServe (Err u) rows → IsWrong u → (address : IpAddr) → IsBound rows address → serve_in address rows ≡ None
+none_served unread.Starved rows h w = absurd w
+none_served (unread.Wrong x) rows h w = h
+
 none_among : (kinds : Kinds) (e : Error) → kinds ≡ [] → HasKind kinds e → (kind_of e ≡ OutOfMemory → ⊥) → ⊥
 none_among kinds e is (inl starved) other = other starved
 none_among [] e is (inr among) other = among
@@ -55,6 +69,14 @@ some_none (Some y) p x same e is = absurd cc
 pub Answers-fault : {X Y : Type 0} (asks : X → Type 0) (others : Y → Type 0) (f : ConfigFault) → ((y : Y) → others y → (x : X) × asks x) → Answers asks (Err f) → Answers others (Err f)
 Answers-fault asks others fault.Starved h a = tt
 Answers-fault asks others (fault.Refused e) h a = λ y other. let p = h y other in a p.0 p.1
+
+-- the same answer, in what else is made of it
+pub Answers-mapped : {X Y : Type 0} (asks : X → Type 0) (others : Y → Type 0) (r : Result X ConfigFault) (s : Result Y ConfigFault) (f : X → Y) →
+    MatchResult r (λ x. IsOkAnd s (λ y. y ≡ f x)) (λ e. s ≡ Err e) → ((x : X) → asks x → others (f x)) → ((y : Y) → others y → (x : X) × asks x) →
+    Answers asks r → Answers others s
+Answers-mapped asks others (Ok x) (Ok y) f m up down a = subst others (sym m) (up x a)
+Answers-mapped asks others (Ok x) (Err e) f m up down a = absurd m
+Answers-mapped asks others (Err e) s f m up down a = subst (λ (t : Result _ ConfigFault). Answers others t) (sym m) (Answers-fault asks others e down a)
 
 pub as_pipe : (words : List Text) (c : Config) → AsksBy (Some verb.Pipe) words c → (s : StreamConfig) × AsksStream pipe_app words s
 as_pipe words (config.Pipe s) h = (s, h)
@@ -92,3 +114,17 @@ serve_simple = refl
 -- what was found is the matches of the words
 pub rows_are : (app : App) (words : List Text) (m : ArgMatches) → is_simple_and_free app ≡ true → HasMatchesOf app words m → rows_of (found_of m) ≡ matches_of app words
 rows_are app words m simple has = (has (and_parts (is_simple app) _ simple).0).0
+
+-- where no command is named, nothing is asked
+pub none_asked : (asks : Config → Type 0) (words : List Text) (r : Result Config ConfigFault) → ((x : Config) → asks x → ⊥) → Answers (AsksBy None words) r → Answers asks r
+none_asked asks words (Ok x) h a = absurd a
+none_asked asks words (Err f) h a = unasked asks f h
+
+pub asks_none : (words rest : List Text) (word : Text) (r : Result Config ConfigFault) → words ≡ word ∷ rest → verb_in word ≡ None → Answers (AsksBy None words) r → Answers (Asks words) r
+asks_none words rest word r e is h =
+    subst (λ (ws : List Text). Answers (Asks ws) r) (sym e)
+    (subst (λ (o : Option Verb). Answers (AsksBy o rest) r) (sym is) (none_asked (AsksBy None rest) words r (λ x asked. asked) h))
+
+pub asks_nothing : {A : Type 0} (text : A → Text) (words : List A) (r : Result Config ConfigFault) → length words ≡ 0 → Answers (AsksBy None (map text words)) r → Answers (Asks (map text words)) r
+asks_nothing text [] r e h = none_asked (Asks []) [] r (λ x asked. asked) h
+asks_nothing text (w ∷ ws) r e h = absurd (omega (arith, e))

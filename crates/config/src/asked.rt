@@ -1,15 +1,18 @@
 //! The command line.
 
-ghost use Rattle.std.specs.Prelude.{◌≡◌, true, Some, map, string_bytes};
+ghost use Rattle.std.specs.Prelude.{◌≡◌, true, IfOk, Some, map, string_bytes};
 ghost use Rattle.clap.specs.Words.{app_of, is_simple_and_free};
+ghost use Rattle.config.specs.declared.fault.ConfigFault.TheVariants as fault_as;
+ghost use Rattle.config.specs.declared.settings.Unread.TheVariants as unread_as;
+ghost use Rattle.config.specs.Lockd.{pipe_app, table_app, serve_app};
 ghost use Rattle.config.specs.Asked.{Answers, Asks, AsksBy, AsksStream, AsksServe, verb_in};
 
 use crate::command::{lockd_command, pipe_command, serve_command, table_command};
 use crate::fault::ConfigFault;
-use crate::settings::{Config, ServeConfig, StreamConfig, Unread, Wrong, read_serve, read_stream};
+use crate::settings::{Config, ServeConfig, StreamConfig, Unread, read_serve, read_stream};
 use clap::Command;
 use clap::error::ErrorKind;
-use std::alloc::Global;
+use std::alloc::{AllocError, Global};
 
 /// The command that the first word names.
 #[derive(Clone, Copy)]
@@ -19,96 +22,116 @@ enum Verb {
     Serve,
 }
 
-/// The fault of a word that is no value of its option.
-fn refusal(alloc: Global, command: &mut Command<'_>, wrong: &Wrong<'_>) -> ConfigFault {
+/// The fault with this message, and with how the command is used.
+fn refused(command: &mut Command<'_>, kind: ErrorKind, message: &str) -> ConfigFault {
+    match command.error(kind, message) {
+        Ok(error) => ConfigFault::Refused(error),
+        Err(_) => ConfigFault::Starved,
+    }
+}
+
+/// The fault of a setting that isn't read.
+fn refusal(alloc: Global, command: &mut Command<'_>, unread: Unread<'_>) -> ConfigFault
+    ensures { unread.entry ≡ unread_as.Starved → result ≡ fault_as.Starved }
+{
+    let Unread::Wrong(wrong) = unread else {
+        return ConfigFault::Starved;
+    };
     let Ok(message) = format!(in alloc;
         "invalid value '{}' for '--{}': {}",
         wrong.value, wrong.option, wrong.right
     ) else {
         return ConfigFault::Starved;
     };
-    match command.error(ErrorKind::ValueValidation, message.as_str()) {
-        Ok(error) => ConfigFault::Refused(error),
-        Err(_) => ConfigFault::Starved,
-    }
+    refused(command, ErrorKind::ValueValidation, message.as_str())
 }
 
 /// What the words behind `pipe` or `table` ask.
 fn stream_config<'a>(
     alloc: Global,
-    mut command: Command<'a>,
+    command: &mut Command<'a>,
     words: &'a [String],
 ) -> Result<StreamConfig, ConfigFault>
-    requires { is_simple_and_free (app_of command) ≡ true }
-    ensures { Answers (AsksStream (app_of command.entry) (map (λ w. string_bytes w) words.now)) result }
+    requires { is_simple_and_free (app_of command.old) ≡ true }
+    ensures { Answers (AsksStream (app_of command.old) (map (λ w. string_bytes w) words.now)) result }
 {
     let matches = command.try_get_matches_from_mut(words)?;
     match read_stream(alloc, &matches) {
         Ok(config) => Ok(config),
-        Err(Unread::Starved) => Err(ConfigFault::Starved),
-        Err(Unread::Wrong(wrong)) => Err(refusal(alloc, &mut command, &wrong)),
+        Err(unread) => Err(refusal(alloc, command, unread)),
     }
 }
 
 /// What the words behind `serve` ask.
 fn serve_config<'a>(
     alloc: Global,
-    mut command: Command<'a>,
+    command: &mut Command<'a>,
     words: &'a [String],
 ) -> Result<ServeConfig, ConfigFault>
-    requires { is_simple_and_free (app_of command) ≡ true }
-    ensures { Answers (AsksServe (app_of command.entry) (map (λ w. string_bytes w) words.now)) result }
+    requires { is_simple_and_free (app_of command.old) ≡ true }
+    ensures { Answers (AsksServe (app_of command.old) (map (λ w. string_bytes w) words.now)) result }
 {
     let matches = command.try_get_matches_from_mut(words)?;
     match read_serve(alloc, &matches) {
         Ok(config) => Ok(config),
-        Err(Unread::Starved) => Err(ConfigFault::Starved),
-        Err(Unread::Wrong(wrong)) => Err(refusal(alloc, &mut command, &wrong)),
-    }
-}
-
-fn pipe(alloc: Global, words: &[String]) -> Result<Config, ConfigFault>
-    ensures { Answers (AsksBy (Some Verb.Pipe) (map (λ w. string_bytes w) words.now)) result }
-{
-    let command = pipe_command(alloc)?;
-    match stream_config(alloc, command, words) {
-        Ok(config) => Ok(Config::Pipe(config)),
-        Err(fault) => Err(fault),
-    }
-}
-
-fn table(alloc: Global, words: &[String]) -> Result<Config, ConfigFault>
-    ensures { Answers (AsksBy (Some Verb.Table) (map (λ w. string_bytes w) words.now)) result }
-{
-    let command = table_command(alloc)?;
-    match stream_config(alloc, command, words) {
-        Ok(config) => Ok(Config::Table(config)),
-        Err(fault) => Err(fault),
-    }
-}
-
-fn serve(alloc: Global, words: &[String]) -> Result<Config, ConfigFault>
-    ensures { Answers (AsksBy (Some Verb.Serve) (map (λ w. string_bytes w) words.now)) result }
-{
-    let command = serve_command(alloc)?;
-    match serve_config(alloc, command, words) {
-        Ok(config) => Ok(Config::Serve(config)),
-        Err(fault) => Err(fault),
+        Err(unread) => Err(refusal(alloc, command, unread)),
     }
 }
 
 /// The fault of words that begin with no command: help, the version, or what is wrong.
-fn no_command(alloc: Global, words: &[String]) -> ConfigFault {
-    let Ok(mut command) = lockd_command(alloc) else {
-        return ConfigFault::Starved;
-    };
+fn no_command<'a>(command: &mut Command<'a>, words: &'a [String]) -> ConfigFault {
     if let Err(error) = command.try_get_matches_from_mut(words) {
         return ConfigFault::from(error);
     }
-    match command.error(ErrorKind::MissingSubcommand, "a command comes first") {
-        Ok(error) => ConfigFault::Refused(error),
-        Err(_) => ConfigFault::Starved,
+    refused(
+        command,
+        ErrorKind::MissingSubcommand,
+        "a command comes first",
+    )
+}
+
+/// The command line of a command, or of `lockd` where none is named.
+fn command_of<'a>(alloc: Global, verb: Option<Verb>) -> Result<Command<'a>, AllocError>
+    ensures pipe { verb ≡ Some Verb.Pipe → IfOk result (λ r. app_of r ≡ pipe_app) }
+    ensures table { verb ≡ Some Verb.Table → IfOk result (λ r. app_of r ≡ table_app) }
+    ensures serve { verb ≡ Some Verb.Serve → IfOk result (λ r. app_of r ≡ serve_app) }
+{
+    match verb {
+        Some(Verb::Pipe) => pipe_command(alloc),
+        Some(Verb::Table) => table_command(alloc),
+        Some(Verb::Serve) => serve_command(alloc),
+        None => lockd_command(alloc),
     }
+}
+
+/// What the words ask of it.
+fn config_by<'a>(
+    alloc: Global,
+    command: &mut Command<'a>,
+    verb: Option<Verb>,
+    words: &'a [String],
+) -> Result<Config, ConfigFault>
+    requires pipe { verb ≡ Some Verb.Pipe → app_of command.old ≡ pipe_app }
+    requires table { verb ≡ Some Verb.Table → app_of command.old ≡ table_app }
+    requires serve { verb ≡ Some Verb.Serve → app_of command.old ≡ serve_app }
+    ensures { Answers (AsksBy verb (map (λ w. string_bytes w) words.now)) result }
+{
+    match verb {
+        Some(Verb::Pipe) => stream_config(alloc, command, words).map(Config::Pipe),
+        Some(Verb::Table) => stream_config(alloc, command, words).map(Config::Table),
+        Some(Verb::Serve) => serve_config(alloc, command, words).map(Config::Serve),
+        None => Err(no_command(command, words)),
+    }
+}
+
+/// What the words behind a command's name ask, or what is wrong with words that name none.
+fn asked_by(alloc: Global, verb: Option<Verb>, words: &[String]) -> Result<Config, ConfigFault>
+    ensures { Answers (AsksBy verb (map (λ w. string_bytes w) words.now)) result }
+{
+    let Ok(mut command) = command_of(alloc, verb) else {
+        return Err(ConfigFault::Starved);
+    };
+    config_by(alloc, &mut command, verb, words)
 }
 
 #[tactic(auto, unfolding(crate::specs::Asked::verb_in))]
@@ -137,12 +160,10 @@ pub fn config(alloc: Global, words: &[String]) -> Result<Config, ConfigFault>
     ensures { Answers (Asks (map (λ w. string_bytes w) words.now)) result }
 {
     let Some((word, rest)) = words.split_first() else {
-        return Err(no_command(alloc, words));
+        return asked_by(alloc, None, words);
     };
     match read_verb(word.as_str()) {
-        Some(Verb::Pipe) => pipe(alloc, rest),
-        Some(Verb::Table) => table(alloc, rest),
-        Some(Verb::Serve) => serve(alloc, rest),
-        None => Err(no_command(alloc, words)),
+        Some(verb) => asked_by(alloc, Some(verb), rest),
+        None => asked_by(alloc, None, words),
     }
 }

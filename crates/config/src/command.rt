@@ -1,6 +1,6 @@
 //! The command lines, as `clap` knows them.
 
-ghost use Rattle.std.specs.Prelude.{◌≡◌, false, IfOk, codes};
+ghost use Rattle.std.specs.Prelude.{◌≡◌, false, IfOk, IsOkAnd, codes};
 ghost use Rattle.clap.specs.Words.{app_of, rule_of, with_rule};
 ghost use Rattle.config.specs.Lockd.{flag_rule, value_rule, needed_rule, default_rule, bare_app, with_grace, with_own_ports, with_peer_ports, with_places, with_times, with_work, pipe_app, table_app, serve_app};
 
@@ -9,6 +9,9 @@ use std::alloc::{AllocError, Global};
 
 /// The program's version.
 const VERSION: &str = "1.0.0";
+
+/// What the program is.
+const LOCKD_ABOUT: &str = "The lock manager and status monitor of an NFS server";
 
 /// What `pipe` does.
 const PIPE_ABOUT: &str = "Serve one record-marked stream on standard input";
@@ -31,28 +34,6 @@ fn value<'a>(alloc: Global, id: &'a str, shown: &'a str, help: &'a str) -> Arg<'
         .action(ArgAction::Set)
 }
 
-/// One that has to be given.
-fn needed<'a>(alloc: Global, id: &'a str, shown: &'a str, help: &'a str) -> Arg<'a>
-    ensures rule { rule_of result ≡ needed_rule id.entry.now }
-    ensures local { result.global ≡ false }
-{
-    value(alloc, id, shown, help).required(true)
-}
-
-/// One with a default.
-fn defaulted<'a>(
-    alloc: Global,
-    id: &'a str,
-    shown: &'a str,
-    default: &'a str,
-    help: &'a str,
-) -> Arg<'a>
-    ensures rule { rule_of result ≡ default_rule id.entry.now default.entry.now }
-    ensures local { result.global ≡ false }
-{
-    value(alloc, id, shown, help).default_value(default)
-}
-
 /// An option without value.
 fn flag<'a>(alloc: Global, id: &'a str, help: &'a str) -> Arg<'a>
     ensures rule { rule_of result ≡ flag_rule id.entry.now }
@@ -64,13 +45,62 @@ fn flag<'a>(alloc: Global, id: &'a str, help: &'a str) -> Arg<'a>
         .action(ArgAction::SetTrue)
 }
 
-/// The server's own name.
-fn own_name<'a>(alloc: Global) -> Arg<'a>
-    ensures rule { rule_of result ≡ default_rule (codes "name") (codes "server") }
-    ensures local { result.global ≡ false }
+// All that add options hand a refused growth on, so that a chain of them has no early end.
+
+/// Adds an option that has to be given.
+fn with_needed<'a>(
+    alloc: Global,
+    command: Result<Command<'a>, AllocError>,
+    id: &'a str,
+    shown: &'a str,
+    help: &'a str,
+) -> Result<Command<'a>, AllocError>
+    ensures { IfOk result (λ r. IsOkAnd command.entry (λ c. app_of r ≡ with_rule (app_of c) (needed_rule id.entry.now))) }
 {
-    defaulted(
+    let command = command?;
+    let needed = value(alloc, id, shown, help).required(true);
+    command.arg(needed)
+}
+
+/// Adds one with a default.
+fn with_default<'a>(
+    alloc: Global,
+    command: Result<Command<'a>, AllocError>,
+    id: &'a str,
+    shown: &'a str,
+    default: &'a str,
+    help: &'a str,
+) -> Result<Command<'a>, AllocError>
+    ensures { IfOk result (λ r. IsOkAnd command.entry (λ c. app_of r ≡ with_rule (app_of c) (default_rule id.entry.now default.entry.now))) }
+{
+    let command = command?;
+    let defaulted = value(alloc, id, shown, help).default_value(default);
+    command.arg(defaulted)
+}
+
+/// Adds an option without value.
+fn with_flag<'a>(
+    alloc: Global,
+    command: Result<Command<'a>, AllocError>,
+    id: &'a str,
+    help: &'a str,
+) -> Result<Command<'a>, AllocError>
+    ensures { IfOk result (λ r. IsOkAnd command.entry (λ c. app_of r ≡ with_rule (app_of c) (flag_rule id.entry.now))) }
+{
+    let command = command?;
+    command.arg(flag(alloc, id, help))
+}
+
+/// Adds the server's own name.
+fn with_own_name<'a>(
+    alloc: Global,
+    command: Result<Command<'a>, AllocError>,
+) -> Result<Command<'a>, AllocError>
+    ensures { IfOk result (λ r. IsOkAnd command.entry (λ c. app_of r ≡ with_rule (app_of c) (default_rule (codes "name") (codes "server")))) }
+{
+    with_default(
         alloc,
+        command,
         "name",
         "NAME",
         "server",
@@ -84,12 +114,19 @@ fn bare<'a>(alloc: Global, name: &'a str, about: &'a str) -> Command<'a>
     Command::new(alloc, name).about(about).no_binary_name(true)
 }
 
-fn with_grace<'a>(alloc: Global, command: Command<'a>) -> Result<Command<'a>, AllocError>
-    ensures { IfOk result (λ r. app_of r ≡ with_grace (app_of command.entry)) }
+fn with_grace<'a>(
+    alloc: Global,
+    command: Result<Command<'a>, AllocError>,
+) -> Result<Command<'a>, AllocError>
+    ensures { IfOk result (λ r. IsOkAnd command.entry (λ c. app_of r ≡ with_grace (app_of c))) }
 {
-    let grace = flag(alloc, "grace", "Begin in the grace period, and stay in it");
-    let command = command.arg(grace)?;
-    let command = command.arg(own_name(alloc))?;
+    let command = with_flag(
+        alloc,
+        command,
+        "grace",
+        "Begin in the grace period, and stay in it",
+    );
+    let command = with_own_name(alloc, command)?;
     let db = value(
         alloc,
         "db",
@@ -99,111 +136,123 @@ fn with_grace<'a>(alloc: Global, command: Command<'a>) -> Result<Command<'a>, Al
     command.arg(db)
 }
 
-fn with_own_ports<'a>(alloc: Global, command: Command<'a>) -> Result<Command<'a>, AllocError>
-    ensures { IfOk result (λ r. app_of r ≡ with_own_ports (app_of command.entry)) }
+fn with_own_ports<'a>(
+    alloc: Global,
+    command: Result<Command<'a>, AllocError>,
+) -> Result<Command<'a>, AllocError>
+    ensures { IfOk result (λ r. IsOkAnd command.entry (λ c. app_of r ≡ with_own_ports (app_of c))) }
 {
-    let port = needed(alloc, "port", "N", "The port for calls by record");
-    let command = command.arg(port)?;
-    let local = needed(
+    let command = with_needed(alloc, command, "port", "N", "The port for calls by record");
+    with_needed(
         alloc,
+        command,
         "local-port",
         "N",
         "The port for local programs, on loopback alone",
-    );
-    command.arg(local)
+    )
 }
 
-fn with_peer_ports<'a>(alloc: Global, command: Command<'a>) -> Result<Command<'a>, AllocError>
-    ensures { IfOk result (λ r. app_of r ≡ with_peer_ports (app_of command.entry)) }
+fn with_peer_ports<'a>(
+    alloc: Global,
+    command: Result<Command<'a>, AllocError>,
+) -> Result<Command<'a>, AllocError>
+    ensures { IfOk result (λ r. IsOkAnd command.entry (λ c. app_of r ≡ with_peer_ports (app_of c))) }
 {
-    let nlm = needed(
+    let command = with_needed(
         alloc,
+        command,
         "peer-nlm-port",
         "N",
         "The peers' port for program 100021",
     );
-    let command = command.arg(nlm)?;
-    let nsm = needed(
+    let command = with_needed(
         alloc,
+        command,
         "peer-nsm-port",
         "N",
         "The peers' port for program 100024",
     );
-    let command = command.arg(nsm)?;
-    let watch = needed(
+    with_needed(
         alloc,
+        command,
         "watch-port",
         "N",
         "The peers' port for other programs",
-    );
-    command.arg(watch)
+    )
 }
 
-fn with_places<'a>(alloc: Global, command: Command<'a>) -> Result<Command<'a>, AllocError>
-    ensures { IfOk result (λ r. app_of r ≡ with_places (app_of command.entry)) }
+fn with_places<'a>(
+    alloc: Global,
+    command: Result<Command<'a>, AllocError>,
+) -> Result<Command<'a>, AllocError>
+    ensures { IfOk result (λ r. IsOkAnd command.entry (λ c. app_of r ≡ with_places (app_of c))) }
 {
-    let db = needed(alloc, "db", "FILE", "The file of stored hosts");
-    let command = command.arg(db)?;
-    let peers = needed(
+    let command = with_needed(alloc, command, "db", "FILE", "The file of stored hosts");
+    let command = with_needed(
         alloc,
+        command,
         "peers",
         "FILE",
         "The file of peers: lines of a name, a space and an IP address",
     );
-    let command = command.arg(peers)?;
-    let command = command.arg(own_name(alloc))?;
-    let bind = defaulted(
+    let command = with_own_name(alloc, command);
+    with_default(
         alloc,
+        command,
         "bind",
         "ADDRESS",
         "0.0.0.0",
         "The IP address at which calls by record come in",
-    );
-    command.arg(bind)
+    )
 }
 
-fn with_times<'a>(alloc: Global, command: Command<'a>) -> Result<Command<'a>, AllocError>
-    ensures { IfOk result (λ r. app_of r ≡ with_times (app_of command.entry)) }
+fn with_times<'a>(
+    alloc: Global,
+    command: Result<Command<'a>, AllocError>,
+) -> Result<Command<'a>, AllocError>
+    ensures { IfOk result (λ r. IsOkAnd command.entry (λ c. app_of r ≡ with_times (app_of c))) }
 {
-    let grace = defaulted(
+    let command = with_default(
         alloc,
+        command,
         "grace-seconds",
         "N",
         "45",
         "How long clients may reclaim after a start, 1 to 86400",
     );
-    let command = command.arg(grace)?;
-    let silence = defaulted(
+    let command = with_default(
         alloc,
+        command,
         "silence-seconds",
         "N",
         "5",
         "How long an answer is waited for, 1 to 86400",
     );
-    let command = command.arg(silence)?;
-    let idle = defaulted(
+    with_default(
         alloc,
+        command,
         "idle-seconds",
         "N",
         "600",
         "How long a connection may be silent, 1 to 86400",
-    );
-    command.arg(idle)
+    )
 }
 
-fn with_work<'a>(alloc: Global, command: Command<'a>) -> Result<Command<'a>, AllocError>
-    ensures { IfOk result (λ r. app_of r ≡ with_work (app_of command.entry)) }
+fn with_work<'a>(
+    alloc: Global,
+    command: Result<Command<'a>, AllocError>,
+) -> Result<Command<'a>, AllocError>
+    ensures { IfOk result (λ r. IsOkAnd command.entry (λ c. app_of r ≡ with_work (app_of c))) }
 {
-    let workers = defaulted(
+    let command = with_default(
         alloc,
+        command,
         "workers",
         "N",
         "4",
         "How many workers serve, 1 to 16",
     );
-    let command = command.arg(workers)?;
-    let audit = flag(alloc, "audit", "Check the journal at the end");
-    command.arg(audit)
+    with_flag(alloc, command, "audit", "Check the journal at the end")
 }
 
 /// `lockd pipe`.
@@ -211,7 +260,7 @@ pub(crate) fn pipe_command<'a>(alloc: Global) -> Result<Command<'a>, AllocError>
     ensures { IfOk result (λ r. app_of r ≡ pipe_app) }
 {
     let command = bare(alloc, "lockd pipe", PIPE_ABOUT);
-    with_grace(alloc, command)
+    with_grace(alloc, Ok(command))
 }
 
 /// `lockd table`.
@@ -219,7 +268,7 @@ pub(crate) fn table_command<'a>(alloc: Global) -> Result<Command<'a>, AllocError
     ensures { IfOk result (λ r. app_of r ≡ table_app) }
 {
     let command = bare(alloc, "lockd table", TABLE_ABOUT);
-    with_grace(alloc, command)
+    with_grace(alloc, Ok(command))
 }
 
 /// `lockd serve`.
@@ -227,25 +276,31 @@ pub(crate) fn serve_command<'a>(alloc: Global) -> Result<Command<'a>, AllocError
     ensures { IfOk result (λ r. app_of r ≡ serve_app) }
 {
     let command = bare(alloc, "lockd serve", SERVE_ABOUT);
-    let command = with_own_ports(alloc, command)?;
-    let command = with_peer_ports(alloc, command)?;
-    let command = with_places(alloc, command)?;
-    let command = with_times(alloc, command)?;
+    let command = with_own_ports(alloc, Ok(command));
+    let command = with_peer_ports(alloc, command);
+    let command = with_places(alloc, command);
+    let command = with_times(alloc, command);
     with_work(alloc, command)
+}
+
+/// Adds a command that stands in the help alone.
+fn with_command<'a>(
+    alloc: Global,
+    command: Result<Command<'a>, AllocError>,
+    name: &'a str,
+    about: &'a str,
+) -> Result<Command<'a>, AllocError> {
+    let command = command?;
+    command.subcommand(bare(alloc, name, about))
 }
 
 /// `lockd` alone, which answers help, the version, and words that begin with no command.
 pub(crate) fn lockd_command<'a>(alloc: Global) -> Result<Command<'a>, AllocError> {
-    let command = Command::new(alloc, "lockd")
-        .about("The lock manager and status monitor of an NFS server")
+    let command = bare(alloc, "lockd", LOCKD_ABOUT)
         .version(VERSION)
-        .no_binary_name(true)
         .subcommand_required(true)
         .disable_help_subcommand(true);
-    let pipe = bare(alloc, "pipe", PIPE_ABOUT);
-    let command = command.subcommand(pipe)?;
-    let table = bare(alloc, "table", TABLE_ABOUT);
-    let command = command.subcommand(table)?;
-    let serve = bare(alloc, "serve", SERVE_ABOUT);
-    command.subcommand(serve)
+    let command = with_command(alloc, Ok(command), "pipe", PIPE_ABOUT);
+    let command = with_command(alloc, command, "table", TABLE_ABOUT);
+    with_command(alloc, command, "serve", SERVE_ABOUT)
 }

@@ -1,10 +1,12 @@
-use Rattle.std.proofs.Common.{ap, ap₂, ◌∙◌}
-use Rattle.std.proofs.lemmas.Result.{IfOk-weaker}
-use Rattle.clap.specs.Words.{Rule, app_of, with_rule}
+use Rattle.std.specs.Prelude.{codes}
+use Rattle.clap.specs.Words.{App, with_rule}
+use Rattle.config.specs.Lockd.{default_rule}
+use Rattle.config.proofs.Made.{rule_then}
 use Rattle.config.proofs.command.with_times.Goals as goal
 
 pub returns : goal.returns
 returns c =
-    let first = c.in_ok-command.ensures.shape c.defaulted-grace.ensures.local ∙ ap (λ (r : Rule). with_rule (app_of c.args.command) r) c.defaulted-grace.ensures.rule in
-    let second = c.in_ok-command-2.ensures.shape c.defaulted-silence.ensures.local ∙ ap₂ with_rule first c.defaulted-silence.ensures.rule in
-    IfOk-weaker c.arg-3.result _ _ (λ made added. added.shape c.defaulted-idle.ensures.local ∙ ap₂ with_rule second c.defaulted-idle.ensures.rule) c.arg-3.ensures
+    let one : App → App = λ a. with_rule a (default_rule (codes "grace-seconds") (codes "45")) in
+    let two : App → App = λ a. with_rule (one a) (default_rule (codes "silence-seconds") (codes "5")) in
+    let second = rule_then _ _ _ one (default_rule (codes "silence-seconds") (codes "5")) c.with_default-command.ensures c.with_default-command-2.ensures in
+    rule_then _ _ _ two (default_rule (codes "idle-seconds") (codes "600")) second c.with_default.ensures
