@@ -89,6 +89,7 @@ impl Slots {
         ensures named { OnOk result ((names : Names) → AreNamed names self.old.waiters → IsSome (names waiter.wanted.owner) → AreNamed names self.new.waiters) }
     {
         if self.free() == 0 {
+            drop(waiter);
             return Err(NoSlots);
         }
         let place = self.waiters.len();
