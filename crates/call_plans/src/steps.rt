@@ -181,32 +181,39 @@ pub fn commit<R: RangeTable, S: HostStore>(
     ensures refusals { world.new.refusals ≡ world.old.refusals }
     ensures forgotten { IsForgottenUnder (view_of_stored store) plan world.new }
 {
-    match (plan, store) {
-        (Plan::Decided(answer), _) => do_answer(world, answer),
-        (Plan::AfterStore { agreed, .. }, StoreAnswer::Yes) => do_answer(world, agreed),
-        (
-            Plan::AfterStore {
-                agreed,
-                refused,
-                ..
-            },
-            StoreAnswer::NotAsked | StoreAnswer::Refused,
-        ) => refuse(world, &agreed.change, refused),
+    match plan {
+        Plan::Decided(answer) => do_answer(world, answer),
+        Plan::AfterStore {
+            asked,
+            agreed,
+            refused,
+        } => {
+            // Dropped by a call: where a plan's part ends in place, each of its variants is proved there.
+            drop(asked);
+            match store {
+                StoreAnswer::Yes => {
+                    drop(refused);
+                    do_answer(world, agreed)
+                }
+                StoreAnswer::NotAsked | StoreAnswer::Refused => refuse(world, agreed, refused),
+            }
+        }
     }
 }
 
 // The change isn't made, and this is told.
 fn refuse<R: RangeTable, S: HostStore>(
     world: &mut World<R, S>,
-    change: &Change,
+    agreed: Answer,
     refused: Told,
 ) -> Shared
     requires { FitsDue refused world.old.world }
     ensures told { record { outcome = view_of_outcome result.told.value; due = refused.due.items; world = world.new.world } ≡ told_in refused world.old.world }
     ensures refusals { world.new.refusals ≡ world.old.refusals }
-    ensures forgotten { IsForgottenFor change.now world.new.world world.new }
+    ensures forgotten { IsForgottenFor agreed.change world.new.world world.new }
 {
-    forget(world, change);
+    forget(world, &agreed.change);
+    drop(agreed);
     tell(world, refused)
 }
 

@@ -43,7 +43,10 @@ impl Told {
         ensures told { IfOk result (λ made. (w : SaidWorld) → told_in made w ≡ sent_back letter w) }
         ensures fits { IfOk result (λ made. (w : SaidWorld) → 1 ≤ slots_free the_limits w → FitsDue made w) }
     {
-        let mut due = Vec::with_capacity(alloc, 1)?;
+        let Ok(mut due) = Vec::with_capacity(alloc, 1) else {
+            drop(letter);
+            return Err(Starved);
+        };
         due.push_reserved(letter);
         Ok(Told {
             outcome: Shared::of(alloc, Outcome::Success(CallResult::Nothing))?,

@@ -7,6 +7,6 @@ use Rattle.call_plans.proofs.steps.refuse.Goals as goal
 pub returns-clause-forgotten : goal.returns-clause-forgotten
 returns-clause-forgotten g c =
     let s = c.forget.new.world in
-    let change = c.args.change.now in
+    let change = c.args.agreed.change in
     for_still c.args.refused.due.items s c.tell.new.world (ap (λ (a : Answered). a.world) c.tell.ensures.told) c.tell.ensures.names change
     (subst (λ w. IsForgottenFor change w s) (sym c.forget.ensures.world) c.forget.ensures.forgotten)
