@@ -138,14 +138,16 @@ fn status(alloc: Global, watch: &Watch, state: i32) -> Result<Letter, AllocError
 {
     let my_id = watch.my_id();
     let watcher = ShortBytes::copy_of(alloc, my_id.my_name())?;
+    let my_name = ShortBytes::copy_of(alloc, my_id.my_name())?;
+    let mon_name = ShortBytes::copy_of(alloc, watch.mon_name())?;
     let message = Message::Status {
         my_id: callbacks::MyId {
-            my_name: ShortBytes::copy_of(alloc, my_id.my_name())?,
+            my_name,
             prog: my_id.prog(),
             vers: my_id.vers(),
             proc: my_id.proc(),
         },
-        mon_name: ShortBytes::copy_of(alloc, watch.mon_name())?,
+        mon_name,
         state,
         private_bytes: *watch.private_bytes(),
     };

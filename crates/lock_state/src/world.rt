@@ -72,9 +72,9 @@ impl<R: RangeTable + Drop, S: HostStore + Drop> World<R, S> {
         requires { R.settings table ≡ [] }
         ensures { IfOk result (λ made. made ≡ record { world = opening own_name (S.rows store); names = []; refusals = S.refusals store }) }
     {
-        let slots = Slots::new(alloc)?;
         let shares = Shares::new(alloc)?;
         let calls = OutCalls::new(alloc)?;
+        let slots = Slots::new(alloc)?;
         let next = first_number(store.own());
         Ok(World {
             alloc,

@@ -1,4 +1,5 @@
-use Rattle.std.proofs.Common.{◌≡◌, List, Option, refl, sym, subst}
+use Rattle.std.proofs.Common.{◌≡◌, ℕ, ◌<◌, List, length, Option, IfSome, refl, sym, ◌∙◌, ap, subst}
+use Rattle.std.proofs.lemmas.List.{length-map}
 use Rattle.definitions.specs.Owners.{Owner}
 use Rattle.definitions.specs.Settings.{Setting}
 use Rattle.definitions.specs.Starts.{used_of}
@@ -12,7 +13,7 @@ use Rattle.range_owners.specs.Stands.{Stands}
 use Rattle.definitions.specs.First.{IsFirstPlace}
 use Rattle.blocked_list.specs.Ready.{IsFirstReady, IsFirstReadyOn}
 use Rattle.blocked_list.specs.Standing.{WhereCounted}
-use Rattle.blocked_list.specs.Waiting.{Waiting, AreNamed, waiters_by}
+use Rattle.blocked_list.specs.Waiting.{Waiting, AreNamed, waiter_by, waiters_by}
 use Rattle.lock_state.specs.Seen.{Seen}
 use Rattle.lock_state.specs.ReadyAt.{IsReadyAt}
 use Rattle.lock_state.proofs.world.World.next_place.Goals as goal
@@ -23,6 +24,16 @@ said : (ns : List NumberSetting) {names known : List (Option Owner)} {ws : List 
 said ns {ws = ws} {settings = settings} Says stands same in_use counted =
     subst (λ ns. Says settings (waiters_by (named ns) ws)) same
     (counted settings stands (record { distinct = stands.distinct; named = subst (λ ns. AreNamed (named ns) ws) (sym same) in_use }) (λ name. refl))
+
+-- a place among the waiters by number is one among those by owner
+within : (ws : List Waiting) (known : List (Option Owner)) (s : Seen) (r : Option ℕ) → waiters_by (named known) ws ≡ s.world.waiters → IfSome r (λ place. place < length ws) → IfSome r (λ place. place < length s.world.waiters)
+within ws known s r is = subst (λ n. IfSome r (λ place. place < n)) (sym (length-map ws (waiter_by (named known))) ∙ ap length is)
+
+pub returns-in-On-clause-bound : goal.returns-in-On-clause-bound
+returns-in-On-clause-bound g c = within c.self.inside.slots.waiters c.self.inside.locks.names c.args.self.now _ (ap (λ (s : Seen). s.world.waiters) c.self.view_is) c.next_grantable_on.ensures.bound
+
+pub returns-in-Anywhere-clause-bound : goal.returns-in-Anywhere-clause-bound
+returns-in-Anywhere-clause-bound g c = within c.self.inside.slots.waiters c.self.inside.locks.names c.args.self.now _ (ap (λ (s : Seen). s.world.waiters) c.self.view_is) c.next_grantable.ensures.bound
 
 pub returns-in-On-clause-first : goal.returns-in-On-clause-first
 returns-in-On-clause-first g c =
