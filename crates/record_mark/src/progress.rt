@@ -112,7 +112,8 @@ impl Progress {
         self.rest.clear();
         if mark.is_last {
             let begun = mem::replace(&mut self.begun, Vec::new(alloc));
-            records.push(Bytes::from_vec(begun)?)?;
+            let record = Bytes::from_vec(begun)?;
+            records.push(record)?;
         }
         Ok(false)
     }
