@@ -12,12 +12,12 @@ use range_table::RangeTable;
 use std::alloc::Global;
 use xdr_core::Frame;
 
-fn opened<T: RangeTable + Drop>(alloc: Global, table: T) -> Option<Book<T, MemHosts>>
+fn opened<T: RangeTable + Drop>(alloc: Global, table: T) -> Result<Book<T, MemHosts>>
     requires { T.settings table ≡ [] }
 {
-    let store = MemHosts::new(alloc, 0, Vec::new(alloc), Vec::new(alloc)).ok()?;
-    let name = ShortBytes::copy_of(alloc, b"server").ok()?;
-    Book::new(alloc, table, store, name).ok()
+    let store = MemHosts::new(alloc, 0, Vec::new(alloc), Vec::new(alloc))?;
+    let name = ShortBytes::copy_of(alloc, b"server")?;
+    Ok(Book::new(alloc, table, store, name)?)
 }
 
 fn apply<T: RangeTable, S: HostStore>(
@@ -113,9 +113,7 @@ pub(crate) fn answered<T: RangeTable + Drop>(
         "test" => &[Procedure::Test],
         _ => &[Procedure::Lock, Procedure::Unlock],
     };
-    let Some(mut book) = opened(alloc, table) else {
-        return Err(anyhow!("no memory"));
-    };
+    let mut book = opened(alloc, table)?;
     let granted = run(alloc, &mut book, procedures, held, rounds);
     drop(book);
     granted

@@ -1,7 +1,7 @@
 //! The daemon, from bytes to bytes: `null`, or `mixed`: a LOCK, a TEST and an UNLOCK by turns, of 16 owners over 64 files.
 //! The answer is how many calls were granted.
 use crate::asked::{Asked, Procedure, is_granted};
-use anyhow::{Result, anyhow};
+use anyhow::Result;
 use callbacks::ShortBytes;
 use daemon_core::{Daemon, Event, Frame, Outputs, Peer};
 use hosts_db::{HostStore, MemHosts};
@@ -9,12 +9,12 @@ use range_arena::ArenaTable;
 use range_table::RangeTable;
 use std::alloc::Global;
 
-/// The daemon of a server named `server`, with nothing stored. None where there is no memory for it.
-pub(crate) fn opened(alloc: Global) -> Option<Daemon<ArenaTable, MemHosts>> {
-    let store = MemHosts::new(alloc, 0, Vec::new(alloc), Vec::new(alloc)).ok()?;
-    let table = ArenaTable::new(alloc).ok()?;
-    let name = ShortBytes::copy_of(alloc, b"server").ok()?;
-    Daemon::new(alloc, table, store, name).ok()
+/// The daemon of a server named `server`, with nothing stored. An error where there is no memory for it.
+pub(crate) fn opened(alloc: Global) -> Result<Daemon<ArenaTable, MemHosts>> {
+    let store = MemHosts::new(alloc, 0, Vec::new(alloc), Vec::new(alloc))?;
+    let table = ArenaTable::new(alloc)?;
+    let name = ShortBytes::copy_of(alloc, b"server")?;
+    Ok(Daemon::new(alloc, table, store, name)?)
 }
 
 // The call of a round, by turns of procedures, owners and files.
@@ -86,9 +86,7 @@ fn run<T: RangeTable, S: HostStore>(
 
 /// Answers so many calls.
 pub(crate) fn answered(alloc: Global, what: &str, calls: u32) -> Result<u32> {
-    let Some(mut daemon) = opened(alloc) else {
-        return Err(anyhow!("no memory"));
-    };
+    let mut daemon = opened(alloc)?;
     let granted = run(alloc, &mut daemon, what == "null", calls);
     drop(daemon);
     granted

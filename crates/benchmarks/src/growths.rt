@@ -405,9 +405,9 @@ fn play<T: RangeTable, S: HostStore>(
 pub(crate) fn printed(alloc: Global) -> Result<String> {
     let steps = script(alloc)?;
     let mut page = Page::new(alloc)?;
-    match opened(alloc).or_else(|| opened(alloc)) {
-        None => page.printed.push_str("wrong 0 no daemon is made\n")?,
-        Some(mut daemon) => {
+    match opened(alloc).or_else(|_| opened(alloc)) {
+        Err(_) => page.printed.push_str("wrong 0 no daemon is made\n")?,
+        Ok(mut daemon) => {
             let played = play(&mut daemon, &mut page, steps);
             drop(daemon);
             played?;

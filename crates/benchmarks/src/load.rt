@@ -22,17 +22,55 @@ use std::sync::atomic::Ordering;
 use std::thread::Threads;
 use std::time::{Clock, Instant};
 
-fn measure<R>(rt: &R, alloc: Global, plan: &Plan) -> Result<()>
+fn measure<R>(rt: &R, alloc: Global, words: &[&str]) -> Result<()>
 where
     R: Net<Stream = TcpStream> + Threads + Wait + Clock + Print + Sync,
 {
+    let plan = plan(words)?;
     let begun = Instant::now(rt)?;
-    let heard = ask_all(rt, alloc, plan)?;
+    let heard = ask_all(rt, alloc, &plan)?;
     let micros = begun.elapsed(rt)?.as_micros();
     let answered = heard.answered.load(Ordering::SeqCst);
     let longest = heard.longest.load(Ordering::SeqCst);
     println!(rt; "{answered} answered in {micros} us, the longest wait {longest} us")?;
     Ok(())
+}
+
+fn plan(words: &[&str]) -> Result<Plan> {
+    let [what, port, connections, depth, calls] = words else {
+        bail!("no load is made by {} words", words.len());
+    };
+    let Some(cell) = Cell::named(what) else {
+        bail!("no cell is named {what}");
+    };
+    let port = port.parse()?;
+    let connections = connections.parse()?;
+    let depth = depth.parse()?;
+    let calls = calls.parse()?;
+    Ok(Plan {
+        cell,
+        port,
+        connections,
+        depth,
+        calls,
+    })
+}
+
+fn serve_floor<R>(rt: &R, alloc: Global, port: &str) -> Result<()>
+where
+    R: Net<Listener = TcpListener, Stream = TcpStream> + Threads + Wait + Sync,
+{
+    let port = port.parse()?;
+    Ok(floor::serve(rt, alloc, port)?)
+}
+
+fn ask_mute<R>(rt: &R, alloc: Global, port: &str, connections: &str) -> Result<()>
+where
+    R: Net<Stream = TcpStream> + Threads + Wait + Sync,
+{
+    let port = port.parse()?;
+    let connections = connections.parse()?;
+    Ok(mute::ask(rt, alloc, port, connections)?)
 }
 
 /// Does what the words behind `load` say.
@@ -41,23 +79,8 @@ where
     R: Net<Listener = TcpListener, Stream = TcpStream> + Threads + Wait + Clock + Print + Sync,
 {
     match words {
-        ["floor", port] => Ok(floor::serve(rt, alloc, port.parse()?)?),
-        ["mute", port, connections] => {
-            Ok(mute::ask(rt, alloc, port.parse()?, connections.parse()?)?)
-        }
-        [what, port, connections, depth, calls] => {
-            let Some(cell) = Cell::named(what) else {
-                bail!("no cell is named {what}");
-            };
-            let plan = Plan {
-                cell,
-                port: port.parse()?,
-                connections: connections.parse()?,
-                depth: depth.parse()?,
-                calls: calls.parse()?,
-            };
-            measure(rt, alloc, &plan)
-        }
-        _ => bail!("no load is made by {} words", words.len()),
+        ["floor", port] => serve_floor(rt, alloc, port),
+        ["mute", port, connections] => ask_mute(rt, alloc, port, connections),
+        _ => measure(rt, alloc, words),
     }
 }

@@ -39,29 +39,43 @@ struct OfBook {
     rounds: u32,
 }
 
-fn of_book(files: &str, runs: &str, rounds: &str) -> Result<OfBook> {
+fn of_book(words: &[&str]) -> Result<OfBook> {
+    let [files, runs, rounds] = words else {
+        bail!("a book is asked for by numbers of files, runs and rounds");
+    };
+    let files = files.parse()?;
+    let runs = runs.parse()?;
+    let rounds = rounds.parse()?;
     Ok(OfBook {
-        held: (files.parse()?, runs.parse()?),
-        rounds: rounds.parse()?,
+        held: (files, runs),
+        rounds,
     })
 }
 
-fn in_arena(alloc: Global, what: &str, asked: OfBook) -> Result<u32> {
+fn in_arena(alloc: Global, what: &str, words: &[&str]) -> Result<u32> {
+    let asked = of_book(words)?;
     let table = ArenaTable::new(alloc)?;
     books::answered(alloc, table, what, asked.held, asked.rounds)
 }
 
-fn in_flat(alloc: Global, what: &str, asked: OfBook) -> Result<u32> {
+fn in_flat(alloc: Global, what: &str, words: &[&str]) -> Result<u32> {
+    let asked = of_book(words)?;
     let table = FlatTable::new(alloc)?;
     books::answered(alloc, table, what, asked.held, asked.rounds)
 }
 
 /// A size, and how often.
-fn sized(count: &str, rounds: &str) -> Result<(u32, u32)> {
-    Ok((count.parse()?, rounds.parse()?))
+fn sized(words: &[&str]) -> Result<(u32, u32)> {
+    let [count, rounds] = words else {
+        bail!("nothing is done by {} numbers", words.len());
+    };
+    let count = count.parse()?;
+    let rounds = rounds.parse()?;
+    Ok((count, rounds))
 }
 
-fn over_flat(alloc: Global, what: &str, (count, rounds): (u32, u32)) -> Result<u32> {
+fn over_flat(alloc: Global, what: &str, words: &[&str]) -> Result<u32> {
+    let (count, rounds) = sized(words)?;
     let mut table = FlatTable::new(alloc)?;
     ranges::ranges(alloc, &mut table, what, count, rounds)
 }
@@ -71,29 +85,25 @@ fn over_arena(alloc: Global, what: &str, (count, rounds): (u32, u32)) -> Result<
     ranges::ranges(alloc, &mut table, what, count, rounds)
 }
 
-fn counted(alloc: Global, what: &str, asked: (u32, u32)) -> Result<u32> {
-    let (count, rounds) = asked;
+fn counted(alloc: Global, what: &str, words: &[&str]) -> Result<u32> {
+    let (count, rounds) = sized(words)?;
     match what {
         "kept" => replies::kept(alloc, count, rounds),
         _ if what.starts_with("change") || what.starts_with("come") => {
             waits::waits(alloc, what, count, rounds)
         }
-        _ => over_arena(alloc, what, asked),
+        _ => over_arena(alloc, what, (count, rounds)),
     }
 }
 
 fn done(alloc: Global, words: &[&str]) -> Result<u32> {
     match words {
         ["daemon", what, calls] => of_daemon(alloc, what, calls),
-        ["book", what, files, runs, rounds] => {
-            in_arena(alloc, what, of_book(files, runs, rounds)?)
-        }
-        ["flat", "book", what, files, runs, rounds] => {
-            in_flat(alloc, what, of_book(files, runs, rounds)?)
-        }
-        ["flat", what, count, rounds] => over_flat(alloc, what, sized(count, rounds)?),
-        [what, count, rounds] => counted(alloc, what, sized(count, rounds)?),
-        _ => bail!("nothing is done by {} words", words.len()),
+        ["book", what, numbers @ ..] => in_arena(alloc, what, numbers),
+        ["flat", "book", what, numbers @ ..] => in_flat(alloc, what, numbers),
+        ["flat", what, numbers @ ..] => over_flat(alloc, what, numbers),
+        [what, numbers @ ..] => counted(alloc, what, numbers),
+        [] => bail!("nothing is done by no words"),
     }
 }
 
