@@ -4,7 +4,7 @@ ghost use Rattle.definitions.specs.World.{World as SaidWorld};
 ghost use Rattle.definitions.specs.Rulings.{ruled};
 ghost use Rattle.call_outcome.specs.Values.{view_of_outcome};
 ghost use Rattle.definitions.specs.Settings.{setting_of as setting_said};
-ghost use Rattle.held_locks.specs.Asked.{asked, changed as change_said};
+ghost use Rattle.held_locks.specs.Asked.{asked, view_of_new_setting};
 ghost use Rattle.call_plans.specs.Planned.{view_of_stored, planned, request_wanted, setting_of};
 
 use crate::plans::{Plan, Range, StoreAnswer, Told, Wanted};
@@ -12,7 +12,7 @@ use crate::plans::{Plan, Range, StoreAnswer, Told, Wanted};
 impl Range {
     /// The same, as the locks are told.
     pub fn setting(&self) -> held_locks::NewSetting<'_>
-        ensures { change_said result ≡ setting_of self.now }
+        ensures { view_of_new_setting result ≡ setting_of self.now }
     {
         held_locks::NewSetting {
             file: self.file,

@@ -26,7 +26,7 @@ use Rattle.range_owners.specs.Same.{IsSameSetting}
 use Rattle.range_table.specs.Modes.{view_of_held_mode}
 use Rattle.owner_ids.specs.Views.{view_of_owner}
 use Rattle.held_locks.specs.declared.asked.NewSetting.{NewSetting}
-use Rattle.held_locks.specs.Asked.{changed, change_by_number}
+use Rattle.held_locks.specs.Asked.{view_of_new_setting, new_setting_by_number}
 use Rattle.range_owners.proofs.Counting.{used_is, of_host}
 use Rattle.range_owners.proofs.Released.{nothing_used, release_test}
 use Rattle.held_locks.specs.Tied.{IsTied, AreCounts, Spares, WereCounted}
@@ -153,22 +153,22 @@ module _ (names : Names) (held : Held) (settings : List Setting) (h : Stands nam
 
 -- ---- what keeps the tie
 
-pub same_change : (names : List (Option Owner)) (n : ℕ) (c : NewSetting) → named names n ≡ Some (view_of_owner c.owner.now) → IsSameSetting (named names) (change_by_number n c) (changed c)
-same_change names n c e = record { file = refl; owner = e; first = refl; last = refl; mode = refl }
+pub same_new_setting : (names : List (Option Owner)) (n : ℕ) (c : NewSetting) → named names n ≡ Some (view_of_owner c.owner.now) → IsSameSetting (named names) (new_setting_by_number n c) (view_of_new_setting c)
+same_new_setting names n c e = record { file = refl; owner = e; first = refl; last = refl; mode = refl }
 
 -- a setting of an owner who has a number
-pub tied_set : (ns others : List NumberSetting) (counts after : List ℕ) (names : List (Option Owner)) (settings : List Setting) (n : ℕ) (c : NewSetting) → IsTied ns counts names settings → named names n ≡ Some (view_of_owner c.owner.now) → others ≡ ns ++ change_by_number n c ∷ [] → AreCounts others after → length after ≡ length counts → IsTied others after names (settings ++ changed c ∷ [])
+pub tied_set : (ns others : List NumberSetting) (counts after : List ℕ) (names : List (Option Owner)) (settings : List Setting) (n : ℕ) (c : NewSetting) → IsTied ns counts names settings → named names n ≡ Some (view_of_owner c.owner.now) → others ≡ ns ++ new_setting_by_number n c ∷ [] → AreCounts others after → length after ≡ length counts → IsTied others after names (settings ++ view_of_new_setting c ∷ [])
 tied_set ns others counts after names settings n c h e o counted places = record {
-  stands = subst (λ l. Stands (named names) (mode_at l) (settings ++ changed c ∷ [])) (sym o) (stands_after (named names) ns settings (change_by_number n c) (changed c) h.stands (same_change names n c e));
+  stands = subst (λ l. Stands (named names) (mode_at l) (settings ++ view_of_new_setting c ∷ [])) (sym o) (stands_after (named names) ns settings (new_setting_by_number n c) (view_of_new_setting c) h.stands (same_new_setting names n c e));
   counted = counted;
   within = λ k x f. subst (λ l. k < l) (sym places) (h.within k x f);
   few = subst (λ l. l ≤ 4294967296) (sym places) h.few;
 }
 
 -- an unlock by an owner who has none
-pub tied_stranger : (ns : List NumberSetting) (counts : List ℕ) (names : List (Option Owner)) (settings : List Setting) (c : NewSetting) → IsTied ns counts names settings → ((k : ℕ) → named names k ≢ Some (view_of_owner c.owner.now)) → c.mode ≡ None → IsTied ns counts names (settings ++ changed c ∷ [])
+pub tied_stranger : (ns : List NumberSetting) (counts : List ℕ) (names : List (Option Owner)) (settings : List Setting) (c : NewSetting) → IsTied ns counts names settings → ((k : ℕ) → named names k ≢ Some (view_of_owner c.owner.now)) → c.mode ≡ None → IsTied ns counts names (settings ++ view_of_new_setting c ∷ [])
 tied_stranger ns counts names settings c h fresh none = record {
-  stands = stranger_unlocks (named names) (mode_at ns) settings h.stands (view_of_owner c.owner.now) fresh (changed c) refl (ap view_of_held_mode none);
+  stands = stranger_unlocks (named names) (mode_at ns) settings h.stands (view_of_owner c.owner.now) fresh (view_of_new_setting c) refl (ap view_of_held_mode none);
   counted = h.counted;
   within = h.within;
   few = h.few;

@@ -14,8 +14,8 @@ use Rattle.held_locks.specs.declared.asked.Holder.{Holder}
 abbrev pub asked : HeldRequest → Request
 asked r = record { file = r.file; owner = view_of_owner r.owner.now; first = r.first; last = r.last; mode = view_of_mode r.mode }
 
-abbrev pub changed : NewSetting → Setting
-changed c = record { file = c.file; owner = view_of_owner c.owner.now; first = c.first; last = c.last; mode = view_of_held_mode c.mode }
+abbrev pub view_of_new_setting : NewSetting → Setting
+view_of_new_setting c = record { file = c.file; owner = view_of_owner c.owner.now; first = c.first; last = c.last; mode = view_of_held_mode c.mode }
 
 -- what an owner sets by a lock that is wanted
 abbrev pub setting_by : Owner → NumberRun → Setting
@@ -35,5 +35,5 @@ shown_found (Some h) = Some (shown h)
 abbrev pub run_by_number : ℕ → HeldRequest → NumberRun
 run_by_number n r = record { file = r.file; owner = n; first = r.first; last = r.last; mode = r.mode }
 
-abbrev pub change_by_number : ℕ → NewSetting → NumberSetting
-change_by_number n c = record { file = c.file; owner = n; first = c.first; last = c.last; mode = c.mode }
+abbrev pub new_setting_by_number : ℕ → NewSetting → NumberSetting
+new_setting_by_number n c = record { file = c.file; owner = n; first = c.first; last = c.last; mode = c.mode }

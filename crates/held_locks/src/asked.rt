@@ -40,11 +40,11 @@ pub struct Holder<'a> {
 
 impl<'a> Request<'a> {
     ghost use Rattle.definitions.specs.Settings.{setting_of};
-    ghost use Rattle.held_locks.specs.Asked.{asked, changed};
+    ghost use Rattle.held_locks.specs.Asked.{asked, view_of_new_setting};
 
     /// What its owner is to hold once it has the lock.
     pub fn setting(&self) -> NewSetting<'a>
-        ensures { changed result ≡ setting_of (asked self.now) }
+        ensures { view_of_new_setting result ≡ setting_of (asked self.now) }
     {
         NewSetting {
             file: self.file,

@@ -4,7 +4,7 @@ ghost use Rattle.std.specs.List.{filter};
 ghost use Rattle.definitions.specs.Owners.{Owner as SaidOwner};
 ghost use Rattle.owner_ids.specs.Names.{named, is_owned_by};
 ghost use Rattle.range_table.specs.Settings.{Held, IsRefused, IsUsed, mode_at, is_by};
-ghost use Rattle.held_locks.specs.Asked.{change_by_number};
+ghost use Rattle.held_locks.specs.Asked.{new_setting_by_number};
 ghost use Rattle.owner_ids.specs.Views.{view_of_owner};
 ghost use Rattle.held_locks.specs.Tied.{AreCounts, IsCountedAnew, WereCounted};
 
@@ -65,21 +65,27 @@ pub(crate) fn set<R: RangeTable>(
     counts: &mut Vec<u32>,
     hosts: &mut HostRuns,
     number: OwnerId,
-    change: &NewSetting<'_>,
+    setting: &NewSetting<'_>,
 ) -> Result<(), NoRuns>
     requires place { number < length counts.old.items }
     requires counted { AreCounts (R.settings table.old) counts.old.items }
-    ensures refused { IsErr result ↔ IsRefused (mode_at (R.settings table.old)) (change_by_number number change.now) }
-    ensures ok { OnOk result (R.settings table.new ≡ R.settings table.old ++ change_by_number number change.now ∷ []) }
+    ensures refused { IsErr result ↔ IsRefused (mode_at (R.settings table.old)) (new_setting_by_number number setting.now) }
+    ensures ok { OnOk result (R.settings table.new ≡ R.settings table.old ++ new_setting_by_number number setting.now ∷ []) }
     ensures err { OnErr result (R.settings table.new ≡ R.settings table.old) }
     ensures counted { AreCounts (R.settings table.new) counts.new.items }
     ensures places { length counts.new.items ≡ length counts.old.items }
-    ensures hosts { OnOk result (IsCountedAnew (view_of_owner change.now.owner.now) (mode_at (R.settings table.old)) (mode_at (R.settings table.new)) hosts.old hosts.new) }
+    ensures hosts { OnOk result (IsCountedAnew (view_of_owner setting.now.owner.now) (mode_at (R.settings table.old)) (mode_at (R.settings table.new)) hosts.old hosts.new) }
     ensures hosts_stay { OnErr result (hosts.new ≡ hosts.old) }
 {
     let before = table.used();
-    table.set(&change.file, number, change.first, change.last, change.mode)?;
-    count_anew(table, counts, hosts, number, change.owner, before);
+    table.set(
+        &setting.file,
+        number,
+        setting.first,
+        setting.last,
+        setting.mode,
+    )?;
+    count_anew(table, counts, hosts, number, setting.owner, before);
     Ok(())
 }
 

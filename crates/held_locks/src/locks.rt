@@ -8,7 +8,7 @@ ghost use Rattle.owner_ids.specs.Views.{view_of_owner};
 ghost use Rattle.owner_ids.specs.Names.{named};
 ghost use Rattle.range_owners.specs.Stands.{Stands};
 ghost use Rattle.range_table.specs.Settings.{mode_at};
-ghost use Rattle.held_locks.specs.Asked.{asked, changed, setting_by, shown, shown_found};
+ghost use Rattle.held_locks.specs.Asked.{asked, view_of_new_setting, setting_by, shown, shown_found};
 ghost use Rattle.held_locks.specs.Held.{IsKnown, KeepsKnown, KeepsNames, SameNames, HoldsNothing};
 ghost use Rattle.held_locks.specs.Listing.{IsListing};
 ghost use Rattle.held_locks.specs.Stranger.{IsAsker};
@@ -107,12 +107,18 @@ impl<R: RangeTable> Locks<R> {
         range_owners::used_of(table, owners, host)
     }
 
-    // How many there would be after a change, also by an owner who isn't known.
-    pub(crate) fn used_after(&self, change: &NewSetting<'_>) -> u32
-        ensures { result ≡ used (self.now.settings ++ changed change.now ∷ []) }
+    // How many there would be after the setting, also by an owner who isn't known.
+    pub(crate) fn used_after(&self, setting: &NewSetting<'_>) -> u32
+        ensures { result ≡ used (self.now.settings ++ view_of_new_setting setting.now ∷ []) }
     {
-        let asker = self.asker(change.owner);
-        self.table.used_after(&change.file, asker, change.first, change.last, change.mode)
+        let asker = self.asker(setting.owner);
+        self.table.used_after(
+            &setting.file,
+            asker,
+            setting.first,
+            setting.last,
+            setting.mode,
+        )
     }
 
     // The asker's number, or nobody's.
@@ -167,38 +173,44 @@ impl<R: RangeTable> Locks<R> {
         }
     }
 
-    /// Whether `set` would refuse the change, also of an owner who isn't known: he holds nothing. Changes nothing.
-    pub fn refuses(&self, change: &NewSetting<'_>) -> bool
-        ensures { result ≡ refuses 65536 self.now.settings (changed change.now) }
+    /// Whether `set` would refuse the setting, also of an owner who isn't known: he holds nothing. Changes nothing.
+    pub fn refuses(&self, setting: &NewSetting<'_>) -> bool
+        ensures { result ≡ refuses 65536 self.now.settings (view_of_new_setting setting.now) }
     {
-        match self.owners.number(change.owner) {
+        match self.owners.number(setting.owner) {
             Some(number) => {
-                self.table.refuses(&change.file, number, change.first, change.last, change.mode)
+                self.table.refuses(
+                    &setting.file,
+                    number,
+                    setting.first,
+                    setting.last,
+                    setting.mode,
+                )
             }
-            None => change.mode.is_some() && self.is_short(),
+            None => setting.mode.is_some() && self.is_short(),
         }
     }
 
     /// From now on the owner holds this mode from the first to the last byte, or nothing. Whoever locks is known.
     /// Refused where fewer than 2 of 65,536 runs are free, but for an unlock that raises the number of runs no further.
     /// Then nothing has changed.
-    pub fn set(&mut self, change: &NewSetting<'_>) -> Result<(), NoRuns>
-        requires known { (change.now.mode ≡ None) ⊎ IsKnown self.old (view_of_owner change.now.owner.now) }
-        ensures refused { IsErr result ↔ IsTrue (refuses 65536 self.old.settings (changed change.now)) }
-        ensures ok { OnOk result (self.new.settings ≡ self.old.settings ++ changed change.now ∷ []) }
+    pub fn set(&mut self, setting: &NewSetting<'_>) -> Result<(), NoRuns>
+        requires known { (setting.now.mode ≡ None) ⊎ IsKnown self.old (view_of_owner setting.now.owner.now) }
+        ensures refused { IsErr result ↔ IsTrue (refuses 65536 self.old.settings (view_of_new_setting setting.now)) }
+        ensures ok { OnOk result (self.new.settings ≡ self.old.settings ++ view_of_new_setting setting.now ∷ []) }
         ensures err { OnErr result (self.new.settings ≡ self.old.settings) }
         ensures names { self.new.names ≡ self.old.names }
     {
-        if let Some(number) = self.owners.number(change.owner) {
+        if let Some(number) = self.owners.number(setting.owner) {
             counts::set(
                 &mut self.table,
                 &mut self.counts,
                 &mut self.hosts,
                 number,
-                change,
+                setting,
             )?;
         }
-        self.settings = self.settings.after(change);
+        self.settings = self.settings.after(setting);
         Ok(())
     }
 
@@ -211,7 +223,7 @@ impl<R: RangeTable> Locks<R> {
         ensures names { self.new.names ≡ self.old.names }
     {
         let run = wanted.run();
-        let change = NewSetting {
+        let setting = NewSetting {
             file: run.file,
             owner: self.owners.get(run.owner),
             first: run.first,
@@ -223,9 +235,9 @@ impl<R: RangeTable> Locks<R> {
             &mut self.counts,
             &mut self.hosts,
             run.owner,
-            &change,
+            &setting,
         )?;
-        self.settings = self.settings.after(&change);
+        self.settings = self.settings.after(&setting);
         Ok(())
     }
 }

@@ -6,7 +6,7 @@ ghost use Rattle.definitions.specs.Starts.{refuses};
 ghost use Rattle.definitions.specs.Shares.{is_denied, has_no_room, with_share, without_share};
 ghost use Rattle.definitions.specs.World.{with_setting, without_host_of};
 ghost use Rattle.owner_ids.specs.Views.{view_of_owner};
-ghost use Rattle.held_locks.specs.Asked.{changed};
+ghost use Rattle.held_locks.specs.Asked.{view_of_new_setting};
 ghost use Rattle.lock_state.specs.Seen.{IsIdle, Knows, KeepsKnown};
 ghost use Rattle.lock_state.specs.Whole.{IsShown};
 
@@ -48,15 +48,15 @@ impl<R: RangeTable, S: HostStore> World<R, S> {
     /// From now on an owner holds this mode from the first to the last byte, or nothing. Whoever locks is known. Refused
     /// where fewer than 2 of 65,536 runs are free, but for an unlock that raises the number of runs no further. Then
     /// nothing has changed.
-    pub fn set(&mut self, change: &NewSetting<'_>) -> Result<(), NoRuns>
-        requires known { (change.now.mode ≡ None) ⊎ Knows self.old (view_of_owner change.now.owner.now) }
-        requires shown { IsShown (view_of_owner change.now.owner.now) }
-        ensures refused { IsErr result ↔ IsTrue (refuses 65536 self.old.world.settings (changed change.now)) }
-        ensures ok { OnOk result (self.new ≡ record self.old { world = with_setting self.old.world (changed change.now) }) }
+    pub fn set(&mut self, setting: &NewSetting<'_>) -> Result<(), NoRuns>
+        requires known { (setting.now.mode ≡ None) ⊎ Knows self.old (view_of_owner setting.now.owner.now) }
+        requires shown { IsShown (view_of_owner setting.now.owner.now) }
+        ensures refused { IsErr result ↔ IsTrue (refuses 65536 self.old.world.settings (view_of_new_setting setting.now)) }
+        ensures ok { OnOk result (self.new ≡ record self.old { world = with_setting self.old.world (view_of_new_setting setting.now) }) }
         ensures err { OnErr result (self.new ≡ self.old) }
     {
         let quotas = Stored { store: &self.store };
-        set_on(&mut self.locks, &mut self.unsettled, &quotas, change)
+        set_on(&mut self.locks, &mut self.unsettled, &quotas, setting)
     }
 
     /// Takes a share (XNFS, NLM_SHARE). The owner's earlier share of the file goes. Refused, nothing has changed.

@@ -4,7 +4,7 @@ ghost use Rattle.definitions.specs.Quotas.{quotas_of, exceeds, is_refused, lacks
 ghost use Rattle.definitions.specs.Starts.{is_short, refuses};
 ghost use Rattle.owner_ids.specs.Views.{view_of_owner};
 ghost use Rattle.blocked_list.specs.Quotas.{is_limited};
-ghost use Rattle.held_locks.specs.Asked.{asked, changed};
+ghost use Rattle.held_locks.specs.Asked.{asked, view_of_new_setting};
 
 use blocked_list::laws::unlimited_exceeds_nothing;
 use blocked_list::{Quotas, limit_of};
@@ -49,30 +49,30 @@ pub(crate) fn may_free<R: RangeTable, Q: Quotas>(
     locks.is_short() || is_limited(quotas, owner)
 }
 
-/// Whether the change goes past its owner's host's quota, where enough runs are free for it.
+/// Whether the setting goes past its owner's host's quota, where enough runs are free for it.
 fn is_held_back<R: RangeTable, Q: Quotas>(
     locks: &Locks<R>,
     quotas: &Q,
-    change: &NewSetting<'_>,
+    setting: &NewSetting<'_>,
 ) -> bool
-    ensures { refuses 65536 locks.now.settings (changed change.now) ≡ false → result ≡ exceeds (Q.by_host quotas.now) locks.now.settings (changed change.now) }
+    ensures { refuses 65536 locks.now.settings (view_of_new_setting setting.now) ≡ false → result ≡ exceeds (Q.by_host quotas.now) locks.now.settings (view_of_new_setting setting.now) }
 {
     unlimited_exceeds_nothing();
-    match limit_of(quotas, change.owner) {
-        Some(limit) => locks.is_past(change, limit.host, limit.quota),
+    match limit_of(quotas, setting.owner) {
+        Some(limit) => locks.is_past(setting, limit.host, limit.quota),
         None => false,
     }
 }
 
-/// Whether the change is refused: for want of runs, or by its owner's host's quota.
+/// Whether the setting is refused: for want of runs, or by its owner's host's quota.
 pub(crate) fn is_refused<R: RangeTable, Q: Quotas>(
     locks: &Locks<R>,
     quotas: &Q,
-    change: &NewSetting<'_>,
+    setting: &NewSetting<'_>,
 ) -> bool
-    ensures { result ≡ is_refused 65536 (Q.by_host quotas.now) locks.now.settings (changed change.now) }
+    ensures { result ≡ is_refused 65536 (Q.by_host quotas.now) locks.now.settings (view_of_new_setting setting.now) }
 {
-    locks.refuses(change) || is_held_back(locks, quotas, change)
+    locks.refuses(setting) || is_held_back(locks, quotas, setting)
 }
 
 /// Whether a lock finds no room: fewer than 2 runs are free, or it goes past its owner's host's quota.

@@ -4,7 +4,7 @@ ghost use Rattle.definitions.specs.Quotas.{quotas_of, lacks_room, is_refused};
 ghost use Rattle.definitions.specs.Starts.{first_conflict};
 ghost use Rattle.definitions.specs.Conflict.{conflicts};
 ghost use Rattle.owner_ids.specs.Views.{view_of_owner};
-ghost use Rattle.held_locks.specs.Asked.{asked, changed, shown_found};
+ghost use Rattle.held_locks.specs.Asked.{asked, view_of_new_setting, shown_found};
 ghost use Rattle.lock_state.specs.Whole.{IsShown};
 
 use crate::quotas::{Stored, is_refused, lacks_room};
@@ -37,11 +37,11 @@ impl<R: RangeTable, S: HostStore> World<R, S> {
         lacks_room(&self.locks, &Stored { store: &self.store }, wanted)
     }
 
-    /// Whether the change is refused: where `set` would refuse it, or it goes past its owner's host's quota. Also of an
+    /// Whether the setting is refused: where `set` would refuse it, or it goes past its owner's host's quota. Also of an
     /// owner who isn't known. Changes nothing.
-    pub fn is_refused(&self, change: &NewSetting<'_>) -> bool
-        ensures { result ≡ is_refused 65536 (quotas_of self.now.world.hosts) self.now.world.settings (changed change.now) }
+    pub fn is_refused(&self, setting: &NewSetting<'_>) -> bool
+        ensures { result ≡ is_refused 65536 (quotas_of self.now.world.hosts) self.now.world.settings (view_of_new_setting setting.now) }
     {
-        is_refused(&self.locks, &Stored { store: &self.store }, change)
+        is_refused(&self.locks, &Stored { store: &self.store }, setting)
     }
 }

@@ -4,7 +4,7 @@ ghost use Rattle.definitions.specs.Moves.{AreRanges};
 ghost use Rattle.definitions.specs.Starts.{refuses};
 ghost use Rattle.definitions.specs.Waits.{Waiter as SaidWaiter};
 ghost use Rattle.owner_ids.specs.Views.{view_of_owner};
-ghost use Rattle.held_locks.specs.Asked.{changed};
+ghost use Rattle.held_locks.specs.Asked.{view_of_new_setting};
 ghost use Rattle.held_locks.specs.Held.{IsKnown};
 ghost use Rattle.lock_state.specs.ReadyAt.{IsReadyAt, with_file, after_change, after_grant};
 
@@ -62,16 +62,16 @@ pub(crate) fn set_on<R: RangeTable, Q: Quotas>(
     locks: &mut Locks<R>,
     unsettled: &mut Unsettled,
     quotas: &Q,
-    change: &NewSetting<'_>,
+    setting: &NewSetting<'_>,
 ) -> Result<(), NoRuns>
-    requires known { (change.now.mode ≡ None) ⊎ IsKnown locks.old (view_of_owner change.now.owner.now) }
-    ensures refused { IsErr result ↔ IsTrue (refuses 65536 locks.old.settings (changed change.now)) }
-    ensures ok { OnOk result (locks.new.settings ≡ locks.old.settings ++ changed change.now ∷ []) }
+    requires known { (setting.now.mode ≡ None) ⊎ IsKnown locks.old (view_of_owner setting.now.owner.now) }
+    ensures refused { IsErr result ↔ IsTrue (refuses 65536 locks.old.settings (view_of_new_setting setting.now)) }
+    ensures ok { OnOk result (locks.new.settings ≡ locks.old.settings ++ view_of_new_setting setting.now ∷ []) }
     ensures err { OnErr result (locks.new.settings ≡ locks.old.settings) }
     ensures names { locks.new.names ≡ locks.old.names }
     ensures ready { (waiters : List SaidWaiter) → AreRanges waiters → IsReadyAt unsettled.old (Q.by_host quotas.now) locks.old.settings waiters → IsReadyAt unsettled.new (Q.by_host quotas.now) locks.new.settings waiters }
 {
     setting_frees_own_file();
-    *unsettled = unsettled.after_change(&change.file, may_free(locks, quotas, change.owner));
-    locks.set(change)
+    *unsettled = unsettled.after_change(&setting.file, may_free(locks, quotas, setting.owner));
+    locks.set(setting)
 }

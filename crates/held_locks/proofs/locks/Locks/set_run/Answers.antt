@@ -10,7 +10,7 @@ use Rattle.range_table.specs.declared.run.Run.{Run}
 use Rattle.range_table.specs.declared.run.Setting.{Setting as NumberSetting}
 use Rattle.range_owners.proofs.Counting.{refusal_over}
 use Rattle.range_owners.specs.Stands.{Stands}
-use Rattle.held_locks.specs.Asked.{changed, setting_by}
+use Rattle.held_locks.specs.Asked.{view_of_new_setting, setting_by}
 use Rattle.held_locks.specs.declared.asked.NewSetting.{NewSetting}
 use Rattle.held_locks.proofs.Ties.{tied_set}
 use Rattle.held_locks.proofs.HostCounts.{hosts_changed, set_alike}
@@ -36,7 +36,7 @@ pub invariant_of-self-2 : goal.invariant_of-self-2
 invariant_of-self-2 g c =
     let r = c.run-run.result.now in
     let is = sym c.run-run.ensures.run in
-    let change : NewSetting = record { file = r.file; owner = c.get.result; first = r.first; last = r.last; mode = Some r.mode; ordered = subst (λ (q : Run). q.first ≤ q.last) is c.run-run.ensures.ordered; inside = subst (λ (q : Run). q.last < 2 ^ 63) is c.run-run.ensures.inside } in
+    let setting : NewSetting = record { file = r.file; owner = c.get.result; first = r.first; last = r.last; mode = Some r.mode; ordered = subst (λ (q : Run). q.first ≤ q.last) is c.run-run.ensures.ordered; inside = subst (λ (q : Run). q.last < 2 ^ 63) is c.run-run.ensures.inside } in
     let ns = g.R.RangeTable.settings c.self.inside.table in
     let others = g.R.RangeTable.settings c.set.new.table in
     let counts = c.self.inside.counts.items in
@@ -44,11 +44,11 @@ invariant_of-self-2 g c =
     let settings = c.self.inside.settings.items in
     let was = c.self.invariant.tied in
     let done = c.in_ok-set.ensures in
-    let tied = tied_set ns others counts c.set.new.counts.items names settings r.owner change was c.get.ensures done.ok done.counted done.places in
+    let tied = tied_set ns others counts c.set.new.counts.items names settings r.owner setting was c.get.ensures done.ok done.counted done.places in
     rw c.after-self-inside.ensures
     (record {
       tied = tied;
-      by_host = hosts_changed settings (settings ++ changed change ∷ []) (view_of_owner change.owner.now) (set_alike settings (changed change)) ns others counts c.set.new.counts.items names c.self.inside.hosts c.set.new.hosts was tied c.self.invariant.by_host done.hosts;
+      by_host = hosts_changed settings (settings ++ view_of_new_setting setting ∷ []) (view_of_owner setting.owner.now) (set_alike settings (view_of_new_setting setting)) ns others counts c.set.new.counts.items names c.self.inside.hosts c.set.new.hosts was tied c.self.invariant.by_host done.hosts;
     })
 
 pub returns-clause-refused : goal.returns-clause-refused
