@@ -4,7 +4,7 @@ use crate::messages::put_message;
 use crate::page::read_xid;
 use crate::servers::{Misplayed, play};
 use crate::words::Terms;
-use nlm4_types::{Lock, Netobj, NlmCall, Version, WIDE};
+use nlm4_types::{Lock, LockArgs, Netobj, NlmCall, TestArgs, Version, WIDE};
 use record_reading::{Call, Reading};
 use std::alloc::Global;
 use std::test::*;
@@ -71,29 +71,30 @@ fn is_lock(host: &str, asked: &Terms, alock: &Lock<'_, WIDE>) -> bool {
         && alock.l_len == len
 }
 
+fn is_test(host: &str, asked: &Terms, args: &TestArgs<'_, WIDE>) -> bool {
+    let [_, _, exclusive, ..] = asked.numbers;
+    is_cookie(asked, &args.cookie)
+        && args.exclusive == (exclusive == 1)
+        && is_lock(host, asked, &args.alock)
+}
+
+fn is_lock_call(host: &str, asked: &Terms, args: &LockArgs<'_, WIDE>) -> bool {
+    let [_, block, exclusive, _, _, _, _, _, _, reclaim, state, ..] = asked.numbers;
+    is_cookie(asked, &args.cookie)
+        && args.block == (block == 1)
+        && args.exclusive == (exclusive == 1)
+        && is_lock(host, asked, &args.alock)
+        && args.reclaim == (reclaim == 1)
+        && args.state.cast_unsigned() as u64 == state
+}
+
 // Whether it is read as what it asks of this host.
 fn is_asked(host: &str, procedure: &str, asked: &Terms, call: &NlmCall<'_>) -> bool {
-    let [_, block, exclusive, _, _, _, _, _, _, reclaim, state, ..] = asked.numbers;
-    match call {
-        NlmCall::Test(args) => {
-            procedure == "test"
-                && is_cookie(asked, &args.cookie)
-                && args.exclusive == (exclusive == 1)
-                && is_lock(host, asked, &args.alock)
-        }
-        NlmCall::Lock(args) => {
-            procedure == "lock"
-                && is_cookie(asked, &args.cookie)
-                && args.block == (block == 1)
-                && args.exclusive == (exclusive == 1)
-                && is_lock(host, asked, &args.alock)
-                && args.reclaim == (reclaim == 1)
-                && args.state.cast_unsigned() as u64 == state
-        }
-        NlmCall::Unlock(args) => {
-            procedure == "unlock"
-                && is_cookie(asked, &args.cookie)
-                && is_lock(host, asked, &args.alock)
+    match (procedure, call) {
+        ("test", NlmCall::Test(args)) => is_test(host, asked, args),
+        ("lock", NlmCall::Lock(args)) => is_lock_call(host, asked, args),
+        ("unlock", NlmCall::Unlock(args)) => {
+            is_cookie(asked, &args.cookie) && is_lock(host, asked, &args.alock)
         }
         _ => false,
     }

@@ -142,9 +142,8 @@ impl<'a> Page<'a> {
         put_message(&mut self.come, read_xid(xid)?, answer)?;
         let record = self.come.get(4..)?;
         let front = record.get(..most).unwrap_or(record);
-        Some(Event::Answer {
-            bytes: Vec::from_slice(self.alloc, front).ok()?,
-        })
+        let bytes = Vec::from_slice(self.alloc, front).ok()?;
+        Some(Event::Answer { bytes })
     }
 }
 
@@ -160,7 +159,8 @@ fn peer(name: &str) -> Peer {
 fn silent(rest: &str) -> Option<Event> {
     let (own, number) = rest.split_once(" ")?;
     let first = read_xid(own)? as u64 * 0x1_0000_0000;
+    let number = read_number(number)?;
     Some(Event::Silent {
-        number: first.wrapping_add(read_number(number)?),
+        number: first.wrapping_add(number),
     })
 }

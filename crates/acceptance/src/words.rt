@@ -72,16 +72,26 @@ fn put_repeated(bytes: &mut Vec<u8>, byte: &str, count: &str) -> Option<()> {
     Some(())
 }
 
-fn put_number(bytes: &mut Vec<u8>, word: &str, terms: &Terms) -> Option<()> {
-    if let Some(place) = word.strip_prefix("##") {
-        return put_long(bytes, terms.at(place)?);
+fn put_hexadecimal(bytes: &mut Vec<u8>, word: &str) -> Option<()> {
+    let word = u32::from_str_radix(word, 16).ok()?;
+    put_word(bytes, word)
+}
+
+// The number at a place, as a word, or as a long behind a further `#`.
+fn put_at(bytes: &mut Vec<u8>, place: &str, terms: &Terms) -> Option<()> {
+    match place.strip_prefix("#") {
+        Some(place) => put_long(bytes, terms.at(place)?),
+        None => put_word(bytes, u32::try_from(terms.at(place)?).ok()?),
     }
+}
+
+fn put_number(bytes: &mut Vec<u8>, word: &str, terms: &Terms) -> Option<()> {
     if let Some(place) = word.strip_prefix("#") {
-        return put_word(bytes, u32::try_from(terms.at(place)?).ok()?);
+        return put_at(bytes, place, terms);
     }
     match word.split_once("*") {
         Some((byte, count)) => put_repeated(bytes, byte, count),
-        None => put_word(bytes, u32::from_str_radix(word, 16).ok()?),
+        None => put_hexadecimal(bytes, word),
     }
 }
 
