@@ -248,7 +248,10 @@ pub fn set_lock<R: RangeTable, S: HostStore>(
     ensures forgotten { IfOk result (λ _. IsForgottenIfIdle (view_of_owner line.now.lock.now.owner) world.new.world world.new) }
 {
     let plan = plan_set(world, line)?;
-    prepare_change(world, &plan.change)?;
+    let Ok(()) = prepare_change(world, &plan.change) else {
+        drop(plan);
+        return Err(Starved);
+    };
     let LinePlan { answer, change } = plan;
     call_plans::make_change(world, change);
     world.forget_idle(&line.lock.owner);

@@ -111,7 +111,10 @@ fn after_row(
     ensures verdict { IfOk result (λ made. IsAfterRow (Monitor host.now.name.now host.now.state) stat change made) }
     ensures asks { IfOk result (OnlyAsksIf true) }
 {
-    let name = ShortBytes::copy_of(alloc, host.name)?;
+    let Ok(name) = ShortBytes::copy_of(alloc, host.name) else {
+        drop(change);
+        return Err(Starved);
+    };
     Ok(Verdict::AfterStore {
         asked: Asked::Monitor {
             name,

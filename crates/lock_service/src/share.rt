@@ -8,7 +8,7 @@ ghost use Rattle.nlm4_types.specs.Stat.{view_of_stat};
 ghost use Rattle.nlm4_types.specs.Version.{view_of_version};
 ghost use Rattle.nlm4_types.specs.Access.{view_of_access};
 ghost use Rattle.nlm4_types.specs.Share.{view_of_shareargs};
-ghost use Rattle.call_plans.specs.Planned.{IsPlan, AsksOnlyIf, FitsChange, changed};
+ghost use Rattle.call_plans.specs.Planned.{IsPlan, AsksOnlyIf, FitsChange, FitsDue, changed, told_in};
 
 use crate::checks::check_file;
 use crate::copies::cookie_of;
@@ -63,14 +63,25 @@ pub(crate) fn told(
     ensures plan { IfOk result (λ made. (w : SaidWorld) → FitsChange change w → IsPlan (decided (share_told (view_of_version version) (view_of_shareargs args.now) (record { says = view_of_stat stat; world = changed change w }))) w made) }
     ensures asks { IfOk result (AsksOnlyIf false) }
 {
+    let Ok(told) = reply(alloc, version, args, stat) else {
+        drop(change);
+        return Err(Starved);
+    };
+    Ok(Plan::Decided(Answer { told, change }))
+}
+
+// The status as the call's version shows it.
+fn reply(alloc: Global, version: Version, args: &ShareArgs<'_>, stat: Stat) -> Result<Told, Starved>
+    ensures told { IfOk result (λ made. (w : SaidWorld) → told_in made w ≡ share_told (view_of_version version) (view_of_shareargs args.now) (record { says = view_of_stat stat; world = w })) }
+    ensures fits { IfOk result (λ made. (w : SaidWorld) → FitsDue made w) }
+{
     let cookie = cookie_of(alloc, &args.cookie)?;
     let res = ShareRes {
         cookie,
         stat: stat.shown_in(version),
         sequence: 0,
     };
-    let told = Told::reply(alloc, Outcome::Success(CallResult::ShareRes(res)))?;
-    Ok(Plan::Decided(Answer { told, change }))
+    Told::reply(alloc, Outcome::Success(CallResult::ShareRes(res)))
 }
 
 /// The share that a call names.

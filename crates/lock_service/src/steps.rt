@@ -86,7 +86,10 @@ pub fn agreed<R: RangeTable, S: HostStore>(
     ensures err { OnErr result ((world.new.world ≡ world.old.world) × (world.new.refusals ≡ world.old.refusals)) }
 {
     let plan = plan(world, local, call)?;
-    let store = agree(world, &plan)?;
+    let Ok(store) = agree(world, &plan) else {
+        drop(plan);
+        return Err(Starved);
+    };
     Ok((plan, store))
 }
 

@@ -74,6 +74,19 @@ pub(crate) struct Telling<'r> {
 }
 
 impl Telling<'_> {
+    // What changes, and then what is told of it.
+    fn answer(&self, alloc: Global, stat: Stat, change: Change) -> Result<Answer, Starved>
+        ensures change { IfOk result (λ made. made.change ≡ change) }
+        ensures told { IfOk result (λ made. (w : SaidWorld) → told_in made.told w ≡ told_as self.now.form self.now (view_of_stat stat) w) }
+        ensures fits { IfOk result (λ made. (w : SaidWorld) → places self.now.form ≤ slots_free the_limits w → FitsDue made.told w) }
+    {
+        let Ok(told) = self.told(alloc, stat) else {
+            drop(change);
+            return Err(Starved);
+        };
+        Ok(Answer { told, change })
+    }
+
     // The status as the call's version shows it.
     fn told(&self, alloc: Global, stat: Stat) -> Result<Told, Starved>
         ensures told { IfOk result (λ made. (w : SaidWorld) → told_in made w ≡ told_as self.now.form self.now (view_of_stat stat) w) }
@@ -105,6 +118,7 @@ impl Verdict {
         ensures asks { IfOk result (λ made. (allowed : Bool) → OnlyAsksIf allowed self → AsksOnlyIf allowed made) }
     {
         if free < telling.form.places() {
+            drop(self);
             return no_place(alloc);
         }
         self.told_in_place(alloc, telling)
@@ -116,19 +130,25 @@ impl Verdict {
     {
         match self {
             Verdict::Decided { stat, change } => {
-                let told = telling.told(alloc, stat)?;
-                Ok(Plan::Decided(Answer { told, change }))
+                telling.answer(alloc, stat, change).map(Plan::Decided)
             }
             Verdict::AfterStore {
                 asked,
                 stat,
                 change,
             } => {
-                let told = telling.told(alloc, stat)?;
-                let refused = telling.told(alloc, Stat::DeniedNolocks)?;
+                let Ok(agreed) = telling.answer(alloc, stat, change) else {
+                    drop(asked);
+                    return Err(Starved);
+                };
+                let Ok(refused) = telling.told(alloc, Stat::DeniedNolocks) else {
+                    drop(asked);
+                    drop(agreed);
+                    return Err(Starved);
+                };
                 Ok(Plan::AfterStore {
                     asked,
-                    agreed: Answer { told, change },
+                    agreed,
                     refused,
                 })
             }
