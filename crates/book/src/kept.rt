@@ -1,11 +1,17 @@
 //! Replies that are kept.
 ghost use Rattle.std.specs.Prelude.{◌≡◌, IfOk};
+ghost use Rattle.definitions.specs.Hosts.{NotAsked};
+ghost use Rattle.definitions.specs.Step.{Applied, Replies};
 ghost use Rattle.call_outcome.specs.Values.{view_of_outcome};
+ghost use Rattle.book.specs.Given.{comes_to, view_of_reply};
 
+use crate::reply::Reply;
+use crate::upshot::{Upshot, answers};
 use call_outcome::Outcome;
 use call_plans::Told;
 use callbacks::Letter;
 use kept_replies::Kept;
+use lock_service::StoreAnswer;
 use owner_ids::Starved;
 use std::alloc::Global;
 use std::sync::Arc;
@@ -42,6 +48,19 @@ impl KeptReply {
             outcome,
             letters,
         })
+    }
+
+    // The reply to the call that came again, and copies of the calls that went with it.
+    pub(crate) fn again(&self, alloc: Global) -> Result<((Upshot, Reply), Vec<Letter>), Starved>
+        ensures upshot { IfOk result (λ made. made.0.0 ≡ comes_to Applied NotAsked (Replies self.now.xid (view_of_outcome self.now.outcome.value))) }
+        ensures noted { IfOk result (λ made. view_of_reply made.0.1 ≡ Replies self.now.xid (view_of_outcome self.now.outcome.value)) }
+        ensures letters { IfOk result (λ made. made.1.items ≡ self.now.letters.items) }
+    {
+        let outcome = Arc::try_clone(&self.outcome)?;
+        let noted = Arc::try_clone(&self.outcome)?;
+        let letters = copies_of(alloc, &self.letters)?;
+        let said = answers(StoreAnswer::NotAsked, self.xid, outcome, noted);
+        Ok((said, letters))
     }
 }
 

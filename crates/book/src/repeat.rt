@@ -7,16 +7,13 @@ ghost use Rattle.kept_replies.specs.Pairs.{view_of_peer, at_key};
 ghost use Rattle.book.specs.Given.{view_of_reply};
 ghost use Rattle.book.specs.Notes.{IsStep};
 
-use crate::kept::copies_of;
 use crate::reply::Reply;
 use crate::shared::Shared;
-use crate::upshot::{Upshot, answers, too_few_places};
+use crate::upshot::{Upshot, too_few_places};
 use hosts_db::HostStore;
 use kept_replies::Key;
-use lock_service::StoreAnswer;
 use owner_ids::Starved;
 use range_table::RangeTable;
-use std::sync::Arc;
 
 impl<R: RangeTable, S: HostStore> Shared<R, S> {
     /// The reply that is kept under the key, which is now the newest use, and the calls that went with it, due again;
@@ -33,15 +30,12 @@ impl<R: RangeTable, S: HostStore> Shared<R, S> {
         let Some(kept) = self.kept.look(key) else {
             return Ok(None);
         };
-        let xid = kept.xid;
         if kept.letters.len() > self.world.free_slots() {
-            return Ok(Some(too_few_places(xid)));
+            return Ok(Some(too_few_places(kept.xid)));
         }
-        let letters = copies_of(self.world.alloc(), &kept.letters)?;
-        let outcome = Arc::try_clone(&kept.outcome)?;
-        let noted = Arc::try_clone(&kept.outcome)?;
+        let (said, letters) = kept.again(self.world.alloc())?;
         let _ = self.kept.find(key);
         self.world.tell(letters);
-        Ok(Some(answers(StoreAnswer::NotAsked, xid, outcome, noted)))
+        Ok(Some(said))
     }
 }
