@@ -8,9 +8,9 @@ use crate::lines::LocalLines;
 use crate::seats::{callers, locals, take_back};
 use crate::settings::{Backing, Settings};
 use crate::signals::Bells;
-use book::{Book, BookEvent, Reply};
+use book::{Book, BookEvent, Reply, Upshot};
 use callbacks::ShortBytes;
-use connections::{Door, PLACES};
+use connections::{Door, PLACES, Roster};
 use hosts_db::HostStore;
 use jobs::{Channel, Opened, Place};
 use log::Log;
@@ -61,17 +61,18 @@ where
     })
 }
 
-// The server begins anew, with the store's rows.
-fn restart<T: RangeTable, S: HostStore, L: Ledger>(
-    shared: &mut Shared<T, S, L>,
-) -> Result<(), Fault> {
-    match shared.apply(BookEvent::Restart) {
+// Whether the server began anew, with the store's rows.
+fn restarted(applied: Result<Upshot, BookEvent>) -> Result<(), Fault> {
+    match applied {
         Ok(upshot) => match upshot.reply {
             Reply::Starved => Err(Fault::Starved),
             Reply::StoreRefused => Err(Fault::StoreRefused),
             _ => Ok(()),
         },
-        Err(_) => Err(Fault::Starved),
+        Err(event) => {
+            drop(event);
+            Err(Fault::Starved)
+        }
     }
 }
 
@@ -106,8 +107,8 @@ fn if_told<W: Drop>(ran: Result<Vec<W>, NoThread>, is_told: bool) -> Result<Vec<
 
 // What stands before the threads, and what is left behind them.
 #[derive(Drop)]
-struct Inside<P: Place, L: Ledger, T: RangeTable, S: HostStore> {
-    channel: Channel<P>,
+struct Inside<'a, P: Place, L: Ledger, T: RangeTable, S: HostStore> {
+    channel: &'a Channel<P>,
     shared: Mutex<Shared<T, S, L>>,
     rosters: Rosters<P, L>,
 }
@@ -138,7 +139,7 @@ fn serve_inside<P, L, T, S, G, R>(
     settings: &Settings,
     gate: &G,
     peers: Peers,
-    inside: &Inside<P, L, T, S>,
+    inside: &Inside<'_, P, L, T, S>,
     workers: Vec<Worker<P, L>>,
 ) -> Result<Vec<Worker<P, L>>, Fault>
 where
@@ -170,7 +171,7 @@ where
     };
     let context = Context {
         alloc,
-        channel: &inside.channel,
+        channel: inside.channel,
         shared: &inside.shared,
         rosters: &inside.rosters,
         latches: &latches,
@@ -209,9 +210,12 @@ fn shared_over<T: RangeTable + Drop, S: HostStore + Drop, L: Ledger>(
 fn begun_anew<T: RangeTable + Drop, S: HostStore + Drop, L: Ledger>(
     mut shared: Shared<T, S, L>,
 ) -> Result<Shared<T, S, L>, Fault> {
-    match restart(&mut shared) {
+    match restarted(shared.apply(BookEvent::Restart)) {
         Ok(()) => Ok(shared),
-        Err(fault) => Err(fault),
+        Err(fault) => {
+            drop(shared);
+            Err(fault)
+        }
     }
 }
 
@@ -247,7 +251,7 @@ fn serve_seated<P, L, T, S, G, R>(
     settings: &Settings,
     gate: &G,
     peers: Peers,
-    channel: Channel<P>,
+    channel: &Channel<P>,
     shared: Shared<T, S, L>,
     mut cutter: Cutter<P, L>,
     parts: u64,
@@ -267,18 +271,22 @@ where
         + Sync,
     requires { parts ≡ L.parts }
 {
-    match seat_all(alloc, &mut cutter, &channel, settings.workers) {
-        Ok(seated) => {
-            let Seated { rosters, workers } = seated;
+    match seat_all(alloc, &mut cutter, channel, settings.workers) {
+        Ok(Seated { rosters, workers }) => {
             let inside = Inside {
                 channel,
                 shared: Mutex::new(shared),
                 rosters,
             };
             let back = serve_inside(rt, alloc, settings, gate, peers, &inside, workers);
-            end_with(cutter.into_gatherer(), inside, back, parts)
+            end(cutter.into_gatherer(), inside, back, parts)
         }
-        Err(fault) => Err(fault),
+        Err(fault) => {
+            drop(shared);
+            drop(cutter);
+            drop(peers);
+            Err(fault)
+        }
     }
 }
 
@@ -320,46 +328,63 @@ where
         peers,
         own_name,
     } = backing;
-    let shared = shared_over(alloc, table, store, own_name, total, is_audited)?;
-    serve_seated(
-        rt, alloc, settings, gate, peers, channel, shared, cutter, parts,
-    )
+    let served = match shared_over(alloc, table, store, own_name, total, is_audited) {
+        Ok(shared) => serve_seated(
+            rt, alloc, settings, gate, peers, &channel, shared, cutter, parts,
+        ),
+        Err(fault) => {
+            drop(cutter);
+            drop(peers);
+            Err(fault)
+        }
+    };
+    drop(channel);
+    served
 }
 
-// The end, where all came back.
-fn end_with<P: Place, L: Ledger, T: RangeTable + Drop, S: HostStore + Drop>(
-    gatherer: Gatherer<P, L>,
-    inside: Inside<P, L, T, S>,
+// Everybody gives back what he had.
+fn gather_all<P: Place, L: Ledger>(
+    gatherer: &mut Gatherer<P, L>,
+    channel: &Channel<P>,
+    callers: &mut Roster<Worker<P, L>>,
     back: Result<Vec<Worker<P, L>>, Fault>,
-    parts: u64,
-) -> Result<u64, Fault>
-    requires { parts ≡ L.parts }
-{
-    match back {
-        Ok(workers) => end(gatherer, inside, workers, parts),
-        Err(fault) => Err(fault),
+) -> Result<(), Fault> {
+    let workers = back?;
+    match take_back(gatherer, channel, callers) {
+        Ok(()) => Ok(gatherer.take_all(channel, workers)?),
+        Err(fault) => {
+            drop(workers);
+            Err(fault)
+        }
     }
 }
 
 // What was cut is taken back, and the journal is checked.
 fn end<P: Place, L: Ledger, T: RangeTable + Drop, S: HostStore + Drop>(
     gatherer: Gatherer<P, L>,
-    inside: Inside<P, L, T, S>,
-    workers: Vec<Worker<P, L>>,
+    inside: Inside<'_, P, L, T, S>,
+    back: Result<Vec<Worker<P, L>>, Fault>,
     parts: u64,
 ) -> Result<u64, Fault>
     requires { parts ≡ L.parts }
 {
+    let mut gatherer = gatherer;
     let Inside {
         channel,
         shared,
         rosters,
-        ..
     } = inside;
-    let mut gatherer = gatherer;
-    take_back(&mut gatherer, &channel, &mut rosters.callers.into_inner())?;
-    gatherer.take_all(&channel, workers)?;
-    Ok(gatherer.settle(&channel, shared.into_inner(), parts)?)
+    let mut callers = rosters.callers.into_inner();
+    let gathered = gather_all(&mut gatherer, channel, &mut callers, back);
+    drop(callers);
+    match gathered {
+        Ok(()) => Ok(gatherer.settle(channel, shared.into_inner(), parts)?),
+        Err(fault) => {
+            drop(shared);
+            drop(gatherer);
+            Err(fault)
+        }
+    }
 }
 
 /// Serves until a local program says `stop`: how many calls were taken, where that was audited, and else 0. It begins the server
@@ -387,8 +412,15 @@ where
         + Log
         + Sync,
 {
-    let table = ArenaTable::new(alloc).map_err(|_| Fault::Starved)?;
-    let opened = Opened::new(alloc)?;
+    let Ok(table) = ArenaTable::new(alloc) else {
+        drop(backing);
+        return Err(Fault::Starved);
+    };
+    let Ok(opened) = Opened::new(alloc) else {
+        drop(table);
+        drop(backing);
+        return Err(Fault::Starved);
+    };
     let parts = PLACES as u64 + u64::from(settings.workers);
     serve_as::<Brand, Brand, _, _, _, _>(
         rt,
