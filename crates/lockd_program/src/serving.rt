@@ -100,13 +100,43 @@ fn backing_of<S: HostStore + Drop>(
     }
 }
 
+// Serves over the store, where it could be had.
+fn serve_over<S, R>(
+    rt: &R,
+    alloc: Global,
+    asked: &ServeConfig,
+    peers: Peers,
+    store: Result<S, StoreFault>,
+) -> Result<u64, ServeFault>
+where
+    S: HostStore + Drop + Send,
+    R: Net<Listener = TcpListener, Stream = TcpStream>
+        + Threads
+        + Wait
+        + Clock
+        + Print
+        + Log
+        + Sync,
+{
+    let backed = match store {
+        Ok(store) => backing_of(alloc, asked, peers, store),
+        Err(fault) => Err(ServeFault::Store(fault)),
+    };
+    match backed {
+        Ok(backing) => {
+            serve(rt, alloc, &settings_of(asked), backing, &Open).map_err(ServeFault::Server)
+        }
+        Err(fault) => Err(fault),
+    }
+}
+
 // It is generic, so that the proof of a call sees no more of a database than its trait.
 fn serve_database<S, R>(
     rt: &R,
     alloc: Global,
     asked: &ServeConfig,
     peers: Peers,
-    conn: Connection<S>,
+    opened: Result<Connection<S>, sqlite::Error>,
 ) -> Result<u64, ServeFault>
 where
     S: Alter + Drop + Send,
@@ -118,16 +148,7 @@ where
         + Log
         + Sync,
 {
-    let backed = match stored_hosts(alloc, conn) {
-        Ok(store) => backing_of(alloc, asked, peers, store),
-        Err(fault) => Err(ServeFault::Store(fault)),
-    };
-    match backed {
-        Ok(backing) => {
-            serve(rt, alloc, &settings_of(asked), backing, &Open).map_err(ServeFault::Server)
-        }
-        Err(fault) => Err(fault),
-    }
+    serve_over(rt, alloc, asked, peers, stored_hosts(alloc, opened))
 }
 
 /// Serves until a local program says `stop`: how many calls were taken, where that was kept.
@@ -146,8 +167,6 @@ where
         + Sync,
 {
     let peers = read_peers(host, asked.peers.as_str())?;
-    match Connection::open(host, asked.db.as_str()) {
-        Ok(conn) => serve_database(rt, host.alloc(), asked, peers, conn),
-        Err(_) => Err(ServeFault::Store(StoreFault::StoreRefused)),
-    }
+    let opened = Connection::open(host, asked.db.as_str());
+    serve_database(rt, host.alloc(), asked, peers, opened)
 }

@@ -20,11 +20,14 @@ pub(crate) fn no_hosts(alloc: Global) -> Result<MemHosts, Fault> {
     MemHosts::new(alloc, 0, Vec::new(alloc), Vec::new(alloc)).map_err(fault_of)
 }
 
-/// The hosts that a database stores. What is no database of hosts is left as it was.
+/// The hosts that a database stores, where it could be opened. What is no database of hosts is left as it was.
 pub(crate) fn stored_hosts<S: Alter + Drop>(
     alloc: Global,
-    conn: Connection<S>,
+    opened: Result<Connection<S>, sqlite::Error>,
 ) -> Result<Lasting<SqlHosts<S>>, Fault> {
+    let Ok(conn) = opened else {
+        return Err(Fault::StoreRefused);
+    };
     match SqlHosts::adopt(alloc, conn) {
         Ok(store) => Ok(Lasting::new(store)),
         Err((refusal, _conn)) => Err(fault_of(refusal)),

@@ -33,8 +33,9 @@ fn serve_over<S: HostStore + Drop>(
     rt: &HostRuntime,
     told: Told,
     asked: &StreamConfig,
-    store: S,
+    store: Result<S, Fault>,
 ) -> Result<(), Fault> {
+    let store = store?;
     let alloc = rt.alloc();
     let own_name = own_name(alloc, &asked.name)?;
     let table = ArenaTable::new(alloc)?;
@@ -59,12 +60,9 @@ fn serve_database<S: Alter + Drop>(
     rt: &HostRuntime,
     told: Told,
     asked: &StreamConfig,
-    conn: Connection<S>,
+    opened: Result<Connection<S>, sqlite::Error>,
 ) -> Result<(), Fault> {
-    match stored_hosts(rt.alloc(), conn) {
-        Ok(store) => serve_over(rt, told, asked, store),
-        Err(fault) => Err(fault),
-    }
+    serve_over(rt, told, asked, stored_hosts(rt.alloc(), opened))
 }
 
 /// Serves the stream on standard input, with the hosts of the file, which is made where it isn't there, or none.
@@ -74,10 +72,7 @@ pub(crate) fn serve_stream(
     asked: &StreamConfig,
 ) -> Result<(), Fault> {
     match &asked.db {
-        None => serve_over(rt, told, asked, no_hosts(rt.alloc())?),
-        Some(path) => match Connection::open(rt, path.as_str()) {
-            Ok(conn) => serve_database(rt, told, asked, conn),
-            Err(_) => Err(Fault::StoreRefused),
-        },
+        None => serve_over(rt, told, asked, no_hosts(rt.alloc())),
+        Some(path) => serve_database(rt, told, asked, Connection::open(rt, path.as_str())),
     }
 }
