@@ -68,16 +68,16 @@ struct Bytes {
 
 impl Bytes {
     // Whether there is memory for them.
-    fn note(&mut self, files: &Trials) -> bool {
+    fn note(&mut self, Trials { disks }: &Trials) -> bool {
         self.log
-            .extend_from_slice(files.log.inner().bytes())
+            .extend_from_slice(disks.log.inner().bytes())
             .is_ok()
-            && self.db.extend_from_slice(files.db.inner().bytes()).is_ok()
+            && self.db.extend_from_slice(disks.db.inner().bytes()).is_ok()
     }
 
-    fn are_of(&self, files: &Trials) -> bool {
-        files.log.inner().bytes() == self.log.as_slice()
-            && files.db.inner().bytes() == self.db.as_slice()
+    fn are_of(&self, Trials { disks }: &Trials) -> bool {
+        disks.log.inner().bytes() == self.log.as_slice()
+            && disks.db.inner().bytes() == self.db.as_slice()
     }
 }
 
@@ -124,14 +124,14 @@ fn is_so(alloc: Global, tables: &str, row: Row) -> bool {
     push_spelled(&mut sql, row.0).is_ok() && adopts(alloc, [tables, &sql], row.1)
 }
 
-// The first row that isn't so.
-fn wrong_in(alloc: Global, tables: &str, rows: &[Row]) -> Option<&'static str> {
+// The first row that isn't so is an error.
+fn are_so(alloc: Global, tables: &str, rows: &[Row]) -> Result<(), &'static str> {
     for row in rows {
         if !is_so(alloc, tables, *row) {
-            return Some(row.0);
+            return Err(row.0);
         }
     }
-    None
+    Ok(())
 }
 
 /// All tables or none, and no other.
@@ -268,18 +268,10 @@ const FIRST_ROWS: [Row; 7] = [
     ("INSERT INTO own VALUES (1, 1, 3); DROP TABLE hosts", None),
 ];
 
-// The first row of all that isn't so.
-fn wrong(alloc: Global) -> Option<&'static str> {
-    for rows in [&TABLES[..], &OWN, &HOSTS, &WATCHES, &ROWS] {
-        let wrong = wrong_in(alloc, SECOND, rows);
-        if wrong.is_some() {
-            return wrong;
-        }
-    }
-    wrong_in(alloc, FIRST, &FIRST_ROWS)
-}
-
 #[test]
-fn adopts_just_what_fits(rt: HostRuntime) {
-    assert_eq!(rt; wrong(rt.alloc()), None);
+fn adopts_just_what_fits(rt: HostRuntime) -> Result<(), &'static str> {
+    for rows in [&TABLES[..], &OWN, &HOSTS, &WATCHES, &ROWS] {
+        are_so(rt.alloc(), SECOND, rows)?;
+    }
+    are_so(rt.alloc(), FIRST, &FIRST_ROWS)
 }

@@ -20,9 +20,8 @@ struct Play<'a> {
 }
 
 impl Deed for Play<'_> {
-    fn act<T: RangeTable, S: HostStore>(&mut self, daemon: &mut Daemon<T, S>) {
-        let mut room = Frame::new();
-        self.done = played(self.alloc, daemon, &mut room, self.script);
+    fn act<T: RangeTable, S: HostStore>(&mut self, daemon: &mut Daemon<T, S>, room: &mut Frame) {
+        self.done = played(self.alloc, daemon, room, self.script);
     }
 }
 
@@ -73,15 +72,18 @@ impl Anew<'_> {
     }
 
     // Whether the daemon begins anew, tells just the stored hosts of it, and leaves whoever had a lock its row and its lock.
-    fn begins<T: RangeTable, S: HostStore>(&self, daemon: &mut Daemon<T, S>) -> bool {
-        let mut room = Frame::new();
-        if played(self.alloc, daemon, &mut room, "restart\nconnect") != Some(2)
-            || !notifies(self.alloc, daemon, &mut room)
+    fn begins<T: RangeTable, S: HostStore>(
+        &self,
+        daemon: &mut Daemon<T, S>,
+        room: &mut Frame,
+    ) -> bool {
+        if played(self.alloc, daemon, room, "restart\nconnect") != Some(2)
+            || !notifies(self.alloc, daemon, room)
         {
             return false;
         }
         for line in self.script.lines().take(self.done) {
-            if !self.stands(daemon, &mut room, line) {
+            if !self.stands(daemon, room, line) {
                 return false;
             }
         }
@@ -90,8 +92,8 @@ impl Anew<'_> {
 }
 
 impl Deed for Anew<'_> {
-    fn act<T: RangeTable, S: HostStore>(&mut self, daemon: &mut Daemon<T, S>) {
-        self.is_so = self.begins(daemon);
+    fn act<T: RangeTable, S: HostStore>(&mut self, daemon: &mut Daemon<T, S>, room: &mut Frame) {
+        self.is_so = self.begins(daemon, room);
     }
 }
 
@@ -259,17 +261,13 @@ const SCRIPTS: [&str; 12] = [
     CRASH,
 ];
 
-// The first of the scripts whose last line isn't met by a stop of either file, or that leaves what it may not.
-fn wrong(alloc: Global) -> Option<&'static str> {
+// The last line of each script is met by stops of either file, and none leaves what it may not.
+#[test]
+fn stop_at_each_write(rt: HostRuntime) -> Result<(), &'static str> {
     for script in SCRIPTS {
-        if !are_met(alloc, &Script(script)) {
-            return Some(script);
+        if !are_met(rt.alloc(), &Script(script)) {
+            return Err(script);
         }
     }
-    None
-}
-
-#[test]
-fn stop_at_each_write(rt: HostRuntime) {
-    assert_eq!(rt; wrong(rt.alloc()), None);
+    Ok(())
 }

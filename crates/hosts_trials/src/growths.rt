@@ -3,7 +3,7 @@ use crate::calls::call;
 use crate::shown::{are_same, model};
 use crate::visits::{Came, Work, visit};
 use hosts_db::{HostStore, MemHosts};
-use sqlite::{Alter, Connection};
+use sqlite::Connection;
 use std::alloc::Global;
 use std::test::*;
 
@@ -59,26 +59,21 @@ impl Work for Growths {
     }
 }
 
-// Visits a database, and lets go of it. It is generic, so that its proof sees no more of that than its trait.
-fn visited<S: Alter + Drop, W: Work>(alloc: Global, conn: Connection<S>, work: &mut W) -> Came {
-    let (came, _store) = visit(alloc, conn, ["", ""], work);
-    came
-}
-
 // What came of a visit of a database in memory, since a file that wants memory fails, and then the store refuses until it is opened
 // again. Where there is no memory for a database, nothing goes wrong.
 fn came(alloc: Global, growths: &mut Growths) -> Came {
     match Connection::open_in_memory(alloc) {
-        Ok(conn) => visited(alloc, conn, growths),
+        Ok(conn) => visit(alloc, conn, ["", ""], growths).0,
         Err(_) => Came::Starved,
     }
 }
 
 // The line at which it goes wrong. Where a growth is refused before there is a store, nothing does.
 fn wrong(alloc: Global) -> Option<&'static str> {
+    let model = model(alloc)?;
     let mut growths = Growths {
         alloc,
-        model: model(alloc)?,
+        model,
         wrong: None,
     };
     match came(alloc, &mut growths) {
@@ -88,6 +83,9 @@ fn wrong(alloc: Global) -> Option<&'static str> {
 }
 
 #[test]
-fn growths_refused(rt: HostRuntime) {
-    assert_eq!(rt; wrong(rt.alloc()), None);
+fn growths_refused(rt: HostRuntime) -> Result<(), &'static str> {
+    match wrong(rt.alloc()) {
+        Some(line) => Err(line),
+        None => Ok(()),
+    }
 }

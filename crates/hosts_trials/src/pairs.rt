@@ -137,34 +137,6 @@ start
 /// A database without its own row is refused.
 const NO_OWN: &str = "DELETE FROM own";
 
-#[test]
-fn one_script_over_both(rt: HostRuntime) {
-    let story = Story {
-        sql: ["", ""],
-        past: "",
-        first: "",
-        script: SCRIPT,
-        found: "SELECT version FROM own -> 2",
-        again: AGAIN,
-        more: NO_OWN,
-    };
-    assert_eq!(rt; wrong(rt.alloc(), story), None);
-}
-
-#[test]
-fn each_call_works_then(rt: HostRuntime) {
-    let story = Story {
-        sql: [FIRST, "INSERT INTO own VALUES (1, 1, 0)"],
-        past: "",
-        first: "",
-        script: SCRIPT,
-        found: "SELECT version FROM own -> 2",
-        again: AGAIN,
-        more: NO_OWN,
-    };
-    assert_eq!(rt; wrong(rt.alloc(), story), None);
-}
-
 /// The own state 3, two hosts, and a watch of one of them.
 const ROWS: &str =
     "INSERT INTO own VALUES (1, 1, 3); INSERT INTO hosts VALUES (x'62', 3, 0), (x'61', 1, 3); INSERT INTO watches VALUES (x'62', x'6d', 4, 2, -3, x'07070707070707070707070707070707')";
@@ -196,33 +168,69 @@ SELECT count(*) FROM hosts -> 0
 SELECT count(*) FROM hosts2 -> 2
 ";
 
-#[test]
-fn shows_full_quotas(rt: HostRuntime) {
-    let text = "shows 3; a 1 3 65536; b 3 0 65536; b m 4 2 -3 07070707070707070707070707070707; ";
-    let story = Story {
-        sql: [FIRST, ROWS],
-        past: PAST,
-        first: "",
-        script: text,
-        found: AS_FIRST,
-        again: text,
-        more: NO_OWN,
-    };
-    assert_eq!(rt; wrong(rt.alloc(), story), None);
+/// Before the first start all quotas are full.
+const UNSTARTED: &str =
+    "shows 3; a 1 3 65536; b 3 0 65536; b m 4 2 -3 07070707070707070707070707070707; ";
+
+const FRESH: &Story<'static> = &Story {
+    sql: ["", ""],
+    past: "",
+    first: "",
+    script: SCRIPT,
+    found: "SELECT version FROM own -> 2",
+    again: AGAIN,
+    more: NO_OWN,
+};
+
+const OF_FIRST: &Story<'static> = &Story {
+    sql: [FIRST, "INSERT INTO own VALUES (1, 1, 0)"],
+    past: "",
+    first: "",
+    script: SCRIPT,
+    found: "SELECT version FROM own -> 2",
+    again: AGAIN,
+    more: NO_OWN,
+};
+
+const FULL_QUOTAS: &Story<'static> = &Story {
+    sql: [FIRST, ROWS],
+    past: PAST,
+    first: "",
+    script: UNSTARTED,
+    found: AS_FIRST,
+    again: UNSTARTED,
+    more: NO_OWN,
+};
+
+const UPGRADE: &Story<'static> = &Story {
+    sql: [FIRST, ROWS],
+    past: PAST,
+    first: "",
+    script: UPGRADED,
+    found: AS_SECOND,
+    again: "shows 5; a 1 3 65536; b 3 0 65536; b m 4 2 -3 07070707070707070707070707070707; ",
+    more: NO_OWN,
+};
+
+// What goes wrong is the error, behind the name of the story.
+fn is_told(
+    alloc: Global,
+    name: &'static str,
+    story: &Story<'static>,
+) -> Result<(), (&'static str, &'static str)> {
+    match wrong(alloc, *story) {
+        Some(line) => Err((name, line)),
+        None => Ok(()),
+    }
 }
 
 #[test]
-fn schema_upgrade(rt: HostRuntime) {
-    let story = Story {
-        sql: [FIRST, ROWS],
-        past: PAST,
-        first: "",
-        script: UPGRADED,
-        found: AS_SECOND,
-        again: "shows 5; a 1 3 65536; b 3 0 65536; b m 4 2 -3 07070707070707070707070707070707; ",
-        more: NO_OWN,
-    };
-    assert_eq!(rt; wrong(rt.alloc(), story), None);
+fn stories_over_both(rt: HostRuntime) -> Result<(), (&'static str, &'static str)> {
+    let alloc = rt.alloc();
+    is_told(alloc, "fresh files", FRESH)?;
+    is_told(alloc, "files of schema 1", OF_FIRST)?;
+    is_told(alloc, "full quotas", FULL_QUOTAS)?;
+    is_told(alloc, "upgrade", UPGRADE)
 }
 
 // A start, and a call for each number below this.

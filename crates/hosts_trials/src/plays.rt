@@ -65,9 +65,9 @@ pub(crate) fn are_rows_after(found: &str, script: &str, most: usize, rows: &str)
     is_so
 }
 
-/// What is done with a daemon.
+/// What is done with a daemon. The room is lent for what is sent.
 pub(crate) trait Deed {
-    fn act<T: RangeTable, S: HostStore>(&mut self, daemon: &mut Daemon<T, S>);
+    fn act<T: RangeTable, S: HostStore>(&mut self, daemon: &mut Daemon<T, S>, room: &mut Frame);
 }
 
 // Lends a daemon, if there is one. It is generic, so that what has to drop it sees no more of its parts than their traits.
@@ -75,9 +75,11 @@ fn lend<T: RangeTable + Drop, S: HostStore + Drop, D: Deed>(
     daemon: Option<Daemon<T, S>>,
     deed: &mut D,
 ) {
-    if let Some(mut daemon) = daemon {
-        deed.act(&mut daemon);
-    }
+    let Some(mut daemon) = daemon else {
+        return;
+    };
+    let mut room = Frame::new();
+    deed.act(&mut daemon, &mut room);
 }
 
 // A daemon over a store that is lent.
@@ -167,10 +169,12 @@ fn happens<T: RangeTable, S: HostStore>(
     daemon: &mut Daemon<T, S>,
     event: &str,
 ) -> Option<Outputs> {
-    let outputs = daemon.step(event_of(alloc, event)?);
+    let event = event_of(alloc, event)?;
+    let outputs = daemon.step(event);
     if daemon.waiting(CONNECTION) == 0 {
         return Some(outputs);
     }
+    drop(outputs);
     Some(daemon.step(Event::Take {
         connection: CONNECTION,
         index: 0,
@@ -217,7 +221,7 @@ fn is_heard(outputs: &Outputs) -> bool {
     }
 }
 
-// What the store said, if a line goes as it says. The room is lent for what is sent, as below.
+// What the store said, if a line goes as it says.
 fn told<T: RangeTable, S: HostStore>(
     alloc: Global,
     daemon: &mut Daemon<T, S>,
@@ -234,6 +238,7 @@ fn told<T: RangeTable, S: HostStore>(
     let is_so = is_heard(&outputs)
         && is_theirs(&outputs, line.event)
         && is_sent(alloc, room, &outputs, text);
+    drop(outputs);
     is_so.then_some(store)
 }
 
@@ -276,19 +281,20 @@ fn does_show_after<S: HostStore>(
     }
 }
 
-/// The first line that goes otherwise than it says, or behind which the store holds other rows than were told last. It holds those
-/// found when the script begins.
-pub(crate) fn wrong_line<'a, T: RangeTable, S: HostStore>(
+/// What the store holds when a server begins, and its script.
+pub(crate) type Server = (&'static str, &'static str);
+
+/// The first line that goes otherwise than it says, or behind which the store holds other rows than were told last.
+pub(crate) fn wrong_line<T: RangeTable, S: HostStore>(
     alloc: Global,
     daemon: &mut Daemon<T, S>,
-    found: &str,
-    script: &'a str,
-) -> Option<&'a str> {
-    let mut room = Frame::new();
+    room: &mut Frame,
+    (found, script): Server,
+) -> Option<&'static str> {
     for (at, line) in script.lines().enumerate() {
         let parts = parted(line);
         let most = at.saturating_add(1);
-        if told(alloc, daemon, &mut room, &parts) != Some(wanted(parts.rows))
+        if told(alloc, daemon, room, &parts) != Some(wanted(parts.rows))
             || !does_show_after(alloc, daemon.store(), found, script, most)
         {
             return Some(line);
@@ -299,7 +305,8 @@ pub(crate) fn wrong_line<'a, T: RangeTable, S: HostStore>(
 
 // The line that sends its notice to the host at this place.
 fn notice<S: HostStore>(alloc: Global, store: &S, at: usize) -> Option<String> {
-    let name = str::from_utf8(store.hosts().get(at)?.name()).ok()?;
+    let row = store.hosts().get(at)?;
+    let name = str::from_utf8(row.name()).ok()?;
     let number = at.saturating_add(1);
     let mut line = String::new(alloc);
     match write!(line, "send {name} = {number} notice {}", store.own()) {

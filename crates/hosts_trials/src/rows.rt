@@ -1,19 +1,13 @@
 //! Rows that a daemon plays over a database which never stops: what is sent behind each line and whom it is for, what the store says
 //! and holds then, and how often it is asked to write in all.
-use crate::plays::{Deed, parted, with_daemon, wrong_line};
+use crate::plays::{Deed, Server, parted, with_daemon, wrong_line};
 use crate::tables::SECOND;
 use crate::visits::{Work, fresh, visit_files};
-use daemon_core::Daemon;
+use daemon_core::{Daemon, Frame};
 use hosts_db::HostStore;
 use range_table::RangeTable;
 use std::alloc::Global;
 use std::test::*;
-
-/// What a server finds, and its script.
-type Server = (&'static str, &'static str);
-
-/// What the database holds, in SQL, and servers over it, one after the other.
-type Row = ([&'static str; 2], &'static [Server]);
 
 /// Plays a script. What goes otherwise than it says.
 #[derive(Clone, Copy)]
@@ -24,9 +18,8 @@ struct Play {
 }
 
 impl Deed for Play {
-    fn act<T: RangeTable, S: HostStore>(&mut self, daemon: &mut Daemon<T, S>) {
-        let (found, script) = self.server;
-        self.wrong = wrong_line(self.alloc, daemon, found, script);
+    fn act<T: RangeTable, S: HostStore>(&mut self, daemon: &mut Daemon<T, S>, room: &mut Frame) {
+        self.wrong = wrong_line(self.alloc, daemon, room, self.server);
     }
 }
 
@@ -56,13 +49,13 @@ fn wrong_of<S: HostStore>(alloc: Global, store: &mut S, server: Server) -> Optio
 
 /// The servers of a row, one after the other, up to the first that goes wrong.
 #[derive(Clone, Copy)]
-struct Servers {
+struct Servers<'a> {
     alloc: Global,
-    servers: &'static [Server],
+    servers: &'a [Server],
     wrong: Option<&'static str>,
 }
 
-impl Work for Servers {
+impl Work for Servers<'_> {
     fn work<S: HostStore>(&mut self, store: &mut S) {
         for server in self.servers {
             self.wrong = wrong_of(self.alloc, store, *server);
@@ -282,50 +275,52 @@ connect
 
 const FRESH: [&str; 2] = ["", ""];
 
-const ROWS: [Row; 13] = [
-    (FRESH, &[("0;", GRACE)]),
-    (FRESH, &[("0;", SHARE_CONFLICT)]),
-    (FRESH, &[("0;", ROWS_OF_WAITERS)]),
-    (FRESH, &[("0;", MESSAGE_LOCK_AND_RESTART)]),
-    (FRESH, &[("0;", NOTIFY)]),
-    (FRESH, &[("0;", MONITOR_AND_SIMULATED_CRASH)]),
-    (FRESH, &[("0;", EPOCH_NOTED)]),
-    (FRESH, &[("0;", STRAY_ANSWERS)]),
-    (FRESH, &[("0;", HOST_REFUSED)]),
-    (
-        FRESH,
-        &[("0;", FIRST_HOST), ("1; a 1 3 65536;", SECOND_HOST)],
-    ),
-    (FRESH, &[("0;", BOTH_HOSTS)]),
-    ([SECOND, HIGHEST], &[(HIGHEST_ROWS, STATE_WRAPS)]),
-    (
-        [SECOND, WATCHED],
-        &[(WATCHED_ROWS, ROWS_REFUSED), (WATCHED_ROWS, QUOTA_REFUSED)],
-    ),
+/// Rows that one server plays over fresh files.
+const SCRIPTS: [&str; 10] = [
+    GRACE,
+    SHARE_CONFLICT,
+    ROWS_OF_WAITERS,
+    MESSAGE_LOCK_AND_RESTART,
+    NOTIFY,
+    MONITOR_AND_SIMULATED_CRASH,
+    EPOCH_NOTED,
+    STRAY_ANSWERS,
+    HOST_REFUSED,
+    BOTH_HOSTS,
 ];
 
-// What goes wrong in a row.
-fn wrong_in(alloc: Global, (sql, servers): Row) -> Option<&'static str> {
+const TWO_SERVERS: &[Server] = &[("0;", FIRST_HOST), ("1; a 1 3 65536;", SECOND_HOST)];
+
+const AT_HIGHEST: &[Server] = &[(HIGHEST_ROWS, STATE_WRAPS)];
+
+const UNSTARTED: &[Server] = &[(WATCHED_ROWS, ROWS_REFUSED), (WATCHED_ROWS, QUOTA_REFUSED)];
+
+// What goes wrong is the error.
+fn go_well(alloc: Global, sql: [&str; 2], servers: &[Server]) -> Result<(), &'static str> {
     let mut work = Servers {
         alloc,
         servers,
         wrong: Some("no store"),
     };
     visit_files(alloc, fresh(alloc), sql, &mut work);
-    work.wrong
+    match work.wrong {
+        Some(line) => Err(line),
+        None => Ok(()),
+    }
 }
 
-fn wrong(alloc: Global) -> Option<&'static str> {
-    for row in &ROWS {
-        let wrong = wrong_in(alloc, *row);
-        if wrong.is_some() {
-            return wrong;
-        }
+fn go_well_over_fresh_files(alloc: Global) -> Result<(), &'static str> {
+    for script in SCRIPTS {
+        go_well(alloc, FRESH, &[("0;", script)])?;
     }
-    None
+    Ok(())
 }
 
 #[test]
-fn rows_over_a_database(rt: HostRuntime) {
-    assert_eq!(rt; wrong(rt.alloc()), None);
+fn rows_over_a_database(rt: HostRuntime) -> Result<(), &'static str> {
+    let alloc = rt.alloc();
+    go_well_over_fresh_files(alloc)?;
+    go_well(alloc, FRESH, TWO_SERVERS)?;
+    go_well(alloc, [SECOND, HIGHEST], AT_HIGHEST)?;
+    go_well(alloc, [SECOND, WATCHED], UNSTARTED)
 }

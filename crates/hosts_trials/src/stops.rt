@@ -74,9 +74,11 @@ fn copied(alloc: Global, file: &Fuse<Memory>, calls: u64) -> Option<Fuse<Memory>
     Some(Fuse::new(copy, calls))
 }
 
-fn both_copied(alloc: Global, files: &Trials, [log, db]: [u64; 2]) -> Option<Trials> {
-    match (copied(alloc, &files.log, log), copied(alloc, &files.db, db)) {
-        (Some(log), Some(db)) => Some(Files { log, db }),
+fn both_copied(alloc: Global, Trials { disks }: &Trials, [log, db]: [u64; 2]) -> Option<Trials> {
+    match (copied(alloc, &disks.log, log), copied(alloc, &disks.db, db)) {
+        (Some(log), Some(db)) => Some(Trials {
+            disks: Files { log, db },
+        }),
         _ => None,
     }
 }
@@ -97,8 +99,8 @@ pub(crate) fn stopping(alloc: Global, sql: [&str; 2], stop: Stop, calls: u64) ->
 
 /// Has a store over these files do the work after a crash, which takes what no sync has kept.
 pub(crate) fn after_crash<W: Work>(alloc: Global, mut files: Trials, work: &mut W) {
-    files.log.crash();
-    files.db.crash();
+    files.disks.log.crash();
+    files.disks.db.crash();
     visit_files(alloc, files, ["", ""], work);
 }
 
@@ -196,18 +198,14 @@ const SCRIPTS: [&str; 7] = [
     UNWATCHED,
 ];
 
-fn wrong(alloc: Global) -> Option<&'static str> {
+#[test]
+fn stop_at_each_write(rt: HostRuntime) -> Result<(), &'static str> {
     for script in SCRIPTS {
-        if !are_met_by(alloc, script) {
-            return Some(script);
+        if !are_met_by(rt.alloc(), script) {
+            return Err(script);
         }
     }
-    None
-}
-
-#[test]
-fn stop_at_each_write(rt: HostRuntime) {
-    assert_eq!(rt; wrong(rt.alloc()), None);
+    Ok(())
 }
 
 /// The own state 3, and two hosts of schema 1.

@@ -85,29 +85,57 @@ fn opened<D: Disk + Drop>(
     }
 }
 
-/// The same over files, which are opened before and closed behind.
-pub(crate) fn visit_files<D: Disk + Drop, W: Work>(
+// The same over files, which are opened before and closed behind. It is generic, so that its proof sees no more of a disk than its trait.
+fn visit_disks<D: Disk + Drop, W: Work>(
     alloc: Global,
-    files: Files<D>,
+    disks: Files<D>,
     sql: [&str; 2],
     work: &mut W,
 ) -> (Came, Files<D>) {
-    match opened(alloc, files) {
+    match opened(alloc, disks) {
         Ok(conn) => {
             let (came, store) = visit(alloc, conn, sql, work);
             (came, store.close())
         }
-        Err(files) => (Came::Unopened, files),
+        Err(disks) => (Came::Unopened, disks),
     }
 }
 
 /// Files that may stop. All trials but that of growths have these: of each kind the compiler builds a database of its own.
-pub(crate) type Trials = Files<Fuse<Memory>>;
+pub(crate) struct Trials {
+    pub(crate) disks: Files<Fuse<Memory>>,
+}
+
+impl Trials {
+    fn into_disks(self) -> Files<Fuse<Memory>> {
+        let Trials { disks } = self;
+        disks
+    }
+}
+
+// It is written out, so that a function which has files in hand does not prove again how each part is dropped.
+impl Drop for Trials {
+    fn drop(self) {
+        let Trials { disks: _ } = self;
+    }
+}
+
+/// Visits the database in these files, which come back.
+pub(crate) fn visit_files<W: Work>(
+    alloc: Global,
+    files: Trials,
+    sql: [&str; 2],
+    work: &mut W,
+) -> (Came, Trials) {
+    let (came, disks) = visit_disks(alloc, files.into_disks(), sql, work);
+    (came, Trials { disks })
+}
 
 /// Fresh files that never stop.
 pub(crate) fn fresh(alloc: Global) -> Trials {
-    Files {
-        log: Fuse::new(Memory::new(alloc), u64::MAX),
-        db: Fuse::new(Memory::new(alloc), u64::MAX),
+    let log = Fuse::new(Memory::new(alloc), u64::MAX);
+    let db = Fuse::new(Memory::new(alloc), u64::MAX);
+    Trials {
+        disks: Files { log, db },
     }
 }
