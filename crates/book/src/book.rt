@@ -30,7 +30,6 @@ use xdr_core::Frame;
 
 /// The world, the kept replies, and the journal of this segment. Contracts see the journal, whose end is the state, and how
 /// often the store has refused.
-#[derive(Drop)]
 pub struct Book<R: RangeTable, S: HostStore> {
     shared: Shared<R, S>,
     base: Seen<Shared<R, S>>,
@@ -48,6 +47,18 @@ impl<R: RangeTable, S: HostStore> Model for Book<R, S> {
     ghost view = { λ b. record { journal = journal_of b.newest b.base.value.state b.entries b.shared.state; refusals = b.shared.refusals } };
 
     ghost invariant = { λ b. IsKept b.newest b.base.value.state b.entries b.shared.state };
+}
+
+// It is written out, so that no crate above proves again how each part of a book is dropped.
+impl<R: RangeTable + Drop, S: HostStore + Drop> Drop for Book<R, S> {
+    fn drop(self) {
+        let Book {
+            shared: _,
+            base: _,
+            entries: _,
+            newest: _,
+        } = self;
+    }
 }
 
 impl<R: RangeTable + Drop, S: HostStore + Drop> Book<R, S> {

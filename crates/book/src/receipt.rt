@@ -21,11 +21,21 @@ pub struct Taken {
 }
 
 /// The number of a call's entry, the call, and its reply, which the journal shares. `Book::receipt` alone makes one.
-#[derive(Drop)]
 pub struct Receipt {
     number: u64,
     taken: Taken,
     reply: Reply,
+}
+
+// It is written out, as that of a book is.
+impl Drop for Receipt {
+    fn drop(self) {
+        let Receipt {
+            number: _,
+            taken: _,
+            reply: _,
+        } = self;
+    }
 }
 
 impl Model for Receipt {

@@ -30,7 +30,6 @@ impl Segment {
 }
 
 /// A segment that is over. Contracts see the states before and after it, too.
-#[derive(Drop)]
 pub struct Closed<R: RangeTable, S: HostStore> {
     pub(crate) newest: u64,
     pub(crate) base: Seen<Shared<R, S>>,
@@ -48,6 +47,18 @@ impl<R: RangeTable, S: HostStore> Model for Closed<R, S> {
     ghost view = { λ c. journal_of c.newest c.base.value.state c.entries c.end.value.state };
 
     ghost invariant = { λ c. IsLegal (journal_of c.newest c.base.value.state c.entries c.end.value.state) × (vec_len c.entries ≤ c.newest) };
+}
+
+// It is written out, as that of a book is.
+impl<R: RangeTable, S: HostStore> Drop for Closed<R, S> {
+    fn drop(self) {
+        let Closed {
+            newest: _,
+            base: _,
+            entries: _,
+            end: _,
+        } = self;
+    }
 }
 
 impl<R: RangeTable, S: HostStore> Closed<R, S> {

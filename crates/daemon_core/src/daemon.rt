@@ -23,7 +23,6 @@ use std::marker::Model;
 
 /// Contracts see the shared state, how often the store has refused, and of each connection all that came on it, and which
 /// of its records were taken.
-#[derive(Drop)]
 pub struct Daemon<R: RangeTable, S: HostStore> {
     alloc: Global,
     book: Book<R, S>,
@@ -36,6 +35,17 @@ impl<R: RangeTable, S: HostStore> Model for Daemon<R, S> {
     ghost Value = { Hub };
 
     ghost view = { λ d. record { state = d.book.journal.end; refusals = d.book.refusals; links = d.connections.items } };
+}
+
+// It is written out, so that no crate above proves again how each part of a daemon is dropped.
+impl<R: RangeTable + Drop, S: HostStore + Drop> Drop for Daemon<R, S> {
+    fn drop(self) {
+        let Daemon {
+            alloc: _,
+            book: _,
+            connections: _,
+        } = self;
+    }
 }
 
 /// Where the connection stands.

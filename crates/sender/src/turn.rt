@@ -95,7 +95,10 @@ impl<'a, R: Net + Clock + Wait, D: Locals> Sender<'a, R, D> {
     {
         let applied = shared.lock(self.rt).apply(untaken.event);
         match applied {
-            Ok(_) => true,
+            Ok(upshot) => {
+                drop(upshot);
+                true
+            }
             Err(event) => {
                 self.kept = Some(Untaken { event });
                 false

@@ -23,7 +23,6 @@ use xdr_core::Frame;
 
 /// The book, its closed segments, and beside them how many calls were taken. Contracts see the journals, whose numbers and
 /// states join, and the total is that of their entries that took a record.
-#[derive(Drop)]
 pub struct Shared<R: RangeTable, S: HostStore, L: Ledger> {
     alloc: Global,
     book: Book<R, S>,
@@ -41,6 +40,19 @@ impl<R: RangeTable, S: HostStore, L: Ledger> Model for Shared<R, S, L> {
     ghost view = { λ s. record { closed = s.archive.all.items; book = s.book } };
 
     ghost invariant = { λ s. IsInStep s.total.total (record { closed = s.archive.all.items; book = s.book }) };
+}
+
+// It is written out, so that no crate above proves again how each part is dropped.
+impl<R: RangeTable + Drop, S: HostStore + Drop, L: Ledger> Drop for Shared<R, S, L> {
+    fn drop(self) {
+        let Shared {
+            alloc: _,
+            book: _,
+            archive: _,
+            total: _,
+            over: _,
+        } = self;
+    }
 }
 
 /// What a shared book leaves behind.
@@ -214,7 +226,8 @@ impl<R: RangeTable + Drop, S: HostStore + Drop, L: Ledger> Shared<R, S, L> {
             book,
             archive,
             mut total,
-            ..
+            alloc: _,
+            over: _,
         } = self;
         total.audit(all);
         let segments = archive.into_kept_with(book.close())?;

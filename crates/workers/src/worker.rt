@@ -17,7 +17,6 @@ use std::sync::{Mutex, Wait};
 
 /// Whoever answers jobs: a worker's thread, or a connection's own. It has a seat at the channel, and a desk. Contracts see what
 /// the seat knows, and the receipts of all calls that it took.
-#[derive(Drop)]
 pub struct Worker<P: Place, L: Ledger> {
     pub(crate) seat: Seat<P>,
     pub(crate) desk: Desk<L>,
@@ -29,6 +28,13 @@ impl<P: Place, L: Ledger> Model for Worker<P, L> {
     ghost Value = { Worker };
 
     ghost view = { λ w. record { seat = w.seat; receipts = w.desk.receipts.all.items } };
+}
+
+// It is written out, so that no crate above proves again how each part is dropped.
+impl<P: Place, L: Ledger> Drop for Worker<P, L> {
+    fn drop(self) {
+        let Worker { seat: _, desk: _ } = self;
+    }
 }
 
 // Wakes a worker where so many jobs may be left, and whoever answers this one may be held up before the next.
