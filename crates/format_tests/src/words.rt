@@ -1,5 +1,6 @@
 //! Bytes as text, and values that are read and written again.
-use std::alloc::AllocError;
+use std::alloc::{AllocError, Global};
+use std::fmt::Display;
 use xdr_core::{Cursor, Frame, Wire, read};
 
 /// The words of four bytes that the text has (RFC 4506, section 3), each in hexadecimal digits: "4 2 0 61000000".
@@ -31,8 +32,8 @@ pub(crate) fn round<'r, T: Wire<'r> + Drop>(bytes: &'r [u8]) -> Option<T> {
 }
 
 /// Whether an error's text is this.
-pub(crate) fn reads(text: Result<String, AllocError>, want: &str) -> bool {
-    match text {
+pub(crate) fn reads<E: Display + Drop>(alloc: Global, error: E, want: &str) -> bool {
+    match error.to_string(alloc) {
         Ok(text) => text.as_str() == want,
         Err(AllocError) => false,
     }

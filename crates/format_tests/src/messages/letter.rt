@@ -14,21 +14,35 @@ fn told(letter: &Letter) -> (bool, bool, bool, bool) {
     )
 }
 
-// Whether the copy of a letter tells this, and names this host and the owner handle of the lock that it grants.
-fn tells(
-    alloc: Global,
-    letter: Letter,
-    want: (bool, bool, bool, bool),
-    host: Option<&[u8]>,
-    handle: Option<&[u8]>,
-) -> bool {
-    match letter.copy(alloc) {
+/// What a letter tells, the host that it names, and the owner handle of the lock that it grants.
+#[derive(Clone, Copy)]
+struct Wanted<'a> {
+    told: (bool, bool, bool, bool),
+    host: Option<&'a [u8]>,
+    handle: Option<&'a [u8]>,
+}
+
+fn handle(letter: &Letter) -> Option<&[u8]> {
+    match letter.message().granted_lock() {
+        Some(lock) => Some(lock.caller.oh()),
+        None => None,
+    }
+}
+
+fn is_so(letter: &Letter, want: Wanted<'_>) -> bool {
+    let is_told = told(letter) == want.told;
+    is_told && letter.to().host() == want.host && handle(letter) == want.handle
+}
+
+// Whether the copy of a letter is so.
+fn tells(alloc: Global, letter: Letter, want: Wanted<'_>) -> bool {
+    let copy = letter.copy(alloc);
+    drop(letter);
+    match copy {
         Ok(copy) => {
-            let granted = match copy.message().granted_lock() {
-                Some(lock) => Some(lock.caller.oh()),
-                None => None,
-            };
-            told(&copy) == want && copy.to().host() == host && granted == handle
+            let is_so = is_so(&copy, want);
+            drop(copy);
+            is_so
         }
         Err(_) => false,
     }
@@ -38,19 +52,19 @@ fn tells(
 fn a_granted_msg(rt: HostRuntime) {
     let memory = Memory::new(&rt, rt.alloc());
     let letter = Letter::new(Destination::Host(memory.short(b"b")), memory.granted_msg());
-    let want = (true, true, true, false);
-    assert!(rt; tells(rt.alloc(), letter, want, Some(b"b"), Some(b"B")));
+    let want = Wanted {
+        told: (true, true, true, false),
+        host: Some(b"b"),
+        handle: Some(b"B"),
+    };
+    assert!(rt; tells(rt.alloc(), letter, want));
 }
 
-// The last byte of the same lock from byte 5 on, to the end of the file.
-fn last_of_all(some: Lock) -> u64 {
-    let all = Lock {
-        caller: some.caller,
-        fh: some.fh,
-        l_offset: 5,
-        l_len: 0,
-    };
-    all.last()
+// Whether the same lock from byte 5 on, with no length, goes to the end of the file.
+fn ends_with_the_file(mut some: Lock) -> bool {
+    some.l_offset = 5;
+    some.l_len = 0;
+    some.last() == 0x7fff_ffff_ffff_ffff
 }
 
 fn is_of_b(some: &Lock) -> bool {
@@ -65,27 +79,29 @@ fn is_of_b(some: &Lock) -> bool {
 fn a_lock(rt: HostRuntime) {
     let memory = Memory::new(&rt, rt.alloc());
     let some = memory.lock();
-    assert!(rt; is_of_b(&some));
-    assert!(rt; last_of_all(some) == 0x7fff_ffff_ffff_ffff);
+    let is_of_b = is_of_b(&some);
+    assert!(rt; ends_with_the_file(some) && is_of_b);
 }
 
 #[test]
 fn a_result(rt: HostRuntime) {
     let memory = Memory::new(&rt, rt.alloc());
     let letter = Letter::new(Destination::Host(memory.short(b"b")), memory.lock_result());
-    assert!(rt;
-        tells(
-            rt.alloc(),
-            letter,
-            (false, false, false, false),
-            Some(b"b"),
-            None
-        )
-    );
+    let want = Wanted {
+        told: (false, false, false, false),
+        host: Some(b"b"),
+        handle: None,
+    };
+    assert!(rt; tells(rt.alloc(), letter, want));
 }
 
 #[test]
 fn a_line(rt: HostRuntime) {
     let letter = Letter::new(Destination::Connection(3), granted_line());
-    assert!(rt; tells(rt.alloc(), letter, (false, false, false, true), None, None));
+    let want = Wanted {
+        told: (false, false, false, true),
+        host: None,
+        handle: None,
+    };
+    assert!(rt; tells(rt.alloc(), letter, want));
 }

@@ -4,16 +4,21 @@
 //! is bad.
 ghost use Rattle.std.specs.Prelude.{◌≤◌, length};
 
+use crate::words::reads;
 use local_ops::{BadLine, LocalAnswer, LocalCall, WriteFault, put_granted};
 use owner_ids::Owner;
 use range_table::Mode;
-use std::alloc::{AllocError, Global};
+use std::alloc::Global;
 use std::process::Abort;
 use xdr_core::Frame;
 
 /// What a line asks, but for its lock.
 fn kind_of(line: &[u8]) -> &'static str {
-    match LocalCall::read(line) {
+    kind(&LocalCall::read(line))
+}
+
+fn kind(read: &Result<LocalCall, BadLine>) -> &'static str {
+    match read {
         Ok(LocalCall::GetLock { .. }) => "getlk",
         Ok(LocalCall::SetLock { .. }) => "setlk",
         Ok(LocalCall::SetLockWait { .. }) => "setlkw",
@@ -45,24 +50,24 @@ fn is_granted(line: &[u8], want: &str) -> bool {
     }
 }
 
-fn first_wrong<'s>(script: &'s str) -> Option<&'s str> {
-    for row in script.split('\n') {
-        let (line, want) = row.split_once(" = ").unwrap_or((row, "bad"));
-        let holds = if want.starts_with("granted") {
-            is_granted(line.as_bytes(), want)
-        } else {
-            kind_of(line.as_bytes()) == want
-        };
-        if !holds {
-            return Some(row);
-        }
+fn holds(row: &str) -> bool {
+    let (line, want) = row.split_once(" = ").unwrap_or((row, "bad"));
+    let line = line.as_bytes();
+    if want.starts_with("granted") {
+        is_granted(line, want)
+    } else {
+        kind_of(line) == want
     }
-    None
 }
 
-fn check(rt: &impl Abort, script: &str) {
-    let wrong = first_wrong(script);
-    assert!(rt; wrong.is_none(), "{wrong:?}");
+// The first row that doesn't hold is the error.
+fn check(script: &'static str) -> Result<(), &'static str> {
+    for row in script.split('\n') {
+        if !holds(row) {
+            return Err(row);
+        }
+    }
+    Ok(())
 }
 
 const EACH_KIND: &str = "getlk d1 AA r 0 0 = getlk
@@ -81,8 +86,8 @@ quota 61 01 = bad
 quota 6 1 = bad";
 
 #[test]
-fn each_kind(rt: HostRuntime) {
-    check(&rt, EACH_KIND);
+fn each_kind() -> Result<(), &'static str> {
+    check(EACH_KIND)
 }
 
 const LOCKS: &str = "setlk p1 aa w 5 0 = granted p1 aa w 5 0
@@ -93,8 +98,8 @@ setlk d0 0A r 10 0 = granted d0 0a r 10 0
 setlk p1 aa u 6 1 = granted nothing";
 
 #[test]
-fn locks_read_and_granted(rt: HostRuntime) {
-    check(&rt, LOCKS);
+fn locks_read_and_granted() -> Result<(), &'static str> {
+    check(LOCKS)
 }
 
 // Of the first two the one is empty, and the other a space.
@@ -127,17 +132,10 @@ setlk p1 aa w 0
 setlk p1 aa w 0 1 2
 close p1 aa 0";
 
-fn reads(text: Result<String, AllocError>, want: &str) -> bool {
-    match text {
-        Ok(text) => text.as_str() == want,
-        Err(AllocError) => false,
-    }
-}
-
 #[test]
-fn bad_lines(rt: HostRuntime) {
-    check(&rt, BAD_LINES);
-    assert!(rt; reads(BadLine.to_string(rt.alloc()), "20 BadLine"));
+fn bad_lines(rt: HostRuntime) -> Result<(), &'static str> {
+    assert!(rt; reads(rt.alloc(), BadLine, "20 BadLine"));
+    check(BAD_LINES)
 }
 
 /// The kind of the line `close p1` and so many digits.
@@ -150,7 +148,7 @@ fn kind_of_long(alloc: Global, digits: usize) -> &'static str {
     kind_of(line.as_bytes())
 }
 
-const LONG_LINES: [(usize, &str); 9] = [
+const LONG_LINES: &[(usize, &str)] = &[
     (0, "bad"),
     (1, "bad"),
     (2, "close"),
@@ -162,11 +160,15 @@ const LONG_LINES: [(usize, &str); 9] = [
     (5000, "bad"),
 ];
 
+// The number of digits is the error.
 #[test]
-fn long_lines(rt: HostRuntime) {
+fn long_lines(rt: HostRuntime) -> Result<(), usize> {
     for (digits, kind) in LONG_LINES {
-        assert!(rt; kind_of_long(rt.alloc(), digits) == kind, "{digits} digits");
+        if kind_of_long(rt.alloc(), *digits) != *kind {
+            return Err(*digits);
+        }
     }
+    Ok(())
 }
 
 fn held(owner: Owner) -> LocalAnswer {
@@ -209,7 +211,7 @@ fn word_is(alloc: Global, want: &str) -> bool {
     is_written(alloc, answer, want)
 }
 
-const WORDS: [&str; 10] = [
+const WORDS: &[&str] = &[
     "ok\n",
     "again\n",
     "wait\n",
@@ -223,11 +225,18 @@ const WORDS: [&str; 10] = [
 ];
 
 #[test]
-fn answers(rt: HostRuntime) {
-    let alloc = rt.alloc();
+fn answers_of_a_word(rt: HostRuntime) -> Result<(), &'static str> {
     for word in WORDS {
-        assert!(rt; word_is(alloc, word), "{word}");
+        if !word_is(rt.alloc(), word) {
+            return Err(*word);
+        }
     }
+    Ok(())
+}
+
+#[test]
+fn who_holds_it(rt: HostRuntime) {
+    let alloc = rt.alloc();
     assert!(rt; is_written(alloc, held(Owner::Process(1)), "held w 8 0 p1\n"));
     assert!(rt; is_written(alloc, held(Owner::Description(7)), "held w 8 0 d7\n"));
     let client = held_by(&rt, alloc, b"a", 7, b"A");
@@ -276,5 +285,5 @@ fn is_cut(answer: LocalAnswer, want: &[u8]) -> bool {
 fn a_writer_that_fails(rt: HostRuntime) {
     let answer = held_by(&rt, rt.alloc(), b"ab", 7, b"A");
     assert!(rt; is_cut(answer, b"held w 8 0 h6162/7/41\n"));
-    assert!(rt; reads(WriteFault.to_string(rt.alloc()), "24 WriteFault"));
+    assert!(rt; reads(rt.alloc(), WriteFault, "24 WriteFault"));
 }

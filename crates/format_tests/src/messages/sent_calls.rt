@@ -15,9 +15,14 @@ fn is_record(number: u64, message: &Message, text: &str) -> bool {
 /// Whether the record of the call of this number is these words, and so is that of its letter's copy.
 fn tells(alloc: Global, number: u64, message: Message, text: &str) -> bool {
     let letter = Letter::new(Destination::Connection(1), message);
-    match letter.copy(alloc) {
+    let copy = letter.copy(alloc);
+    let is_so = is_record(number, letter.message(), text);
+    drop(letter);
+    match copy {
         Ok(copy) => {
-            is_record(number, letter.message(), text) && is_record(number, copy.message(), text)
+            let is_copied = is_record(number, copy.message(), text);
+            drop(copy);
+            is_copied && is_so
         }
         Err(_) => false,
     }
@@ -55,16 +60,19 @@ fn notices(rt: HostRuntime) {
 }
 
 // Whether a record that doesn't fit into the frame leaves it as it was.
-fn stays_full(message: Message) -> bool {
+fn stays_full(message: &Message) -> bool {
     let mut f = Frame::new();
     let _ = f.append(&[7; 4050]);
-    put_record(1, &message, &mut f).is_err() && f.len() == 4050
+    put_record(1, message, &mut f).is_err() && f.len() == 4050
 }
 
 #[test]
 fn a_full_frame_stays(rt: HostRuntime) {
     let memory = Memory::new(&rt, rt.alloc());
-    assert!(rt; stays_full(memory.notice()));
+    let notice = memory.notice();
+    let stays_full = stays_full(&notice);
+    drop(notice);
+    assert!(rt; stays_full);
 }
 
 fn is_for_host(to: Destination, host: &[u8]) -> bool {

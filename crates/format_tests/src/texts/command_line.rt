@@ -4,7 +4,6 @@
 //! of what the user is told. Where a line has no text, none is compared.
 use config::config;
 use std::alloc::{AllocError, Global};
-use std::process::Abort;
 
 // Puts the words of a text, which has one space between each two, behind others.
 fn append(words: &mut Vec<String>, alloc: Global, text: &str) {
@@ -56,18 +55,14 @@ fn holds(alloc: Global, front: &str, line: &str) -> bool {
     come_to(alloc, &words, want)
 }
 
-fn first_wrong<'s>(alloc: Global, front: &str, script: &'s str) -> Option<&'s str> {
+// The first line that doesn't hold is the error.
+fn check(alloc: Global, front: &str, script: &'static str) -> Result<(), &'static str> {
     for line in script.lines() {
         if !holds(alloc, front, line) {
-            return Some(line);
+            return Err(line);
         }
     }
-    None
-}
-
-fn check(rt: &impl Abort, alloc: Global, front: &str, script: &str) {
-    let wrong = first_wrong(alloc, front, script);
-    assert!(rt; wrong.is_none(), "{wrong:?}");
+    Ok(())
 }
 
 const STREAMS: &str =
@@ -76,8 +71,8 @@ pipe --grace = 0 Pipe(StreamConfig { grace: true, name: Name { text: \"server\" 
 table --db F --name a.b --grace = 0 Table(StreamConfig { grace: true, name: Name { text: \"a.b\" }, db: Some(FilePath { text: \"F\" }) })";
 
 #[test]
-fn streams(rt: HostRuntime) {
-    check(&rt, rt.alloc(), "", STREAMS);
+fn streams(rt: HostRuntime) -> Result<(), &'static str> {
+    check(rt.alloc(), "", STREAMS)
 }
 
 const COMPLETE: &str =
@@ -92,8 +87,8 @@ workers: Workers { number: 4 }, name: Name { text: \"server\" }, db: FilePath { 
 peers: FilePath { text: \"peers\" }, bind: 0.0.0.0, audit: false })";
 
 #[test]
-fn defaults(rt: HostRuntime) {
-    check(&rt, rt.alloc(), "serve", DEFAULTS);
+fn defaults(rt: HostRuntime) -> Result<(), &'static str> {
+    check(rt.alloc(), "serve", DEFAULTS)
 }
 
 const REFUSED_WORDS: &str = " = 2
@@ -111,9 +106,9 @@ pipe --help = 0
 serve --help = 0";
 
 #[test]
-fn refused_words(rt: HostRuntime) {
-    check(&rt, rt.alloc(), "", REFUSED_WORDS);
+fn refused_words(rt: HostRuntime) -> Result<(), &'static str> {
     assert!(rt; come_to(rt.alloc(), &[], "2"));
+    check(rt.alloc(), "", REFUSED_WORDS)
 }
 
 const BOUNDS: &str = "--workers 1 = 0
@@ -143,14 +138,14 @@ const PORTS: &str = "--port 1 = 0
 --port x = 2";
 
 #[test]
-fn bounds(rt: HostRuntime) {
-    check(&rt, rt.alloc(), COMPLETE, BOUNDS);
-    check(&rt, rt.alloc(), WITHOUT_PORT, PORTS);
+fn bounds(rt: HostRuntime) -> Result<(), &'static str> {
+    check(rt.alloc(), COMPLETE, BOUNDS)?;
+    check(rt.alloc(), WITHOUT_PORT, PORTS)
 }
 
 const TOLD: &str = "--workers 17 = 2 invalid value '17' for '--workers': workers are 1 to 16";
 
 #[test]
-fn told_words(rt: HostRuntime) {
-    check(&rt, rt.alloc(), COMPLETE, TOLD);
+fn told_words(rt: HostRuntime) -> Result<(), &'static str> {
+    check(rt.alloc(), COMPLETE, TOLD)
 }

@@ -67,31 +67,49 @@ fn words_of<'s>(line: &'s str) -> [&'s str; 5] {
     words
 }
 
+fn is_set(
+    locks: &mut Locks<FlatTable>,
+    (file, owner): (&[u8], &Owner),
+    mode: Option<Mode>,
+    first: &str,
+    last: &str,
+) -> bool {
+    if file.is_empty() || file.len() > 64 || locks.admit(owner).is_err() {
+        return false;
+    }
+    let last = number(last).min(END);
+    let setting = NewSetting {
+        file: FileId::new(file),
+        owner,
+        first: number(first).min(last),
+        last,
+        mode,
+    };
+    locks.set(&setting).is_ok()
+}
+
 /// Sets what a line says. Whether it was set.
-fn set(locks: &mut Locks<FlatTable>, alloc: Global, line: &str) -> bool {
+fn sets(locks: &mut Locks<FlatTable>, alloc: Global, line: &str) -> bool {
     let [file, mode, first, last, owner] = words_of(line);
     let file = bytes_of(alloc, file);
     let owner = owner_of(alloc, owner);
-    let last = number(last).min(END);
-    if file.is_empty() || file.len() > 64 || locks.admit(&owner).is_err() {
-        return false;
+    is_set(locks, (&file, &owner), mode_of(mode), first, last)
+}
+
+fn set_all(locks: &mut Locks<FlatTable>, alloc: Global, lines: &str) -> bool {
+    let mut are_set = true;
+    for line in lines.lines() {
+        are_set = sets(locks, alloc, line) && are_set;
     }
-    let change = NewSetting {
-        file: FileId::new(&file),
-        owner: &owner,
-        first: number(first).min(last),
-        last,
-        mode: mode_of(mode),
-    };
-    locks.set(&change).is_ok()
+    are_set
 }
 
 /// The locks that the lines set, one after the other, if all are set.
 pub(crate) fn locks_of(alloc: Global, lines: &str) -> Option<Locks<FlatTable>> {
     let mut locks = Locks::new(alloc, FlatTable::new(alloc).ok()?);
-    let mut are_set = true;
-    for line in lines.lines() {
-        are_set = set(&mut locks, alloc, line) && are_set;
+    if set_all(&mut locks, alloc, lines) {
+        return Some(locks);
     }
-    if are_set { Some(locks) } else { None }
+    drop(locks);
+    None
 }

@@ -5,7 +5,7 @@ use std::fmt::Write;
 use std::net::{IpAddr, Ipv4Addr, Ipv6Addr};
 
 /// What becomes of a file: the address of the peer that is asked for, or the line that is bad.
-#[derive(Clone, Copy, Debug, PartialEq)]
+#[derive(Clone, Copy, PartialEq)]
 enum Answer {
     Address(IpAddr),
     NoAddress,
@@ -25,7 +25,7 @@ fn read(alloc: Global, file: &[u8], name: &str) -> Answer {
 }
 
 #[test]
-fn addresses_by_name(rt: HostRuntime) {
+fn addresses_by_name(rt: HostRuntime) -> Result<(), (&'static str, &'static str)> {
     let first = Answer::Address(IpAddr::V4(Ipv4Addr::new(192, 0, 2, 1)));
     let second = Answer::Address(IpAddr::V6(Ipv6Addr::new(0x2001, 0xdb8, 0, 0, 0, 0, 0, 1)));
     for (file, name, want) in [
@@ -37,14 +37,14 @@ fn addresses_by_name(rt: HostRuntime) {
         ("a 192.0.2.1\nb.c 2001:db8::1", "b", Answer::NoAddress),
         ("", "a", Answer::NoAddress),
     ] {
-        assert!(rt;
-            read(rt.alloc(), file.as_bytes(), name) == want,
-            "{file} {name}"
-        );
+        if read(rt.alloc(), file.as_bytes(), name) != want {
+            return Err((file, name));
+        }
     }
+    Ok(())
 }
 
-const BAD_LINES: [(&str, u32); 10] = [
+const BAD_LINES: &[(&str, u32)] = &[
     ("a", 1),
     ("\n", 1),
     ("a 192.0.2.1\n\n", 2),
@@ -58,13 +58,13 @@ const BAD_LINES: [(&str, u32); 10] = [
 ];
 
 #[test]
-fn bad_lines(rt: HostRuntime) {
+fn bad_lines(rt: HostRuntime) -> Result<(), &'static str> {
     for (file, line) in BAD_LINES {
-        assert!(rt;
-            read(rt.alloc(), file.as_bytes(), "a") == Answer::Bad(line),
-            "{file}"
-        );
+        if read(rt.alloc(), file.as_bytes(), "a") != Answer::Bad(*line) {
+            return Err(*file);
+        }
     }
+    Ok(())
 }
 
 // What becomes of a line of a name of so many bytes.

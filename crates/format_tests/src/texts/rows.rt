@@ -1,7 +1,9 @@
 //! Printed texts of locks and hosts.
 use super::lines::locks_of;
 use super::printed::Printed;
+use held_locks::Locks;
 use hosts_db::{FULL_QUOTA, HostRow};
+use range_table::FlatTable;
 use std::alloc::Global;
 
 /// Where the locks are printed: where there is room for all, or in turn where there is less.
@@ -11,15 +13,20 @@ enum Room {
     Short,
 }
 
-// Whether the locks that the lines set are printed as this text, out of a row for which there is memory.
-fn prints(alloc: Global, room: Room, lines: &str, want: &str) -> bool {
-    let Some(locks) = locks_of(alloc, lines) else {
-        return false;
-    };
-    let printed = Printed::Locks(&locks);
+// Whether the locks are printed as this text, out of a row for which there is memory.
+fn are_printed(alloc: Global, room: Room, locks: &Locks<FlatTable>, want: &str) -> bool {
+    let printed = Printed::Locks(locks);
     match room {
         Room::Whole => locks.listing().is_some() && printed.is(alloc, want),
         Room::Short => printed.is_cut(want),
+    }
+}
+
+// The same of those that the lines set.
+fn prints(alloc: Global, room: Room, lines: &str, want: &str) -> bool {
+    match locks_of(alloc, lines) {
+        Some(locks) => are_printed(alloc, room, &locks, want),
+        None => false,
     }
 }
 

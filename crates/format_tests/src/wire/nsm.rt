@@ -4,7 +4,6 @@ use nsm_types::{
     CallError, Mon, MonId, MonitorRes, MyId, NsmCall, NsmMessage, NsmResult, SmStat, SmStatRes,
     StatChge, Status, is_known, one_call,
 };
-use std::alloc::Global;
 use xdr_core::{Cursor, Fixed, Frame, Opaque, one_front, written_is_read};
 
 // SM_STAT of `a`, and its reply in state 1; SM_NOTIFY from `server` in state 3.
@@ -41,7 +40,7 @@ fn are_spelled(kind: &str, text: &str) -> bool {
     }
 }
 
-const VALUES: [(&str, &str); 7] = [
+const VALUES: &[(&str, &str)] = &[
     ("sm_stat_res", STAT_REPLY),
     ("sm_stat", "ffffffff"),
     ("stat_chge", NOTIFY_CALL),
@@ -52,13 +51,16 @@ const VALUES: [(&str, &str); 7] = [
 ];
 
 #[test]
-fn values_are_read_and_written(rt: HostRuntime) {
-    for (kind, text) in VALUES {
-        assert!(rt; are_spelled(kind, text), "{kind}");
-    }
+fn values_are_read_and_written() -> Result<(), &'static str> {
     one_call();
     one_front::<Mon>();
     written_is_read::<SmStatRes>();
+    for (kind, text) in VALUES {
+        if !are_spelled(kind, text) {
+            return Err(*kind);
+        }
+    }
+    Ok(())
 }
 
 fn refusal(procedure: u32, bytes: &[u8]) -> Option<CallError> {
@@ -98,7 +100,7 @@ fn is_watch(text: &str) -> bool {
     }
 }
 
-const CALLS: [(u32, &str); 7] = [
+const CALLS: &[(u32, &str)] = &[
     (0, ""),
     (1, STAT_CALL),
     (2, MON),
@@ -108,11 +110,19 @@ const CALLS: [(u32, &str); 7] = [
     (6, NOTIFY_CALL),
 ];
 
+// The number of a procedure is the error.
 #[test]
-fn calls_are_read(rt: HostRuntime) {
+fn calls_are_read() -> Result<(), u32> {
     for (procedure, text) in CALLS {
-        assert!(rt; is_whole(procedure, text), "procedure {procedure}");
+        if !is_whole(*procedure, text) {
+            return Err(*procedure);
+        }
     }
+    Ok(())
+}
+
+#[test]
+fn a_call_and_none(rt: HostRuntime) {
     assert!(rt; is_known(6) && !is_known(7));
     assert!(rt; refusal(7, &[]) == Some(CallError::NoSuchProc));
     assert!(rt; is_watch(MON));
@@ -126,10 +136,6 @@ fn is_sent(message: NsmMessage<'_>, text: &str) -> bool {
 fn is_answered(answer: NsmResult, text: &str) -> bool {
     let mut f = Frame::new();
     answer.put(&mut f).is_ok() && is_words(&f, text)
-}
-
-fn fault_reads(alloc: Global, fault: CallError, text: &str) -> bool {
-    reads(fault.to_string(alloc), text)
 }
 
 const fn stat(res: MonitorRes) -> NsmResult {
@@ -149,19 +155,35 @@ fn what_is_sent(rt: HostRuntime) {
         private_bytes: Fixed { bytes: &PRIVATE },
     };
     assert!(rt; is_sent(NsmMessage::Status(status), STATUS));
+}
+
+#[test]
+fn what_is_answered() -> Result<(), &'static str> {
     for (answer, text) in [
         (NsmResult::Nothing, ""),
         (stat(MonitorRes::Succ), STAT_REPLY),
         (stat(MonitorRes::Fail), "1 1"),
         (NsmResult::Stat(SmStat { state: 7 }), "7"),
     ] {
-        assert!(rt; is_answered(answer, text), "{text}");
+        if !is_answered(answer, text) {
+            return Err(text);
+        }
     }
-    for (fault, text) in [
-        (CallError::Starved, "1 Starved"),
-        (CallError::NoSuchProc, "11 NoSuchProc"),
-        (CallError::GarbageArgs, "12 GarbageArgs"),
-    ] {
-        assert!(rt; fault_reads(rt.alloc(), fault, text), "{text}");
+    Ok(())
+}
+
+const FAULTS: &[(CallError, &str)] = &[
+    (CallError::Starved, "1 Starved"),
+    (CallError::NoSuchProc, "11 NoSuchProc"),
+    (CallError::GarbageArgs, "12 GarbageArgs"),
+];
+
+#[test]
+fn faults_read(rt: HostRuntime) -> Result<(), &'static str> {
+    for (fault, text) in FAULTS {
+        if !reads(rt.alloc(), *fault, text) {
+            return Err(*text);
+        }
     }
+    Ok(())
 }

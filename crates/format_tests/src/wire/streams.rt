@@ -28,11 +28,19 @@ fn is_cut(alloc: Global, stream: &[u8], at: usize, want: &[u8]) -> bool {
         && text.as_slice() == want
 }
 
+// The place of a cut is the error.
 #[test]
-fn pieces(rt: HostRuntime) {
+fn pieces(rt: HostRuntime) -> Result<(), usize> {
     for at in 0..STREAM.len() + 1 {
-        assert!(rt; is_cut(rt.alloc(), STREAM, at, b"ab\0c\0"), "at {at}");
+        if !is_cut(rt.alloc(), STREAM, at, b"ab\0c\0") {
+            return Err(at);
+        }
     }
+    Ok(())
+}
+
+#[test]
+fn marks(rt: HostRuntime) {
     one_reading();
     sent_is_one_record();
     assert!(rt; last_mark(24) == [0x80, 0, 0, 24]);
@@ -62,8 +70,8 @@ fn longer_is_refused(alloc: Global) -> bool {
 
 fn faults_read(alloc: Global) -> bool {
     let too_long = MarkError::RecordTooLong(Records::new(alloc));
-    reads(too_long.to_string(alloc), "10 RecordTooLong")
-        && reads(MarkError::Starved.to_string(alloc), "1 Starved")
+    let is_read = reads(alloc, too_long, "10 RecordTooLong");
+    is_read && reads(alloc, MarkError::Starved, "1 Starved")
 }
 
 #[test]

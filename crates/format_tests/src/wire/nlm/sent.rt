@@ -5,7 +5,6 @@ use nlm4_types::{
     CallError, Grant, Holder, Lock, NARROW, NlmMessage, Res, ShareRes, Stat, TOP, TestRes, Version,
     WIDE, shown_holder_is_spelled,
 };
-use std::alloc::Global;
 use xdr_core::{Frame, Opaque};
 
 const COOKIE: Opaque<1024> = Opaque {
@@ -28,7 +27,7 @@ const WHOLE: u64 = 0xffff_ffff;
 type Shown = (u64, u64);
 
 // First byte, last byte; what version 4 shows; what version 3 shows.
-const CLAMPED: [(u64, u64, Shown, Shown); 6] = [
+const CLAMPED: &[(u64, u64, Shown, Shown)] = &[
     (1 << 32, 1 << 32, (1 << 32, 1), (WHOLE, 0)),
     (0, WHOLE, (0, 1 << 32), (0, 0)),
     (0, WHOLE - 1, (0, WHOLE), (0, WHOLE)),
@@ -43,16 +42,20 @@ fn shows(version: Version, first: u64, last: u64, shown: Shown) -> bool {
         && (version.offset_shown(first), version.len_shown(first, last)) == shown
 }
 
+// The ends of a range are the error.
 #[test]
-fn holders_are_clamped(rt: HostRuntime) {
-    for (first, last, wide, narrow) in CLAMPED {
-        assert!(rt; shows(Version::V4, first, last, wide), "{first} {last}");
-        assert!(rt; shows(Version::V3, first, last, narrow), "{first} {last}");
-    }
+fn holders_are_clamped() -> Result<(), (u64, u64)> {
     shown_holder_is_spelled();
+    for (first, last, wide, narrow) in CLAMPED {
+        let is_wide = shows(Version::V4, *first, *last, *wide);
+        if !(is_wide && shows(Version::V3, *first, *last, *narrow)) {
+            return Err((*first, *last));
+        }
+    }
+    Ok(())
 }
 
-const MAPPED: [(Stat, Stat); 7] = [
+const MAPPED: &[(Stat, Stat)] = &[
     (Stat::Granted, Stat::Granted),
     (Stat::Denied, Stat::Denied),
     (Stat::DeniedNolocks, Stat::DeniedNolocks),
@@ -69,17 +72,24 @@ fn is_mapped(stat: Stat, old: Stat) -> bool {
 }
 
 #[test]
-fn statuses_are_mapped(rt: HostRuntime) {
+fn statuses_are_mapped() -> Result<(), Stat> {
     for (stat, old) in MAPPED {
-        assert!(rt; is_mapped(stat, old), "{stat:?}");
+        if !is_mapped(*stat, *old) {
+            return Err(*stat);
+        }
     }
-    for number in [1, 3, 4] {
-        assert!(rt;
-            Version::from_number(number).map(Version::number) == Some(number),
-            "{number}"
-        );
-    }
+    Ok(())
+}
+
+#[test]
+fn versions_have_numbers(rt: HostRuntime) -> Result<(), u32> {
     assert!(rt; Version::from_number(2).is_none());
+    for number in [1, 3, 4] {
+        if Version::from_number(number).map(Version::number) != Some(number) {
+            return Err(number);
+        }
+    }
+    Ok(())
 }
 
 fn held() -> TestRes<'static, WIDE> {
@@ -101,47 +111,47 @@ fn is_sent(message: &NlmMessage<'_>, version: Version, procedure: u32, text: &st
         && message.procedure() == procedure
 }
 
+const GRANTED_LOCK: Lock<'static, WIDE> = Lock::<WIDE> {
+    caller_name: Opaque { bytes: b"b" },
+    fh: Opaque {
+        bytes: &[1, 2, 3, 4],
+    },
+    oh: Opaque { bytes: b"B" },
+    svid: 8,
+    l_offset: 0,
+    l_len: 10,
+};
+
 #[test]
-fn what_is_sent(rt: HostRuntime) {
-    let alock = Lock::<WIDE> {
-        caller_name: Opaque { bytes: b"b" },
-        fh: Opaque {
-            bytes: &[1, 2, 3, 4],
-        },
-        oh: Opaque { bytes: b"B" },
-        svid: 8,
-        l_offset: 0,
-        l_len: 10,
-    };
-    let granted = Grant {
+fn grants_are_sent(rt: HostRuntime) {
+    let grant = Grant {
         number: 0x1_0000_0001,
         exclusive: true,
-        alock,
+        alock: GRANTED_LOCK,
     };
+    assert!(rt; is_sent(&NlmMessage::Granted(grant), Version::V4, 5, GRANTED_CALL));
+    assert!(rt;
+        is_sent(
+            &NlmMessage::GrantedMsg(grant),
+            Version::V1,
+            10,
+            NARROW_GRANT
+        )
+    );
+    assert!(rt; GRANTED_LOCK.with_offsets::<NARROW>().l_len == 10);
+}
+
+#[test]
+fn results_are_sent(rt: HostRuntime) {
     let res = Res {
         cookie: COOKIE,
         stat: Stat::Deadlck,
     };
-    for (message, version, procedure, text) in [
-        (NlmMessage::Granted(granted), Version::V4, 5, GRANTED_CALL),
-        (
-            NlmMessage::GrantedMsg(granted),
-            Version::V1,
-            10,
-            NARROW_GRANT,
-        ),
-        (NlmMessage::TestRes(held()), Version::V4, 11, TEST_REPLY),
-        (NlmMessage::TestRes(held()), Version::V3, 11, NARROW_TEST),
-        (NlmMessage::LockRes(res), Version::V4, 12, "4 3 5"),
-        (NlmMessage::CancelRes(res), Version::V1, 13, "4 3 5"),
-        (NlmMessage::UnlockRes(res), Version::V4, 14, "4 3 5"),
-    ] {
-        assert!(rt;
-            is_sent(&message, version, procedure, text),
-            "procedure {procedure}"
-        );
-    }
-    assert!(rt; alock.with_offsets::<NARROW>().l_len == 10);
+    assert!(rt; is_sent(&NlmMessage::TestRes(held()), Version::V4, 11, TEST_REPLY));
+    assert!(rt; is_sent(&NlmMessage::TestRes(held()), Version::V3, 11, NARROW_TEST));
+    assert!(rt; is_sent(&NlmMessage::LockRes(res), Version::V4, 12, "4 3 5"));
+    assert!(rt; is_sent(&NlmMessage::CancelRes(res), Version::V1, 13, "4 3 5"));
+    assert!(rt; is_sent(&NlmMessage::UnlockRes(res), Version::V4, 14, "4 3 5"));
 }
 
 fn stale_is_answered(text: &str) -> bool {
@@ -163,19 +173,20 @@ fn stale_share_is_answered(text: &str) -> bool {
     share.put_result(&mut f).is_ok() && is_words(&f, text)
 }
 
-fn fault_reads(alloc: Global, fault: CallError, text: &str) -> bool {
-    reads(fault.to_string(alloc), text)
-}
+const FAULTS: &[(CallError, &str)] = &[
+    (CallError::Starved, "1 Starved"),
+    (CallError::NoSuchProc, "11 NoSuchProc"),
+    (CallError::GarbageArgs, "12 GarbageArgs"),
+];
 
 #[test]
-fn what_is_answered(rt: HostRuntime) {
+fn what_is_answered(rt: HostRuntime) -> Result<(), &'static str> {
     assert!(rt; stale_is_answered("4 3 7"));
     assert!(rt; stale_share_is_answered("4 3 7 0"));
-    for (fault, text) in [
-        (CallError::Starved, "1 Starved"),
-        (CallError::NoSuchProc, "11 NoSuchProc"),
-        (CallError::GarbageArgs, "12 GarbageArgs"),
-    ] {
-        assert!(rt; fault_reads(rt.alloc(), fault, text), "{text}");
+    for (fault, text) in FAULTS {
+        if !reads(rt.alloc(), *fault, text) {
+            return Err(*text);
+        }
     }
+    Ok(())
 }
