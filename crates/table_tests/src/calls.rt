@@ -1,5 +1,8 @@
-//! The server's own calls: worked rows, a full table, and a random script beside a plain list.
+//! The server's own calls: worked trials, a full table, and a random script beside a plain list.
+ghost use Rattle.std.specs.Prelude.{◌<◌, IfSome, length};
+
 use crate::random::next_bits;
+use crate::wrong::{NO_MEMORY, Wrong, all_hold, nowhere};
 use blocked_list::MOST_SLOTS;
 use callbacks::{Caller, Destination, Letter, LocalLock, Lock, Message, ShortBytes};
 use nlm4_types::Version;
@@ -12,7 +15,7 @@ use std::test::*;
 const FIRST: u64 = 0x1_0000_0001;
 
 /// A call to a host of one byte: GRANTED, GRANTED_MSG, SM_NOTIFY, or a line.
-#[derive(Clone, Copy, PartialEq)]
+#[derive(Clone, Copy)]
 enum Kind {
     Granted,
     Msg,
@@ -21,55 +24,91 @@ enum Kind {
 }
 
 fn lock(alloc: Global, name: u8) -> Result<Lock, AllocError> {
+    let fh = ShortBytes::copy_of(alloc, &[1, 2, 3, 4])?;
+    let caller = Caller::copy_of(alloc, &[name], 8, b"B")?;
     Ok(Lock {
-        caller: Caller::copy_of(alloc, &[name], 8, b"B")?,
-        fh: ShortBytes::copy_of(alloc, &[1, 2, 3, 4])?,
+        caller,
+        fh,
         l_offset: 0,
         l_len: 10,
     })
 }
 
-fn letter(alloc: Global, kind: Kind, name: u8) -> Result<Letter, AllocError> {
+fn line() -> Message {
+    Message::GrantedLine {
+        mode: Mode::Exclusive,
+        lock: LocalLock {
+            owner: Owner::Process(42),
+            file: FileId::new(&[10]),
+            offset: 0,
+            len: 1,
+        },
+    }
+}
+
+fn message(alloc: Global, kind: Kind, name: u8) -> Result<Message, AllocError> {
     let version = Version::V4;
     let exclusive = true;
-    let message = match kind {
-        Kind::Granted => Message::Granted {
-            version,
-            exclusive,
-            lock: lock(alloc, name)?,
-        },
-        Kind::Msg => Message::GrantedMsg {
-            version,
-            exclusive,
-            lock: lock(alloc, name)?,
-        },
-        Kind::Notice => Message::Notify {
-            name: ShortBytes::copy_of(alloc, b"server")?,
-            state: 3,
-        },
-        Kind::Line => Message::GrantedLine {
-            mode: Mode::Exclusive,
-            lock: LocalLock {
-                owner: Owner::Process(42),
-                file: FileId::new(&[10]),
-                offset: 0,
-                len: 1,
-            },
-        },
-    };
-    let to = match kind {
-        Kind::Line => Destination::Connection(1),
-        Kind::Granted | Kind::Msg | Kind::Notice => {
-            Destination::Host(ShortBytes::copy_of(alloc, &[name])?)
+    match kind {
+        Kind::Granted => {
+            let lock = lock(alloc, name)?;
+            Ok(Message::Granted {
+                version,
+                exclusive,
+                lock,
+            })
         }
-    };
+        Kind::Msg => {
+            let lock = lock(alloc, name)?;
+            Ok(Message::GrantedMsg {
+                version,
+                exclusive,
+                lock,
+            })
+        }
+        Kind::Notice => {
+            let name = ShortBytes::copy_of(alloc, b"server")?;
+            Ok(Message::Notify { name, state: 3 })
+        }
+        Kind::Line => Ok(line()),
+    }
+}
+
+fn destination(alloc: Global, kind: Kind, name: u8) -> Result<Destination, AllocError> {
+    if let Kind::Line = kind {
+        return Ok(Destination::Connection(1));
+    }
+    let host = ShortBytes::copy_of(alloc, &[name])?;
+    Ok(Destination::Host(host))
+}
+
+fn letter(alloc: Global, kind: Kind, name: u8) -> Result<Letter, AllocError> {
+    let to = destination(alloc, kind, name)?;
+    let message = message(alloc, kind, name)?;
     Ok(Letter::new(to, message))
 }
 
-fn make_due(calls: &mut OutCalls, number: u64, letter: Letter) {
-    if calls.len() < MOST_SLOTS {
-        calls.make_due(number, letter);
+/// A call of this kind becomes due. Whether there was room and memory for it.
+fn add(calls: &mut OutCalls, alloc: Global, number: u64, (kind, name): (Kind, u8)) -> bool {
+    if calls.len() >= MOST_SLOTS {
+        return false;
     }
+    match letter(alloc, kind, name) {
+        Ok(letter) => {
+            calls.make_due(number, letter);
+            true
+        }
+        Err(AllocError) => false,
+    }
+}
+
+/// An answer ends the call of this number. Whether that was a grant to `b`, or None where there is no such call.
+fn answer(calls: &mut OutCalls, number: u64) -> Option<bool> {
+    let letter = calls.answered(number)?.into_letter();
+    let is_to_b = letter.is_grant_to(b"b");
+    // Called, its drop is proved once, and not here for each kind of message.
+    drop(letter);
+    Some(is_to_b)
 }
 
 /// The number of the call that is next, or 0.
@@ -77,48 +116,31 @@ fn next(calls: &OutCalls) -> u64 {
     calls.next_due().map_or(0, Call::number)
 }
 
-fn is_to(calls: &OutCalls, name: u8) -> bool {
-    match calls.next_due() {
-        Some(call) => call.letter().to().is_host(&[name]) && call.letter().message().is_grant(),
-        None => false,
-    }
-}
-
-// A call of this kind becomes due.
-fn add(
-    calls: &mut OutCalls,
-    alloc: Global,
-    number: u64,
-    (kind, name): (Kind, u8),
-) -> Result<(), AllocError> {
-    make_due(calls, number, letter(alloc, kind, name)?);
-    Ok(())
-}
-
-// Whether the call was there, and was a grant to `b`.
-fn ends_grant_to_b(calls: &mut OutCalls, number: u64) -> bool {
-    match calls.answered(number) {
-        Some(call) => call.into_letter().is_grant_to(b"b"),
-        None => false,
-    }
-}
-
 /// A grant that is answered once it was sent, and not twice.
 fn is_answered(alloc: Global, calls: &mut OutCalls) -> bool {
-    let is_added = add(calls, alloc, FIRST, (Kind::Granted, b'b')).is_ok();
+    let is_added = add(calls, alloc, FIRST, (Kind::Granted, b'b'));
     let is_next = calls.of_xid(1).is_none() && next(calls) == FIRST;
     calls.sent();
     let is_sent = next(calls) == 0 && calls.of_xid(1).is_some() && calls.of_xid(2).is_none();
-    is_added && is_next && is_sent && ends_grant_to_b(calls, FIRST) && is_over(calls)
+    let is_ended = answer(calls, FIRST) == Some(true) && calls.is_empty();
+    is_added && is_next && is_sent && is_ended && answer(calls, FIRST).is_none()
 }
 
-fn is_over(calls: &mut OutCalls) -> bool {
-    calls.is_empty() && calls.answered(FIRST).is_none()
+/// Whether the call that is next is a grant to `c`, which was sent so often.
+fn is_next_to_c(calls: &OutCalls, sendings: u8) -> bool {
+    match calls.next_due() {
+        Some(call) => {
+            call.letter().to().is_host(b"c")
+                && call.letter().message().is_grant()
+                && call.sendings() == sendings
+        }
+        None => false,
+    }
 }
 
 /// A grant to `c`, which was sent so often, is sent once more, and then nothing is heard.
 fn is_sent_anew(calls: &mut OutCalls, sendings: u8) -> bool {
-    let is_due = is_to(calls, b'c') && calls.next_due().map_or(9, Call::sendings) == sendings;
+    let is_due = is_next_to_c(calls, sendings);
     calls.silent(FIRST + 1);
     let stays_due = next(calls) == FIRST + 1;
     calls.sent();
@@ -135,20 +157,21 @@ fn is_given_up(calls: &mut OutCalls) -> bool {
     calls.is_empty()
 }
 
-#[test]
-fn grant_refused(rt: HostRuntime) -> Result<(), Fail> {
-    let mut calls = OutCalls::new(rt.alloc())?;
-    let is_answered = is_answered(rt.alloc(), &mut calls);
-    let is_added = add(&mut calls, rt.alloc(), FIRST + 1, (Kind::Granted, b'c')).is_ok();
-    let is_given_up = is_given_up(&mut calls);
-    assert_eq!(rt; (is_answered, is_added, is_given_up), (true, true, true));
-    Ok(())
+fn grants_end(alloc: Global, calls: &mut OutCalls) -> Result<(), Wrong> {
+    let is_answered = is_answered(alloc, calls);
+    let is_added = add(calls, alloc, FIRST + 1, (Kind::Granted, b'c'));
+    let is_given_up = is_given_up(calls);
+    all_hold(&[
+        ("a grant is answered", is_answered),
+        ("another is made due", is_added),
+        ("it is given up", is_given_up),
+    ])
 }
 
 /// As many notices as there is room for.
 fn fill(alloc: Global, calls: &mut OutCalls) -> bool {
     for number in 0..8_192 {
-        if add(calls, alloc, number, (Kind::Notice, b'a')).is_err() {
+        if !add(calls, alloc, number, (Kind::Notice, b'a')) {
             return false;
         }
     }
@@ -168,7 +191,7 @@ fn sends_twenty(calls: &mut OutCalls) -> bool {
 /// Those behind the first twenty are answered.
 fn answer_others(calls: &mut OutCalls) {
     for number in 20..8_192 {
-        calls.answered(number);
+        answer(calls, number);
     }
 }
 
@@ -190,29 +213,28 @@ fn are_given_up(calls: &mut OutCalls) -> bool {
     calls.is_empty()
 }
 
-#[test]
-fn silent_hosts(rt: HostRuntime) -> Result<(), Fail> {
-    let mut calls = OutCalls::new(rt.alloc())?;
-    let is_filled = fill(rt.alloc(), &mut calls);
-    assert_eq!(rt; (is_filled, are_given_up(&mut calls)), (true, true));
-    Ok(())
+fn hosts_are_silent(alloc: Global, calls: &mut OutCalls) -> Result<(), Wrong> {
+    let is_filled = fill(alloc, calls);
+    let are_given_up = are_given_up(calls);
+    all_hold(&[
+        ("there is room for all", is_filled),
+        ("they are given up", are_given_up),
+    ])
 }
 
-const FIVE: [(Kind, u8); 5] = [
-    (Kind::Msg, b'a'),
-    (Kind::Granted, b'a'),
-    (Kind::Notice, b'a'),
-    (Kind::Line, b'a'),
-    (Kind::Msg, b'b'),
+const FIVE: &[(u64, Kind, u8)] = &[
+    (FIRST, Kind::Msg, b'a'),
+    (FIRST + 1, Kind::Granted, b'a'),
+    (FIRST + 2, Kind::Notice, b'a'),
+    (FIRST + 3, Kind::Line, b'a'),
+    (FIRST + 4, Kind::Msg, b'b'),
 ];
 
 fn adds_five(alloc: Global, calls: &mut OutCalls) -> bool {
-    let mut number = FIRST;
-    for whose in FIVE {
-        if add(calls, alloc, number, whose).is_err() {
+    for (number, kind, name) in FIVE {
+        if !add(calls, alloc, *number, (*kind, *name)) {
             return false;
         }
-        number = number.wrapping_add(1);
     }
     true
 }
@@ -238,26 +260,22 @@ fn are_known(calls: &OutCalls) -> bool {
         && calls.of_cookie(&[0, 0, 0, 1]).is_none()
 }
 
-#[test]
-fn drops_and_cookies(rt: HostRuntime) -> Result<(), Fail> {
-    let mut calls = OutCalls::new(rt.alloc())?;
-    let are_added = adds_five(rt.alloc(), &mut calls);
-    send_four(&mut calls);
-    let is_line_gone = calls.len() == 4 && named_by_fifth(&calls).is_none();
+fn drops_and_cookies_are_right(alloc: Global, calls: &mut OutCalls) -> Result<(), Wrong> {
+    let are_added = adds_five(alloc, calls);
+    send_four(calls);
+    let is_line_gone = calls.len() == 4 && named_by_fifth(calls).is_none();
     calls.sent();
-    let are_known = are_known(&calls);
+    let are_known = are_known(calls);
     calls.drop_host(b"a");
-    let is_other_left = calls.len() == 2 && named_by_fifth(&calls).is_some();
+    let is_other_left = calls.len() == 2 && named_by_fifth(calls).is_some();
     calls.clear();
-    let told = (
-        are_added,
-        is_line_gone,
-        are_known,
-        is_other_left,
-        calls.is_empty(),
-    );
-    assert_eq!(rt; told, (true, true, true, true, true));
-    Ok(())
+    all_hold(&[
+        ("five are made due", are_added),
+        ("a line ends when it is sent", is_line_gone),
+        ("message forms are known", are_known),
+        ("the other host's grant is left", is_other_left),
+        ("all go", calls.is_empty()),
+    ])
 }
 
 /// A call as a plain value.
@@ -270,29 +288,55 @@ struct Plain {
     due: bool,
 }
 
-fn is_all(calls: &OutCalls, plain: &[Plain]) -> bool {
-    calls.len() == plain.len()
-        && calls.as_slice().iter().zip(plain).all(|(call, plain)| {
-            call.number() == plain.number
-                && call.sendings() == plain.sendings
-                && call.is_due() == plain.due
-        })
+impl Plain {
+    fn is(self, call: &Call) -> bool {
+        call.number() == self.number
+            && call.sendings() == self.sendings
+            && call.is_due() == self.due
+    }
+
+    fn is_grant_to(self, name: u8) -> bool {
+        self.name == name && matches!(self.kind, Kind::Granted | Kind::Msg)
+    }
 }
 
-fn sent(list: &mut Vec<Plain>) {
+fn is_all(calls: &OutCalls, list: &[Plain]) -> bool {
+    for (call, plain) in calls.as_slice().iter().zip(list) {
+        if !plain.is(call) {
+            return false;
+        }
+    }
+    calls.len() == list.len()
+}
+
+fn send(list: &mut Vec<Plain>) {
     let Some(place) = list.iter().position(|plain| plain.due) else {
         return;
     };
     let mut plain = list.remove(place);
-    if plain.kind != Kind::Line {
+    if !matches!(plain.kind, Kind::Line) {
         plain.sendings = plain.sendings.wrapping_add(1);
         plain.due = false;
         let _ = list.insert(place, plain);
     }
 }
 
-fn silent(list: &mut Vec<Plain>, number: u64) {
-    let Some(place) = list.iter().position(|plain| plain.number == number) else {
+fn place_of(list: &[Plain], number: u64) -> Option<usize>
+    ensures { IfSome result (λ place. place < length list.now) }
+{
+    list.iter().position(|plain| plain.number == number)
+}
+
+/// The first of this number ends.
+fn end(list: &mut Vec<Plain>, number: u64) {
+    if let Some(place) = place_of(list, number) {
+        list.remove(place);
+    }
+}
+
+/// Nothing is heard of the first of this number.
+fn repeat(list: &mut Vec<Plain>, number: u64) {
+    let Some(place) = place_of(list, number) else {
         return;
     };
     let mut plain = list.remove(place);
@@ -302,6 +346,23 @@ fn silent(list: &mut Vec<Plain>, number: u64) {
         plain.due = true;
         let _ = list.push(plain);
     }
+}
+
+/// A call of this kind becomes due in both. Whether there was memory for it.
+fn add_both(
+    (calls, list): (&mut OutCalls, &mut Vec<Plain>),
+    alloc: Global,
+    number: u64,
+    (kind, name): (Kind, u8),
+) -> bool {
+    let plain = Plain {
+        number,
+        kind,
+        name,
+        sendings: 0,
+        due: true,
+    };
+    add(calls, alloc, number, (kind, name)) && list.push(plain).is_ok()
 }
 
 /// The least of the numbers of sent calls with this xid, or 0.
@@ -316,90 +377,100 @@ fn oldest(list: &[Plain], xid: u32) -> u64 {
     found
 }
 
-/// The calls, and the same as a plain list.
-#[derive(Drop)]
-struct Case {
-    calls: OutCalls,
-    list: Vec<Plain>,
-}
-
-impl Case {
-    fn drops_host(&mut self, name: u8) {
-        self.calls.drop_host(&[name]);
-        self.list.retain(|p| p.name != name || p.kind != Kind::Granted && p.kind != Kind::Msg);
-    }
-
-    fn makes_due(
-        &mut self,
-        alloc: Global,
-        number: u64,
-        kind: Kind,
-        name: u8,
-    ) -> Result<(), AllocError> {
-        make_due(&mut self.calls, number, letter(alloc, kind, name)?);
-        self.list.push(Plain {
-            number,
-            kind,
-            name,
-            sendings: 0,
-            due: true,
-        })?;
-        Ok(())
-    }
-
-    fn answers(&mut self, number: u64) {
-        self.calls.answered(number);
-        if let Some(place) = self.list.iter().position(|p| p.number == number) {
-            let _ = self.list.remove(place);
+/// One turn of the script in both, and whether they are alike behind it.
+fn turn(alloc: Global, calls: &mut OutCalls, list: &mut Vec<Plain>, bits: u64) -> bool {
+    let low = bits % 4;
+    let number = 4_294_967_296 * (1 + bits / 4 % 2) + low;
+    let name = if bits / 8 % 2 == 0 { b'a' } else { b'b' };
+    let kind = match bits / 16 % 4 {
+        0 => Kind::Granted,
+        1 => Kind::Msg,
+        2 => Kind::Notice,
+        _ => Kind::Line,
+    };
+    let mut has_memory = true;
+    match bits / 64 % 16 {
+        0 => {
+            calls.drop_host(&[name]);
+            list.retain(|plain| !plain.is_grant_to(name));
+        }
+        1..=4 => has_memory = add_both((calls, list), alloc, number, (kind, name)),
+        5..=8 => {
+            calls.sent();
+            send(list);
+        }
+        9..=12 => {
+            calls.silent(number);
+            repeat(list, number);
+        }
+        _ => {
+            answer(calls, number);
+            end(list, number);
         }
     }
-
-    /// One turn of the script, and whether both are alike behind it.
-    fn turn(&mut self, alloc: Global, bits: u64) -> Result<bool, AllocError> {
-        let low = bits % 4;
-        let number = 4_294_967_296 * (1 + bits / 4 % 2) + low;
-        let name = if bits / 8 % 2 == 0 { b'a' } else { b'b' };
-        let kind = match bits / 16 % 4 {
-            0 => Kind::Granted,
-            1 => Kind::Msg,
-            2 => Kind::Notice,
-            _ => Kind::Line,
-        };
-        match bits / 64 % 16 {
-            0 => self.drops_host(name),
-            1..=4 => self.makes_due(alloc, number, kind, name)?,
-            5..=8 => {
-                self.calls.sent();
-                sent(&mut self.list);
-            }
-            9..=12 => {
-                self.calls.silent(number);
-                silent(&mut self.list, number);
-            }
-            _ => self.answers(number),
-        }
-        let xid = low as u32;
-        let found = self.calls.of_xid(xid).map_or(0, Call::number);
-        Ok(is_all(&self.calls, &self.list) && found == oldest(&self.list, xid))
-    }
+    let xid = low as u32;
+    let found = calls.of_xid(xid).map_or(0, Call::number);
+    has_memory && is_all(calls, list) && found == oldest(list, xid)
 }
 
-/// The number of the first turn behind which they are not alike.
-fn wrong_turn(alloc: Global, case: &mut Case) -> Option<u32> {
+/// The first turn behind which they are not alike.
+fn wrong_turn(alloc: Global, calls: &mut OutCalls, list: &mut Vec<Plain>) -> Option<usize> {
     let mut seed: u64 = 5;
-    for step in 0..2000u32 {
-        if case.turn(alloc, next_bits(&mut seed)) != Ok(true) {
-            return Some(step);
+    for place in 0..2000usize {
+        if !turn(alloc, calls, list, next_bits(&mut seed)) {
+            return Some(place);
         }
     }
     None
 }
 
+fn are_alike(alloc: Global, calls: &mut OutCalls) -> Result<(), Wrong> {
+    let mut list = Vec::new(alloc);
+    nowhere("a random script", wrong_turn(alloc, calls, &mut list))
+}
+
+/// What is tried with calls of which there are none yet.
+#[derive(Clone, Copy)]
+enum Trial {
+    Grants,
+    SilentHosts,
+    DropsAndCookies,
+    RandomScript,
+}
+
+fn outcome(alloc: Global, calls: &mut OutCalls, trial: Trial) -> Result<(), Wrong> {
+    match trial {
+        Trial::Grants => grants_end(alloc, calls),
+        Trial::SilentHosts => hosts_are_silent(alloc, calls),
+        Trial::DropsAndCookies => drops_and_cookies_are_right(alloc, calls),
+        Trial::RandomScript => are_alike(alloc, calls),
+    }
+}
+
+/// All trials have their calls from here, since each function that has some owes a proof of their drop.
+fn try_out(alloc: Global, trial: Trial) -> Result<(), Wrong> {
+    match OutCalls::new(alloc) {
+        Ok(mut calls) => outcome(alloc, &mut calls, trial),
+        Err(_) => Err(NO_MEMORY),
+    }
+}
+
 #[test]
-fn random_script(rt: HostRuntime) -> Result<(), Fail> {
-    let calls = OutCalls::new(rt.alloc())?;
-    let list = Vec::new(rt.alloc());
-    let mut case = Case { calls, list };
-    assert_eq!(rt; wrong_turn(rt.alloc(), &mut case), None);
-    Ok(())
+fn grant_refused(rt: HostRuntime) -> Result<(), Wrong> {
+    try_out(rt.alloc(), Trial::Grants)
+}
+
+#[test]
+fn silent_hosts(rt: HostRuntime) -> Result<(), Wrong> {
+    try_out(rt.alloc(), Trial::SilentHosts)
+}
+
+#[test]
+fn drops_and_cookies(rt: HostRuntime) -> Result<(), Wrong> {
+    try_out(rt.alloc(), Trial::DropsAndCookies)
+}
+
+#[test]
+fn random_script(rt: HostRuntime) -> Result<(), Wrong> {
+    try_out(rt.alloc(), Trial::RandomScript)
 }

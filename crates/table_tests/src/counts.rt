@@ -2,25 +2,41 @@
 use crate::owner::read_owner;
 use host_runs::HostRuns;
 use std::alloc::Global;
-use std::test::Fail;
+use std::test::*;
 
-// Whether each host has what its owners' changes make of all runs. None where there is no memory.
-fn are_counted(alloc: Global) -> Option<bool> {
-    let mut hosts = HostRuns::new(alloc);
-    let (a, b) = (read_owner(alloc, "a/1/A")?, read_owner(alloc, "b/1/B")?);
-    hosts.recount(&a, 0, 2);
-    hosts.recount(&b, 2, 5);
-    hosts.recount(&a, 5, 4);
-    hosts.recount(&read_owner(alloc, "p7")?, 4, 9);
-    let told = [hosts.get(b"a"), hosts.get(b"b"), hosts.get(b"c")];
-    hosts.recount(&b, 9, 6);
+// An owner changes, and with it all runs from so many to so many. Whether there was memory for the owner.
+fn recount(alloc: Global, hosts: &mut HostRuns, who: &str, (all, after): (u32, u32)) -> bool {
+    match read_owner(alloc, who) {
+        Some(owner) => {
+            hosts.recount(&owner, all, after);
+            true
+        }
+        None => false,
+    }
+}
+
+fn are_emptied(hosts: &mut HostRuns) -> bool {
     hosts.put(b"a", 0);
-    let left = [hosts.get(b"a"), hosts.get(b"b")];
-    Some(hosts.is_whole() && told == [1, 3, 0] && left == [0, 0])
+    hosts.get(b"a") == 0 && hosts.get(b"b") == 0 && hosts.is_whole()
+}
+
+// Whether each host has what its owners' changes make of all runs.
+fn follow(alloc: Global, hosts: &mut HostRuns) -> bool {
+    recount(alloc, hosts, "a/1/A", (0, 2))
+        && recount(alloc, hosts, "b/1/B", (2, 5))
+        && recount(alloc, hosts, "a/1/A", (5, 4))
+        && recount(alloc, hosts, "p7", (4, 9))
+        && [hosts.get(b"a"), hosts.get(b"b"), hosts.get(b"c")] == [1, 3, 0]
+        && recount(alloc, hosts, "b/1/B", (9, 6))
+        && are_emptied(hosts)
+}
+
+fn are_counted(alloc: Global) -> bool {
+    let mut hosts = HostRuns::new(alloc);
+    follow(alloc, &mut hosts)
 }
 
 #[test]
-fn hosts_are_counted(rt: HostRuntime) -> Result<(), Fail> {
-    assert_eq!(rt; are_counted(rt.alloc()), Some(true));
-    Ok(())
+fn hosts_are_counted(rt: HostRuntime) {
+    assert!(rt; are_counted(rt.alloc()));
 }

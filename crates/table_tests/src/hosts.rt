@@ -1,6 +1,7 @@
 //! The store of hosts in memory: one script of all calls, the limits, and the wrap of the own state.
 ghost use Rattle.std.specs.Prelude.{◌<◌};
 
+use crate::wrong::{Wrong, all_hold, nowhere, reads};
 use hosts_db::{FULL_QUOTA, HostRow, HostStore, MemHosts, MyId, StoreError};
 use std::alloc::{AllocError, Global};
 use std::fmt::Write;
@@ -16,6 +17,8 @@ enum Call {
     Quota(u16, u32),
     // Whom is watched, by whom and at which program, and the private bytes.
     Watch(u16, u16, i32, [u8; 16]),
+    // The same of host 1, by host 6 at so many programs.
+    WatchEach(i32),
     Unwatch(Option<u16>, u16, i32),
 }
 
@@ -50,6 +53,13 @@ fn watch<S: HostStore>(
     store.watch(&name_of(mon), &MyId::new(&my_name, prog, 2, -3), &private)
 }
 
+fn watch_each<S: HostStore>(store: &mut S, programs: i32) -> Result<(), StoreError> {
+    for prog in 0..programs {
+        watch(store, (1, 6, prog, SEVENS))?;
+    }
+    Ok(())
+}
+
 fn unwatch<S: HostStore>(
     store: &mut S,
     mon: Option<u16>,
@@ -66,12 +76,16 @@ fn unwatch<S: HostStore>(
 
 fn run<S: HostStore>(store: &mut S, call: Call) -> Result<(), StoreError> {
     match call {
-        Call::Start => store.start().map(|_| ()),
+        Call::Start => {
+            store.start()?;
+            Ok(())
+        }
         Call::Monitor(name, state) => monitor(store, name, state),
         Call::Seen(name, state) => store.seen(&name_of(name), state),
         Call::Acked(name, epoch) => store.acked(&name_of(name), epoch),
         Call::Quota(name, runs) => store.quota(&name_of(name), runs.min(FULL_QUOTA)),
         Call::Watch(mon, my, prog, private) => watch(store, (mon, my, prog, private)),
+        Call::WatchEach(programs) => watch_each(store, programs),
         Call::Unwatch(mon, my, prog) => unwatch(store, mon, my, prog),
     }
 }
@@ -109,16 +123,10 @@ fn watches_text<S: HostStore>(alloc: Global, store: &S) -> Result<String, AllocE
     Ok(text)
 }
 
-fn fresh(alloc: Global, own: u32) -> Result<MemHosts, StoreError>
-    requires { own < 2147483648 }
-{
-    MemHosts::new(alloc, own, Vec::new(alloc), Vec::new(alloc))
-}
-
 /// A call, the own state behind it, and the rows and watches as text.
 type Line = (Call, u32, &'static str, &'static str);
 
-const SCRIPT: [Line; 13] = [
+const SCRIPT: &[Line] = &[
     (Call::Start, 1, "", ""),
     (Call::Monitor(2, -5), 1, "2 1 -5 65536; ", ""),
     (Call::Start, 3, "2 1 -5 65536; ", ""),
@@ -159,35 +167,21 @@ const SCRIPT: [Line; 13] = [
     ),
 ];
 
-fn is_text(text: Result<String, AllocError>, want: &str) -> bool {
-    match text {
-        Ok(text) => text.as_str() == want,
-        Err(_) => false,
-    }
-}
-
 fn makes(alloc: Global, store: &mut MemHosts, (call, own, hosts, watches): Line) -> bool {
     run(store, call) == Ok(())
         && store.own() == own
-        && is_text(hosts_text(alloc, store), hosts)
-        && is_text(watches_text(alloc, store), watches)
+        && reads(hosts_text(alloc, store), hosts)
+        && reads(watches_text(alloc, store), watches)
 }
 
 /// The place of the first call of the script that does anything else.
 fn wrong_line(alloc: Global, store: &mut MemHosts) -> Option<usize> {
-    for (place, line) in SCRIPT.into_iter().enumerate() {
-        if !makes(alloc, store, line) {
+    for (place, line) in SCRIPT.iter().enumerate() {
+        if !makes(alloc, store, *line) {
             return Some(place);
         }
     }
     None
-}
-
-#[test]
-fn script_of_all_calls(rt: HostRuntime) -> Result<(), Fail> {
-    let mut store = fresh(rt.alloc(), 0)?;
-    assert_eq!(rt; wrong_line(rt.alloc(), &mut store), None);
-    Ok(())
 }
 
 fn rows(alloc: Global, count: u16) -> Result<Vec<HostRow>, AllocError> {
@@ -199,86 +193,122 @@ fn rows(alloc: Global, count: u16) -> Result<Vec<HostRow>, AllocError> {
     Ok(hosts)
 }
 
-fn is_refused(alloc: Global, hosts: Vec<HostRow>) -> bool {
-    matches!(
-        MemHosts::new(alloc, 1, hosts, Vec::new(alloc)),
-        Err(StoreError::StoreRefused)
-    )
+/// A store of so many hosts, with this own state.
+fn store_of(alloc: Global, own: u32, hosts: u16) -> Result<MemHosts, StoreError>
+    requires { own < 2147483648 }
+{
+    let hosts = rows(alloc, hosts)?;
+    MemHosts::new(alloc, own, hosts, Vec::new(alloc))
 }
 
-const REFUSED: Result<(), StoreError> = Err(StoreError::StoreRefused);
+type Answer = Result<(), StoreError>;
 
-/// The place of the first call that is answered anything else.
-fn wrong_answer(store: &mut MemHosts, script: &[(Call, Result<(), StoreError>)]) -> Option<usize> {
-    for (place, (call, answer)) in script.iter().enumerate() {
+const REFUSED: Answer = Err(StoreError::StoreRefused);
+
+/// Calls of a store and their answers, and how many hosts and watches it has then.
+struct Limit {
+    calls: &'static [(Call, Answer)],
+    hosts: usize,
+    watches: usize,
+}
+
+/// What a store of 4,095 hosts answers.
+const AT_THE_LAST_HOST: &Limit = &Limit {
+    calls: &[
+        (Call::Monitor(4095, 0), Ok(())),
+        (Call::Monitor(4096, 0), REFUSED),
+        (Call::Watch(4096, 6, 1, SEVENS), REFUSED),
+        (Call::Watch(4095, 6, 1, SEVENS), Ok(())),
+        (Call::Seen(4095, 5), Ok(())),
+    ],
+    hosts: 4096,
+    watches: 1,
+};
+
+/// What a store of no hosts answers.
+const AT_THE_LAST_WATCH: &Limit = &Limit {
+    calls: &[
+        (Call::WatchEach(1024), Ok(())),
+        (Call::Watch(1, 6, 1024, SEVENS), REFUSED),
+        (Call::Watch(1, 6, 1023, NINES), Ok(())),
+        (Call::Unwatch(None, 6, 0), Ok(())),
+        (Call::Watch(1, 6, 1024, SEVENS), Ok(())),
+    ],
+    hosts: 1,
+    watches: 1024,
+};
+
+/// The place of the first call that is answered anything else. That behind the last, where there are not so many hosts and
+/// watches then.
+fn wrong_answer(store: &mut MemHosts, limit: &Limit) -> Option<usize> {
+    for (place, (call, answer)) in limit.calls.iter().enumerate() {
         if run(store, *call) != *answer {
             return Some(place);
         }
     }
-    None
-}
-
-/// What a store of 4,095 hosts answers.
-const AT_THE_LAST_HOST: [(Call, Result<(), StoreError>); 5] = [
-    (Call::Monitor(4095, 0), Ok(())),
-    (Call::Monitor(4096, 0), REFUSED),
-    (Call::Watch(4096, 6, 1, SEVENS), REFUSED),
-    (Call::Watch(4095, 6, 1, SEVENS), Ok(())),
-    (Call::Seen(4095, 5), Ok(())),
-];
-
-fn has(store: &MemHosts, hosts: usize, watches: usize) -> bool {
-    store.hosts().len() == hosts && store.watches().len() == watches
-}
-
-#[test]
-fn hosts_full(rt: HostRuntime) -> Result<(), Fail> {
-    assert!(rt; is_refused(rt.alloc(), rows(rt.alloc(), 4097)?));
-    let hosts = rows(rt.alloc(), 4095)?;
-    let mut store = MemHosts::new(rt.alloc(), 1, hosts, Vec::new(rt.alloc()))?;
-    let wrong = wrong_answer(&mut store, &AT_THE_LAST_HOST);
-    assert_eq!(rt; (wrong, has(&store, 4096, 1)), (None, true));
-    Ok(())
-}
-
-/// What a store of 1,024 watches answers.
-const AT_THE_LAST_WATCH: [(Call, Result<(), StoreError>); 4] = [
-    (Call::Watch(1, 6, 1024, SEVENS), REFUSED),
-    (Call::Watch(1, 6, 1023, NINES), Ok(())),
-    (Call::Unwatch(None, 6, 0), Ok(())),
-    (Call::Watch(1, 6, 1024, SEVENS), Ok(())),
-];
-
-fn watches_each(store: &mut MemHosts) -> bool {
-    for prog in 0..1024 {
-        if run(store, Call::Watch(1, 6, prog, SEVENS)) != Ok(()) {
-            return false;
-        }
+    if store.hosts().len() == limit.hosts && store.watches().len() == limit.watches {
+        None
+    } else {
+        Some(limit.calls.len())
     }
-    true
 }
 
-#[test]
-fn watches_full(rt: HostRuntime) -> Result<(), Fail> {
-    let mut store = fresh(rt.alloc(), 1)?;
-    let are_watched = watches_each(&mut store);
-    let wrong = wrong_answer(&mut store, &AT_THE_LAST_WATCH);
-    assert_eq!(rt;
-        (are_watched, wrong, has(&store, 1, 1024)),
-        (true, None, true)
-    );
-    Ok(())
+const NO_STORE: Wrong = Wrong {
+    what: "there is no such store",
+    place: None,
+};
+
+/// What is tried with a store.
+#[derive(Clone, Copy)]
+enum Trial {
+    Script,
+    Limit(&'static Limit),
+    /// It starts, with this own state.
+    Start(u32),
 }
 
-fn started(alloc: Global, own: u32) -> Result<u32, StoreError>
+fn outcome(alloc: Global, store: &mut MemHosts, trial: Trial) -> Result<(), Wrong> {
+    match trial {
+        Trial::Script => nowhere("the script of all calls", wrong_line(alloc, store)),
+        Trial::Limit(limit) => nowhere("the calls at a limit", wrong_answer(store, limit)),
+        Trial::Start(own) => all_hold(&[("the own state is next", store.start() == Ok(own))]),
+    }
+}
+
+/// All trials have their store from here, since each function that has one owes a proof of its drop. It has this own state and so
+/// many hosts.
+fn try_out(alloc: Global, own: u32, hosts: u16, trial: Trial) -> Result<(), Wrong>
     requires { own < 2147483648 }
 {
-    fresh(alloc, own)?.start()
+    match store_of(alloc, own, hosts) {
+        Ok(mut store) => outcome(alloc, &mut store, trial),
+        Err(_) => Err(NO_STORE),
+    }
 }
 
 #[test]
-fn state_wraps(rt: HostRuntime) {
-    assert_eq!(rt; started(rt.alloc(), 0), Ok(1));
-    assert_eq!(rt; started(rt.alloc(), 2_147_483_646), Ok(2_147_483_647));
-    assert_eq!(rt; started(rt.alloc(), 2_147_483_647), Ok(1));
+fn script_of_all_calls(rt: HostRuntime) -> Result<(), Wrong> {
+    try_out(rt.alloc(), 0, 0, Trial::Script)
+}
+
+fn is_refused(alloc: Global, hosts: u16) -> bool {
+    matches!(store_of(alloc, 1, hosts), Err(StoreError::StoreRefused))
+}
+
+#[test]
+fn hosts_full(rt: HostRuntime) -> Result<(), Wrong> {
+    assert!(rt; is_refused(rt.alloc(), 4097));
+    try_out(rt.alloc(), 1, 4095, Trial::Limit(AT_THE_LAST_HOST))
+}
+
+#[test]
+fn watches_full(rt: HostRuntime) -> Result<(), Wrong> {
+    try_out(rt.alloc(), 1, 0, Trial::Limit(AT_THE_LAST_WATCH))
+}
+
+#[test]
+fn state_wraps(rt: HostRuntime) -> Result<(), Wrong> {
+    try_out(rt.alloc(), 0, 0, Trial::Start(1))?;
+    try_out(rt.alloc(), 2_147_483_646, 0, Trial::Start(2_147_483_647))?;
+    try_out(rt.alloc(), 2_147_483_647, 0, Trial::Start(1))
 }

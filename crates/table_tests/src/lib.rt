@@ -33,3 +33,5 @@ mod shares;
 mod tiers;
 #[cfg(test)]
 mod waits;
+#[cfg(test)]
+mod wrong;

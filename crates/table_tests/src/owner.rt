@@ -3,17 +3,10 @@ use owner_ids::{Owner, OwnerId, Owners};
 use std::alloc::{AllocError, Global};
 
 /// The owner of this svid and handle at the host of this name.
-pub(crate) fn remote(
-    alloc: Global,
-    name: &[u8],
-    svid: i32,
-    oh: &[u8],
-) -> Result<Owner, AllocError> {
-    Ok(Owner::Remote {
-        name: name.to_vec(alloc)?,
-        svid,
-        oh: oh.to_vec(alloc)?,
-    })
+fn remote(alloc: Global, name: &[u8], svid: i32, oh: &[u8]) -> Result<Owner, AllocError> {
+    let name = name.to_vec(alloc)?;
+    let oh = oh.to_vec(alloc)?;
+    Ok(Owner::Remote { name, svid, oh })
 }
 
 /// `a/7/A` is an owner at the host `a`, with its svid and its handle; `p42` is a process, and `d7` a description.

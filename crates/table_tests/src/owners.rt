@@ -8,9 +8,11 @@
 //! - `host a 3`, `one 3 1`: so many of the numbers are of the host's owners, or are that at a place.
 //! - `nobody a 1000`: no owner of the host has this number.
 use crate::owner::{intern, read_owner};
-use crate::row::{Case, Misplayed, Row, play_in};
+use crate::row::{Case, Row, Worked, play_each};
+use crate::wrong::Wrong;
 use owner_ids::{Host, HostOf, OneOwner, OwnerId, OwnerOrder, Owners};
 use std::alloc::Global;
+use std::test::*;
 
 #[derive(Drop)]
 struct Play {
@@ -19,8 +21,14 @@ struct Play {
     numbers: Vec<OwnerId>,
 }
 
-fn count<H: Host>(numbers: &[OwnerId], host: &H) -> usize {
-    numbers.iter().filter(|number| host.has(**number)).count()
+fn count<H: Host>(numbers: &[OwnerId], host: &H) -> u64 {
+    let mut count = 0u64;
+    for number in numbers {
+        if host.has(*number) {
+            count = count.saturating_add(1);
+        }
+    }
+    count
 }
 
 impl Play {
@@ -59,6 +67,12 @@ impl Play {
             name: name.as_bytes(),
         }
     }
+
+    // Whether no owner of the host has this number.
+    fn is_nobody(&self, host: &str, number: u64) -> Option<bool> {
+        let number = u32::try_from(number).ok()?;
+        Some(!self.host(host).has(number))
+    }
 }
 
 impl Play {
@@ -78,7 +92,7 @@ impl Play {
             "is" => self.is_of(number, row.who),
             "one" => {
                 let one = OneOwner { owner: number };
-                Some(count(&self.numbers, &one) as u64 == row.numbers[1])
+                Some(count(&self.numbers, &one) == row.numbers[1])
             }
             _ => self.compares(row.verb, number, self.number(row.numbers[1])?),
         }
@@ -86,75 +100,73 @@ impl Play {
 }
 
 impl Case for Play {
+    fn begin(alloc: Global) -> Option<Play> {
+        Some(Play {
+            alloc,
+            owners: Owners::new(alloc),
+            numbers: Vec::new(alloc),
+        })
+    }
+
     fn goes(&mut self, row: &Row<'_>) -> Option<bool> {
         let [first, ..] = row.numbers;
         match row.verb {
             "intern" => self.intern(row.who),
-            "host" => Some(count(&self.numbers, &self.host(row.who)) as u64 == first),
-            "nobody" => Some(!self.host(row.who).has(u32::try_from(first).ok()?)),
+            "host" => Some(count(&self.numbers, &self.host(row.who)) == first),
+            "nobody" => self.is_nobody(row.who, first),
             _ => self.goes_of(self.number(first)?, row),
         }
     }
 }
 
-fn play_rows(alloc: Global, rows: &[&str]) -> Result<(), Misplayed> {
-    let play = Play {
-        alloc,
-        owners: Owners::new(alloc),
-        numbers: Vec::new(alloc),
-    };
-    play_in(Some(play), rows)
-}
-
-const AN_OWNER_HAS_ONE_NUMBER: &[&str] = &[
-    "intern a/7/A",
-    "intern p42",
-    "intern d7000000000",
-    "differ 0 1",
-    "differ 1 2",
-    "differ 2 0",
-    "intern a/7/A",
-    "same 3 0",
-    "is d7000000000 2",
+const CASES: &[Worked] = &[
+    (
+        "an_owner_has_one_number",
+        &[
+            "intern a/7/A",
+            "intern p42",
+            "intern d7000000000",
+            "differ 0 1",
+            "differ 1 2",
+            "differ 2 0",
+            "intern a/7/A",
+            "same 3 0",
+            "is d7000000000 2",
+        ],
+    ),
+    (
+        "a_number_goes_with_its_owner",
+        &[
+            "intern b/-8/B",
+            "release 0",
+            "intern p42",
+            "intern b/-8/B",
+            "differ 1 2",
+            "is b/-8/B 2",
+        ],
+    ),
+    (
+        "numbers_stand_as_their_owners",
+        &[
+            "intern d1",
+            "intern p2",
+            "intern b/-1/",
+            "intern a/5/B",
+            "intern a/5/A",
+            "intern a/-5/C",
+            "behind 0 1",
+            "behind 1 2",
+            "behind 2 3",
+            "behind 3 4",
+            "behind 4 5",
+            "host a 3",
+            "one 3 1",
+            "nobody a 1000",
+        ],
+    ),
 ];
 
 #[test]
-fn an_owner_has_one_number(rt: HostRuntime) -> Result<(), Misplayed> {
-    play_rows(rt.alloc(), AN_OWNER_HAS_ONE_NUMBER)
-}
-
-const A_NUMBER_GOES_WITH_ITS_OWNER: &[&str] = &[
-    "intern b/-8/B",
-    "release 0",
-    "intern p42",
-    "intern b/-8/B",
-    "differ 1 2",
-    "is b/-8/B 2",
-];
-
-#[test]
-fn a_number_goes_with_its_owner(rt: HostRuntime) -> Result<(), Misplayed> {
-    play_rows(rt.alloc(), A_NUMBER_GOES_WITH_ITS_OWNER)
-}
-
-const NUMBERS_STAND_AS_THEIR_OWNERS: &[&str] = &[
-    "intern d1",
-    "intern p2",
-    "intern b/-1/",
-    "intern a/5/B",
-    "intern a/5/A",
-    "intern a/-5/C",
-    "behind 0 1",
-    "behind 1 2",
-    "behind 2 3",
-    "behind 3 4",
-    "behind 4 5",
-    "host a 3",
-    "one 3 1",
-    "nobody a 1000",
-];
-
-#[test]
-fn numbers_stand_as_their_owners(rt: HostRuntime) -> Result<(), Misplayed> {
-    play_rows(rt.alloc(), NUMBERS_STAND_AS_THEIR_OWNERS)
+fn owners_have_numbers_as_rows_say(rt: HostRuntime) -> Result<(), Wrong> {
+    play_each::<Play>(rt.alloc(), CASES)
 }

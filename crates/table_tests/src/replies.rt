@@ -1,11 +1,13 @@
 //! Kept replies: a full table, keys that differ in one part, and a random script beside a plain list.
+use crate::random::next_word;
+use crate::wrong::{NO_MEMORY, Wrong, all_hold, nowhere};
 use bytes::Bytes;
 use kept_replies::{Kept, KeptReplies, Key, MOST_KEPT, Peer};
 use std::alloc::{AllocError, Global};
 use std::test::*;
 
 /// A reply is known by its number alone.
-#[derive(Debug, PartialEq, Drop)]
+#[derive(Drop)]
 struct Noted(u32);
 
 impl Kept for Noted {
@@ -76,56 +78,70 @@ fn finds(
     }
 }
 
-fn keep_new(kept: &mut KeptReplies<Noted>, key: Key, reply: u32) -> bool {
-    if kept.look(&key).is_some() {
-        return false;
-    }
-    kept.keep(key, Noted(reply)).is_ok()
+/// Whether a look and then the call's use tell this of it.
+fn tells(
+    alloc: Global,
+    kept: &mut KeptReplies<Noted>,
+    peer: Peer,
+    call: u32,
+    reply: Option<u32>,
+) -> bool {
+    looks(alloc, kept, peer, call, reply) && finds(alloc, kept, peer, call, reply)
 }
 
-/// Keeps the reply of a call under whose key nothing is kept. Whether it was so.
-fn keeps(alloc: Global, kept: &mut KeptReplies<Noted>, peer: Peer, call: u32, reply: u32) -> bool {
-    match key(alloc, peer, call) {
-        Ok(key) => keep_new(kept, key, reply),
-        Err(_) => false,
+/// Keeps the reply of a call. Whether nothing was kept under its key before. None where there is no memory.
+fn keep(
+    alloc: Global,
+    kept: &mut KeptReplies<Noted>,
+    peer: Peer,
+    call: u32,
+    reply: u32,
+) -> Option<bool> {
+    let key = key(alloc, peer, call).ok()?;
+    let is_new = kept.look(&key).is_none();
+    match kept.keep(key, Noted(reply)) {
+        Ok(()) => Some(is_new),
+        Err(_) => None,
     }
 }
+
+/// Keeps the call's number as its reply, where nothing was kept of it.
+fn keeps(alloc: Global, kept: &mut KeptReplies<Noted>, call: u32) -> bool {
+    keep(alloc, kept, PEER, call, call) == Some(true)
+}
+
+const ASKED: &[(Peer, u32, Option<u32>)] = &[
+    (PEER, 20, Some(20)),
+    (Peer::PIPE, 20, Some(21)),
+    (LOCAL, 20, None),
+    (OTHER, 20, None),
+    (PEER, 21, None),
+];
 
 fn tells_each(alloc: Global, kept: &mut KeptReplies<Noted>) -> bool {
-    let asked = [
-        (PEER, 20, Some(20)),
-        (Peer::PIPE, 20, Some(21)),
-        (LOCAL, 20, None),
-        (OTHER, 20, None),
-        (PEER, 21, None),
-    ];
-    for (peer, call, reply) in asked {
-        if !looks(alloc, kept, peer, call, reply) || !finds(alloc, kept, peer, call, reply) {
+    for (peer, call, reply) in ASKED {
+        if !tells(alloc, kept, *peer, *call, *reply) {
             return false;
         }
     }
     true
 }
 
-fn tells_nothing(alloc: Global, kept: &KeptReplies<Noted>) -> bool {
-    kept.is_empty() && looks(alloc, kept, PEER, 20, None)
-}
-
-#[test]
-fn a_reply_is_its_peers_and_its_records(rt: HostRuntime) -> Result<(), Fail> {
-    let mut kept = KeptReplies::new(rt.alloc())?;
-    let are_new = keeps(rt.alloc(), &mut kept, PEER, 20, 20)
-        && keeps(rt.alloc(), &mut kept, Peer::PIPE, 20, 21);
-    let are_told = tells_each(rt.alloc(), &mut kept);
+fn are_apart(alloc: Global, kept: &mut KeptReplies<Noted>) -> Result<(), Wrong> {
+    let are_new = keeps(alloc, kept, 20) && keep(alloc, kept, Peer::PIPE, 20, 21) == Some(true);
+    let are_told = tells_each(alloc, kept);
     kept.clear();
-    let are_gone = tells_nothing(rt.alloc(), &kept);
-    assert_eq!(rt; (are_new, are_told, are_gone), (true, true, true));
-    Ok(())
+    let are_gone = kept.is_empty() && looks(alloc, kept, PEER, 20, None);
+    all_hold(&[
+        ("both are new", are_new),
+        ("each is its peer's and its record's", are_told),
+        ("all go", are_gone),
+    ])
 }
 
 fn keeps_each(alloc: Global, kept: &mut KeptReplies<Noted>, first: u32, past: u32) -> bool {
     for call in first..past {
-        if !keeps(alloc, kept, PEER, call, call) {
+        if !keeps(alloc, kept, call) {
             return false;
         }
     }
@@ -144,95 +160,113 @@ fn leaves_used(alloc: Global, kept: &KeptReplies<Noted>) -> bool {
         && looks(alloc, kept, PEER, 2, None)
 }
 
-#[test]
-fn kept_limit(rt: HostRuntime) -> Result<(), Fail> {
-    let mut kept = KeptReplies::new(rt.alloc())?;
-    let is_filled = keeps_each(rt.alloc(), &mut kept, 0, MOST_KEPT as u32);
-    let is_used = uses_first(rt.alloc(), &mut kept);
-    let is_full = keeps_each(rt.alloc(), &mut kept, 2_000, 2_002);
-    let is_left = leaves_used(rt.alloc(), &kept);
-    assert_eq!(rt;
-        (is_filled, is_used, is_full, is_left),
-        (true, true, true, true)
-    );
-    Ok(())
+fn are_limited(alloc: Global, kept: &mut KeptReplies<Noted>) -> Result<(), Wrong> {
+    let is_filled = keeps_each(alloc, kept, 0, MOST_KEPT as u32);
+    let is_used = uses_first(alloc, kept);
+    let is_full = keeps_each(alloc, kept, 2_000, 2_002);
+    all_hold(&[
+        ("there is room for all", is_filled),
+        ("the first is used again", is_used),
+        ("others take their places", is_full),
+        ("the one that was used is left", leaves_used(alloc, kept)),
+    ])
 }
 
 /// A reply whose key is there takes the place of the old one.
-fn keeps_anew(alloc: Global, kept: &mut KeptReplies<Noted>) -> bool {
-    match key(alloc, PEER, 1) {
-        Ok(key) => kept.keep(key, Noted(7)).is_ok() && looks(alloc, kept, PEER, 1, Some(7)),
-        Err(_) => false,
+fn takes_place(alloc: Global, kept: &mut KeptReplies<Noted>) -> Result<(), Wrong> {
+    let are_new = keeps(alloc, kept, 1) && keeps(alloc, kept, 2);
+    let is_old = keep(alloc, kept, PEER, 1, 7) == Some(false);
+    let is_anew = looks(alloc, kept, PEER, 1, Some(7));
+    all_hold(&[
+        ("both are new", are_new),
+        ("the reply is another", is_old && is_anew),
+        ("two are kept", kept.len() == 2),
+    ])
+}
+
+/// Whether the call is kept, which is then the newest use: the numbers are in order, the newest use first.
+fn use_plain(plain: &mut Vec<u32>, call: u32) -> bool {
+    let Some(place) = plain.iter().position(|kept| *kept == call) else {
+        return false;
+    };
+    let found = plain.remove(place);
+    plain.insert(0, found).is_ok()
+}
+
+fn keep_plain(plain: &mut Vec<u32>, call: u32) -> bool {
+    let is_there = plain.insert(0, call).is_ok();
+    plain.truncate(MOST_KEPT);
+    is_there
+}
+
+/// One call. Whether both tell the same of it.
+fn uses(alloc: Global, kept: &mut KeptReplies<Noted>, plain: &mut Vec<u32>, call: u32) -> bool {
+    if use_plain(plain, call) {
+        tells(alloc, kept, PEER, call, Some(call))
+    } else {
+        tells(alloc, kept, PEER, call, None) && keeps(alloc, kept, call) && keep_plain(plain, call)
     }
 }
 
-#[test]
-fn a_reply_takes_anothers_place(rt: HostRuntime) -> Result<(), Fail> {
-    let mut kept = KeptReplies::new(rt.alloc())?;
-    let are_new = keeps(rt.alloc(), &mut kept, PEER, 1, 1)
-        && keeps(rt.alloc(), &mut kept, PEER, 2, 2);
-    let is_anew = keeps_anew(rt.alloc(), &mut kept);
-    assert_eq!(rt; (are_new, is_anew, kept.len()), (true, true, 2));
-    Ok(())
-}
-
-/// The numbers of the replies that are kept, the newest use first.
-#[derive(Drop)]
-struct Plain(Vec<u32>);
-
-impl Plain {
-    fn find(&mut self, call: u32) -> Option<u32> {
-        let place = self.0.iter().position(|kept| *kept == call)?;
-        let found = self.0.remove(place);
-        let _ = self.0.insert(0, found);
-        Some(found)
-    }
-
-    fn keep(&mut self, call: u32) -> bool {
-        let is_there = self.0.insert(0, call).is_ok();
-        self.0.truncate(MOST_KEPT);
-        is_there
-    }
-}
-
-/// Kept replies, and the same as a plain list.
-#[derive(Drop)]
-struct Both {
-    kept: KeptReplies<Noted>,
-    plain: Plain,
-}
-
-impl Both {
-    fn keeps(&mut self, alloc: Global, call: u32) -> bool {
-        keeps(alloc, &mut self.kept, PEER, call, call) && self.plain.keep(call)
-    }
-
-    /// One call. Whether both tell the same of it.
-    fn uses(&mut self, alloc: Global, call: u32) -> bool {
-        let found = self.plain.find(call);
-        looks(alloc, &self.kept, PEER, call, found)
-            && finds(alloc, &mut self.kept, PEER, call, found)
-            && (found.is_some() || self.keeps(alloc, call))
-    }
-
-    /// Random calls. Whether both told the same of each, and have as many.
-    fn are_alike(&mut self, alloc: Global) -> bool {
-        let mut random: u32 = 1;
-        for _ in 0..6_000 {
-            random = random.wrapping_mul(1_664_525).wrapping_add(1_013_904_223);
-            if !self.uses(alloc, random >> 16 & 2_047) {
-                return false;
-            }
+/// The first random call of which they don't tell the same, or behind which they don't have as many.
+fn wrong_turn(alloc: Global, kept: &mut KeptReplies<Noted>, plain: &mut Vec<u32>) -> Option<usize> {
+    let mut random: u32 = 1;
+    for place in 0..6_000usize {
+        let call = next_word(&mut random) >> 16 & 2_047;
+        if !uses(alloc, kept, plain, call) || kept.len() != plain.len() {
+            return Some(place);
         }
-        self.kept.len() == self.plain.0.len()
+    }
+    None
+}
+
+fn are_alike(alloc: Global, kept: &mut KeptReplies<Noted>) -> Result<(), Wrong> {
+    let mut plain = Vec::new(alloc);
+    nowhere("a random script", wrong_turn(alloc, kept, &mut plain))
+}
+
+/// What is tried with replies of which none are kept yet.
+#[derive(Clone, Copy)]
+enum Trial {
+    Apart,
+    Limit,
+    Anew,
+    RandomScript,
+}
+
+fn outcome(alloc: Global, kept: &mut KeptReplies<Noted>, trial: Trial) -> Result<(), Wrong> {
+    match trial {
+        Trial::Apart => are_apart(alloc, kept),
+        Trial::Limit => are_limited(alloc, kept),
+        Trial::Anew => takes_place(alloc, kept),
+        Trial::RandomScript => are_alike(alloc, kept),
+    }
+}
+
+/// All trials have their replies from here, since each function that has some owes a proof of their drop.
+fn try_out(alloc: Global, trial: Trial) -> Result<(), Wrong> {
+    match KeptReplies::new(alloc) {
+        Ok(mut kept) => outcome(alloc, &mut kept, trial),
+        Err(_) => Err(NO_MEMORY),
     }
 }
 
 #[test]
-fn random_uses_beside_a_plain_list(rt: HostRuntime) -> Result<(), Fail> {
-    let kept = KeptReplies::new(rt.alloc())?;
-    let plain = Plain(Vec::new(rt.alloc()));
-    let mut both = Both { kept, plain };
-    assert!(rt; both.are_alike(rt.alloc()));
-    Ok(())
+fn a_reply_is_its_peers_and_its_records(rt: HostRuntime) -> Result<(), Wrong> {
+    try_out(rt.alloc(), Trial::Apart)
+}
+
+#[test]
+fn kept_limit(rt: HostRuntime) -> Result<(), Wrong> {
+    try_out(rt.alloc(), Trial::Limit)
+}
+
+#[test]
+fn a_reply_takes_anothers_place(rt: HostRuntime) -> Result<(), Wrong> {
+    try_out(rt.alloc(), Trial::Anew)
+}
+
+#[test]
+fn random_uses_beside_a_plain_list(rt: HostRuntime) -> Result<(), Wrong> {
+    try_out(rt.alloc(), Trial::RandomScript)
 }

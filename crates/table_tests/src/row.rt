@@ -1,7 +1,9 @@
 //! Rows of text, one step each, and what stands in them.
 ghost use Rattle.std.specs.Prelude.{◌≤◌, ◌<◌, ◌^◌};
 
+use crate::wrong::{NO_MEMORY, Wrong, nowhere};
 use range_table::Mode;
+use std::alloc::Global;
 
 const LAST_BYTE: u64 = 9_223_372_036_854_775_807;
 
@@ -78,17 +80,14 @@ impl<'a> Row<'a> {
     }
 }
 
-/// Why rows are not played as they say.
-#[derive(Clone, Copy, Debug)]
-pub(crate) enum Misplayed {
-    /// The case can't begin at all.
-    NotBegun,
-    /// The first row that goes otherwise.
-    Row(usize),
-}
+/// A worked case: its name, and its rows.
+pub(crate) type Worked = (&'static str, &'static [&'static str]);
 
 /// A case that plays rows.
 pub(crate) trait Case {
+    /// The case before its first row. None where there is no memory.
+    fn begin(alloc: Global) -> Option<Self>;
+
     /// Whether it goes as the row says. None where the row can't be read or there is no memory.
     fn goes(&mut self, row: &Row<'_>) -> Option<bool>;
 }
@@ -103,14 +102,17 @@ fn wrong_row<C: Case>(case: &mut C, rows: &[&str]) -> Option<usize> {
     None
 }
 
-/// Whether a case that is yet to begin plays the rows.
-pub(crate) fn play_in<C: Case + Drop>(begun: Option<C>, rows: &[&str]) -> Result<(), Misplayed> {
-    let wrong = match begun {
-        Some(mut case) => wrong_row(&mut case, rows),
-        None => return Err(Misplayed::NotBegun),
-    };
-    match wrong {
-        None => Ok(()),
-        Some(row) => Err(Misplayed::Row(row)),
+fn play<C: Case + Drop>(alloc: Global, (name, rows): Worked) -> Result<(), Wrong> {
+    match C::begin(alloc) {
+        Some(mut case) => nowhere(name, wrong_row(&mut case, rows)),
+        None => Err(NO_MEMORY),
     }
+}
+
+/// Whether each case goes as its rows say.
+pub(crate) fn play_each<C: Case + Drop>(alloc: Global, cases: &[Worked]) -> Result<(), Wrong> {
+    for case in cases {
+        play::<C>(alloc, *case)?;
+    }
+    Ok(())
 }

@@ -1,8 +1,18 @@
-//! Shares of whole files: worked rows, a full table, and a random script beside a plain list.
+//! Shares of whole files: worked trials, a full table, and a random script beside a plain list.
 use crate::random::next_bits;
+use crate::wrong::{NO_MEMORY, Wrong, all_hold, nowhere, reads};
 use dos_shares::{Access, MOST_SHARES, Share, ShareError, Shares, Starved};
 use std::alloc::{AllocError, Global};
 use std::test::*;
+
+/// Reading and writing.
+type Both = (bool, bool);
+
+const NONE: Both = (false, false);
+
+const READ: Both = (true, false);
+
+const WRITE: Both = (false, true);
 
 /// A share as a plain value: its file, host and owner handle are of one byte each.
 #[derive(Clone, Copy)]
@@ -10,19 +20,18 @@ struct Plain {
     file: u8,
     name: u8,
     oh: u8,
-    deny: (bool, bool),
-    access: (bool, bool),
+    deny: Both,
+    access: Both,
 }
 
 impl Plain {
     fn owned(self, alloc: Global) -> Result<Share, AllocError> {
-        Ok(Share::new(
-            Vec::from_slice(alloc, &[self.file])?,
-            Vec::from_slice(alloc, &[self.name])?,
-            Vec::from_slice(alloc, &[self.oh])?,
-            Access::new(self.deny.0, self.deny.1),
-            Access::new(self.access.0, self.access.1),
-        ))
+        new_share(
+            alloc,
+            (self.file, self.name, &[self.oh]),
+            self.deny,
+            self.access,
+        )
     }
 
     fn is(self, held: &Share) -> bool {
@@ -33,8 +42,8 @@ impl Plain {
             && (held.access().reads(), held.access().writes()) == self.access
     }
 
-    fn is_place(self, file: u8, name: u8, oh: u8) -> bool {
-        (self.file, self.name, self.oh) == (file, name, oh)
+    fn is_at_place_of(self, other: Plain) -> bool {
+        (self.file, self.name, self.oh) == (other.file, other.name, other.oh)
     }
 
     fn is_refused_by(self, other: Plain) -> bool {
@@ -46,120 +55,110 @@ impl Plain {
     }
 }
 
-const NONE: (bool, bool) = (false, false);
-
-const READ: (bool, bool) = (true, false);
-
-const WRITE: (bool, bool) = (false, true);
-
-/// A share of file 1 by the owner `name`.
-fn of(name: u8, deny: (bool, bool), access: (bool, bool)) -> Plain {
-    Plain {
-        file: 1,
-        name,
-        oh: 0x41,
-        deny,
-        access,
-    }
-}
-
-fn is_all(shares: &Shares, plain: &[Plain]) -> bool {
-    shares.len() == plain.len()
-        && shares.is_empty() == plain.is_empty()
-        && shares
-            .as_slice()
-            .iter()
-            .zip(plain)
-            .all(|(held, plain)| plain.is(held))
-}
-
-// Asks for the share. The outer error is want of memory for its copy.
-fn share(
-    shares: &mut Shares,
+/// A share of a file, by an owner at a host.
+fn new_share(
     alloc: Global,
-    plain: Plain,
-) -> Result<Result<(), ShareError>, AllocError> {
-    Ok(shares.share(plain.owned(alloc)?))
-}
-
-/// Whether each share, one behind the other, is answered so.
-fn answers_each(
-    alloc: Global,
-    shares: &mut Shares,
-    asked: &[(Plain, Result<(), ShareError>)],
-) -> bool {
-    for (plain, answer) in asked {
-        if share(shares, alloc, *plain) != Ok(*answer) {
-            return false;
-        }
-    }
-    true
-}
-
-const DENIED: Result<(), ShareError> = Err(ShareError::ShareDenied);
-
-#[test]
-fn share_conflict(rt: HostRuntime) -> Result<(), Fail> {
-    let mut shares = Shares::new(rt.alloc())?;
-    let held = of(b'a', WRITE, READ);
-    let asked = [(held, Ok(())), (of(b'b', NONE, WRITE), DENIED)];
-    let are_answered = answers_each(rt.alloc(), &mut shares, &asked);
-    assert_eq!(rt; (are_answered, is_all(&shares, &[held])), (true, true));
-    Ok(())
-}
-
-#[test]
-fn share_replaced(rt: HostRuntime) -> Result<(), Fail> {
-    let mut shares = Shares::new(rt.alloc())?;
-    let second = of(b'a', WRITE, READ);
-    let asked = [
-        (of(b'a', NONE, READ), Ok(())),
-        (second, Ok(())),
-        (of(b'b', NONE, WRITE), DENIED),
-    ];
-    let are_answered = answers_each(rt.alloc(), &mut shares, &asked);
-    assert_eq!(rt; (are_answered, is_all(&shares, &[second])), (true, true));
-    Ok(())
-}
-
-#[test]
-fn texts(rt: HostRuntime) {
-    assert_eq!(rt; texts_are_right(rt.alloc()), Ok(true));
-}
-
-fn texts_are_right(alloc: Global) -> Result<bool, AllocError> {
-    let denied = ShareError::ShareDenied.to_string(alloc)?;
-    let full = ShareError::NoShares.to_string(alloc)?;
-    let starved = Starved.to_string(alloc)?;
-    Ok(
-        denied.as_str() == "14 ShareDenied"
-            && full.as_str() == "15 NoShares"
-            && starved.as_str() == "1 Starved",
-    )
-}
-
-/// A share of file 1 by the numbered owner of host 1.
-fn numbered(alloc: Global, number: u32, deny: (bool, bool)) -> Result<Share, AllocError> {
+    (file, name, oh): (u8, u8, &[u8]),
+    deny: Both,
+    access: Both,
+) -> Result<Share, AllocError> {
+    let file = Vec::from_slice(alloc, &[file])?;
+    let name = Vec::from_slice(alloc, &[name])?;
+    let oh = Vec::from_slice(alloc, oh)?;
     Ok(Share::new(
-        Vec::from_slice(alloc, &[1])?,
-        Vec::from_slice(alloc, &[1])?,
-        Vec::from_slice(alloc, &number.to_be_bytes())?,
+        file,
+        name,
+        oh,
         Access::new(deny.0, deny.1),
-        Access::new(true, false),
+        Access::new(access.0, access.1),
     ))
 }
 
-/// What a share of the numbered owner is answered.
-fn share_numbered(
+fn is_all(shares: &Shares, list: &[Plain]) -> bool {
+    for (held, plain) in shares.as_slice().iter().zip(list) {
+        if !plain.is(held) {
+            return false;
+        }
+    }
+    shares.len() == list.len() && shares.is_empty() == list.is_empty()
+}
+
+/// What a share is answered.
+type Answer = Result<(), ShareError>;
+
+/// Asks for the share. None where there was no memory for it.
+fn share(shares: &mut Shares, asked: Result<Share, AllocError>) -> Option<Answer> {
+    match asked {
+        Ok(asked) => Some(shares.share(asked)),
+        Err(AllocError) => None,
+    }
+}
+
+const HELD: Plain = Plain {
+    file: 1,
+    name: b'a',
+    oh: 0x41,
+    deny: WRITE,
+    access: READ,
+};
+
+const WRITING: Plain = Plain {
+    file: 1,
+    name: b'b',
+    oh: 0x41,
+    deny: NONE,
+    access: WRITE,
+};
+
+const READING: Plain = Plain {
+    file: 1,
+    name: b'a',
+    oh: 0x41,
+    deny: NONE,
+    access: READ,
+};
+
+const DENIED: Answer = Err(ShareError::ShareDenied);
+
+const CONFLICT: &[(Plain, Answer)] = &[(HELD, Ok(())), (WRITING, DENIED)];
+
+const REPLACED: &[(Plain, Answer)] = &[(READING, Ok(())), (HELD, Ok(())), (WRITING, DENIED)];
+
+/// The place of the first share that is answered otherwise.
+fn wrong_answer(alloc: Global, shares: &mut Shares, asked: &[(Plain, Answer)]) -> Option<usize> {
+    for (place, (plain, answer)) in asked.iter().enumerate() {
+        if share(shares, plain.owned(alloc)) != Some(*answer) {
+            return Some(place);
+        }
+    }
+    None
+}
+
+/// Each share is answered so, one behind the other, and one is held then.
+fn answers_each(
     alloc: Global,
     shares: &mut Shares,
-    number: u32,
-    deny: (bool, bool),
-) -> Option<Result<(), ShareError>> {
-    match numbered(alloc, number, deny) {
-        Ok(share) => Some(shares.share(share)),
-        Err(_) => None,
-    }
+    asked: &[(Plain, Answer)],
+) -> Result<(), Wrong> {
+    nowhere("an answer", wrong_answer(alloc, shares, asked))?;
+    all_hold(&[("one share is held", is_all(shares, &[HELD]))])
+}
+
+#[test]
+fn texts(rt: HostRuntime) -> Result<(), Wrong> {
+    let denied = reads(
+        ShareError::ShareDenied.to_string(rt.alloc()),
+        "14 ShareDenied",
+    );
+    let full = reads(ShareError::NoShares.to_string(rt.alloc()), "15 NoShares");
+    let starved = reads(Starved.to_string(rt.alloc()), "1 Starved");
+    all_hold(&[("denied", denied), ("full", full), ("starved", starved)])
+}
+
+/// What a share of file 1 by the numbered owner of host 1 is answered.
+fn share_numbered(alloc: Global, shares: &mut Shares, number: u32, deny: Both) -> Option<Answer> {
+    let asked = new_share(alloc, (1, 1, &number.to_be_bytes()), deny, READ);
+    share(shares, asked)
 }
 
 /// As many shares as there is room for.
@@ -181,17 +180,18 @@ fn is_full(alloc: Global, shares: &mut Shares) -> bool {
         && shares.len() == MOST_SHARES
 }
 
-#[test]
-fn shares_full(rt: HostRuntime) -> Result<(), Fail> {
-    let mut shares = Shares::new(rt.alloc())?;
-    let is_filled = fill(rt.alloc(), &mut shares);
-    let is_full = is_full(rt.alloc(), &mut shares);
+fn fills(alloc: Global, shares: &mut Shares) -> Result<(), Wrong> {
+    let is_filled = fill(alloc, shares);
+    let is_full = is_full(alloc, shares);
     shares.drop_host(&[2]);
     let keeps_others = shares.len() == MOST_SHARES;
     shares.drop_host(&[1]);
-    let told = (is_filled, is_full, keeps_others, shares.is_empty());
-    assert_eq!(rt; told, (true, true, true, true));
-    Ok(())
+    all_hold(&[
+        ("there is room for all", is_filled),
+        ("there is room for no more", is_full),
+        ("another host's shares stay", keeps_others),
+        ("the host's shares go", shares.is_empty()),
+    ])
 }
 
 /// What the script does next: a share of 2 files, 2 hosts and 2 handles, and a number for the call.
@@ -207,75 +207,130 @@ fn next(seed: &mut u64) -> (Plain, u64) {
     (plain, bits >> 9 & 31)
 }
 
-/// A share into the plain list, or whether it is refused.
-fn share_plain(list: &mut Vec<Plain>, new: Plain) -> Result<bool, AllocError> {
-    if list.iter().any(|held| new.is_refused_by(*held)) {
-        return Ok(false);
-    }
-    list.retain(|held| !held.is_place(new.file, new.name, new.oh));
-    list.push(new)?;
-    Ok(true)
-}
-
-/// The shares, and the same as a plain list.
+/// The same shares as a plain list, and how many were denied.
 #[derive(Drop)]
-struct Case {
-    shares: Shares,
+struct Listed {
     list: Vec<Plain>,
     denied: u32,
 }
 
-impl Case {
-    /// One turn of the script, and whether both did the same.
-    fn turn(&mut self, alloc: Global, (plain, call): (Plain, u64)) -> Result<bool, AllocError> {
-        let mut is_same = true;
-        match call {
-            0 => {
-                self.shares.clear();
-                self.list.clear();
-            }
-            1 => {
-                self.shares.drop_host(&[plain.name]);
-                self.list.retain(|held| held.name != plain.name);
-            }
-            2..=6 => {
-                self.shares
-                    .unshare(&[plain.file], &[plain.name], &[plain.oh]);
-                self.list
-                    .retain(|held| !held.is_place(plain.file, plain.name, plain.oh));
-            }
-            _ => {
-                let is_taken = share_plain(&mut self.list, plain)?;
-                self.denied = self.denied.wrapping_add(u32::from(!is_taken));
-                is_same = share(&mut self.shares, alloc, plain)?.is_ok() == is_taken;
+impl Listed {
+    fn unshare(&mut self, old: Plain) {
+        self.list.retain(|held| !held.is_at_place_of(old));
+    }
+
+    fn is_denied(&mut self, new: Plain) -> bool {
+        for held in self.list.as_slice() {
+            if new.is_refused_by(*held) {
+                self.denied = self.denied.wrapping_add(1);
+                return true;
             }
         }
-        Ok(is_same && is_all(&self.shares, &self.list))
+        false
+    }
+
+    /// Whether it is taken. None where there is no memory.
+    fn share(&mut self, new: Plain) -> Option<bool> {
+        if self.is_denied(new) {
+            return Some(false);
+        }
+        self.unshare(new);
+        self.list.push(new).ok()?;
+        Some(true)
     }
 }
 
-/// The number of the first turn in which they differ.
-fn wrong_turn(alloc: Global, case: &mut Case) -> Option<u32> {
+/// One turn of the script, and whether both did the same.
+fn turn(alloc: Global, shares: &mut Shares, listed: &mut Listed, seed: &mut u64) -> bool {
+    let (plain, call) = next(seed);
+    let mut is_same = true;
+    match call {
+        0 => {
+            shares.clear();
+            listed.list.clear();
+        }
+        1 => {
+            shares.drop_host(&[plain.name]);
+            listed.list.retain(|held| held.name != plain.name);
+        }
+        2..=6 => {
+            shares.unshare(&[plain.file], &[plain.name], &[plain.oh]);
+            listed.unshare(plain);
+        }
+        _ => {
+            let answer = share(shares, plain.owned(alloc));
+            is_same = match listed.share(plain) {
+                Some(is_taken) => answer.is_some_and(|answer| answer.is_ok() == is_taken),
+                None => false,
+            };
+        }
+    }
+    is_same && is_all(shares, listed.list.as_slice())
+}
+
+/// The first turn in which they differ.
+fn wrong_turn(alloc: Global, shares: &mut Shares, listed: &mut Listed) -> Option<usize> {
     let mut seed = 7;
-    for step in 0..4000u32 {
-        if case.turn(alloc, next(&mut seed)) != Ok(true) {
-            return Some(step);
+    for place in 0..4000usize {
+        if !turn(alloc, shares, listed, &mut seed) {
+            return Some(place);
         }
     }
     None
 }
 
-#[test]
-fn random_script(rt: HostRuntime) -> Result<(), Fail> {
-    let mut case = Case {
-        shares: Shares::new(rt.alloc())?,
-        list: Vec::new(rt.alloc()),
+fn are_alike(alloc: Global, shares: &mut Shares) -> Result<(), Wrong> {
+    let mut listed = Listed {
+        list: Vec::new(alloc),
         denied: 0,
     };
-    let wrong = wrong_turn(rt.alloc(), &mut case);
-    assert_eq!(rt;
-        (wrong, case.denied > 100 && case.denied < 3000),
-        (None, true)
-    );
-    Ok(())
+    let wrong = wrong_turn(alloc, shares, &mut listed);
+    let are_some_denied = listed.denied > 100 && listed.denied < 3000;
+    drop(listed);
+    nowhere("a random script", wrong)?;
+    all_hold(&[("some are denied", are_some_denied)])
+}
+
+/// What is tried with shares of which there are none yet.
+#[derive(Clone, Copy)]
+enum Trial {
+    Asked(&'static [(Plain, Answer)]),
+    Full,
+    RandomScript,
+}
+
+fn outcome(alloc: Global, shares: &mut Shares, trial: Trial) -> Result<(), Wrong> {
+    match trial {
+        Trial::Asked(asked) => answers_each(alloc, shares, asked),
+        Trial::Full => fills(alloc, shares),
+        Trial::RandomScript => are_alike(alloc, shares),
+    }
+}
+
+/// All trials have their shares from here, since each function that has some owes a proof of their drop.
+fn try_out(alloc: Global, trial: Trial) -> Result<(), Wrong> {
+    match Shares::new(alloc) {
+        Ok(mut shares) => outcome(alloc, &mut shares, trial),
+        Err(_) => Err(NO_MEMORY),
+    }
+}
+
+#[test]
+fn share_conflict(rt: HostRuntime) -> Result<(), Wrong> {
+    try_out(rt.alloc(), Trial::Asked(CONFLICT))
+}
+
+#[test]
+fn share_replaced(rt: HostRuntime) -> Result<(), Wrong> {
+    try_out(rt.alloc(), Trial::Asked(REPLACED))
+}
+
+#[test]
+fn shares_full(rt: HostRuntime) -> Result<(), Wrong> {
+    try_out(rt.alloc(), Trial::Full)
+}
+
+#[test]
+fn random_script(rt: HostRuntime) -> Result<(), Wrong> {
+    try_out(rt.alloc(), Trial::RandomScript)
 }

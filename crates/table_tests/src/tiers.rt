@@ -1,5 +1,6 @@
 //! A number goes to another place and back again, in one tier, over its ends and over many tiers.
-use std::alloc::{AllocError, Global};
+use crate::wrong::{NO_MEMORY, Wrong, nowhere};
+use std::alloc::Global;
 use std::test::*;
 use tiered_list::TieredList;
 
@@ -26,7 +27,7 @@ fn goes(list: &mut TieredList, (high, low): (usize, usize)) -> bool {
     is_there && strays(list) == 0
 }
 
-const MOVES: [(usize, usize); 7] = [
+const MOVES: &[(usize, usize)] = &[
     (5, 0),
     (1024, 1023),
     (2047, 1024),
@@ -36,21 +37,24 @@ const MOVES: [(usize, usize); 7] = [
     (7, 7),
 ];
 
-fn wrong_of(list: &mut TieredList) -> Option<(usize, usize)> {
-    for (high, low) in MOVES {
-        if !goes(list, (high, low)) {
-            return Some((high, low));
+// The place of the first move that goes otherwise.
+fn wrong_move(list: &mut TieredList) -> Option<usize> {
+    for (place, ends) in MOVES.iter().enumerate() {
+        if !goes(list, *ends) {
+            return Some(place);
         }
     }
     None
 }
 
-fn wrong_move(alloc: Global) -> Result<Option<(usize, usize)>, AllocError> {
-    let mut list = TieredList::new(alloc)?;
-    Ok(wrong_of(&mut list))
+fn all_go(alloc: Global) -> Result<(), Wrong> {
+    match TieredList::new(alloc) {
+        Ok(mut list) => nowhere("a move", wrong_move(&mut list)),
+        Err(_) => Err(NO_MEMORY),
+    }
 }
 
 #[test]
-fn there_and_back(rt: HostRuntime) {
-    assert_eq!(rt; wrong_move(rt.alloc()), Ok(None));
+fn there_and_back(rt: HostRuntime) -> Result<(), Wrong> {
+    all_go(rt.alloc())
 }

@@ -2,11 +2,12 @@
 ghost use Rattle.std.specs.Prelude.{◌<◌};
 
 use super::table::{nth, set, used_after};
-use owner_ids::{HostOf, Owner, OwnerId, Owners};
+use crate::owner::intern;
+use crate::random::next_word;
+use owner_ids::{HostOf, OwnerId, Owners};
 use range_arena::ArenaTable;
 use range_table::{FileId, FlatTable, Mode, RangeTable, Ranged, Run, Setting, Wanted};
 use std::alloc::Global;
-use std::test::*;
 
 /// How many steps the script has, and after how many all runs of both tables are compared.
 const STEPS: u32 = 100_000;
@@ -23,24 +24,15 @@ fn next_random(random: &mut u32, bound: u32) -> u32
     requires { 0 < bound }
     ensures { result < bound }
 {
-    *random = random.wrapping_mul(1_664_525).wrapping_add(1_013_904_223);
-    (*random >> 16) % bound
+    (next_word(random) >> 16) % bound
 }
 
-fn remote(alloc: Global, name: u8, svid: i32) -> Result<Owner, Fail> {
-    Ok(Owner::Remote {
-        name: Vec::from_slice(alloc, [name].as_slice())?,
-        svid,
-        oh: Vec::new(alloc),
-    })
-}
-
-fn asking(alloc: Global, owners: &mut Owners) -> Result<Asking, Fail> {
-    let second = owners.intern(&remote(alloc, b'a', 9)?)?;
-    let process = owners.intern(&Owner::Process(2))?;
-    let other = owners.intern(&remote(alloc, b'b', 1)?)?;
-    let first = owners.intern(&remote(alloc, b'a', -9)?)?;
-    Ok([first, second, other, process])
+fn asking(alloc: Global, owners: &mut Owners) -> Option<Asking> {
+    let second = intern(alloc, owners, "a/9/")?;
+    let process = intern(alloc, owners, "p2")?;
+    let other = intern(alloc, owners, "b/1/")?;
+    let first = intern(alloc, owners, "a/-9/")?;
+    Some([first, second, other, process])
 }
 
 // Mostly of a byte or two, now and then of many.
@@ -176,19 +168,13 @@ fn are_alike<T: RangeTable, U: RangeTable>(
         && table.used() > 1_000
 }
 
-// The same of two fresh tables. The owners are lent, since each end of a function drops what it has.
-fn play_both(alloc: Global, owners: &mut Owners) -> Result<bool, Fail> {
+/// The same of a flat table in which nothing is set and a fresh arena table. None where there is no memory.
+pub(super) fn goes_beside_arena(
+    alloc: Global,
+    owners: &mut Owners,
+    flat: &mut FlatTable,
+) -> Option<bool> {
     let asking = asking(alloc, owners)?;
-    let mut arena = ArenaTable::new(alloc)?;
-    let mut flat = FlatTable::new(alloc)?;
-    Ok(are_alike(&mut arena, &mut flat, owners, &asking))
-}
-
-#[test]
-fn one_script_through_both_tables(rt: HostRuntime) -> Result<(), Fail> {
-    let mut owners = Owners::new(rt.alloc());
-    let played = play_both(rt.alloc(), &mut owners);
-    drop(owners);
-    assert!(rt; played?);
-    Ok(())
+    let mut arena = ArenaTable::new(alloc).ok()?;
+    Some(are_alike(&mut arena, flat, owners, &asking))
 }

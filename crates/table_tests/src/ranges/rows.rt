@@ -9,105 +9,114 @@
 //! - `fill a/7/A`: it sets each second byte from the byte 4 on, until the table is full.
 //! - `close p42`: it closes the file. `clear`: nobody holds anything.
 //! - `idle p42`: it holds nothing. `leaves p42`, `stays p42`: its number goes out of use, or may not.
+//! - `rounds 200`: after each of so many random changes the table answers as a plain list.
+//! - `beside-arena`: a random script makes the same of it and of an arena table.
 //! - `used 2`, `host a 1`: so many runs there are, or are of the host. `run 0 0 2`: the run 0 is of the bytes 0 to 2.
-use super::table::play_rows;
-use crate::row::Misplayed;
+use super::table::Held;
+use crate::row::{Worked, play_each};
+use crate::wrong::Wrong;
+use std::test::*;
 
-const TEST_AFTER_LOCK: &[&str] = &[
-    "owner a/7/A",
-    "owner b/8/B",
-    "set a/7/A write 0 9",
-    "meets b/8/B 0 9223372036854775807 = a/7/A 0 9",
-    "set a/7/A none 3 5",
-    "meets b/8/B 0 9223372036854775807 = a/7/A 0 2",
-    "used 2",
-    "run 0 0 2",
-    "run 1 6 9",
+const CASES: &[Worked] = &[
+    (
+        "test_after_lock",
+        &[
+            "owner a/7/A",
+            "owner b/8/B",
+            "set a/7/A write 0 9",
+            "meets b/8/B 0 9223372036854775807 = a/7/A 0 9",
+            "set a/7/A none 3 5",
+            "meets b/8/B 0 9223372036854775807 = a/7/A 0 2",
+            "used 2",
+            "run 0 0 2",
+            "run 1 6 9",
+        ],
+    ),
+    (
+        "ends_of_file",
+        &[
+            "owner a/7/A",
+            "owner b/8/B",
+            "set a/7/A write 9223372036854775807 9223372036854775807",
+            "set a/7/A write 9223372036854775807 9223372036854775807",
+            "meets b/8/B 0 9223372036854775807 = a/7/A 9223372036854775807 9223372036854775807",
+            "used 1",
+        ],
+    ),
+    (
+        "local_lines",
+        &[
+            "owner p42",
+            "owner d7",
+            "owner b/8/B",
+            "set p42 write 3 5",
+            "meets b/8/B 4 4 = p42 3 5",
+            "meets d7 0 9223372036854775807 = p42 3 5",
+            "close p42",
+            "passes d7 0 9223372036854775807",
+            "set d7 write 0 9223372036854775807",
+            "meets b/8/B 1 1 = d7 0 9223372036854775807",
+        ],
+    ),
+    (
+        "quota_of_runs",
+        &[
+            "owner a/7/A",
+            "set a/7/A write 0 9",
+            "host a 1",
+            "host b 0",
+            "makes a/7/A write 20 20 = 2",
+            "set a/7/A write 10 14",
+            "makes a/7/A none 5 5 = 2",
+            "makes a/7/A none 0 4 = 1",
+        ],
+    ),
+    (
+        "who_holds_nothing_may_go",
+        &[
+            "owner p1",
+            "set p1 write 0 9",
+            "stays p1",
+            "clear",
+            "idle p1",
+            "leaves p1",
+        ],
+    ),
+    ("a_random_script_beside_a_plain_list", &["rounds 200"]),
 ];
 
 #[test]
-fn test_after_lock(rt: HostRuntime) -> Result<(), Misplayed> {
-    play_rows(rt.alloc(), TEST_AFTER_LOCK)
+fn the_table_goes_as_rows_say(rt: HostRuntime) -> Result<(), Wrong> {
+    play_each::<Held>(rt.alloc(), CASES)
 }
 
-const ENDS_OF_FILE: &[&str] = &[
-    "owner a/7/A",
-    "owner b/8/B",
-    "set a/7/A write 9223372036854775807 9223372036854775807",
-    "set a/7/A write 9223372036854775807 9223372036854775807",
-    "meets b/8/B 0 9223372036854775807 = a/7/A 9223372036854775807 9223372036854775807",
-    "used 1",
-];
+/// These two take their time, so each is a test of its own.
+const TABLE_FULL: &[Worked] = &[(
+    "table_full",
+    &[
+        "owner a/7/A",
+        "owner b/8/B",
+        "set a/7/A write 0 2",
+        "fill a/7/A",
+        "used 65535",
+        "refused b/8/B write 200000 200000",
+        "refuses a/7/A none 1 1",
+        "refused a/7/A none 1 1",
+        "meets b/8/B 1 1 = a/7/A 0 2",
+        "set a/7/A none 4 4",
+        "set a/7/A none 1 1",
+        "used 65535",
+    ],
+)];
 
 #[test]
-fn ends_of_file(rt: HostRuntime) -> Result<(), Misplayed> {
-    play_rows(rt.alloc(), ENDS_OF_FILE)
+fn table_full(rt: HostRuntime) -> Result<(), Wrong> {
+    play_each::<Held>(rt.alloc(), TABLE_FULL)
 }
 
-const LOCAL_LINES: &[&str] = &[
-    "owner p42",
-    "owner d7",
-    "owner b/8/B",
-    "set p42 write 3 5",
-    "meets b/8/B 4 4 = p42 3 5",
-    "meets d7 0 9223372036854775807 = p42 3 5",
-    "close p42",
-    "passes d7 0 9223372036854775807",
-    "set d7 write 0 9223372036854775807",
-    "meets b/8/B 1 1 = d7 0 9223372036854775807",
-];
+const BOTH_TABLES: &[Worked] = &[("one_script_through_both_tables", &["beside-arena"])];
 
 #[test]
-fn local_lines(rt: HostRuntime) -> Result<(), Misplayed> {
-    play_rows(rt.alloc(), LOCAL_LINES)
-}
-
-const QUOTA_OF_RUNS: &[&str] = &[
-    "owner a/7/A",
-    "set a/7/A write 0 9",
-    "host a 1",
-    "host b 0",
-    "makes a/7/A write 20 20 = 2",
-    "set a/7/A write 10 14",
-    "makes a/7/A none 5 5 = 2",
-    "makes a/7/A none 0 4 = 1",
-];
-
-#[test]
-fn quota_of_runs(rt: HostRuntime) -> Result<(), Misplayed> {
-    play_rows(rt.alloc(), QUOTA_OF_RUNS)
-}
-
-const TABLE_FULL: &[&str] = &[
-    "owner a/7/A",
-    "owner b/8/B",
-    "set a/7/A write 0 2",
-    "fill a/7/A",
-    "used 65535",
-    "refused b/8/B write 200000 200000",
-    "refuses a/7/A none 1 1",
-    "refused a/7/A none 1 1",
-    "meets b/8/B 1 1 = a/7/A 0 2",
-    "set a/7/A none 4 4",
-    "set a/7/A none 1 1",
-    "used 65535",
-];
-
-#[test]
-fn table_full(rt: HostRuntime) -> Result<(), Misplayed> {
-    play_rows(rt.alloc(), TABLE_FULL)
-}
-
-const WHO_HOLDS_NOTHING_MAY_GO: &[&str] = &[
-    "owner p1",
-    "set p1 write 0 9",
-    "stays p1",
-    "clear",
-    "idle p1",
-    "leaves p1",
-];
-
-#[test]
-fn who_holds_nothing_may_go(rt: HostRuntime) -> Result<(), Misplayed> {
-    play_rows(rt.alloc(), WHO_HOLDS_NOTHING_MAY_GO)
+fn one_script_through_both_tables(rt: HostRuntime) -> Result<(), Wrong> {
+    play_each::<Held>(rt.alloc(), BOTH_TABLES)
 }

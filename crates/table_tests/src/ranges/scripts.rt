@@ -8,7 +8,6 @@ use owner_ids::{HostOf, OwnerId, Owners};
 use range_owners::used_of;
 use range_table::{FileId, FlatTable, Mode, RangeTable, Ranged, Setting, Wanted};
 use std::alloc::Global;
-use std::test::*;
 
 // A generator of numbers, as C's old one.
 #[derive(Drop)]
@@ -115,54 +114,36 @@ fn conflicts_agree(
     found == first_against(settings, setting, order)
 }
 
-/// The table, and the same as a plain list.
+/// The settings of a table as a plain list, by whom they are, and the numbers that tell the next one.
 #[derive(Drop)]
-struct Sides {
-    owners: Owners,
-    table: FlatTable,
+struct Listed {
     settings: Vec<Setting>,
     order: Order,
     numbers: Numbers,
 }
 
-impl Sides {
-    fn new(alloc: Global) -> Option<Sides> {
-        let table = FlatTable::new(alloc).ok()?;
-        let mut owners = Owners::new(alloc);
-        let order = order_of(alloc, &mut owners)?;
-        Some(Sides {
-            owners,
-            table,
-            settings: Vec::new(alloc),
-            order,
-            numbers: Numbers { state: 1 },
-        })
-    }
-
-    fn drops_host(&mut self) {
-        self.table.drop_host(&HostOf {
-            owners: &self.owners,
-            name: b"a",
-        });
+impl Listed {
+    fn drops_host(&mut self, table: &mut FlatTable, owners: &Owners) {
+        table.drop_host(&HostOf { owners, name: b"a" });
         let (first, second) = (self.order[0], self.order[1]);
         self.settings
             .retain(|s| s.owner != first && s.owner != second);
     }
 
-    fn closes(&mut self, file: &FileId, owner: OwnerId) {
-        self.table.drop_owner_on_file(file, owner);
+    fn closes(&mut self, table: &mut FlatTable, file: &FileId, owner: OwnerId) {
+        table.drop_owner_on_file(file, owner);
         self.settings
             .retain(|s| s.owner != owner || !s.file.is_same(file));
     }
 
     // One random change on both sides. None where there is no memory, or no room in the table.
-    fn change(&mut self) -> Option<()> {
+    fn change(&mut self, table: &mut FlatTable, owners: &Owners) -> Option<()> {
         let asked = setting_of(&mut self.numbers, &self.order);
         match self.numbers.below(16) {
-            0 => self.drops_host(),
-            1 => self.closes(&asked.setting.file, asked.setting.owner),
+            0 => self.drops_host(table, owners),
+            1 => self.closes(table, &asked.setting.file, asked.setting.owner),
             _ => {
-                if !set(&mut self.table, &asked) {
+                if !set(table, &asked) {
                     return None;
                 }
                 self.settings.push(asked.setting).ok()?;
@@ -172,38 +153,38 @@ impl Sides {
     }
 
     // Whether both are alike after one more change.
-    fn round(&mut self) -> Option<bool> {
-        self.change()?;
+    fn round(&mut self, table: &mut FlatTable, owners: &Owners) -> Option<bool> {
+        self.change(table, owners)?;
         let asked = setting_of(&mut self.numbers, &self.order);
         Some(
-            counts_agree(&self.table, &self.owners, &self.settings, &self.order)
-                && conflicts_agree(
-                    &self.table,
-                    &self.owners,
-                    &self.settings,
-                    &self.order,
-                    &asked,
-                ),
+            counts_agree(table, owners, &self.settings, &self.order)
+                && conflicts_agree(table, owners, &self.settings, &self.order, &asked),
         )
     }
+}
 
-    fn wrong_round(&mut self) -> Option<u32> {
-        for round in 0..200u32 {
-            if self.round() != Some(true) {
-                return Some(round);
-            }
+fn rounds_agree(listed: &mut Listed, table: &mut FlatTable, owners: &Owners, rounds: u64) -> bool {
+    for _ in 0..rounds {
+        if listed.round(table, owners) != Some(true) {
+            return false;
         }
-        None
     }
+    true
 }
 
-/// The first round after which they differ. The outer None: there is no memory to begin with.
-fn wrong_round(alloc: Global) -> Option<Option<u32>> {
-    let mut sides = Sides::new(alloc)?;
-    Some(sides.wrong_round())
-}
-
-#[test]
-fn scripts_agree_with_a_plain_list(rt: HostRuntime) {
-    assert_eq!(rt; wrong_round(rt.alloc()), Some(None));
+/// Whether a table in which nothing is set answers as the list after each of so many random changes. None where there is no
+/// memory to begin with.
+pub(super) fn goes_in_rounds(
+    alloc: Global,
+    owners: &mut Owners,
+    table: &mut FlatTable,
+    rounds: u64,
+) -> Option<bool> {
+    let order = order_of(alloc, owners)?;
+    let mut listed = Listed {
+        settings: Vec::new(alloc),
+        order,
+        numbers: Numbers { state: 1 },
+    };
+    Some(rounds_agree(&mut listed, table, owners, rounds))
 }

@@ -1,6 +1,8 @@
 //! A table with its owners, and the rows that it plays.
-use crate::owner::{number, read_owner};
-use crate::row::{Case, Misplayed, Row, Span, play_in};
+use super::beside::goes_beside_arena;
+use super::scripts::goes_in_rounds;
+use crate::owner::{intern, number};
+use crate::row::{Case, Row, Span};
 use owner_ids::{OneOwner, OwnerId, Owners};
 use range_owners::used_of;
 use range_table::{FileId, FlatTable, Mode, RangeTable, Ranged, Run, Setting, Wanted};
@@ -39,29 +41,15 @@ pub(super) fn used_after<T: RangeTable>(table: &T, asked: &Ranged) -> u32 {
 }
 
 #[derive(Drop)]
-struct Held {
+pub(super) struct Held {
     alloc: Global,
     owners: Owners,
     table: FlatTable,
 }
 
 impl Held {
-    fn new(alloc: Global) -> Option<Held> {
-        let table = FlatTable::new(alloc).ok()?;
-        Some(Held {
-            alloc,
-            owners: Owners::new(alloc),
-            table,
-        })
-    }
-
     fn number(&self, who: &str) -> Option<OwnerId> {
         number(self.alloc, &self.owners, who)
-    }
-
-    fn intern(&mut self, who: &str) -> Option<bool> {
-        let owner = read_owner(self.alloc, who)?;
-        Some(self.owners.intern(&owner).is_ok())
     }
 
     // Whether it was set.
@@ -164,13 +152,11 @@ impl Held {
             _ => None,
         }
     }
-}
 
-impl Case for Held {
-    fn goes(&mut self, row: &Row<'_>) -> Option<bool> {
+    // What is no owner's.
+    fn goes_with(&mut self, row: &Row<'_>) -> Option<bool> {
         let [count, ..] = row.numbers;
         match row.verb {
-            "owner" => self.intern(row.who),
             "used" => Some(u64::from(self.table.used()) == count),
             "host" => {
                 let used = used_of(&self.table, &self.owners, row.who.as_bytes());
@@ -181,12 +167,31 @@ impl Case for Held {
                 self.table.clear();
                 Some(true)
             }
-            _ => self.goes_by(self.number(row.who)?, row),
+            _ => None,
         }
     }
 }
 
-/// The place of the first row that goes otherwise than it says.
-pub(super) fn play_rows(alloc: Global, rows: &[&str]) -> Result<(), Misplayed> {
-    play_in(Held::new(alloc), rows)
+impl Case for Held {
+    fn begin(alloc: Global) -> Option<Held> {
+        let table = FlatTable::new(alloc).ok()?;
+        Some(Held {
+            alloc,
+            owners: Owners::new(alloc),
+            table,
+        })
+    }
+
+    fn goes(&mut self, row: &Row<'_>) -> Option<bool> {
+        let [rounds, ..] = row.numbers;
+        if let Some(owner) = self.number(row.who) {
+            return self.goes_by(owner, row);
+        }
+        match row.verb {
+            "owner" => Some(intern(self.alloc, &mut self.owners, row.who).is_some()),
+            "rounds" => goes_in_rounds(self.alloc, &mut self.owners, &mut self.table, rounds),
+            "beside-arena" => goes_beside_arena(self.alloc, &mut self.owners, &mut self.table),
+            _ => self.goes_with(row),
+        }
+    }
 }

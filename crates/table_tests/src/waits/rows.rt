@@ -10,89 +10,11 @@
 //! - `close a/7/ 3`: it closes file 3. `drop-host a`, `clear`: the host's waiters go, or all.
 //! - `take 5`: so many places go to calls. `too-many 5`: fewer are free. `lend 5`: they come back.
 //! - `waits a/7/`, `waits-not a/7/`: whether it waits. `free 1`, `waiters 7`: so many places are free, so many wait.
-use super::tables::play_rows;
-use crate::row::Misplayed;
+use super::tables::Tables;
+use crate::row::{Worked, play_each};
+use crate::wrong::{Wrong, reads};
 use blocked_list::{NoSlots, NotWaiting};
-use std::alloc::AllocError;
 use std::test::*;
-
-/// a holds 0 to 9 and d 20, b waits for 0 and a for 0 to 20; then d unlocks.
-const SETTLE_TWICE: &[&str] = &[
-    "owner a/7/",
-    "owner b/7/",
-    "owner d/7/",
-    "set a/7/ write 0 9",
-    "set d/7/ write 20 20",
-    "block b/7/ read 0 0 = 12",
-    "block a/7/ read 0 20 = 13",
-    "grants 0",
-    "set d/7/ none 20 20",
-    "grants-on 2 0",
-    "grants-on 1 13",
-    "set a/7/ read 0 20",
-    "grants 12",
-];
-
-#[test]
-fn settle_twice(rt: HostRuntime) -> Result<(), Misplayed> {
-    play_rows(rt.alloc(), SETTLE_TWICE)
-}
-
-/// a holds 1 and b holds 2, for which a waits; then b asks for 1.
-const DEADLOCK: &[&str] = &[
-    "owner a/7/",
-    "owner b/7/",
-    "set a/7/ write 1 1",
-    "set b/7/ write 2 2",
-    "block a/7/ write 2 2 = 17",
-    "deadlock b/7/ write 1 1",
-];
-
-#[test]
-fn deadlock(rt: HostRuntime) -> Result<(), Misplayed> {
-    play_rows(rt.alloc(), DEADLOCK)
-}
-
-/// The same with a description.
-const DESCRIPTION_WAITS: &[&str] = &[
-    "owner a/7/",
-    "owner d7",
-    "set a/7/ write 1 1",
-    "set d7 write 2 2",
-    "block a/7/ write 2 2 = 17",
-    "may-block d7 write 1 1",
-];
-
-#[test]
-fn description_waits(rt: HostRuntime) -> Result<(), Misplayed> {
-    play_rows(rt.alloc(), DESCRIPTION_WAITS)
-}
-
-/// a waits for b, and c for a; then b asks for what c holds, and c for what b holds.
-const LONGER_CYCLE: &[&str] = &[
-    "owner a/7/",
-    "owner b/7/",
-    "owner c/7/",
-    "set a/7/ write 1 1",
-    "set b/7/ write 2 2",
-    "set c/7/ write 4 4",
-    "block a/7/ write 2 2 = 1",
-    "block c/7/ read 1 1 = 2",
-    "deadlock b/7/ read 4 4",
-    "may-block c/7/ read 2 2",
-];
-
-#[test]
-fn longer_cycle(rt: HostRuntime) -> Result<(), Misplayed> {
-    play_rows(rt.alloc(), LONGER_CYCLE)
-}
-
-fn reads(text: Result<String, AllocError>, shown: &str) -> bool {
-    match text {
-        Ok(text) => text.as_str() == shown,
-        Err(AllocError) => false,
-    }
-}
 
 #[test]
 fn error_texts(rt: HostRuntime) {
@@ -100,54 +22,112 @@ fn error_texts(rt: HostRuntime) {
     assert!(rt; reads(NotWaiting.to_string(rt.alloc()), "17 NotWaiting"));
 }
 
-const SLOTS_FULL: &[&str] = &[
-    "owner a/7/",
-    "take 8000",
-    "fill a/7/ 191",
-    "free 1",
-    "block a/7/ read 250 250 = 191",
-    "full a/7/ read 250 250 = 192",
-    "too-many 1",
-    "cancel a/7/ read 250 250",
-    "absent a/7/ read 250 250",
-    "free 1",
+const CASES: &[Worked] = &[
+    // a holds 0 to 9 and d 20, b waits for 0 and a for 0 to 20; then d unlocks.
+    (
+        "settle_twice",
+        &[
+            "owner a/7/",
+            "owner b/7/",
+            "owner d/7/",
+            "set a/7/ write 0 9",
+            "set d/7/ write 20 20",
+            "block b/7/ read 0 0 = 12",
+            "block a/7/ read 0 20 = 13",
+            "grants 0",
+            "set d/7/ none 20 20",
+            "grants-on 2 0",
+            "grants-on 1 13",
+            "set a/7/ read 0 20",
+            "grants 12",
+        ],
+    ),
+    // a holds 1 and b holds 2, for which a waits; then b asks for 1.
+    (
+        "deadlock",
+        &[
+            "owner a/7/",
+            "owner b/7/",
+            "set a/7/ write 1 1",
+            "set b/7/ write 2 2",
+            "block a/7/ write 2 2 = 17",
+            "deadlock b/7/ write 1 1",
+        ],
+    ),
+    // The same with a description.
+    (
+        "description_waits",
+        &[
+            "owner a/7/",
+            "owner d7",
+            "set a/7/ write 1 1",
+            "set d7 write 2 2",
+            "block a/7/ write 2 2 = 17",
+            "may-block d7 write 1 1",
+        ],
+    ),
+    // a waits for b, and c for a; then b asks for what c holds, and c for what b holds.
+    (
+        "longer_cycle",
+        &[
+            "owner a/7/",
+            "owner b/7/",
+            "owner c/7/",
+            "set a/7/ write 1 1",
+            "set b/7/ write 2 2",
+            "set c/7/ write 4 4",
+            "block a/7/ write 2 2 = 1",
+            "block c/7/ read 1 1 = 2",
+            "deadlock b/7/ read 4 4",
+            "may-block c/7/ read 2 2",
+        ],
+    ),
+    (
+        "slots_full",
+        &[
+            "owner a/7/",
+            "take 8000",
+            "fill a/7/ 191",
+            "free 1",
+            "block a/7/ read 250 250 = 191",
+            "full a/7/ read 250 250 = 192",
+            "too-many 1",
+            "cancel a/7/ read 250 250",
+            "absent a/7/ read 250 250",
+            "free 1",
+        ],
+    ),
+    (
+        "no_place",
+        &[
+            "owner a/7/",
+            "take 8191",
+            "may-block a/7/ read 0 0",
+            "take 1",
+            "no-slots a/7/ read 0 0",
+        ],
+    ),
+    (
+        "drops",
+        &[
+            "owner a/7/",
+            "owner b/7/",
+            "fill a/7/ 14",
+            "fill b/7/ 7",
+            "waits a/7/",
+            "close a/7/ 3",
+            "waiters 19",
+            "drop-host a",
+            "waiters 7",
+            "waits-not a/7/",
+            "lend 5",
+            "clear",
+            "free 8192",
+        ],
+    ),
 ];
 
 #[test]
-fn slots_full(rt: HostRuntime) -> Result<(), Misplayed> {
-    play_rows(rt.alloc(), SLOTS_FULL)
-}
-
-const NO_PLACE: &[&str] = &[
-    "owner a/7/",
-    "take 8191",
-    "may-block a/7/ read 0 0",
-    "take 1",
-    "no-slots a/7/ read 0 0",
-];
-
-#[test]
-fn no_place(rt: HostRuntime) -> Result<(), Misplayed> {
-    play_rows(rt.alloc(), NO_PLACE)
-}
-
-const DROPS: &[&str] = &[
-    "owner a/7/",
-    "owner b/7/",
-    "fill a/7/ 14",
-    "fill b/7/ 7",
-    "waits a/7/",
-    "close a/7/ 3",
-    "waiters 19",
-    "drop-host a",
-    "waiters 7",
-    "waits-not a/7/",
-    "lend 5",
-    "clear",
-    "free 8192",
-];
-
-#[test]
-fn drops(rt: HostRuntime) -> Result<(), Misplayed> {
-    play_rows(rt.alloc(), DROPS)
+fn waiters_go_as_rows_say(rt: HostRuntime) -> Result<(), Wrong> {
+    play_each::<Tables>(rt.alloc(), CASES)
 }

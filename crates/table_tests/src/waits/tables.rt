@@ -2,7 +2,7 @@
 ghost use Rattle.std.specs.Prelude.{None};
 
 use crate::owner::{intern, number};
-use crate::row::{Case, Misplayed, Row, Span, play_in};
+use crate::row::{Case, Row, Span};
 use blocked_list::{NoSlots, NotWaiting, Quotas, Slots, Waiter};
 use callbacks::{Destination, Letter, Message, ShortBytes};
 use host_runs::RunsOfHosts;
@@ -10,10 +10,15 @@ use owner_ids::{OwnerId, Owners};
 use range_table::{FileId, FlatTable, Mode, RangeTable, Run, Wanted};
 use std::alloc::{AllocError, Global};
 
-/// A lock of a file, whose handle is one byte.
-fn lock_on(file: u8, owner: OwnerId, (mode, span): (Mode, Span)) -> Wanted {
+/// The file of this number.
+fn file(number: u64) -> FileId {
+    FileId::new(&number.to_be_bytes())
+}
+
+/// A lock of a file.
+fn lock_on(file: FileId, owner: OwnerId, (mode, span): (Mode, Span)) -> Wanted {
     Wanted::new(Run {
-        file: FileId::new(&[file]),
+        file,
         owner,
         first: span.first,
         last: span.last,
@@ -52,10 +57,10 @@ fn letter(alloc: Global, number: i32) -> Result<Letter, AllocError> {
     ))
 }
 
-fn number_of(waiter: &Waiter) -> i32 {
+fn number_of(waiter: &Waiter) -> u64 {
     match waiter.letter().message() {
-        Message::Notify { state, .. } => *state,
-        _ => -1,
+        Message::Notify { state, .. } => u64::from(state.unsigned_abs()),
+        _ => u64::MAX,
     }
 }
 
@@ -66,16 +71,22 @@ fn block(alloc: Global, slots: &mut Slots, wanted: Wanted, number: i32) -> Optio
 }
 
 /// Grants the waiter at a place, and gives its number.
-fn grant(slots: &mut Slots, place: Option<usize>) -> i32 {
+fn grant(slots: &mut Slots, place: Option<usize>) -> u64 {
     match place {
-        Some(place) if place < slots.waiters().len() => number_of(&slots.grant(place)),
+        Some(place) if place < slots.waiters().len() => {
+            let waiter = slots.grant(place);
+            let number = number_of(&waiter);
+            // Called, its drop is proved once, and not here for each kind of message.
+            drop(waiter);
+            number
+        }
         _ => 0,
     }
 }
 
 /// The tables together.
 #[derive(Drop)]
-struct Tables {
+pub(super) struct Tables {
     alloc: Global,
     owners: Owners,
     table: FlatTable,
@@ -83,36 +94,20 @@ struct Tables {
 }
 
 impl Tables {
-    fn new(alloc: Global) -> Option<Tables> {
-        let table = FlatTable::new(alloc).ok()?;
-        let slots = Slots::new(alloc).ok()?;
-        Some(Tables {
-            alloc,
-            owners: Owners::new(alloc),
-            table,
-            slots,
-        })
-    }
-
     fn number(&self, who: &str) -> Option<OwnerId> {
         number(self.alloc, &self.owners, who)
     }
 
     // Whether it was set.
     fn set(&mut self, owner: OwnerId, (mode, span): (Option<Mode>, Span)) -> bool {
-        let file = FileId::new(&[1]);
         self.table
-            .set(&file, owner, span.first, span.last, mode)
+            .set(&file(1), owner, span.first, span.last, mode)
             .is_ok()
     }
 
     fn block(&mut self, wanted: Wanted, number: u64) -> Option<bool> {
-        block(
-            self.alloc,
-            &mut self.slots,
-            wanted,
-            i32::try_from(number).ok()?,
-        )
+        let number = i32::try_from(number).ok()?;
+        block(self.alloc, &mut self.slots, wanted, number)
     }
 
     // Whether waiting for it would close a cycle.
@@ -120,15 +115,14 @@ impl Tables {
         self.slots.closes_cycle(&self.table, &self.owners, wanted)
     }
 
-    // So many wait, on files by turns.
-    fn fill(&mut self, owner: OwnerId, count: u8) -> bool {
-        for number in 0..count {
-            let byte = u64::from(number);
+    // So many wait, or as many as there are places, on files by turns.
+    fn fill(&mut self, owner: OwnerId, count: u64) -> bool {
+        for byte in 0..count.min(8_192) {
             let span = Span {
                 first: byte,
                 last: byte,
             };
-            let wanted = lock_on(number % 7, owner, (Mode::Shared, span));
+            let wanted = lock_on(file(byte % 7), owner, (Mode::Shared, span));
             if self.block(wanted, byte) != Some(true) {
                 return false;
             }
@@ -137,7 +131,7 @@ impl Tables {
     }
 
     // The number of the waiter that is granted next, or 0.
-    fn grants(&mut self) -> i32 {
+    fn grants(&mut self) -> u64 {
         let place = self
             .slots
             .next_grantable(&self.table, &self.owners, &Unlimited, &Unlimited);
@@ -145,11 +139,10 @@ impl Tables {
     }
 
     // The same after a change of this file.
-    fn grants_on(&mut self, file: u8) -> i32 {
-        let file = FileId::new(&[file]);
+    fn grants_on(&mut self, file: &FileId) -> u64 {
         let place = self
             .slots
-            .next_grantable_on(&self.table, &self.owners, &Unlimited, &Unlimited, &file);
+            .next_grantable_on(&self.table, &self.owners, &Unlimited, &Unlimited, file);
         grant(&mut self.slots, place)
     }
 
@@ -157,32 +150,44 @@ impl Tables {
     fn goes_by(&mut self, owner: OwnerId, row: &Row<'_>) -> Option<bool> {
         let [number, ..] = row.numbers;
         match row.verb {
-            "set" => Some(self.set(owner, (row.mode, row.span()?))),
-            "fill" => Some(self.fill(owner, u8::try_from(number).ok()?)),
+            "fill" => Some(self.fill(owner, number)),
             "waits" => Some(self.slots.has_owner(owner)),
             "waits-not" => Some(!self.slots.has_owner(owner)),
             "close" => {
-                let file = FileId::new(&[u8::try_from(number).ok()?]);
-                self.slots.drop_owner_on_file(&file, owner);
+                self.slots.drop_owner_on_file(&file(number), owner);
                 Some(true)
             }
-            _ => {
-                let wanted = lock_on(1, owner, (row.mode?, row.span()?));
-                self.asks(wanted, row)
-            }
+            _ => self.goes_in(owner, row.span()?, row),
         }
+    }
+
+    fn goes_in(&mut self, owner: OwnerId, span: Span, row: &Row<'_>) -> Option<bool> {
+        if row.verb == "set" {
+            return Some(self.set(owner, (row.mode, span)));
+        }
+        self.asks(lock_on(file(1), owner, (row.mode?, span)), row)
     }
 
     // What an owner asks for.
     fn asks(&mut self, wanted: Wanted, row: &Row<'_>) -> Option<bool> {
+        let [_, _, number, _] = row.numbers;
         match row.verb {
-            "block" => self.block(wanted, row.numbers[2]),
-            "full" => Some(!self.block(wanted, row.numbers[2])?),
-            "may-block" => Some(!self.is_deadlock(&wanted) && self.slots.free() > 0),
-            "deadlock" => Some(self.is_deadlock(&wanted)),
-            "no-slots" => Some(!self.is_deadlock(&wanted) && self.slots.free() == 0),
+            "block" => self.block(wanted, number),
+            "full" => Some(!self.block(wanted, number)?),
             "cancel" => Some(self.slots.cancel(&wanted) == Ok(())),
             "absent" => Some(self.slots.cancel(&wanted) == Err(NotWaiting)),
+            _ => self.may_wait(&wanted, row.verb),
+        }
+    }
+
+    // Whether one may wait for it, or why one may not.
+    fn may_wait(&self, wanted: &Wanted, verb: &str) -> Option<bool> {
+        let is_deadlock = self.is_deadlock(wanted);
+        let is_free = self.slots.free() > 0;
+        match verb {
+            "may-block" => Some(!is_deadlock && is_free),
+            "deadlock" => Some(is_deadlock),
+            "no-slots" => Some(!is_deadlock && !is_free),
             _ => None,
         }
     }
@@ -212,6 +217,17 @@ fn lend(slots: &mut Slots, count: usize) -> bool {
 }
 
 impl Case for Tables {
+    fn begin(alloc: Global) -> Option<Tables> {
+        let table = FlatTable::new(alloc).ok()?;
+        let slots = Slots::new(alloc).ok()?;
+        Some(Tables {
+            alloc,
+            owners: Owners::new(alloc),
+            table,
+            slots,
+        })
+    }
+
     fn goes(&mut self, row: &Row<'_>) -> Option<bool> {
         let [first, second, ..] = row.numbers;
         if let Some(owner) = self.number(row.who) {
@@ -219,11 +235,8 @@ impl Case for Tables {
         }
         match row.verb {
             "owner" => Some(intern(self.alloc, &mut self.owners, row.who).is_some()),
-            "grants" => Some(self.grants() == i32::try_from(first).ok()?),
-            "grants-on" => {
-                let number = self.grants_on(u8::try_from(first).ok()?);
-                Some(number == i32::try_from(second).ok()?)
-            }
+            "grants" => Some(self.grants() == first),
+            "grants-on" => Some(self.grants_on(&file(first)) == second),
             "drop-host" => {
                 self.slots.drop_host(&self.owners, row.who.as_bytes());
                 Some(true)
@@ -235,9 +248,4 @@ impl Case for Tables {
             _ => self.goes_with(row.verb, usize::try_from(first).ok()?),
         }
     }
-}
-
-/// The place of the first row that goes otherwise than it says.
-pub(super) fn play_rows(alloc: Global, rows: &[&str]) -> Result<(), Misplayed> {
-    play_in(Tables::new(alloc), rows)
 }
