@@ -1,8 +1,10 @@
-//! Tests of the book apart from the daemon above it, and of what serves it: where a segment of its journal is full and where its
-//! store is begun, the loops of `lockd pipe`, and the threads over one book. There is nothing in it but tests; the book's other
-//! rows are played from bytes to bytes in `acceptance`.
+//! Tests of the book apart from the daemon above it, and of what serves it: where a segment of its journal is full, where the
+//! audit misses a receipt and where its store is begun, the loops of `lockd pipe`, and the threads over one book. There is nothing
+//! in it but tests; the book's other rows are played from bytes to bytes in `acceptance`.
 #![tactic(auto)]
 
+#[cfg(test)]
+mod audits;
 #[cfg(test)]
 mod lasting;
 #[cfg(test)]
@@ -12,4 +14,8 @@ mod rotation;
 #[cfg(test)]
 mod sink;
 #[cfg(test)]
+mod source;
+#[cfg(test)]
 mod threads;
+#[cfg(test)]
+mod words;

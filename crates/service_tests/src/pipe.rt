@@ -1,4 +1,3 @@
 //! The worked rows of `lockd pipe`, over readers and writers in memory.
-mod ends;
 mod loops;
 mod rows;

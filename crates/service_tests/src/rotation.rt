@@ -2,14 +2,19 @@
 ghost use Rattle.std.specs.Prelude.{◌≡◌, ◌<◌};
 ghost use Rattle.book.specs.Journal.{room_of};
 
-use crate::threads::parts;
+use crate::threads::parts::{begun, null};
 use book::{Book, BookEvent, Closed, Peer, Receipt, SEGMENT, Segment, Taken, newest_entered};
 use bytes::Bytes;
-use hosts_db::HostStore;
-use range_table::RangeTable;
+use hosts_db::{HostStore, MemHosts};
+use range_table::FlatTable;
 use std::alloc::Global;
 use std::test::*;
 use xdr_core::Frame;
+
+/// A book over memory, and a segment of one.
+pub(crate) type MemBook = Book<FlatTable, MemHosts>;
+
+pub(crate) type MemSegment = Closed<FlatTable, MemHosts>;
 
 // Whether the receipt has a SUCCESS of this xid.
 fn is_success(receipt: &Receipt, xid: u32) -> bool {
@@ -23,7 +28,7 @@ fn is_success(receipt: &Receipt, xid: u32) -> bool {
 }
 
 // Takes the record, and gives the receipt of its entry.
-fn taken<R: RangeTable, S: HostStore>(book: &mut Book<R, S>, call: Bytes, same: Bytes) -> Receipt
+fn taken(book: &mut MemBook, call: Bytes, same: Bytes) -> Receipt
     requires room { 0 < room_of book.old.journal }
     requires same { same ≡ call }
 {
@@ -33,72 +38,92 @@ fn taken<R: RangeTable, S: HostStore>(book: &mut Book<R, S>, call: Bytes, same: 
     book.receipt(Taken { peer, record: same }, upshot.reply)
 }
 
-// Takes a NULL of this xid. The receipt is that of its SUCCESS.
-fn null<R: RangeTable, S: HostStore>(
+/// Takes a NULL of this xid, and keeps its receipt: whether that is the one of its SUCCESS.
+pub(crate) fn is_noted(
     alloc: Global,
-    book: &mut Book<R, S>,
+    book: &mut MemBook,
     xid: u32,
-) -> Option<Receipt> {
-    let call = parts::null(alloc, xid)?;
-    let same = call.clone().ok()?;
+    receipts: &mut Vec<Receipt>,
+) -> bool {
     if book.room() == 0 {
-        return None;
+        return false;
     }
+    let Some(call) = null(alloc, xid) else {
+        return false;
+    };
+    let Ok(same) = call.clone() else {
+        return false;
+    };
     let receipt = taken(book, call, same);
-    if is_success(&receipt, xid) {
-        Some(receipt)
-    } else {
-        None
+    let is_right = is_success(&receipt, xid);
+    receipts.push(receipt).is_ok() && is_right
+}
+
+// The same of as many NULLs as a segment has entries.
+fn is_filled(alloc: Global, book: &mut MemBook, receipts: &mut Vec<Receipt>) -> bool {
+    for xid in 1..=1_024 {
+        if !is_noted(alloc, book, xid, receipts) {
+            return false;
+        }
+    }
+    true
+}
+
+// Whether the segment is full of entries, with numbers from 1 on.
+fn is_full(closed: &MemSegment) -> bool {
+    for (entry, number) in closed.entries().iter().zip(1u64..) {
+        if entry.number != number {
+            return false;
+        }
+    }
+    closed.first() == Some(1) && closed.entries().len() == SEGMENT
+}
+
+// Begins a new segment: whether the old one is full.
+fn is_closed(alloc: Global, book: &mut MemBook) -> bool {
+    match Segment::new(alloc) {
+        Ok(fresh) => is_full(&book.rotate(fresh)),
+        Err(_) => false,
     }
 }
 
-// Takes as many NULLs as a segment has entries. The receipt is the last one's.
-fn full<R: RangeTable, S: HostStore>(alloc: Global, book: &mut Book<R, S>) -> Option<Receipt> {
-    let mut last = null(alloc, book, 1)?;
-    for xid in 2..=1_024 {
-        last = null(alloc, book, xid)?;
-    }
-    Some(last)
+// The number of this receipt, and whether it is of the book's segment.
+fn check(book: &MemBook, receipts: &[Receipt], place: usize) -> Option<(u64, bool)> {
+    let receipt = receipts.get(place)?;
+    Some((receipt.number(), book.check(receipt)))
 }
 
-// Whether the segment has so many entries, with numbers from 1 on.
-fn is_full<R: RangeTable, S: HostStore>(closed: &Closed<R, S>) -> bool {
-    let entries = closed.entries();
-    closed.first() == Some(1)
-        && entries.len() == SEGMENT
-        && entries
-            .iter()
-            .zip(1u64..)
-            .all(|(entry, number)| entry.number == number)
-}
-
-fn rotates<R: RangeTable, S: HostStore>(alloc: Global, book: &mut Book<R, S>) -> Option<bool> {
-    let old = full(alloc, book)?;
-    let was_noted = book.check(&old);
+fn rotates(alloc: Global, book: &mut MemBook) -> bool {
+    let mut receipts = Vec::new(alloc);
+    let was_filled = is_filled(alloc, book, &mut receipts);
+    let was_checked = check(book, &receipts, 1_023);
     let was_full = book.room() == 0;
-    let closed = book.rotate(Segment::new(alloc).ok()?);
-    let new = null(alloc, book, 1_025)?;
-    Some(
-        was_noted
-            && was_full
-            && is_full(&closed)
-            && old.number() == 1_024
-            && new.number() == 1_025
-            && book.room() == 1_023
-            && !book.check(&old)
-            && book.check(&new)
-            && book.store().hosts().is_empty(),
-    )
+    let was_closed = is_closed(alloc, book);
+    let is_noted = is_noted(alloc, book, 1_025, &mut receipts);
+    was_filled
+        && was_checked == Some((1_024, true))
+        && was_full
+        && was_closed
+        && is_noted
+        && book.room() == 1_023
+        && check(book, &receipts, 1_023) == Some((1_024, false))
+        && check(book, &receipts, 1_024) == Some((1_025, true))
+        && book.store().hosts().is_empty()
 }
 
-fn is_rotated(alloc: Global) -> Option<bool> {
-    let mut book = parts::begun(alloc)?;
-    let went = rotates(alloc, &mut book);
-    drop(book);
-    went
+// A book that is closed drops less than the book would.
+fn is_rotated(alloc: Global) -> bool {
+    match begun(alloc) {
+        Some(mut book) => {
+            let went = rotates(alloc, &mut book);
+            drop(book.close());
+            went
+        }
+        None => false,
+    }
 }
 
 #[test]
 fn journal_rotation(rt: HostRuntime) {
-    assert_eq!(rt; is_rotated(rt.alloc()), Some(true));
+    assert!(rt; is_rotated(rt.alloc()));
 }

@@ -1,14 +1,9 @@
 //! The threads over one book: the channel of jobs, workers and the audit, and the loops of a server's other threads, over memory.
 mod answering;
 mod bells;
-mod closing;
-mod faults;
-mod lines;
+mod local;
 mod overlapping;
 pub(crate) mod parts;
 mod reading;
 mod rounds;
-mod runs;
 mod sending;
-mod streams;
-mod turns;

@@ -1,9 +1,9 @@
-//! A stream through the loops of `lockd`, and what they write for it. Bytes are text: words of 4 bytes in hexadecimal, the first
-//! of a record its mark; `00*9` is nine bytes 00.
+//! A stream through the loops of `lockd`, and what they write for it.
 ghost use Rattle.std.specs.Prelude.{◌≡◌, [], IfOk};
 
-use super::ends::Source;
 use crate::sink::Sink;
+use crate::source::{Pace, Source};
+use crate::words::put_words;
 use callbacks::ShortBytes;
 use hosts_db::{FULL_QUOTA, HostRow, MemHosts};
 use pipe_loops::{Fault, Server, pipe_loop, table_loop};
@@ -39,7 +39,7 @@ pub(crate) struct Ends {
 /// All at once, with room for all.
 pub(crate) const AMPLE: Ends = Ends {
     most: 8_192,
-    reads: 1_000,
+    reads: 2_000,
     bytes: usize::MAX,
     room: 4_096,
     told: usize::MAX,
@@ -48,7 +48,10 @@ pub(crate) const AMPLE: Ends = Ends {
 /// A stream, what is told for it, and how the loop ends.
 #[derive(Clone, Copy)]
 pub(crate) struct Stream {
+    pub(crate) name: &'static str,
     pub(crate) which: Loop,
+    /// The most bytes that one read gives: it is served by each of these.
+    pub(crate) pieces: &'static [usize],
     pub(crate) comes: &'static str,
     /// Words, or the text of the table.
     pub(crate) told: &'static str,
@@ -57,35 +60,6 @@ pub(crate) struct Stream {
 
 /// Of `lockd`, which gives up behind so many reads.
 const MOST_READS: u64 = 1_000;
-
-fn put_repeated(bytes: &mut Vec<u8>, byte: &str, count: &str) -> Option<()> {
-    let byte = u8::from_str_radix(byte, 16).ok()?;
-    let count: u32 = count.parse().ok()?;
-    for _ in 0..count {
-        bytes.push(byte).ok()?;
-    }
-    Some(())
-}
-
-fn put_word(bytes: &mut Vec<u8>, word: &str) -> Option<()> {
-    match word.split_once("*") {
-        Some((byte, count)) => put_repeated(bytes, byte, count),
-        None => {
-            let word = u32::from_str_radix(word, 16).ok()?;
-            bytes.extend_from_slice(word.to_be_bytes().as_slice()).ok()
-        }
-    }
-}
-
-// Appends the bytes of these words.
-fn put_words(bytes: &mut Vec<u8>, words: &str) -> bool {
-    for word in words.split_whitespace() {
-        if put_word(bytes, word).is_none() {
-            return false;
-        }
-    }
-    true
-}
 
 fn put_hosts(alloc: Global, hosts: &mut Vec<HostRow>) -> Option<()> {
     for letter in [b'b', b'a'] {
@@ -140,11 +114,12 @@ fn serve(
 
 // What is written for the bytes, and how the loop ends.
 fn written(alloc: Global, which: Loop, comes: &[u8], ends: Ends) -> (Vec<u8>, Result<(), Fault>) {
-    let mut source = Source {
-        rest: front(comes, ends.bytes),
+    let pace = Pace {
         most: ends.most,
-        reads_left: ends.reads,
+        interruptions: 0,
+        reads: ends.reads,
     };
+    let mut source = Source::new(front(comes, ends.bytes), pace);
     let mut sink = Sink {
         held: Vec::new(alloc),
         room: ends.room,

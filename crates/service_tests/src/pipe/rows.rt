@@ -1,254 +1,155 @@
-//! The rows, under their own names.
+//! Streams, by the names of the worked rows that they are of.
 use super::loops::{AMPLE, Ends, Loop, Stream, is_served};
 use pipe_loops::Fault;
 use std::alloc::Global;
 use std::test::*;
 
 const EMPTY: Stream = Stream {
+    name: "empty_input",
     which: Loop::Replies,
+    pieces: &[8_192],
     comes: "",
     told: "",
     ended: Ok(()),
 };
 
+const HALF_A_MARK: Stream = Stream {
+    name: "empty_input: half a mark",
+    comes: "80*1 00*1",
+    ..EMPTY
+};
+
 const NULL: Stream = Stream {
+    name: "null",
+    pieces: &[1, 8_192],
     comes: "80000028 1 0 2 186b5 4 0 0 0 0 0",
     told: "80000018 1 1 0 0 0 0",
     ..EMPTY
 };
 
-#[test]
-fn null(rt: HostRuntime) {
-    assert!(rt; is_served(rt.alloc(), &NULL, AMPLE));
-}
+/// A NULL in fragments of 16, 0 and 24 bytes.
+const FRAGMENTS: Stream = Stream {
+    name: "pieces",
+    comes: "10 1 0 2 186b5 0 80000018 4 0 0 0 0 0",
+    ..NULL
+};
 
 /// A LOCK of the bytes 0 to 9 by `a`, and a TEST of the whole file by `b`.
 const LOCK_AND_TEST: Stream = Stream {
+    name: "test_after_lock",
+    pieces: &[1, 7, 8_192],
     comes: "8000006c 2 0 2 186b5 4 2 0 0 0 0 4 2 0 1 1 61000000 4 1020304 1 41000000 7 0 0 0 a 0 3 80000060 3 0 2 186b5 4 1 0 0 0 0 4 3 1 1 62000000 4 1020304 1 42000000 8 0 0 0 0",
     told: "80000024 2 1 0 0 0 0 4 2 0 80000044 3 1 0 0 0 0 4 3 1 1 7 1 41000000 0 0 0 a",
     ..EMPTY
 };
 
-#[test]
-fn test_after_lock(rt: HostRuntime) {
-    for most in [1, 7, 8_192] {
-        let ends = Ends { most, ..AMPLE };
-        assert!(rt; is_served(rt.alloc(), &LOCK_AND_TEST, ends), "by {most}");
-    }
-}
-
-/// A NULL in fragments of 16, 0 and 24 bytes.
-const FRAGMENTS: Stream = Stream {
-    comes: "10 1 0 2 186b5 0 80000018 4 0 0 0 0 0",
-    ..NULL
-};
-
-#[test]
-fn pieces(rt: HostRuntime) {
-    for (stream, most) in [(NULL, 1), (FRAGMENTS, 8_192), (FRAGMENTS, 1)] {
-        let ends = Ends { most, ..AMPLE };
-        assert!(rt; is_served(rt.alloc(), &stream, ends), "by {most}");
-    }
-}
-
-const HALF_A_MARK: Stream = Stream {
-    comes: "80*1 00*1",
-    ..EMPTY
-};
-
-#[test]
-fn empty_input(rt: HostRuntime) {
-    assert!(rt; is_served(rt.alloc(), &EMPTY, AMPLE));
-    assert!(rt; is_served(rt.alloc(), &HALF_A_MARK, AMPLE));
-}
-
-#[test]
-fn stream_cut_short(rt: HostRuntime) {
-    for bytes in 0..44 {
-        let ends = Ends {
-            bytes,
-            told: 0,
-            ..AMPLE
-        };
-        assert!(rt; is_served(rt.alloc(), &NULL, ends), "of {bytes}");
-    }
-}
-
 const TOO_LONG: Stream = Stream {
+    name: "record_too_long",
     comes: "80002001 80000028 1 0 2 186b5 4 0 0 0 0 0",
     ended: Err(Fault::RecordTooLong),
     ..EMPTY
 };
 
 const NULL_AND_TOO_LONG: Stream = Stream {
+    name: "record_too_long: behind a NULL",
     comes: "80000028 1 0 2 186b5 4 0 0 0 0 0 80002001",
-    told: "80000018 1 1 0 0 0 0",
     ended: Err(Fault::RecordTooLong),
-    ..EMPTY
+    ..NULL
 };
 
 /// The longest record is answered: the bytes behind the arguments are not looked at.
 const LONGEST: Stream = Stream {
+    name: "record_too_long: the longest that is not",
+    pieces: &[8_192],
     comes: "80002000 1 0 2 186b5 4 0 0 0 0 0 00*8152",
     ..NULL
 };
 
-#[test]
-fn record_too_long(rt: HostRuntime) {
-    assert!(rt; is_served(rt.alloc(), &TOO_LONG, AMPLE));
-    for most in [1, 8_192] {
-        let ends = Ends { most, ..AMPLE };
-        assert!(rt;
-            is_served(rt.alloc(), &NULL_AND_TOO_LONG, ends),
-            "by {most}"
-        );
-    }
-    assert!(rt; is_served(rt.alloc(), &LONGEST, AMPLE));
-}
+const OTHER_RPC_VERSION: Stream = Stream {
+    name: "refused_headers: RPC version",
+    comes: "80000028 1 0 3 186b5 4 0 0 0 0 0",
+    told: "80000018 1 1 1 0 2 2",
+    ..EMPTY
+};
 
-/// Another RPC version, version, procedure, program and credential.
-const REFUSED_HEADERS: [(&str, &str); 5] = [
-    ("80000028 1 0 3 186b5 4 0 0 0 0 0", "80000018 1 1 1 0 2 2"),
-    (
-        "80000028 1 0 2 186b5 2 0 0 0 0 0",
-        "80000020 1 1 0 0 0 2 1 4",
-    ),
-    ("80000028 1 0 2 186b5 4 10 0 0 0 0", "80000018 1 1 0 0 0 3"),
-    ("80000028 1 0 2 186a3 4 0 0 0 0 0", "80000018 1 1 0 0 0 1"),
-    ("80000028 1 0 2 186b5 4 0 6 0 0 0", "80000014 1 1 1 1 1"),
-];
+const OTHER_VERSION: Stream = Stream {
+    name: "refused_headers: version",
+    comes: "80000028 1 0 2 186b5 2 0 0 0 0 0",
+    told: "80000020 1 1 0 0 0 2 1 4",
+    ..EMPTY
+};
 
-#[test]
-fn refused_headers(rt: HostRuntime) {
-    for (comes, told) in REFUSED_HEADERS {
-        let stream = Stream {
-            comes,
-            told,
-            ..EMPTY
-        };
-        assert!(rt; is_served(rt.alloc(), &stream, AMPLE), "{comes}");
-    }
-}
+const OTHER_PROCEDURE: Stream = Stream {
+    name: "refused_headers: procedure",
+    comes: "80000028 1 0 2 186b5 4 10 0 0 0 0",
+    told: "80000018 1 1 0 0 0 3",
+    ..EMPTY
+};
+
+const OTHER_PROGRAM: Stream = Stream {
+    name: "refused_headers: program",
+    comes: "80000028 1 0 2 186a3 4 0 0 0 0 0",
+    told: "80000018 1 1 0 0 0 1",
+    ..EMPTY
+};
+
+const OTHER_CREDENTIAL: Stream = Stream {
+    name: "refused_headers: credential",
+    comes: "80000028 1 0 2 186b5 4 0 6 0 0 0",
+    told: "80000014 1 1 1 1 1",
+    ..EMPTY
+};
 
 const AUTH_SYS: Stream = Stream {
+    name: "null_auth_sys",
+    pieces: &[8_192],
     comes: "80000040 1 0 2 186b5 4 0 1 18 0 1 61000000 0 0 0 0 0",
     ..NULL
 };
 
 /// The last word of the credential counts its gids, of which there may be 16.
 const SEVENTEEN_GIDS: Stream = Stream {
+    name: "null_auth_sys: seventeen gids",
     comes: "80000040 1 0 2 186b5 4 0 1 18 0 1 61000000 0 0 11 0 0",
     told: "80000014 1 1 1 1 1",
     ..EMPTY
 };
 
-#[test]
-fn null_auth_sys(rt: HostRuntime) {
-    assert!(rt; is_served(rt.alloc(), &AUTH_SYS, AMPLE));
-    assert!(rt; is_served(rt.alloc(), &SEVENTEEN_GIDS, AMPLE));
-}
-
-const TWO_NULLS: Stream = Stream {
-    comes: "80000028 1 0 2 186b5 4 0 0 0 0 0 80000028 1 0 2 186b5 4 0 0 0 0 0",
-    told: "80000018 1 1 0 0 0 0 80000018 1 1 0 0 0 0",
-    ..EMPTY
-};
-
-// The reads give 11 bytes each: the fourth ends the first record, the eighth the second.
-#[test]
-fn failing_ends(rt: HostRuntime) {
-    let unread = Stream {
-        ended: Err(Fault::ReadFault),
-        ..TWO_NULLS
-    };
-    for reads in 0..9 {
-        let ends = Ends {
-            most: 11,
-            reads,
-            told: 28 * (reads / 4),
-            ..AMPLE
-        };
-        assert!(rt; is_served(rt.alloc(), &unread, ends), "after {reads} reads");
-    }
-    for room in 0..56 {
-        assert!(rt; is_cut(rt.alloc(), TWO_NULLS, room), "with {room}");
-    }
-}
-
-// Whether just the front for which there is room is written, and then the loop ends.
-fn is_cut(alloc: Global, stream: Stream, room: usize) -> bool {
-    let unwritten = Stream {
-        ended: Err(Fault::WriteFault),
-        ..stream
-    };
-    let ends = Ends {
-        room,
-        told: room,
-        ..AMPLE
-    };
-    is_served(alloc, &unwritten, ends)
-}
-
 const ZEROS: Stream = Stream {
+    name: "endless_zeros",
+    pieces: &[1],
     comes: "00*2000",
     ended: Err(Fault::ReadFault),
     ..EMPTY
 };
 
-#[test]
-fn endless_zeros(rt: HostRuntime) -> Result<(), Fail> {
-    let by_bytes = Ends {
-        most: 1,
-        reads: 2_000,
-        ..AMPLE
-    };
-    assert!(rt; is_served(rt.alloc(), &ZEROS, by_bytes));
-    let mut names = String::new(rt.alloc());
-    for fault in [
-        Fault::Starved,
-        Fault::RecordTooLong,
-        Fault::StoreRefused,
-        Fault::ReadFault,
-        Fault::WriteFault,
-    ] {
-        names.push_str(fault.to_string(rt.alloc())?.as_str())?;
-    }
-    assert_eq!(rt;
-        names.as_str(),
-        "1 Starved10 RecordTooLong19 StoreRefused23 ReadFault24 WriteFault"
-    );
-    Ok(())
-}
+const TWO_NULLS: Stream = Stream {
+    name: "failing_ends",
+    comes: "80000028 1 0 2 186b5 4 0 0 0 0 0 80000028 1 0 2 186b5 4 0 0 0 0 0",
+    told: "80000018 1 1 0 0 0 0 80000018 1 1 0 0 0 0",
+    ..EMPTY
+};
 
 /// SM_NOTIFY of the own state 3 from `server` to `a` and `b` stands between the replies (XNFS, SM_NOTIFY).
 const TO_HOSTS: Stream = Stream {
+    name: "notices behind the first reply",
     which: Loop::RepliesToHosts,
-    comes: "80000028 1 0 2 186b5 4 0 0 0 0 0 80000028 1 0 2 186b5 4 0 0 0 0 0",
+    pieces: &[1, 8_192],
     told: "80000018 1 1 0 0 0 0 80000038 1 0 2 186b8 1 6 0 0 0 0 6 73657276 65720000 3 80000038 2 0 2 186b8 1 6 0 0 0 0 6 73657276 65720000 3 80000018 1 1 0 0 0 0",
-    ended: Ok(()),
+    ..TWO_NULLS
 };
 
-#[test]
-fn notices_behind_the_first_reply(rt: HostRuntime) {
-    for most in [1, 8_192] {
-        let ends = Ends { most, ..AMPLE };
-        assert!(rt; is_served(rt.alloc(), &TO_HOSTS, ends), "by {most}");
-    }
-    // within the first reply, each call and the second reply, and between them
-    for room in [0, 27, 28, 32, 87, 88, 100, 147, 148, 175] {
-        assert!(rt; is_cut(rt.alloc(), TO_HOSTS, room), "with {room}");
-    }
-    let silent = Stream {
-        comes: "",
-        told: "",
-        ..TO_HOSTS
-    };
-    assert!(rt; is_served(rt.alloc(), &silent, AMPLE));
-}
+const SILENT: Stream = Stream {
+    name: "no notices without a reply",
+    which: Loop::RepliesToHosts,
+    ..EMPTY
+};
 
 /// A LOCK of the bytes 0 to 9, and an UNLOCK of the bytes 3 to 5.
 const TABLE: Stream = Stream {
+    name: "table_printed",
     which: Loop::Table,
+    pieces: &[50],
     comes: "8000006c 2 0 2 186b5 4 2 0 0 0 0 4 2 0 1 1 61000000 4 1020304 1 41000000 7 0 0 0 a 0 3 8000005c 4 0 2 186b5 4 4 0 0 0 0 4 4 1 61000000 4 1020304 1 41000000 7 0 3 0 3",
     told: "01020304 w 0 2 h61/7/41\n01020304 w 6 9 h61/7/41\n",
     ended: Ok(()),
@@ -256,6 +157,7 @@ const TABLE: Stream = Stream {
 
 /// A fault after the locks: nothing is printed.
 const TABLE_AND_TOO_LONG: Stream = Stream {
+    name: "table_printed: record too long",
     comes: "8000006c 2 0 2 186b5 4 2 0 0 0 0 4 2 0 1 1 61000000 4 1020304 1 41000000 7 0 0 0 a 0 3 8000005c 4 0 2 186b5 4 4 0 0 0 0 4 4 1 61000000 4 1020304 1 41000000 7 0 3 0 3 80002001",
     told: "",
     ended: Err(Fault::RecordTooLong),
@@ -263,38 +165,175 @@ const TABLE_AND_TOO_LONG: Stream = Stream {
 };
 
 const EMPTY_TABLE: Stream = Stream {
+    name: "table_printed: empty",
     comes: "",
     told: "",
     ..TABLE
 };
 
-#[test]
-fn table_printed(rt: HostRuntime) {
-    let by_fifty = Ends { most: 50, ..AMPLE };
-    assert!(rt; is_served(rt.alloc(), &TABLE, by_fifty));
-    for room in 0..TABLE.told.len() {
-        assert!(rt; is_cut(rt.alloc(), TABLE, room), "with {room}");
-    }
-    assert!(rt; is_served(rt.alloc(), &TABLE_AND_TOO_LONG, by_fifty));
-    assert!(rt; is_served(rt.alloc(), &EMPTY_TABLE, by_fifty));
-}
-
 const IN_GRACE: Stream = Stream {
+    name: "grace_and_file: in grace",
     which: Loop::RepliesInGrace,
     comes: "8000006c 2 0 2 186b5 4 2 0 0 0 0 4 2 0 1 1 61000000 4 1020304 1 41000000 7 0 0 0 a 0 3",
     told: "80000024 2 1 0 0 0 0 4 2 4",
-    ended: Ok(()),
+    ..EMPTY
 };
 
 /// The same behind the grace period, of a host that is stored beside another: the notices of the restart follow the reply.
 const STORED: Stream = Stream {
+    name: "grace_and_file: a stored host",
     which: Loop::RepliesToHosts,
     told: "80000024 2 1 0 0 0 0 4 2 0 80000038 1 0 2 186b8 1 6 0 0 0 0 6 73657276 65720000 3 80000038 2 0 2 186b8 1 6 0 0 0 0 6 73657276 65720000 3",
     ..IN_GRACE
 };
 
+const STREAMS: &[Stream] = &[
+    EMPTY,
+    HALF_A_MARK,
+    NULL,
+    FRAGMENTS,
+    LOCK_AND_TEST,
+    TOO_LONG,
+    NULL_AND_TOO_LONG,
+    LONGEST,
+    OTHER_RPC_VERSION,
+    OTHER_VERSION,
+    OTHER_PROCEDURE,
+    OTHER_PROGRAM,
+    OTHER_CREDENTIAL,
+    AUTH_SYS,
+    SEVENTEEN_GIDS,
+    ZEROS,
+    TO_HOSTS,
+    SILENT,
+    TABLE,
+    TABLE_AND_TOO_LONG,
+    EMPTY_TABLE,
+    IN_GRACE,
+    STORED,
+];
+
+// The first of the stream's pieces by which something else is written, or the loop ends otherwise.
+fn unserved(alloc: Global, stream: &Stream) -> Option<usize> {
+    for most in stream.pieces {
+        let ends = Ends {
+            most: *most,
+            ..AMPLE
+        };
+        if !is_served(alloc, stream, ends) {
+            return Some(*most);
+        }
+    }
+    None
+}
+
 #[test]
-fn grace_and_file(rt: HostRuntime) {
-    assert!(rt; is_served(rt.alloc(), &IN_GRACE, AMPLE));
-    assert!(rt; is_served(rt.alloc(), &STORED, AMPLE));
+fn streams_in_pieces(rt: HostRuntime) -> Result<(), (&'static str, usize)> {
+    for stream in STREAMS {
+        if let Some(most) = unserved(rt.alloc(), stream) {
+            return Err((stream.name, most));
+        }
+    }
+    Ok(())
+}
+
+// The number of its bytes is the error.
+#[test]
+fn stream_cut_short(rt: HostRuntime) -> Result<(), usize> {
+    for bytes in 0..44 {
+        let ends = Ends {
+            bytes,
+            told: 0,
+            ..AMPLE
+        };
+        if !is_served(rt.alloc(), &NULL, ends) {
+            return Err(bytes);
+        }
+    }
+    Ok(())
+}
+
+const UNREAD: &Stream = &Stream {
+    ended: Err(Fault::ReadFault),
+    ..TWO_NULLS
+};
+
+// The reads give 11 bytes each: the fourth ends the first record, the eighth the second.
+#[test]
+fn failing_reads(rt: HostRuntime) -> Result<(), usize> {
+    for reads in 0..9 {
+        let ends = Ends {
+            most: 11,
+            reads,
+            told: 28 * (reads / 4),
+            ..AMPLE
+        };
+        if !is_served(rt.alloc(), UNREAD, ends) {
+            return Err(reads);
+        }
+    }
+    Ok(())
+}
+
+// The first room, of these, with which not just the front is written that it has room for, or the loop goes on.
+fn uncut(alloc: Global, stream: &Stream, first: usize, behind: usize) -> Option<usize> {
+    let unwritten = Stream {
+        ended: Err(Fault::WriteFault),
+        ..*stream
+    };
+    for room in first..behind {
+        let ends = Ends {
+            room,
+            told: room,
+            ..AMPLE
+        };
+        if !is_served(alloc, &unwritten, ends) {
+            return Some(room);
+        }
+    }
+    None
+}
+
+/// Streams, and rooms from the first up to the one behind the last. Of the notices: within the first reply and behind it, within
+/// each call, and within the second reply.
+const WRITTEN: &[(Stream, usize, usize)] = &[
+    (TWO_NULLS, 0, 56),
+    (LOCK_AND_TEST, 0, 112),
+    (TABLE, 0, 48),
+    (TO_HOSTS, 0, 1),
+    (TO_HOSTS, 27, 33),
+    (TO_HOSTS, 87, 101),
+    (TO_HOSTS, 147, 149),
+    (TO_HOSTS, 175, 176),
+];
+
+#[test]
+fn failing_writes(rt: HostRuntime) -> Result<(), (&'static str, usize)> {
+    for (stream, first, behind) in WRITTEN {
+        if let Some(room) = uncut(rt.alloc(), stream, *first, *behind) {
+            return Err((stream.name, room));
+        }
+    }
+    Ok(())
+}
+
+const FAULTS: &[Fault] = &[
+    Fault::Starved,
+    Fault::RecordTooLong,
+    Fault::StoreRefused,
+    Fault::ReadFault,
+    Fault::WriteFault,
+];
+
+#[test]
+fn names_of_faults(rt: HostRuntime) -> Result<(), Fail> {
+    let mut names = String::new(rt.alloc());
+    for fault in FAULTS {
+        names.push_str(fault.to_string(rt.alloc())?.as_str())?;
+    }
+    assert_eq!(rt;
+        names.as_str(),
+        "1 Starved10 RecordTooLong19 StoreRefused23 ReadFault24 WriteFault"
+    );
+    Ok(())
 }

@@ -1,5 +1,5 @@
 //! Workers that are inside at once.
-use super::parts::{Kept, job};
+use super::parts::{Kept, null, sent};
 use super::rounds::{Crew, Turn, audited};
 use jobs::{Channel, Job, Place};
 use std::alloc::Global;
@@ -9,7 +9,7 @@ use std::sync::{Mutex, Wait};
 use std::test::*;
 use std::thread;
 use std::thread::Threads;
-use workers::{Gate, MemoryOutbox, Worker};
+use workers::{Gate, MemoryOutbox, Parcel, Worker};
 
 /// The connection of all jobs.
 const CONNECTION: u64 = 7;
@@ -48,6 +48,15 @@ impl Hall {
         false
     }
 
+    // Counts the answers.
+    fn count(&self, answers: &[Parcel]) {
+        for answer in answers {
+            if answer.connection == CONNECTION {
+                self.answered.fetch_add(1, Ordering::SeqCst);
+            }
+        }
+    }
+
     // Whether all were inside at once, or not, and so many were answered.
     fn is_so(&self, is_met: bool, jobs: u32) -> bool {
         self.was_missed.load(Ordering::SeqCst) != is_met
@@ -78,12 +87,7 @@ fn work_one<P: Place, L: Ledger, R: Wait>(
 ) {
     let mut outbox = MemoryOutbox::new(alloc);
     worker.work(rt, channel, shared, hall, &mut outbox);
-    let answered = outbox
-        .kept()
-        .iter()
-        .filter(|parcel| parcel.connection == CONNECTION)
-        .count();
-    hall.answered.fetch_add(answered as u64, Ordering::SeqCst);
+    hall.count(outbox.kept());
 }
 
 // All workers at once, to their ends.
@@ -111,10 +115,8 @@ fn put_all<P: Place, L: Ledger, R: Wait>(
     jobs: u32,
 ) -> bool {
     for number in 0..jobs {
-        let Some(job) = job(alloc, CONNECTION, u64::from(number), number) else {
-            return false;
-        };
-        if reader.send(rt, channel, job).is_err() {
+        let record = null(alloc, number);
+        if sent(rt, channel, reader, CONNECTION, u64::from(number), record) != Some(0) {
             return false;
         }
     }
@@ -152,7 +154,7 @@ impl Plan {
 }
 
 // Whether each job is answered and audited, by so many workers, beside whoever puts the jobs.
-fn is_so<R: Threads + Wait + Sync>(rt: &R, alloc: Global, plan: Plan) -> bool {
+fn is_so<R: Threads + Wait + Sync>(rt: &R, alloc: Global, plan: &Plan) -> bool {
     let crew = Crew {
         count: plan.workers.saturating_add(1),
         is_audited: true,
@@ -160,21 +162,18 @@ fn is_so<R: Threads + Wait + Sync>(rt: &R, alloc: Global, plan: Plan) -> bool {
     audited(rt, alloc, crew, Turn::Overlaps(plan)) == Some(u64::from(plan.jobs))
 }
 
-// As many jobs as workers.
-fn full(workers: u16) -> Plan {
-    Plan {
-        jobs: u32::from(workers),
-        workers,
-        turns: 5_000_000,
-        is_met: true,
-    }
-}
+const TWO: Plan = Plan {
+    jobs: 2,
+    workers: 2,
+    turns: 5_000_000,
+    is_met: true,
+};
 
-#[test]
-fn overlapping_workers(rt: HostRuntime) {
-    assert!(rt; is_so(&rt, rt.alloc(), full(2)));
-    assert!(rt; is_so(&rt, rt.alloc(), full(16)));
-}
+const SIXTEEN: Plan = Plan {
+    jobs: 16,
+    workers: 16,
+    ..TWO
+};
 
 /// Fewer than were told never are inside at once. Their jobs are answered all the same.
 const FEWER: Plan = Plan {
@@ -184,7 +183,15 @@ const FEWER: Plan = Plan {
     is_met: false,
 };
 
+const PLANS: &[Plan] = &[TWO, SIXTEEN, FEWER];
+
+// The numbers of jobs and of workers are the error.
 #[test]
-fn fewer_workers_than_told(rt: HostRuntime) {
-    assert!(rt; is_so(&rt, rt.alloc(), FEWER));
+fn overlapping_workers(rt: HostRuntime) -> Result<(), (u32, u16)> {
+    for plan in PLANS {
+        if !is_so(&rt, rt.alloc(), plan) {
+            return Err((plan.jobs, plan.workers));
+        }
+    }
+    Ok(())
 }

@@ -1,138 +1,39 @@
 //! A connection's own thread over memory.
-ghost use Rattle.std.specs.Prelude.{◌≤◌, length};
-
-use super::parts::{Kept, Open, put_null};
+use super::parts::{Kept, Open, are_replies};
 use super::rounds::{Crew, Turn, audited};
+use crate::source::{Pace, Source};
+use crate::words::put_words;
 use jobs::{Channel, Place};
 use kept_replies::Peer;
-use std::alloc::{AllocError, Global};
-use std::io::{self, ErrorKind, Read};
+use std::alloc::Global;
 use std::sync::ledger::Ledger;
 use std::sync::{Mutex, Wait};
 use std::test::*;
 use std::thread::Threads;
-use workers::{Ending, MemoryOutbox, Origin, Parcel, Source, Worker};
+use workers::{Ending, MemoryOutbox, Origin, Worker};
 
 /// The connection that is read.
 const CONNECTION: u64 = 300;
 
-/// How a stream goes on behind its bytes.
-#[derive(Clone, Copy)]
-enum Tail {
-    Ends,
-    Fails,
-}
-
-/// Gives its bytes in pieces of at most so many, and is interrupted once before each.
-#[derive(Drop)]
-struct Pieces<'a> {
-    left: &'a [u8],
-    most: usize,
-    is_interrupted: bool,
-    tail: Tail,
-}
-
-impl Pieces<'_> {
-    // The next piece: how many bytes it has.
-    fn give(&mut self, buf: &mut [u8]) -> usize
-        ensures { result ≤ length buf.new }
-    {
-        let most = self.most.min(buf.len()).min(self.left.len());
-        let (now, later) = self.left.split_at(most);
-        for (to, from) in buf.iter_mut().zip(now) {
-            *to = *from;
-        }
-        self.left = later;
-        most
-    }
-}
-
-impl Read for Pieces<'_> {
-    fn read(&mut self, buf: &mut [u8]) -> io::Result<usize> {
-        self.is_interrupted = !self.is_interrupted;
-        if self.is_interrupted {
-            return Err(io::Error::from(ErrorKind::Interrupted));
-        }
-        let count = self.give(buf);
-        match self.tail {
-            Tail::Fails if count == 0 => Err(io::Error::from(ErrorKind::ConnectionReset)),
-            _ => Ok(count),
-        }
-    }
-}
-
-/// A stream, and what comes of it. In its text a number stands for a NULL of this xid behind its mark, `part` for a
-/// mark and the first byte of its record, and `long` for a mark of 8,193 bytes, one more than a record may have.
-#[derive(Clone, Copy)]
-struct Case<'a> {
-    stream: &'a str,
-    most: usize,
-    tail: Tail,
-    is_closed: bool,
-    ending: Ending,
-    xids: &'a [u8],
-}
-
-fn put_word(to: &mut Vec<u8>, word: &str) -> Result<(), AllocError> {
-    match word {
-        "part" => to.extend_from_slice(&[0x80, 0, 0, 40, 1]),
-        "long" => to.extend_from_slice(&[0x80, 0, 0x20, 1]),
-        _ => {
-            to.extend_from_slice(&[0x80, 0, 0, 40])?;
-            put_null(to, word.parse().unwrap_or(0))
-        }
-    }
-}
-
-fn stream_of(alloc: Global, text: &str) -> Option<Vec<u8>> {
-    let mut all = Vec::new(alloc);
-    for word in text.split_whitespace() {
-        put_word(&mut all, word).ok()?;
-    }
-    Some(all)
-}
-
-// Whether the records that were handed over are the answers to these xids, by their last bytes, in order.
-fn are_answers(parcels: &[Parcel], xids: &[u8]) -> bool {
-    let mut left = parcels;
-    for xid in xids {
-        match left.split_first() {
-            Some((parcel, rest)) if is_answer(parcel, *xid) => left = rest,
-            _ => return false,
-        }
-    }
-    left.is_empty()
-}
-
-fn is_answer(parcel: &Parcel, xid: u8) -> bool {
-    parcel.connection == CONNECTION && parcel.record.as_slice().get(3) == Some(&xid)
-}
-
-/// The bytes of a case's stream.
+/// A stream by its words, how it comes, and what comes of it.
 #[derive(Clone, Copy)]
 pub(crate) struct Reading<'a> {
-    case: Case<'a>,
-    bytes: &'a [u8],
+    name: &'a str,
+    stream: &'a str,
+    /// The most bytes that one read gives, and how many reads go well. Each is interrupted once before.
+    most: usize,
+    reads: usize,
+    /// Whether the channel is closed before.
+    is_closed: bool,
+    ending: Ending,
+    /// How many jobs are put. As many are answered.
+    put: u64,
+    /// As `are_replies` has them.
+    replies: &'a str,
 }
 
-impl<'a> Reading<'a> {
-    fn source(&self) -> Source<Pieces<'a>> {
-        Source {
-            stream: Pieces {
-                left: self.bytes,
-                most: self.case.most,
-                is_interrupted: false,
-                tail: self.case.tail,
-            },
-            origin: Origin {
-                connection: CONNECTION,
-                peer: Peer::PIPE,
-                put: 0,
-            },
-        }
-    }
-
-    /// Whether this comes of it. The channel may be closed before. As many jobs are put as are answered.
+impl Reading<'_> {
+    /// Whether this comes of it.
     pub(crate) fn goes<P: Place, L: Ledger, R: Wait>(
         &self,
         rt: &R,
@@ -144,15 +45,30 @@ impl<'a> Reading<'a> {
         let [reader] = workers else {
             return false;
         };
-        if self.case.is_closed {
+        if self.is_closed {
             channel.close();
         }
+        let mut bytes = Vec::new(alloc);
+        let are_words = put_words(&mut bytes, self.stream);
         let mut outbox = MemoryOutbox::new(alloc);
-        let mut source = self.source();
+        let pace = Pace {
+            most: self.most,
+            interruptions: 1,
+            reads: self.reads,
+        };
+        let mut source = workers::Source {
+            stream: Source::new(bytes.as_slice(), pace),
+            origin: Origin {
+                connection: CONNECTION,
+                peer: Peer::PIPE,
+                put: 0,
+            },
+        };
         let ending = reader.read(rt, channel, shared, &Open, &mut outbox, &mut source);
-        ending == self.case.ending
-            && source.origin.put == self.case.xids.len() as u64
-            && are_answers(outbox.kept(), self.case.xids)
+        are_words
+            && ending == self.ending
+            && source.origin.put == self.put
+            && are_replies(alloc, outbox.kept(), self.replies)
     }
 }
 
@@ -162,85 +78,77 @@ const READER: Crew = Crew {
     is_audited: false,
 };
 
-// Whether this comes of the stream.
-fn is_so<R: Threads + Wait + Sync>(rt: &R, alloc: Global, case: Case<'_>) -> bool {
-    match stream_of(alloc, case.stream) {
-        Some(bytes) => {
-            let bytes = bytes.as_slice();
-            audited(rt, alloc, READER, Turn::Reads(Reading { case, bytes })) == Some(0)
-        }
-        None => false,
-    }
+fn is_so<R: Threads + Wait + Sync>(rt: &R, alloc: Global, reading: &Reading<'_>) -> bool {
+    audited(rt, alloc, READER, Turn::Reads(reading)) == Some(0)
 }
 
-// Three records, in pieces of so many bytes.
-fn three(most: usize) -> Case<'static> {
-    Case {
-        stream: "5 6 7",
-        most,
-        tail: Tail::Ends,
-        is_closed: false,
-        ending: Ending::Over,
-        xids: &[5, 6, 7],
-    }
-}
-
-#[test]
-fn each_record_is_answered(rt: HostRuntime) {
-    for most in [1, 43, 44, 45, 65_536] {
-        assert!(rt; is_so(&rt, rt.alloc(), three(most)), "{most}");
-    }
-}
-
-/// A part of a record, and its end.
-const ENDS: Case<'static> = Case {
-    stream: "5 part",
-    most: 100,
-    tail: Tail::Ends,
+const THREE: Reading<'static> = Reading {
+    name: "three records",
+    stream: "80000028 5 0 2 186b5 4 0 0 0 0 0 80000028 6 0 2 186b5 4 0 0 0 0 0 80000028 7 0 2 186b5 4 0 0 0 0 0",
+    most: 65_536,
+    reads: usize::MAX,
     is_closed: false,
     ending: Ending::Over,
-    xids: &[5],
+    put: 3,
+    replies: "0 12c 5 1 0 0 0 0 0 12c 6 1 0 0 0 0 0 12c 7 1 0 0 0 0",
 };
 
-const FAILS: Case<'static> = Case {
-    stream: "5 part",
+/// A part of a record, and its end.
+const ENDS: Reading<'static> = Reading {
+    name: "an end in a record",
+    stream: "80000028 5 0 2 186b5 4 0 0 0 0 0 80000028 1*1",
     most: 100,
-    tail: Tail::Fails,
-    is_closed: false,
+    put: 1,
+    replies: "0 12c 5 1 0 0 0 0",
+    ..THREE
+};
+
+/// The first read gives all bytes.
+const FAILS: Reading<'static> = Reading {
+    name: "a failed read in a record",
+    reads: 1,
     ending: Ending::Failed,
-    xids: &[5],
+    ..ENDS
 };
 
-#[test]
-fn ends_of_streams(rt: HostRuntime) {
-    assert!(rt; is_so(&rt, rt.alloc(), ENDS));
-    assert!(rt; is_so(&rt, rt.alloc(), FAILS));
-}
-
-const LONG: Case<'static> = Case {
-    stream: "8 9 long 10",
-    most: 65_536,
-    tail: Tail::Ends,
-    is_closed: false,
+const LONG: Reading<'static> = Reading {
+    name: "a record that is too long",
+    stream: "80000028 8 0 2 186b5 4 0 0 0 0 0 80000028 9 0 2 186b5 4 0 0 0 0 0 80002001 80000028 a 0 2 186b5 4 0 0 0 0 0",
     ending: Ending::TooLong,
-    xids: &[8, 9],
+    put: 2,
+    replies: "0 12c 8 1 0 0 0 0 0 12c 9 1 0 0 0 0",
+    ..THREE
 };
 
-#[test]
-fn a_record_that_is_too_long(rt: HostRuntime) {
-    assert!(rt; is_so(&rt, rt.alloc(), LONG));
-}
-
-const CLOSED: Case<'static> = Case {
-    stream: "8 9",
-    most: 65_536,
-    tail: Tail::Ends,
+const CLOSED: Reading<'static> = Reading {
+    name: "a closed channel",
+    stream: "80000028 8 0 2 186b5 4 0 0 0 0 0 80000028 9 0 2 186b5 4 0 0 0 0 0",
     is_closed: true,
     ending: Ending::Closed,
-    xids: &[],
+    put: 0,
+    replies: "",
+    ..THREE
 };
 
+/// A record with its mark has 44 bytes.
+const READINGS: &[Reading<'static>] = &[
+    Reading { most: 1, ..THREE },
+    Reading { most: 43, ..THREE },
+    Reading { most: 44, ..THREE },
+    Reading { most: 45, ..THREE },
+    THREE,
+    ENDS,
+    FAILS,
+    LONG,
+    CLOSED,
+];
+
 #[test]
-fn nothing_is_put_once_it_is_closed(rt: HostRuntime) {
-    assert!(rt; is_so(&rt, rt.alloc(), CLOSED));
+fn each_record_is_answered(rt: HostRuntime) -> Result<(), (&'static str, usize)> {
+    for reading in READINGS {
+        if !is_so(&rt, rt.alloc(), reading) {
+            return Err((reading.name, reading.most));
+        }
+    }
+    Ok(())
 }

@@ -1,13 +1,17 @@
 //! A round: workers are cut, do what a test tells them, and are gathered. There are no early ends once there is a book: each
 //! would drop all that is alive, and is a proof of its own.
-ghost use Rattle.std.specs.Prelude.{◌≡◌, []};
+ghost use Rattle.std.specs.Prelude.{◌≡◌, false, []};
+ghost use Rattle.book.specs.Notes.{view_of_event};
+ghost use Rattle.workers.specs.Holds.{is_take};
 
+use super::answering::Waiting;
+use super::local::Talk;
 use super::overlapping::Plan;
 use super::parts::{Kept, begun};
 use super::reading::Reading;
-use book::Book;
+use book::{Book, BookEvent};
 use hosts_db::MemHosts;
-use jobs::{Channel, Opened, Place};
+use jobs::{Channel, Keeper, Opened, Place};
 use range_table::FlatTable;
 use staff::{Cutter, Gatherer};
 use std::alloc::Global;
@@ -24,11 +28,13 @@ pub(crate) struct Crew {
     pub(crate) is_audited: bool,
 }
 
-/// What workers do in a round: whether it goes as it should is told by its `goes`.
+/// What is done in a round: whether it goes as it should is told by its `goes`.
 #[derive(Clone, Copy)]
 pub(crate) enum Turn<'a> {
-    Overlaps(Plan),
-    Reads(Reading<'a>),
+    Answers(&'a Waiting<'a>),
+    Overlaps(&'a Plan),
+    Reads(&'a Reading<'a>),
+    Talks(&'a Talk<'a>),
 }
 
 // All are taken in, and what they did is audited.
@@ -46,28 +52,85 @@ fn ended<P: Place, L: Ledger>(
     if are_in { audited.ok() } else { None }
 }
 
+// Whether there was room for the event. What it gives falls by a call, which is proved once.
+fn enters<L: Ledger>(shared: &mut Kept<L>, event: BookEvent) -> bool
+    requires { is_take (view_of_event event) ≡ false }
+{
+    match shared.apply(event) {
+        Ok(upshot) => {
+            drop(upshot);
+            true
+        }
+        Err(event) => {
+            drop(event);
+            false
+        }
+    }
+}
+
+// The server begins, and its grace period is over: whether there was room.
+fn opens<L: Ledger>(shared: &mut Kept<L>) -> bool {
+    enters(shared, BookEvent::Restart) && enters(shared, BookEvent::GraceOver)
+}
+
+fn goes<P: Place + Send + Sync, L: Ledger + Send + Sync, R: Threads + Wait + Sync>(
+    rt: &R,
+    alloc: Global,
+    channel: &Channel<P>,
+    shared: &Mutex<Kept<L>>,
+    workers: &mut [Worker<P, L>],
+    turn: Turn<'_>,
+) -> bool {
+    match turn {
+        Turn::Answers(waiting) => waiting.goes(rt, alloc, channel, shared, workers),
+        Turn::Overlaps(plan) => plan.goes(rt, alloc, channel, shared, workers),
+        Turn::Reads(reading) => reading.goes(rt, alloc, channel, shared, workers),
+        Turn::Talks(talk) => talk.goes(rt, alloc, shared),
+    }
+}
+
 // Where there is no memory for the workers, none are taken in, and so they don't settle.
 fn work<P: Place + Send + Sync, L: Ledger + Send + Sync, R: Threads + Wait + Sync>(
     rt: &R,
     alloc: Global,
     channel: &Channel<P>,
     mut cutter: Cutter<P, L>,
-    shared: Mutex<Kept<L>>,
+    shared: Kept<L>,
     crew: Crew,
     turn: Turn<'_>,
 ) -> Option<u64>
     requires { crew.count ≡ L.parts }
 {
+    let shared = Mutex::new(shared);
     let mut workers = cutter
         .cut_all(channel, crew.count)
         .unwrap_or(Vec::new(alloc));
-    let goes = match turn {
-        Turn::Overlaps(plan) => plan.goes(rt, alloc, channel, &shared, &mut workers),
-        Turn::Reads(reading) => reading.goes(rt, alloc, channel, &shared, &mut workers),
-    };
+    let goes = goes(rt, alloc, channel, &shared, &mut workers, turn);
     let gatherer = cutter.into_gatherer();
     let audited = ended(channel, gatherer, workers, shared.into_inner(), crew);
     if goes { audited } else { None }
+}
+
+fn staff<P: Place + Send + Sync, L: Ledger + Send + Sync, R: Threads + Wait + Sync>(
+    rt: &R,
+    alloc: Global,
+    channel: &Channel<P>,
+    keeper: Keeper<P>,
+    blank: Blank,
+    book: Book<FlatTable, MemHosts>,
+    crew: Crew,
+    turn: Turn<'_>,
+) -> Option<u64>
+    requires name { blank.name ≡ L.name }
+    requires parts { (blank.parts ≡ L.parts) × (blank.parts ≡ crew.count) }
+    requires new { (book.journal.notes ≡ []) × (book.journal.first ≡ 1) }
+{
+    let (total, share) = blank.open::<L>();
+    let cutter = Cutter::new(alloc, keeper, share, u64::from(crew.count), crew.is_audited);
+    let mut shared = Shared::new(alloc, book, total, crew.is_audited);
+    let is_open = opens(&mut shared);
+    let audited = work(rt, alloc, channel, cutter, shared, crew, turn);
+    if is_open { audited } else { None }
 }
 
 fn play<P: Place + Send + Sync, L: Ledger + Send + Sync, R: Threads + Wait + Sync>(
@@ -86,10 +149,7 @@ fn play<P: Place + Send + Sync, L: Ledger + Send + Sync, R: Threads + Wait + Syn
     requires new { (book.journal.notes ≡ []) × (book.journal.first ≡ 1) }
 {
     let (channel, keeper) = opened.named::<P>();
-    let (total, share) = blank.open::<L>();
-    let cutter = Cutter::new(alloc, keeper, share, u64::from(crew.count), crew.is_audited);
-    let shared = Mutex::new(Shared::new(alloc, book, total, crew.is_audited));
-    work(rt, alloc, &channel, cutter, shared, crew, turn)
+    staff::<P, L, R>(rt, alloc, &channel, keeper, blank, book, crew, turn)
 }
 
 /// How many calls the audit finds behind a round: 0 where nothing was kept for it. None where the turn or the audit went wrong.

@@ -1,61 +1,80 @@
-//! The server's own calls.
-use super::bells::Turn;
-use super::runs::{Told, run};
-use super::streams::Asked;
-use serve_loops::Due;
+//! The turns of the sender: calls that are due are handed over.
+use super::parts::Kept;
+use crate::words::are;
+use book::Dest;
+use serve_loops::{Due, MemoryCourier, Parcel, send_due};
 use std::alloc::{AllocError, Global};
-use std::fmt::Write;
-use std::sync::Wait;
-use std::test::*;
+use std::sync::ledger::Ledger;
+use std::sync::{Mutex, Wait};
 
-// So many waiters, of which each is granted when the lock goes.
-fn put_waiters(lines: &mut String, count: u32) -> Result<(), AllocError> {
-    lines.push_str("setlk p1 aa w 0 1\n")?;
-    for number in 0..count {
-        write!(lines, "setlkw d{number} aa r 0 1\n")?;
+/// What a turn leaves, and how many calls and lines it hands over.
+type Turn = (Due, usize);
+
+/// What the sender hands over in some turns.
+#[derive(Clone, Copy)]
+pub(crate) struct Sent<'a> {
+    pub(crate) turns: &'a [Turn],
+    /// To whom, and the line, of each line.
+    pub(crate) lines: &'a str,
+    /// The words of a call behind them.
+    pub(crate) call: &'a str,
+}
+
+/// Where no call is due.
+pub(crate) const NOTHING: Sent<'static> = Sent {
+    turns: &[(Due::Nothing, 0), (Due::Nothing, 0), (Due::Nothing, 0)],
+    lines: "",
+    call: "",
+};
+
+// To whom, and the bytes.
+fn put(log: &mut Vec<u8>, parcel: &Parcel) -> Result<(), AllocError> {
+    match &parcel.to {
+        Dest::Connection(7) => log.extend_from_slice(b"7: ")?,
+        Dest::Host(host) => {
+            log.extend_from_slice(host.as_slice())?;
+            log.extend_from_slice(b": ")?;
+        }
+        _ => log.extend_from_slice(b"another: ")?,
     }
-    lines.push_str("close p1 aa\n")
+    log.extend_from_slice(parcel.bytes.as_slice())
 }
 
-// Tells what comes of so many waiters: whether there was memory for it.
-fn run_with<R: Wait>(rt: &R, alloc: Global, count: u32, told: &mut Told) -> bool {
-    let mut lines = String::new(alloc);
-    put_waiters(&mut lines, count).is_ok() && run(rt, alloc, Asked::plain(lines.as_bytes()), told)
+// How many parcels there are, if all are in the log.
+fn put_all(log: &mut Vec<u8>, parcels: &[Parcel]) -> Option<usize> {
+    for parcel in parcels {
+        put(log, parcel).ok()?;
+    }
+    Some(parcels.len())
 }
 
-// Whether the turns behind so many waiters are these.
-fn has_turns<R: Wait>(rt: &R, alloc: Global, count: u32, turns: [Turn; 3]) -> bool {
-    let mut told = Told::new(alloc, usize::MAX);
-    run_with(rt, alloc, count, &mut told) && told.has_turns(turns)
+// Whether one turn is this. What it hands over is in the log then.
+fn is_turn<L: Ledger, R: Wait>(
+    rt: &R,
+    alloc: Global,
+    shared: &Mutex<Kept<L>>,
+    log: &mut Vec<u8>,
+    turn: Turn,
+) -> bool {
+    let mut courier = MemoryCourier::new(alloc);
+    let due = send_due(rt, shared, &mut courier);
+    due == turn.0 && put_all(log, courier.kept()) == Some(turn.1)
 }
 
-const FEW: [Turn; 3] = [
-    (Due::Nothing, Some(2)),
-    (Due::Nothing, Some(0)),
-    (Due::Nothing, Some(0)),
-];
-
-const MANY: [Turn; 3] = [
-    (Due::More, Some(64)),
-    (Due::Nothing, Some(1)),
-    (Due::Nothing, Some(0)),
-];
-
-#[test]
-fn most_calls_of_a_turn(rt: HostRuntime) {
-    assert!(rt; has_turns(&rt, rt.alloc(), 2, FEW));
-    assert!(rt; has_turns(&rt, rt.alloc(), 65, MANY));
-}
-
-// Whether this is sent behind so many waiters.
-fn sends<R: Wait>(rt: &R, alloc: Global, count: u32, bytes: &[u8]) -> bool {
-    let mut told = Told::new(alloc, usize::MAX);
-    run_with(rt, alloc, count, &mut told) && told.has_sent(bytes)
-}
-
-const LINES: &str = "7: granted d0 aa r 0 1\n7: granted d1 aa r 0 1\n";
-
-#[test]
-fn a_waiter_gets_its_line(rt: HostRuntime) {
-    assert!(rt; sends(&rt, rt.alloc(), 2, LINES.as_bytes()));
+impl Sent<'_> {
+    /// Whether the sender hands over just this.
+    pub(crate) fn is_handed<L: Ledger, R: Wait>(
+        &self,
+        rt: &R,
+        alloc: Global,
+        shared: &Mutex<Kept<L>>,
+    ) -> bool {
+        let mut log = Vec::new(alloc);
+        for turn in self.turns {
+            if !is_turn(rt, alloc, shared, &mut log, *turn) {
+                return false;
+            }
+        }
+        are(alloc, log.as_slice(), self.lines, self.call)
+    }
 }

@@ -5,11 +5,11 @@ use Rattle.book.specs.Notes.{Note, Takes}
 use Rattle.service_tests.proofs.rotation.taken.Goals as goal
 
 pub receipt-requires-clause-call : goal.receipt-requires-clause-call
-receipt-requires-clause-call g c =
+receipt-requires-clause-call c =
     ap (option_map (λ (n : Note). n.event)) (c.newest_entered.ensures _ _ _ _ c.apply-upshot.ensures.enters)
     ∙ ap (λ asked. Some (Takes _ asked)) (sym c.requires.same)
 
 pub receipt-requires-clause-reply : goal.receipt-requires-clause-reply
-receipt-requires-clause-reply g c =
+receipt-requires-clause-reply c =
     ap (option_map (λ (n : Note). n.upshot.given)) (c.newest_entered.ensures _ _ _ _ c.apply-upshot.ensures.enters)
     ∙ ap (λ (u : Upshot). Some u.given) (sym c.upshot.view_is)
