@@ -135,7 +135,7 @@ fn are_so(alloc: Global, tables: &str, rows: &[Row]) -> Result<(), &'static str>
 }
 
 /// All tables or none, and no other.
-const TABLES: [Row; 11] = [
+const TABLES: &[Row] = &[
     ("", Some((5, 0, 0))),
     ("DROP TABLE own", None),
     ("DROP TABLE hosts2", None),
@@ -156,7 +156,7 @@ const TABLES: [Row; 11] = [
 ];
 
 /// No row of its own, another version, and numbers that are no state.
-const OWN: [Row; 9] = [
+const OWN: &[Row] = &[
     ("DELETE FROM own", None),
     ("UPDATE own SET version = 0", None),
     ("UPDATE own SET version = 3", None),
@@ -172,7 +172,7 @@ const OWN: [Row; 9] = [
 ];
 
 /// A name, and the epoch, the state seen and the quota.
-const HOSTS: [Row; 12] = [
+const HOSTS: &[Row] = &[
     (
         "INSERT INTO hosts2 VALUES (<0>, 0, -2147483648, 0)",
         Some((5, 1, 0)),
@@ -194,7 +194,7 @@ const HOSTS: [Row; 12] = [
 ];
 
 /// Two names, the program, version and procedure, and the private bytes.
-const WATCHES: [Row; 9] = [
+const WATCHES: &[Row] = &[
     (
         "INSERT INTO watches VALUES (<0>, <0>, -2147483648, 2147483647, 0, <16>)",
         Some((5, 0, 1)),
@@ -228,7 +228,7 @@ const WATCHES: [Row; 9] = [
 ];
 
 /// Rows that fit, and the nearest ones that don't.
-const ROWS: [Row; 11] = [
+const ROWS: &[Row] = &[
     ("", Some((5, 0, 0))),
     (
         "INSERT INTO hosts2 VALUES (x'62', 3, -7, 65536), (x'61', 5, 9, 0)",
@@ -252,7 +252,7 @@ const ROWS: [Row; 11] = [
 ];
 
 /// Files of schema 1.
-const FIRST_ROWS: [Row; 7] = [
+const FIRST_ROWS: &[Row] = &[
     ("INSERT INTO own VALUES (1, 1, 3)", Some((3, 0, 0))),
     ("INSERT INTO own VALUES (1, 2, 3)", None),
     ("INSERT INTO own VALUES (1, 3, 3)", None),
@@ -270,8 +270,8 @@ const FIRST_ROWS: [Row; 7] = [
 
 #[test]
 fn adopts_just_what_fits(rt: HostRuntime) -> Result<(), &'static str> {
-    for rows in [&TABLES[..], &OWN, &HOSTS, &WATCHES, &ROWS] {
+    for rows in [TABLES, OWN, HOSTS, WATCHES, ROWS] {
         are_so(rt.alloc(), SECOND, rows)?;
     }
-    are_so(rt.alloc(), FIRST, &FIRST_ROWS)
+    are_so(rt.alloc(), FIRST, FIRST_ROWS)
 }

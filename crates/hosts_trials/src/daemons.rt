@@ -246,7 +246,7 @@ connect
 3 crash = 3 done or 3 system-err -> 3; a 1 3 65536;
 ";
 
-const SCRIPTS: [&str; 12] = [
+const SCRIPTS: &[&str] = &[
     FIRST_RESTART,
     RESTART,
     LOCK,
@@ -266,7 +266,7 @@ const SCRIPTS: [&str; 12] = [
 fn stop_at_each_write(rt: HostRuntime) -> Result<(), &'static str> {
     for script in SCRIPTS {
         if !are_met(rt.alloc(), &Script(script)) {
-            return Err(script);
+            return Err(*script);
         }
     }
     Ok(())

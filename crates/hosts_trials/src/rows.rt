@@ -276,7 +276,7 @@ connect
 const FRESH: [&str; 2] = ["", ""];
 
 /// Rows that one server plays over fresh files.
-const SCRIPTS: [&str; 10] = [
+const SCRIPTS: &[&str] = &[
     GRACE,
     SHARE_CONFLICT,
     ROWS_OF_WAITERS,
@@ -311,7 +311,7 @@ fn go_well(alloc: Global, sql: [&str; 2], servers: &[Server]) -> Result<(), &'st
 
 fn go_well_over_fresh_files(alloc: Global) -> Result<(), &'static str> {
     for script in SCRIPTS {
-        go_well(alloc, FRESH, &[("0;", script)])?;
+        go_well(alloc, FRESH, &[("0;", *script)])?;
     }
     Ok(())
 }

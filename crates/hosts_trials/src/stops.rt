@@ -97,10 +97,15 @@ pub(crate) fn stopping(alloc: Global, sql: [&str; 2], stop: Stop, calls: u64) ->
     both_copied(alloc, &files, calls)
 }
 
-/// Has a store over these files do the work after a crash, which takes what no sync has kept.
-pub(crate) fn after_crash<W: Work>(alloc: Global, mut files: Trials, work: &mut W) {
+/// A crash takes what no sync has kept.
+pub(crate) fn crash(files: &mut Trials) {
     files.disks.log.crash();
     files.disks.db.crash();
+}
+
+/// Has a store over these files do the work after a crash.
+pub(crate) fn after_crash<W: Work>(alloc: Global, mut files: Trials, work: &mut W) {
+    crash(&mut files);
     visit_files(alloc, files, ["", ""], work);
 }
 
@@ -188,7 +193,7 @@ unwatch * f
 ";
 
 /// Each call that writes, as the last one. A watch is of a new host, the same with other bytes, and of a stored host.
-const SCRIPTS: [&str; 7] = [
+const SCRIPTS: &[&str] = &[
     "start\nstart",
     "start\nmonitor b -5",
     "start\nmonitor b -5\nseen b 8",
@@ -202,7 +207,7 @@ const SCRIPTS: [&str; 7] = [
 fn stop_at_each_write(rt: HostRuntime) -> Result<(), &'static str> {
     for script in SCRIPTS {
         if !are_met_by(rt.alloc(), script) {
-            return Err(script);
+            return Err(*script);
         }
     }
     Ok(())

@@ -101,7 +101,7 @@ fn visit_disks<D: Disk + Drop, W: Work>(
     }
 }
 
-/// Files that may stop. All trials but that of growths have these: of each kind the compiler builds a database of its own.
+/// Files that may stop. All trials have these, since the compiler builds a database of its own for each kind of files.
 pub(crate) struct Trials {
     pub(crate) disks: Files<Fuse<Memory>>,
 }
