@@ -11,6 +11,7 @@ use hosts_db::HostStore;
 use range_arena::ArenaTable;
 use range_table::{FlatTable, RangeTable};
 use std::alloc::Global;
+use std::mem;
 use std::test::*;
 
 const CALLS: u32 = 300;
@@ -62,34 +63,47 @@ fn sent_over<T: RangeTable + Drop>(alloc: Global, table: T, most: usize) -> Opti
     let mut page = Page::new(alloc, most);
     let is_sent = is_sent(&mut daemon, &mut page);
     drop(daemon);
-    if is_sent == Some(true) {
-        Some(page.sent)
-    } else {
-        None
+    let sent = mem::replace(&mut page.sent, Vec::new(alloc));
+    drop(page);
+    (is_sent == Some(true)).then_some(sent)
+}
+
+fn sent_by(alloc: Global, most: usize) -> Option<Vec<u8>> {
+    sent_over(alloc, ArenaTable::new(alloc).ok()?, most)
+}
+
+fn sent_by_flat(alloc: Global, most: usize) -> Option<Vec<u8>> {
+    sent_over(alloc, FlatTable::new(alloc).ok()?, most)
+}
+
+fn is_sent_by(alloc: Global, most: usize, whole: &[u8]) -> bool {
+    match sent_by(alloc, most) {
+        Some(cut) => cut.as_slice() == whole,
+        None => false,
     }
 }
 
-fn sent_by(alloc: Global, most: usize) -> Result<Vec<u8>, Fail> {
-    Ok(sent_over(alloc, ArenaTable::new(alloc)?, most).ok_or("what is sent")?)
-}
-
+// Of pieces that make another stream the size is the error.
 #[test]
-fn random_calls_in_pieces(rt: HostRuntime) -> Result<(), Fail> {
-    let alloc = rt.alloc();
-    let whole = sent_by(alloc, 1_000_000)?;
+fn random_calls_in_pieces(rt: HostRuntime) -> Result<(), usize> {
+    let whole = sent_by(rt.alloc(), 1_000_000).unwrap_or(Vec::new(rt.alloc()));
     assert!(rt; whole.len() > 300 * 40);
     for most in [1, 3, 4, 113, 8_192] {
-        let cut = sent_by(alloc, most)?;
-        assert!(rt; cut.as_slice() == whole.as_slice(), "by {most}");
+        if !is_sent_by(rt.alloc(), most, &whole) {
+            return Err(most);
+        }
     }
     Ok(())
 }
 
+fn are_both_alike(alloc: Global) -> bool {
+    match sent_by_flat(alloc, 8_192) {
+        Some(flat) => is_sent_by(alloc, 8_192, &flat),
+        None => false,
+    }
+}
+
 #[test]
-fn both_tables(rt: HostRuntime) -> Result<(), Fail> {
-    let alloc = rt.alloc();
-    let sent = sent_by(alloc, 8_192)?;
-    let flat = sent_over(alloc, FlatTable::new(alloc)?, 8_192).ok_or("what is sent")?;
-    assert!(rt; sent.as_slice() == flat.as_slice());
-    Ok(())
+fn both_tables(rt: HostRuntime) {
+    assert!(rt; are_both_alike(rt.alloc()));
 }

@@ -13,7 +13,7 @@ fn version_3_lock(rt: HostRuntime) -> Result<(), Misplayed> {
 }
 
 /// How a TEST of version 3 shows a lock of version 4: of a byte behind 2^32, of 2^32 bytes, and of few.
-const CLAMPED_HOLDER: [&[&str]; 3] = [
+const CLAMPED_HOLDER: &[&[&str]] = &[
     &[
         "begins",
         "170 lock a 4294967296 1 = granted",
