@@ -5,18 +5,14 @@ use callbacks::ShortBytes;
 use config::ServeConfig;
 use hosts_db::HostStore;
 use jobs::Job;
-use log::Log;
 use peers::{Peers, PeersFault};
 use pipe_loops::Fault as StoreFault;
-use server::{Backing, CallSettings, Settings, serve};
+use server::{Backing, CallSettings, Runtime, Settings, serve};
 use sqlite::{Alter, Connection};
 use std::alloc::Global;
 use std::fs;
-use std::io::Print;
-use std::net::{Net, SocketAddr, TcpListener, TcpStream};
-use std::sync::Wait;
-use std::thread::Threads;
-use std::time::{Clock, Duration};
+use std::net::SocketAddr;
+use std::time::Duration;
 use thiserror::Error;
 use workers::Gate;
 
@@ -110,13 +106,7 @@ fn serve_over<S, R>(
 ) -> Result<u64, ServeFault>
 where
     S: HostStore + Drop + Send,
-    R: Net<Listener = TcpListener, Stream = TcpStream>
-        + Threads
-        + Wait
-        + Clock
-        + Print
-        + Log
-        + Sync,
+    R: Runtime,
 {
     let backed = match store {
         Ok(store) => backing_of(alloc, asked, peers, store),
@@ -140,32 +130,17 @@ fn serve_database<S, R>(
 ) -> Result<u64, ServeFault>
 where
     S: Alter + Drop + Send,
-    R: Net<Listener = TcpListener, Stream = TcpStream>
-        + Threads
-        + Wait
-        + Clock
-        + Print
-        + Log
-        + Sync,
+    R: Runtime,
 {
     serve_over(rt, alloc, asked, peers, stored_hosts(alloc, opened))
 }
 
 /// Serves until a local program says `stop`: how many calls were taken, where that was kept.
-pub(crate) fn serve_config<R>(
+pub(crate) fn serve_config<R: Runtime>(
     host: &HostRuntime,
     rt: &R,
     asked: &ServeConfig,
-) -> Result<u64, ServeFault>
-where
-    R: Net<Listener = TcpListener, Stream = TcpStream>
-        + Threads
-        + Wait
-        + Clock
-        + Print
-        + Log
-        + Sync,
-{
+) -> Result<u64, ServeFault> {
     let peers = read_peers(host, asked.peers.as_str())?;
     let opened = Connection::open(host, asked.db.as_str());
     serve_database(rt, host.alloc(), asked, peers, opened)

@@ -9,6 +9,7 @@ mod lines;
 mod notes;
 mod outbox;
 mod peer;
+mod runtime;
 mod seats;
 mod serving;
 mod settings;
@@ -16,6 +17,7 @@ mod signals;
 mod wire;
 
 pub use fault::Fault;
+pub use runtime::Runtime;
 pub use sender::Settings as CallSettings;
 pub use serving::serve;
 pub use settings::{Backing, Settings};

@@ -5,6 +5,7 @@ use crate::chief::Sends;
 use crate::context::{Context, Latches, Rosters};
 use crate::fault::Fault;
 use crate::lines::LocalLines;
+use crate::runtime::Runtime;
 use crate::seats::{callers, locals, take_back};
 use crate::settings::{Backing, Settings};
 use crate::signals::Bells;
@@ -13,7 +14,6 @@ use callbacks::ShortBytes;
 use connections::{Door, PLACES, Roster};
 use hosts_db::HostStore;
 use jobs::{Channel, Opened, Place};
-use log::Log;
 use peers::Peers;
 use range_arena::ArenaTable;
 use range_table::RangeTable;
@@ -21,12 +21,11 @@ use sender::Sender;
 use server_threads::{NoThread, Service, Staff, run};
 use staff::{Cutter, Gatherer};
 use std::alloc::Global;
-use std::io::{self, Print};
+use std::io;
 use std::marker::Brand;
 use std::net::{Ipv4Addr, Net, SocketAddr, SocketAddrV4, TcpListener, TcpStream};
 use std::sync::ledger::{Blank, Book as Total, Ledger};
 use std::sync::{Mutex, Wait};
-use std::thread::Threads;
 use std::time::Clock;
 use workers::{Gate, Shared, Worker};
 
@@ -89,7 +88,7 @@ where
     T: RangeTable + Drop + Send,
     S: HostStore + Drop + Send,
     G: Gate + Sync,
-    R: Net + Threads + Wait + Clock + Print + Log + Sync,
+    R: Runtime,
 {
     let mut sends = Sends::new(sender, context.shared, context.bells);
     let ran = run(rt, context, staff, &mut sends);
@@ -148,13 +147,7 @@ where
     T: RangeTable + Drop + Send,
     S: HostStore + Drop + Send,
     G: Gate + Sync,
-    R: Net<Listener = TcpListener, Stream = TcpStream>
-        + Threads
-        + Wait
-        + Clock
-        + Print
-        + Log
-        + Sync,
+    R: Runtime,
 {
     let Listening {
         callers,
@@ -262,13 +255,7 @@ where
     T: RangeTable + Drop + Send,
     S: HostStore + Drop + Send,
     G: Gate + Sync,
-    R: Net<Listener = TcpListener, Stream = TcpStream>
-        + Threads
-        + Wait
-        + Clock
-        + Print
-        + Log
-        + Sync,
+    R: Runtime,
     requires { parts ≡ L.parts }
 {
     match seat_all(alloc, &mut cutter, channel, settings.workers) {
@@ -308,13 +295,7 @@ where
     T: RangeTable + Drop + Send,
     S: HostStore + Drop + Send,
     G: Gate + Sync,
-    R: Net<Listener = TcpListener, Stream = TcpStream>
-        + Threads
-        + Wait
-        + Clock
-        + Print
-        + Log
-        + Sync,
+    R: Runtime,
     requires empty { T.settings table ≡ [] }
     requires place { (opened.slip.table_id ≡ P.table) × (opened.slip.me.0.of ≡ P.key) }
     requires ledger { (blank.name ≡ L.name) × (blank.parts ≡ L.parts) × (blank.parts ≡ parts) }
@@ -404,13 +385,7 @@ pub fn serve<S, G, R>(
 where
     S: HostStore + Drop + Send,
     G: Gate + Sync,
-    R: Net<Listener = TcpListener, Stream = TcpStream>
-        + Threads
-        + Wait
-        + Clock
-        + Print
-        + Log
-        + Sync,
+    R: Runtime,
 {
     let Ok(table) = ArenaTable::new(alloc) else {
         drop(backing);

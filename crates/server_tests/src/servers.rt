@@ -5,7 +5,7 @@ use callbacks::ShortBytes;
 use hosts_db::MemHosts;
 use log::Log;
 use peers::Peers;
-use server::{Backing, CallSettings, Settings, serve};
+use server::{Backing, CallSettings, Runtime, Settings, serve};
 use std::alloc::Global;
 use std::io::{self, Print};
 use std::net::{Ipv4Addr, Net, SocketAddr, SocketAddrV4, TcpListener, TcpStream};
@@ -76,23 +76,14 @@ fn backing(alloc: Global) -> Option<Backing<MemHosts>> {
 /// How many calls the server took, by its audit, what the talk came to, and whether enough jobs were inside at once.
 pub(crate) type Served = (u64, Told, bool);
 
-fn served<R>(
+fn served<R: Runtime>(
     rt: &R,
     alloc: Global,
     settings: Settings,
     backing: Backing<MemHosts>,
     wanted: u64,
     talk: (Ports, Talk),
-) -> Option<Served>
-where
-    R: Net<Listener = TcpListener, Stream = TcpStream>
-        + Threads
-        + Wait
-        + Clock
-        + Print
-        + Log
-        + Sync,
-{
+) -> Option<Served> {
     let hall = Hall::new(rt, wanted);
     let gate = &hall;
     let (ports, talk) = talk;
