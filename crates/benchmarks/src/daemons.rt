@@ -11,9 +11,9 @@ use std::alloc::Global;
 
 /// The daemon of a server named `server`, with nothing stored. An error where there is no memory for it.
 pub(crate) fn opened(alloc: Global) -> Result<Daemon<ArenaTable, MemHosts>> {
-    let store = MemHosts::new(alloc, 0, Vec::new(alloc), Vec::new(alloc))?;
-    let table = ArenaTable::new(alloc)?;
     let name = ShortBytes::copy_of(alloc, b"server")?;
+    let table = ArenaTable::new(alloc)?;
+    let store = MemHosts::new(alloc, 0, Vec::new(alloc), Vec::new(alloc))?;
     Ok(Daemon::new(alloc, table, store, name)?)
 }
 
@@ -52,15 +52,17 @@ fn is_answered<T: RangeTable, S: HostStore>(
     asked: Asked,
 ) -> Result<bool> {
     let bytes = asked.fragment(alloc)?;
-    daemon.step(Event::Piece {
+    drop(daemon.step(Event::Piece {
         connection: 0,
         bytes,
-    });
+    }));
     let outputs = daemon.step(Event::Take {
         connection: 0,
         index: 0,
     });
-    tells_grant(alloc, &outputs, room)
+    let is_granted = tells_grant(alloc, &outputs, room);
+    drop(outputs);
+    is_granted
 }
 
 fn run<T: RangeTable, S: HostStore>(
@@ -69,11 +71,11 @@ fn run<T: RangeTable, S: HostStore>(
     is_null: bool,
     calls: u32,
 ) -> Result<u32> {
-    daemon.step(Event::GraceOver);
-    daemon.step(Event::Connect {
+    drop(daemon.step(Event::GraceOver));
+    drop(daemon.step(Event::Connect {
         connection: 0,
         peer: Peer::PIPE,
-    });
+    }));
     let mut room = Frame::new();
     let mut granted = 0u32;
     for round in 0..calls {

@@ -42,15 +42,41 @@ const SCRIPT: &[&str] = &[
     "send",
 ];
 
+/// When an event is made.
+#[derive(Clone, Copy)]
+enum Turn {
+    Always,
+    /// The rest of a record is left out where the front of it was sent again, with all of it.
+    Rest,
+    /// Only where the event in front came to want of memory, to make that again.
+    Again,
+}
+
+impl Turn {
+    // What makes an event again has its number.
+    fn count(self) -> u32 {
+        match self {
+            Turn::Again => 0,
+            _ => 1,
+        }
+    }
+
+    fn is_made(self, is_again: bool) -> bool {
+        match self {
+            Turn::Always => true,
+            Turn::Rest => !is_again,
+            Turn::Again => is_again,
+        }
+    }
+}
+
 /// An event.
 #[derive(Drop)]
 struct Step {
     event: Event,
-    /// What it is told where it comes to want of memory, and what makes it again then.
+    turn: Turn,
+    /// What it is told where it comes to want of memory. It does so once, so nothing is told where it is made again.
     starved: String,
-    again: Vec<Event>,
-    /// Whether it is the rest of a record, which is left out where the front of it was sent again, with all of it.
-    is_rest: bool,
 }
 
 fn put_hex(text: &mut String, bytes: &[u8]) -> Result<()> {
@@ -131,6 +157,12 @@ impl Page {
         Ok(())
     }
 
+    /// Prints what an event was told that makes another again, as may those behind it.
+    fn take_again(&mut self, number: u32, outputs: &Outputs) -> Result<bool> {
+        self.print(number, outputs)?;
+        Ok(true)
+    }
+
     /// Prints what an event was told, or that it came to want of memory otherwise than it should: whether it came to that.
     fn take(
         &mut self,
@@ -162,20 +194,6 @@ fn bytes_of(alloc: Global, words: &str) -> Result<Vec<u8>> {
     Ok(bytes)
 }
 
-fn connect() -> Event {
-    Event::Connect {
-        connection: CONNECTION,
-        peer: Peer::PIPE,
-    }
-}
-
-fn take() -> Event {
-    Event::Take {
-        connection: CONNECTION,
-        index: 0,
-    }
-}
-
 fn piece(alloc: Global, words: &str) -> Result<Event> {
     Ok(Event::Piece {
         connection: CONNECTION,
@@ -188,6 +206,35 @@ fn line(alloc: Global, text: &str) -> Result<Event> {
         connection: LOCAL,
         line: Vec::from_slice(alloc, text.as_bytes())?,
     })
+}
+
+fn send(alloc: Global) -> Result<Event> {
+    Ok(Event::Send {
+        posting: Box::new(alloc, Posting::new())?,
+    })
+}
+
+/// The event of this name, with what it brings.
+fn event_of(alloc: Global, name: &str, brought: &str) -> Result<Event> {
+    match name {
+        "restart" => Ok(Event::Restart),
+        "grace-over" => Ok(Event::GraceOver),
+        "connect" => Ok(Event::Connect {
+            connection: CONNECTION,
+            peer: Peer::PIPE,
+        }),
+        "disconnect" => Ok(Event::Disconnect {
+            connection: CONNECTION,
+        }),
+        "piece" => piece(alloc, brought),
+        "take" => Ok(Event::Take {
+            connection: CONNECTION,
+            index: 0,
+        }),
+        "line" => line(alloc, brought),
+        "send" => send(alloc),
+        _ => Err(anyhow!("no event is named {name}")),
+    }
 }
 
 /// What is told of an event that has nobody to answer.
@@ -212,25 +259,6 @@ struct Steps {
     steps: Vec<Step>,
 }
 
-// A new connection, and on it the record whole.
-fn sent_anew(alloc: Global, record: &str) -> Result<Vec<Event>> {
-    let whole = piece(alloc, record)?;
-    let end = Event::Disconnect {
-        connection: CONNECTION,
-    };
-    Ok(vec![in alloc; end, connect(), whole]?)
-}
-
-fn taken_again(alloc: Global, record: &str) -> Result<Vec<Event>> {
-    let whole = piece(alloc, record)?;
-    Ok(vec![in alloc; whole, take()]?)
-}
-
-fn said_again(alloc: Global, text: &str) -> Result<Vec<Event>> {
-    let line = line(alloc, text)?;
-    Ok(vec![in alloc; line]?)
-}
-
 // What a local program is told.
 fn starved_line(alloc: Global) -> Result<String> {
     let mut told = String::with_capacity(alloc, MOST_BYTES)?;
@@ -240,87 +268,69 @@ fn starved_line(alloc: Global) -> Result<String> {
 }
 
 impl Steps {
-    fn put_step(&mut self, step: Step) -> Result<()> {
-        self.steps.push(step)?;
+    // The only place that has an event in hand, which is dear to prove beside an early end.
+    fn put_step(&mut self, turn: Turn, name: &str, brought: &str, starved: String) -> Result<()> {
+        let event = event_of(self.alloc, name, brought)?;
+        self.steps.push(Step {
+            event,
+            turn,
+            starved,
+        })?;
         Ok(())
     }
 
-    // Two of this event, the second of which makes the first again.
-    fn put_twice(&mut self, event: Event, same: Event) -> Result<()> {
-        let again = vec![in self.alloc; same]?;
+    fn put_again(&mut self, name: &str, brought: &str) -> Result<()> {
+        let nothing = String::new(self.alloc);
+        self.put_step(Turn::Again, name, brought, nothing)
+    }
+
+    // An event that has nobody to answer, and the same again.
+    fn put_twice(&mut self, name: &str) -> Result<()> {
         let starved = refusal(self.alloc)?;
-        self.put_step(Step {
-            event,
-            starved,
-            again,
-            is_rest: false,
-        })
+        self.put_step(Turn::Always, name, "", starved)?;
+        self.put_again(name, "")
     }
 
     // After a piece that starved the connection receives no more: a new one gets the record whole.
-    fn put_piece(&mut self, part: &str, record: &str, is_rest: bool) -> Result<()> {
-        let again = sent_anew(self.alloc, record)?;
+    fn put_piece(&mut self, turn: Turn, part: &str, record: &str) -> Result<()> {
         let starved = refusal(self.alloc)?;
-        let event = piece(self.alloc, part)?;
-        self.put_step(Step {
-            event,
-            starved,
-            again,
-            is_rest,
-        })
+        self.put_step(turn, "piece", part, starved)?;
+        self.put_again("disconnect", "")?;
+        self.put_again("connect", "")?;
+        self.put_again("piece", record)
     }
 
     fn put_take(&mut self, record: &str) -> Result<()> {
-        let again = taken_again(self.alloc, record)?;
         let starved = system_err(self.alloc, record)?;
-        self.put_step(Step {
-            event: take(),
-            starved,
-            again,
-            is_rest: false,
-        })
+        self.put_step(Turn::Always, "take", "", starved)?;
+        self.put_again("piece", record)?;
+        self.put_again("take", "")
     }
 
     fn put_call(&mut self, record: &str) -> Result<()> {
         match record.split_once(" | ") {
-            None => self.put_piece(record, record, false)?,
+            None => self.put_piece(Turn::Always, record, record)?,
             Some((front, rest)) => {
-                self.put_piece(front, record, false)?;
-                self.put_piece(rest, record, true)?;
+                self.put_piece(Turn::Always, front, record)?;
+                self.put_piece(Turn::Rest, rest, record)?;
             }
         }
         self.put_take(record)
     }
 
     fn put_line(&mut self, text: &str) -> Result<()> {
-        let again = said_again(self.alloc, text)?;
         let starved = starved_line(self.alloc)?;
-        let event = line(self.alloc, text)?;
-        self.put_step(Step {
-            event,
-            starved,
-            again,
-            is_rest: false,
-        })
+        self.put_step(Turn::Always, "line", text, starved)?;
+        self.put_again("line", text)
     }
 
     fn put(&mut self, row: &str) -> Result<()> {
         match row.split_once(" ").unwrap_or((row, "")) {
-            ("restart", _) => self.put_twice(Event::Restart, Event::Restart),
-            ("grace-over", _) => self.put_twice(Event::GraceOver, Event::GraceOver),
-            ("connect", _) => self.put_twice(connect(), connect()),
             ("call", record) => self.put_call(record),
             ("line", text) => self.put_line(text),
-            ("send", _) => self.put_twice(send(self.alloc)?, send(self.alloc)?),
-            (other, _) => Err(anyhow!("no event is named {other}")),
+            (name, _) => self.put_twice(name),
         }
     }
-}
-
-fn send(alloc: Global) -> Result<Event> {
-    Ok(Event::Send {
-        posting: Box::new(alloc, Posting::new())?,
-    })
 }
 
 fn script(alloc: Global) -> Result<Vec<Step>> {
@@ -338,34 +348,7 @@ fn is_left(rows: usize, before: usize) -> bool {
     rows == before || rows == before.saturating_add(1)
 }
 
-// Makes an event: whether it came to want of memory.
-fn starves<T: RangeTable, S: HostStore>(
-    daemon: &mut Daemon<T, S>,
-    page: &mut Page,
-    number: u32,
-    event: Event,
-    told: &str,
-) -> Result<bool> {
-    let before = daemon.store().hosts().len();
-    let outputs = daemon.step(event);
-    let is_left = is_left(daemon.store().hosts().len(), before);
-    page.take(number, &outputs, told, is_left)
-}
-
-fn go_again<T: RangeTable, S: HostStore>(
-    daemon: &mut Daemon<T, S>,
-    page: &mut Page,
-    number: u32,
-    again: Vec<Event>,
-) -> Result<()> {
-    for event in again {
-        let outputs = daemon.step(event);
-        page.print(number, &outputs)?;
-    }
-    Ok(())
-}
-
-/// Whether the event came to want of memory, and so was made again.
+// Makes an event: whether those that stand behind it to be made again are.
 fn goes<T: RangeTable, S: HostStore>(
     daemon: &mut Daemon<T, S>,
     page: &mut Page,
@@ -374,15 +357,18 @@ fn goes<T: RangeTable, S: HostStore>(
 ) -> Result<bool> {
     let Step {
         event,
+        turn,
         starved,
-        again,
-        ..
     } = step;
-    if !starves(daemon, page, number, event, &starved)? {
-        return Ok(false);
-    }
-    go_again(daemon, page, number, again)?;
-    Ok(true)
+    let before = daemon.store().hosts().len();
+    let outputs = daemon.step(event);
+    let is_left = is_left(daemon.store().hosts().len(), before);
+    let is_again = match turn {
+        Turn::Again => page.take_again(number, &outputs),
+        _ => page.take(number, &outputs, &starved, is_left),
+    };
+    drop(outputs);
+    is_again
 }
 
 fn play<T: RangeTable, S: HostStore>(
@@ -391,28 +377,41 @@ fn play<T: RangeTable, S: HostStore>(
     steps: Vec<Step>,
 ) -> Result<()> {
     let mut number = 0u32;
-    let mut is_whole = false;
+    let mut is_again = false;
     for step in steps {
-        number = number.wrapping_add(1);
-        if !(is_whole && step.is_rest) {
-            is_whole = goes(daemon, page, number, step)?;
+        number = number.wrapping_add(step.turn.count());
+        if step.turn.is_made(is_again) {
+            is_again = goes(daemon, page, number, step)?;
+        } else {
+            is_again = false;
+            drop(step);
         }
     }
     Ok(())
 }
 
+// Plays the steps over a daemon, if there is one. It is generic, so that what has to drop it sees no more of its parts than their traits.
+fn play_over<T: RangeTable + Drop, S: HostStore + Drop>(
+    daemon: Result<Daemon<T, S>>,
+    page: &mut Page,
+    steps: Vec<Step>,
+) -> Result<()> {
+    let Ok(mut daemon) = daemon else {
+        drop(steps);
+        page.printed.push_str("wrong 0 no daemon is made\n")?;
+        return Ok(());
+    };
+    let played = play(&mut daemon, page, steps);
+    drop(daemon);
+    played
+}
+
 /// All that is printed.
 pub(crate) fn printed(alloc: Global) -> Result<String> {
-    let steps = script(alloc)?;
     let mut page = Page::new(alloc)?;
-    match opened(alloc).or_else(|_| opened(alloc)) {
-        Err(_) => page.printed.push_str("wrong 0 no daemon is made\n")?,
-        Ok(mut daemon) => {
-            let played = play(&mut daemon, &mut page, steps);
-            drop(daemon);
-            played?;
-        }
-    }
+    let steps = script(alloc)?;
+    let daemon = opened(alloc).or_else(|_| opened(alloc));
+    play_over(daemon, &mut page, steps)?;
     let Page { printed, .. } = page;
     Ok(printed)
 }

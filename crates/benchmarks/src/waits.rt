@@ -131,11 +131,10 @@ struct Stand {
 
 impl Stand {
     fn new(alloc: Global) -> Result<Stand> {
-        let owners = Owners::new(alloc);
         let table = ArenaTable::new(alloc)?;
         let slots = Slots::new(alloc)?;
         Ok(Stand {
-            owners,
+            owners: Owners::new(alloc),
             table,
             slots,
         })

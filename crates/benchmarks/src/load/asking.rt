@@ -42,9 +42,10 @@ impl Asker {
         let to = SocketAddr::V4(SocketAddrV4::new(Ipv4Addr::LOCALHOST, plan.port));
         let stream = TcpStream::connect(rt, to)?;
         stream.set_nodelay(true)?;
+        let calls = Calls::new(alloc, plan.cell, number)?;
         Ok(Asker {
             stream,
-            calls: Calls::new(alloc, plan.cell, number)?,
+            calls,
             incoming: Assembler::new(alloc),
             out: 0,
         })
