@@ -1,6 +1,6 @@
 //! Letters: each kind of message, once on its happy path.
 use super::memory::{Memory, granted_line};
-use callbacks::{Destination, Letter, Lock, Message};
+use callbacks::{Destination, Letter, Lock};
 use std::alloc::Global;
 
 // Whether it is a grant, whether it is one to the host `b`, a GRANTED_MSG, and done when it is sent.
