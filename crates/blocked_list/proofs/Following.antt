@@ -1,11 +1,11 @@
 -- A search for a cycle of waits: who is reached, and whose waits were followed.
-use Rattle.std.proofs.Common.{◌≡◌, ◌≢◌, ◌<◌, ◌≤◌, Bool, true, false, not, ℕ, zero, suc, ◌&&◌, ◌||◌, ◌+◌, eqb, List, [], ◌∷◌, length, get_or, set, replicate, Option, Some, None, refl, sym, ap, subst, arith, ◌∙◌, ◌⊎◌, inl, inr}
+use Rattle.std.proofs.Common.{◌≡◌, ◌≢◌, ◌<◌, ◌≤◌, Bool, true, false, not, ℕ, zero, suc, ◌&&◌, ◌||◌, ◌+◌, eqb, List, [], ◌∷◌, length, get_or, set, replicate, Some, refl, sym, ap, subst, arith, ◌∙◌, ◌⊎◌, inl, inr}
 use Rattle.std.proofs.lemmas.Bool.{false≢true, or_right, and_parts, not-true}
 use Rattle.std.proofs.lemmas.Bool.Decides.{nat_tests}
 use Rattle.std.proofs.lemmas.List.{get_or-set_same, get_or-set_other, length-map}
 use Rattle.std.specs.List.{slice_get}
 use Rattle.std.specs.Prelude.{IsSome}
-use Rattle.std.proofs.lemmas.Option.{same_Some}
+use Rattle.std.proofs.lemmas.Option.{same_Some, slice_get_within}
 use Rattle.range_table.proofs.Tests.{by_test}
 use Rattle.definitions.specs.Bytes.{is_any}
 use Rattle.definitions.specs.Owners.{Owner, same_owner, is_description}
@@ -47,20 +47,6 @@ fewer_left (false ∷ marks) (suc i) l e = let h = fewer_left marks i (omega (ar
 both_true : (a b : Bool) → a ≡ false → b ≡ true → (not a && b) ≡ true
 both_true a b e f = rw (e, f) refl
 
-pub within_from : {X : Type 0} (xs : List X) (k : ℕ) (x : X) → slice_get xs k ≡ Some x → k < length xs
-within_from [] zero x e = absurd (false≢true (ap is_here e))
-  where
-    is_here : {X : Type 0} → Option X → Bool
-    is_here None = false
-    is_here (Some x) = true
-within_from [] (suc k) x e = absurd (false≢true (ap is_here e))
-  where
-    is_here : {X : Type 0} → Option X → Bool
-    is_here None = false
-    is_here (Some x) = true
-within_from (y ∷ ys) zero x e = omega arith
-within_from (y ∷ ys) (suc k) x e = let h = within_from ys k x e in omega (arith, h)
-
 -- who passes stands somewhere
 any_place : {X : Type 0} (test : X → Bool) (xs : List X) → is_any test xs ≡ true → (k : ℕ) × (x : X) × (slice_get xs k ≡ Some x) × (test x ≡ true)
 any_place test [] e = absurd (false≢true e)
@@ -70,7 +56,7 @@ any_place test (x ∷ xs) e =
     (λ t. let h = any_place test xs (rw t at e) in (suc h.0, h.1, h.2, h.3))
 
 place_any : {X : Type 0} (test : X → Bool) (xs : List X) (k : ℕ) (x : X) → slice_get xs k ≡ Some x → test x ≡ true → is_any test xs ≡ true
-place_any test [] k x e t = let l = within_from [] k x e in absurd (omega (arith, l))
+place_any test [] k x e t = let l = slice_get_within [] k x e in absurd (omega (arith, l))
 place_any test (y ∷ ys) zero x e t = rw (same_Some y x e, t) refl
 place_any test (y ∷ ys) (suc k) x e t = or_right (test y) (is_any test ys) (place_any test ys k x e t)
 
@@ -171,7 +157,7 @@ module _ (settings : List Setting) (xs : List Waiter) (r : Request) where
 -- ---- a waiter by number, where it stands
 
 pub at_is : (names : Names) (ws : List Waiting) (i : ℕ) (w : Waiting) (x : Waiter) → w ≡ get_or ws i w → slice_get (waiters_by names ws) i ≡ Some x → x ≡ waiter_by names w
-at_is names [] i w x e at = let l = within_from [] i x at in absurd (omega (arith, l))
+at_is names [] i w x e at = let l = slice_get_within [] i x at in absurd (omega (arith, l))
 at_is names (v ∷ ws) zero w x e at = sym (same_Some (waiter_by names v) x at) ∙ ap (waiter_by names) (sym e)
 at_is names (v ∷ ws) (suc i) w x e at = at_is names ws i w x e at
 
@@ -227,4 +213,4 @@ unmade (suc n) zero = refl
 unmade (suc n) (suc k) = unmade n k
 
 pub within_waiters : (names : Names) (ws : List Waiting) (k : ℕ) (x : Waiter) → slice_get (waiters_by names ws) k ≡ Some x → k < length ws
-within_waiters names ws k x at = rw (← length-map ws (waiter_by names)) (within_from (waiters_by names ws) k x at)
+within_waiters names ws k x at = rw (← length-map ws (waiter_by names)) (slice_get_within (waiters_by names ws) k x at)

@@ -1,6 +1,7 @@
 -- Who isn't held back by a quota goes past none, and what such an owner does lets nobody else off theirs.
 use Rattle.std.proofs.Common.{◌≡◌, ◌≢◌, ◌≤◌, ℕ, Bool, true, false, cond, not, ◌&&◌, ◌||◌, is_some, ltb, List, [], ◌∷◌, ◌++◌, refl, sym, ap, ◌∙◌, Option, Some, None}
 use Rattle.std.proofs.lemmas.Bool.{true≢false, ltb-false}
+use Rattle.std.proofs.lemmas.Option.{none-some, same_Some}
 use Rattle.std.proofs.lemmas.Slice.Eq.{bytes_eq-Decides}
 use Rattle.definitions.specs.Bytes.{Bytes}
 use Rattle.definitions.specs.Hosts.{full_quota}
@@ -13,19 +14,10 @@ use Rattle.definitions.proofs.SettingLaws.{newest_wins}
 use Rattle.definitions.proofs.QuotaLaws.{full_quota_law}
 use Rattle.blocked_list.specs.Quotas.{is_limiting, is_limited, UnlimitedLaw}
 
-same_some : (m n : Bytes) → Some m ≡ Some n → m ≡ n
-same_some m n e = cc
-
 -- a quota that isn't limiting, where there is one, is as great as the full one
 full_at_least : (o : Option ℕ) (quota : ℕ) → o ≡ Some quota → is_limiting o ≡ false → full_quota ≤ quota
-full_at_least None quota e f = absurd (no_quota quota e)
-  where
-    no_quota : (n : ℕ) → None ≡ Some n → ⊥
-    no_quota n e = cc
-full_at_least (Some n) quota e f = ltb-false quota full_quota (ap (λ m. ltb m full_quota) (sym (inside n quota e)) ∙ f)
-  where
-    inside : (a b : ℕ) → Some a ≡ Some b → a ≡ b
-    inside a b e = cc
+full_at_least None quota e f = absurd (none-some quota e)
+full_at_least (Some n) quota e f = ltb-false quota full_quota (ap (λ m. ltb m full_quota) (sym (same_Some n quota e)) ∙ f)
 
 -- such a quota holds back nothing that finds free runs
 past_none : (settings : List Setting) (s : Setting) (name : Bytes) (o : Option ℕ) → host_of s.owner ≡ Some name → is_limiting o ≡ false → refuses 65536 settings s ≡ false → is_past_own settings s name o ≡ false

@@ -1,6 +1,7 @@
 -- Where the store isn't asked there is one outcome, and what starved leaves all but hosts as it was.
 use Rattle.std.proofs.Common.{◌≡◌, ◌≢◌, ℕ, ◌-◌, Bool, true, false, cond, not, ◌&&◌, eqb, leb, length, refl, sym, ap, Option, Some, None}
 use Rattle.std.proofs.lemmas.Bool.{true≢false}
+use Rattle.std.proofs.lemmas.Option.{none-some}
 use Rattle.std.specs.Ordering.{int_eq}
 use Rattle.definitions.specs.Bytes.{Bytes}
 use Rattle.definitions.specs.Settings.{Setting, Request, setting_of}
@@ -37,15 +38,12 @@ pub refused_is_no_yes : Refused ≢ Yes
 unfolding agrees
 refused_is_no_yes e = true≢false (sym (ap agrees e))
 
-asked : (call : StoreCall) → Some call ≡ None → ⊥
-asked call e = cc
-
 abbrev Told_unasked : Ruling (Told Stat) → Type 0
 Told_unasked r = IsUnasked r
 
 row_unasked : (w : World) (call : Option StoreCall) (stat : Stat) (change : World → World) → Told_unasked (after_row w call stat change)
 row_unasked w None stat change = λ e. refl
-row_unasked w (Some call) stat change = λ e. absurd (asked call e)
+row_unasked w (Some call) stat change = λ e. absurd (none-some call (sym e))
 
 lock_unasked : (limits : Limits) (w : World) (a : LockAsk) → Told_unasked (lock_rules limits w a)
 lock_unasked limits w a =
@@ -121,19 +119,19 @@ nlm_unasked limits w version (FreeAll name state) = λ e. refl
 nsm_unasked : (limits : Limits) (w : World) (local : Bool) (call : NsmCall) → Answer_unasked (nsm_answer limits w local call)
 nsm_unasked limits w local SmNull = λ e. refl
 nsm_unasked limits w local (SmStat name) = λ e. refl
-nsm_unasked limits w true (SmMon name my bytes) = λ e. absurd (asked (Watched name my bytes) e)
+nsm_unasked limits w true (SmMon name my bytes) = λ e. absurd (none-some (Watched name my bytes) (sym e))
 nsm_unasked limits w false (SmMon name my bytes) = λ e. refl
-nsm_unasked limits w true (SmUnmon name my) = λ e. absurd (asked (Unwatched (Some name) my) e)
+nsm_unasked limits w true (SmUnmon name my) = λ e. absurd (none-some (Unwatched (Some name) my) (sym e))
 nsm_unasked limits w false (SmUnmon name my) = λ e. refl
-nsm_unasked limits w true (SmUnmonAll my) = λ e. absurd (asked (Unwatched None my) e)
+nsm_unasked limits w true (SmUnmonAll my) = λ e. absurd (none-some (Unwatched None my) (sym e))
 nsm_unasked limits w false (SmUnmonAll my) = λ e. refl
-nsm_unasked limits w true SmSimuCrash = λ e. absurd (asked Begin e)
+nsm_unasked limits w true SmSimuCrash = λ e. absurd (none-some Begin (sym e))
 nsm_unasked limits w false SmSimuCrash = λ e. refl
 nsm_unasked limits w local (SmNotify name state) = go (row_of w.hosts name)
   where
     go : (o : Option HostRow) → Answer_unasked (notify_rules limits w name state o)
     go None = λ e. refl
-    go (Some row) = by_cond Answer_unasked (int_eq row.seen state) _ _ (λ _ e. refl) (λ _. slots_unasked (length (watches_of w.hosts name)) limits w (stored w (Seen name state) (notified name state) (gives w SystemErr)) (λ e. absurd (asked (Seen name state) e)))
+    go (Some row) = by_cond Answer_unasked (int_eq row.seen state) _ _ (λ _ e. refl) (λ _. slots_unasked (length (watches_of w.hosts name)) limits w (stored w (Seen name state) (notified name state) (gives w SystemErr)) (λ e. absurd (none-some (Seen name state) (sym e))))
 
 call_unasked : (limits : Limits) (w : World) (local : Bool) (call : Call) → Answer_unasked (ruling limits w local call)
 call_unasked limits w local (Nlm version call) = nlm_unasked limits w version call
@@ -143,7 +141,7 @@ abbrev Change_unasked : Ruling (Told Change) → Type 0
 Change_unasked r = IsUnasked r
 
 notice_unasked : (w : World) (c : Outgoing) (to : Destination) → Change_unasked (notice_answered w c to)
-notice_unasked w c (ToHost name) = λ e. absurd (asked _ e)
+notice_unasked w c (ToHost name) = λ e. absurd (none-some _ (sym e))
 notice_unasked w c (ToConnection l) = λ e. refl
 
 succeeded_unasked : (limits : Limits) (w : World) (c : Outgoing) (stat : Option Stat) (m : Message) → Change_unasked (succeeded limits w c stat m)

@@ -1,6 +1,7 @@
 -- What is kept are the newest uses.
 use Rattle.std.proofs.Common.{◌≡◌, ℕ, zero, suc, Bool, true, false, cond, not, ◌&&◌, ◌||◌, leb, List, [], ◌∷◌, length, take, refl, sym, ap, subst, ◌∙◌, Option, Some, None}
 use Rattle.std.proofs.lemmas.Bool.{true≢false, and_parts}
+use Rattle.std.proofs.lemmas.Option.{none-some, same_Some}
 use Rattle.std.proofs.lemmas.Slice.Eq.{bytes_eq-Decides}
 use Rattle.definitions.specs.Bytes.{Bytes, same_bytes, is_any, first_that, without, without_first}
 use Rattle.definitions.specs.Hosts.{StoreAnswer, NotAsked, Yes, Refused}
@@ -76,10 +77,7 @@ module _ {X : Type 0} (p : X → Bool) where
       go false i more = ap (λ ys. x ∷ ys) (more i)
 
   first_any : (xs : List X) (x : X) → first_that p xs ≡ Some x → is_any p xs ≡ true
-  first_any [] x e = absurd (none_some x e)
-    where
-      none_some : (x : X) → None ≡ Some x → ⊥
-      none_some x e = cc
+  first_any [] x e = absurd (none-some x e)
   first_any (y ∷ ys) x e = go (p y) e (first_any ys x)
     where
       go : (b : Bool) → cond b (Some y) (first_that p ys) ≡ Some x → (first_that p ys ≡ Some x → is_any p ys ≡ true) → (b || is_any p ys) ≡ true
@@ -90,25 +88,16 @@ module _ {X : Type 0} (p : X → Bool) where
   first_none [] e = refl
   first_none (y ∷ ys) e = go (p y) e (first_none ys)
     where
-      some_none : (x : X) → Some x ≡ None → ⊥
-      some_none x e = cc
-
       go : (b : Bool) → cond b (Some y) (first_that p ys) ≡ None → (first_that p ys ≡ None → is_any p ys ≡ false) → (b || is_any p ys) ≡ false
-      go true k more = absurd (some_none y k)
+      go true k more = absurd (none-some y (sym k))
       go false k more = more k
 
   first_passes : (xs : List X) (x : X) → first_that p xs ≡ Some x → p x ≡ true
-  first_passes [] x e = absurd (none_some x e)
-    where
-      none_some : (x : X) → None ≡ Some x → ⊥
-      none_some x e = cc
+  first_passes [] x e = absurd (none-some x e)
   first_passes (y ∷ ys) x e = go (p y) refl e (first_passes ys x)
     where
-      inside : (a b : X) → Some a ≡ Some b → a ≡ b
-      inside a b e = cc
-
       go : (b : Bool) → p y ≡ b → cond b (Some y) (first_that p ys) ≡ Some x → (first_that p ys ≡ Some x → p x ≡ true) → p x ≡ true
-      go true h k more = ap p (sym (inside y x k)) ∙ h
+      go true h k more = ap p (sym (same_Some y x k)) ∙ h
       go false h k more = more k
 
 -- ---- keys

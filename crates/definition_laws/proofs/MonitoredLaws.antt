@@ -1,6 +1,7 @@
 -- The row of a lock's host is there, or stored, before the lock is made.
 use Rattle.std.proofs.Common.{◌≡◌, ℕ, ◌-◌, Bool, true, false, cond, not, ◌&&◌, eqb, List, [], ◌∷◌, refl, sym, ap, ◌∙◌, Option, Some, None, ℤ}
 use Rattle.std.proofs.lemmas.Bool.{true≢false, or_left, or_right}
+use Rattle.std.proofs.lemmas.Option.{none-some}
 use Rattle.std.proofs.lemmas.Slice.Eq.{bytes_eq-Decides}
 use Rattle.std.specs.declared.cmp.Ordering.{Ordering}
 use Rattle.std.specs.declared.cmp.Ordering.TheVariants.{Less, Equal, Greater}
@@ -97,16 +98,10 @@ monitored_law limits w version a store = (
 -- ---- a row that is refused
 
 given_up : (w : World) (stat : Stat) → IsGivenUp w (stays w stat)
-given_up w stat call e = absurd (asks_nothing call e)
-  where
-    asks_nothing : (call : StoreCall) → None ≡ Some call → ⊥
-    asks_nothing call e = cc
+given_up w stat call e = absurd (none-some call e)
 
 row_given_up : (w : World) (o : Option StoreCall) (stat : Stat) (change : World → World) → IsGivenUp w (after_row w o stat change)
-row_given_up w None stat change call e = absurd (asks_nothing call e)
-  where
-    asks_nothing : (call : StoreCall) → None ≡ Some call → ⊥
-    asks_nothing call e = cc
+row_given_up w None stat change call e = absurd (none-some call e)
 row_given_up w (Some asked) stat change call e = refl
 
 lock_given_up : (limits : Limits) (w : World) (a : LockArgs) (ask : LockAsk) → IsGivenUp w (lock_verdict limits w a ask)

@@ -1,5 +1,6 @@
 -- A repeat is answered and not applied.
 use Rattle.std.proofs.Common.{◌≡◌, ℕ, leb, List, [], ◌∷◌, length, refl, Option, Some, None}
+use Rattle.std.proofs.lemmas.Option.{none-some}
 use Rattle.definitions.specs.Bytes.{Bytes}
 use Rattle.definitions.specs.Hosts.{StoreAnswer}
 use Rattle.definitions.specs.Nlm.{Locks, LockMsg}
@@ -27,17 +28,11 @@ module _ (limits : Limits) (s : State) (peer : Peer) (asked : Bytes) (xid : ℕ)
       by_cond (λ (t : Stepped). IsUnapplied s.world t.state.world) (leb (length j.letters) (slots_free limits s.world)) _ _
       (λ _. due_unapplied s.world s.world j.letters (unapplied s.world))
       (λ _. unapplied s.world)
-  taken_unapplied None e = absurd (no_pair k e)
-    where
-      no_pair : (k : KeptPair) → None ≡ Some k → ⊥
-      no_pair k e = cc
+  taken_unapplied None e = absurd (none-some k e)
 
   starved_unapplied : (o : Option KeptPair) → o ≡ Some k → IsUnapplied s.world (with_row_stored s call (asked_unless_kept limits s peer call o) store).world
   starved_unapplied (Some j) e = not_stored s call store
-  starved_unapplied None e = absurd (no_pair k e)
-    where
-      no_pair : (k : KeptPair) → None ≡ Some k → ⊥
-      no_pair k e = cc
+  starved_unapplied None e = absurd (none-some k e)
 
 pub repeat_law : RepeatLaw
 repeat_law limits s peer asked xid call Applied store k e = taken_unapplied limits s peer asked xid call store k (look s peer asked) e

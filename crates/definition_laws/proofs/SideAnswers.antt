@@ -1,6 +1,7 @@
 -- Each call and line, by what it changes beside the table.
 use Rattle.std.proofs.Common.{◌≡◌, ℕ, ◌-◌, Bool, true, false, cond, leb, List, [], ◌∷◌, length, map, refl, sym, ap, subst, ◌∙◌, Option, Some, None, ℤ, inl, inr}
 use Rattle.std.proofs.lemmas.Bool.{true≢false}
+use Rattle.std.proofs.lemmas.Option.{none-some}
 use Rattle.std.specs.Ordering.{int_eq}
 use Rattle.definitions.specs.Bytes.{Bytes}
 use Rattle.definitions.specs.Settings.{Mode}
@@ -87,15 +88,12 @@ module _ (R : Share → Type 0) where
         calls = inl (goes_left w (record w { shares = with_share new w.shares }) w.calls (left_same w.calls) refl refl refl);
       }))
     where
-      none_is : (x : Stat) → Some x ≡ None → ⊥
-      none_is x e = cc
-
       asked : (b : Bool) → cond b None (Some DENIED_GRACE_PERIOD) ≡ None → b ≡ true
       asked true e = refl
-      asked false e = absurd (none_is DENIED_GRACE_PERIOD e)
+      asked false e = absurd (none-some DENIED_GRACE_PERIOD (sym e))
 
       reclaims : (b : Bool) (phase : Phase) → phase ≡ Grace → cond b (Some STALE_FH) (cond (admits phase (Sharing a.reclaim)) None (Some DENIED_GRACE_PERIOD)) ≡ None → a.reclaim ≡ true
-      reclaims true phase g e = absurd (none_is STALE_FH e)
+      reclaims true phase g e = absurd (none-some STALE_FH (sym e))
       reclaims false Grace g e = asked a.reclaim e
       reclaims false Normal g e = absurd (true≢false (ap (λ p. admits p Testing) g))
 

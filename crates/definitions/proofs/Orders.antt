@@ -2,6 +2,7 @@
 use Rattle.std.proofs.Common.{◌≡◌, ◌↔◌, Bool, true, false, cond, List, [], ◌∷◌, filter, refl, sym, ap, subst, ◌∙◌, ◌⊎◌, inl, inr, map, Some, ◌≢◌}
 use Rattle.std.proofs.lemmas.Bool.{true≢false}
 use Rattle.std.proofs.lemmas.Map.Lookups.{CmpEqualImpliesEq}
+use Rattle.std.proofs.lemmas.Option.{same_Some}
 use Rattle.std.specs.Cmp.{IsTotalOrder}
 use Rattle.std.specs.Ordering.{ordering_reverse, is_lt, is_eq}
 use Rattle.std.proofs.lemmas.Cmp.{tied_itself}
@@ -142,11 +143,8 @@ pub first_is_least : {X : Type 0} (cmp : X → X → Ordering) → IsTotalOrder 
 first_is_least cmp total p [] a x y e h k = absurd h
 first_is_least cmp total p (z ∷ zs) a x y e h k = go (p z) refl e h (first_is_least cmp total p zs a.1 x y)
   where
-    inside : {X : Type 0} (a b : X) → Some a ≡ Some b → a ≡ b
-    inside a b e = cc
-
     go : (b : Bool) → p z ≡ b → cond b (Some z) (first_that p zs) ≡ Some x → (z ≡ y) ⊎ Holds zs y → (first_that p zs ≡ Some x → Holds zs y → p y ≡ true → cmp x y ≢ Greater) → cmp x y ≢ Greater
-    go true i f (inl j) more = not_greater (cmp x y) (inr (subst (λ w. cmp w y ≡ Equal) (inside z x f) (subst (λ w. cmp z w ≡ Equal) j (tied_itself total z))))
-    go true i f (inr j) more = not_greater (cmp x y) (inl (subst (λ w. cmp w y ≡ Less) (inside z x f) (below_of cmp z zs a.0 y j)))
+    go true i f (inl j) more = not_greater (cmp x y) (inr (subst (λ w. cmp w y ≡ Equal) (same_Some z x f) (subst (λ w. cmp z w ≡ Equal) j (tied_itself total z))))
+    go true i f (inr j) more = not_greater (cmp x y) (inl (subst (λ w. cmp w y ≡ Less) (same_Some z x f) (below_of cmp z zs a.0 y j)))
     go false i f (inl j) more = absurd (true≢false (sym k ∙ ap p (sym j) ∙ i))
     go false i f (inr j) more = more f j k

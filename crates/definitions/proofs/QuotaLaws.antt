@@ -2,6 +2,7 @@
 use Rattle.std.proofs.Common.{◌≡◌, ◌≢◌, ◌≤◌, ℕ, ◌+◌, Bool, true, false, cond, not, ◌&&◌, ◌||◌, ltb, List, [], ◌∷◌, ◌++◌, refl, sym, ap, ◌∙◌, ◌⊎◌, inl, inr, Option, Some, None, is_some, arith, ℤ, pos}
 use Rattle.std.proofs.lemmas.Bool.{true≢false, ltb-false, and_parts, and_from, le-ltb, and_right, and_left}
 use Rattle.std.proofs.lemmas.Map.Lookups.{exact_bytes}
+use Rattle.std.proofs.lemmas.Option.{none-some, same_Some}
 use Rattle.std.proofs.lemmas.Slice.Eq.{bytes_eq-Decides}
 use Rattle.std.specs.declared.cmp.Ordering.{Ordering}
 use Rattle.std.specs.declared.cmp.Ordering.TheVariants.{Less, Equal, Greater}
@@ -22,18 +23,9 @@ use Rattle.definitions.proofs.ReclaimLaws.{covered}
 -- ---- a full quota refuses nothing that finds room
 
 pub of_its_host : (owner : Owner) (name : Bytes) → host_of owner ≡ Some name → is_of_host name owner ≡ true
-of_its_host (Remote a) name e = (bytes_eq-Decides a.name name).1 (inside a.name name e)
-  where
-    inside : (a b : Bytes) → Some a ≡ Some b → a ≡ b
-    inside a b e = cc
-of_its_host (Process p) name e = absurd (none name e)
-  where
-    none : (name : Bytes) → None ≡ Some name → ⊥
-    none name e = cc
-of_its_host (Description d) name e = absurd (none name e)
-  where
-    none : (name : Bytes) → None ≡ Some name → ⊥
-    none name e = cc
+of_its_host (Remote a) name e = (bytes_eq-Decides a.name name).1 (same_Some a.name name e)
+of_its_host (Process p) name e = absurd (none-some name e)
+of_its_host (Description d) name e = absurd (none-some name e)
 
 -- whoever isn't the setting's owner keeps its modes
 pub others_keep : (settings : List Setting) (s : Setting) (file : Bytes) (owner : Owner) (byte : ℕ) → s.owner ≢ owner → mode_at (settings ++ s ∷ []) file owner byte ≡ mode_at settings file owner byte

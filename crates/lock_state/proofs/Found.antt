@@ -1,6 +1,7 @@
 -- Whoever is found in the way can be shown.
 use Rattle.std.proofs.Common.{◌≡◌, ℕ, ◌≤◌, ◌<◌, ◌^◌, ◌&&◌, not, leb, ltb, Bool, true, false, cond, List, [], ◌∷◌, filter, map, sym, subst, Option, Some, None, arith}
 use Rattle.std.specs.Prelude.{IfSome}
+use Rattle.std.proofs.lemmas.Option.{none-some, same_Some}
 use Rattle.std.specs.declared.cmp.Ordering.{Ordering}
 use Rattle.std.specs.declared.cmp.Ordering.TheVariants.{Less, Equal, Greater}
 use Rattle.definitions.specs.Bytes.{same_bytes, first_that, placed, put, in_order}
@@ -75,17 +76,11 @@ run_at_shown settings t a h =
     (h, omega arith)
 
 run_shown : (settings : List Setting) (test : Run → Bool) (ts : List Start) (run : Run) → AreStarts (ends settings) → AreStarts ts → first_that test (map (run_at settings) ts) ≡ Some run → IsRunShown run
-run_shown settings test [] run w a e = absurd (no_some run e)
-  where
-    no_some : (y : Run) → None ≡ Some y → ⊥
-    no_some y e = cc
+run_shown settings test [] run w a e = absurd (none-some run e)
 run_shown settings test (t ∷ ts) run w a e = go (test (run_at settings t)) e (run_shown settings test ts run w a.1)
   where
-    one : Some (run_at settings t) ≡ Some run → run_at settings t ≡ run
-    one e = cc
-
     go : (b : Bool) → cond b (Some (run_at settings t)) (first_that test (map (run_at settings) ts)) ≡ Some run → (first_that test (map (run_at settings) ts) ≡ Some run → IsRunShown run) → IsRunShown run
-    go true f more = subst IsRunShown (one f) (run_at_shown settings t w a.0.0)
+    go true f more = subst IsRunShown (same_Some (run_at settings t) run f) (run_at_shown settings t w a.0.0)
     go false f more = more f
 
 pub found_shown : (settings : List Setting) (r : Request) (found : Option Holder) → AreShown settings → shown_found found ≡ first_conflict settings r → IfSome found (λ h. IsShown (view_of_owner h.owner.now) × (h.last < 2 ^ 63))

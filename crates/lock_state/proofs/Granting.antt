@@ -1,6 +1,7 @@
 -- A waiter is granted, and what settle comes to then.
 use Rattle.std.proofs.Common.{◌≡◌, ◌↔◌, ℕ, suc, zero, ◌+◌, ◌<◌, ◌≤◌, ◌^◌, Bool, true, false, not, ◌&&◌, ◌||◌, List, [], ◌∷◌, ◌++◌, length, refl, sym, ap, ◌∙◌, subst, Option, Some, None, unwrap_or, Result, Ok, Err, IsErr, IsTrue, OnOk, arith}
 use Rattle.std.specs.Option.{IsSome}
+use Rattle.std.proofs.lemmas.Bool.{false≢true}
 use Rattle.definitions.specs.Bytes.{is_any, first_that, without_first}
 use Rattle.definitions.specs.Owners.{Owner, Process}
 use Rattle.definitions.specs.Outgoing.{Outgoing, due_now}
@@ -54,10 +55,7 @@ module _ (w : World) (x : Waiter) (e : first_ready the_limits w ≡ Some x) wher
 -- ---- the grant
 
 some_named : (o : Option Owner) → IsSome o → o ≡ Some (unwrap_or o (Process 0))
-some_named None h = absurd (none_is h)
-  where
-    none_is : false ≡ true → ⊥
-    none_is f = cc
+some_named None h = absurd (false≢true h)
 some_named (Some x) h = refl
 
 both : (a b q : Bool) → (not a && not (b || q)) ≡ true → b ≡ false

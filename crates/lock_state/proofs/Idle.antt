@@ -1,6 +1,7 @@
 -- Who is idle, through the changes.
 use Rattle.std.proofs.Common.{◌≡◌, ℕ, ◌≤◌, Bool, true, false, ◌&&◌, ◌||◌, cond, leb, List, [], ◌∷◌, ◌++◌, refl, sym, ap, ◌∙◌, Some, None, arith}
 use Rattle.std.proofs.lemmas.Bool.{false≢true, le-leb, or_parts}
+use Rattle.std.proofs.lemmas.Option.{none-some, same_Some}
 use Rattle.std.proofs.lemmas.Slice.Eq.{bytes_eq-Decides}
 use Rattle.definitions.specs.Bytes.{Bytes, same_bytes, is_any, first_that, without_first}
 use Rattle.definitions.specs.Owners.{Owner, same_owner}
@@ -10,9 +11,6 @@ use Rattle.definitions.specs.World.{World, the_limits, is_ready_in, first_ready,
 use Rattle.definitions.proofs.OwnerLaws.{same_owner-Decides}
 use Rattle.definitions.proofs.SettingLaws.{newest_wins}
 use Rattle.lock_state.specs.Seen.{IsIdle}
-
-some_none : (m : Mode) → Some m ≡ None → ⊥
-some_none m e = cc
 
 same_itself : (x : Owner) → same_owner x x ≡ true
 same_itself x = (same_owner-Decides x x).1 refl
@@ -31,11 +29,11 @@ covers_first s ordered =
 
 pub holds_it : (w : World) (s : Setting) (m : Mode) → s.first ≤ s.last → s.mode ≡ Some m → IsIdle (with_setting w s) s.owner → ⊥
 holds_it w s m ordered is idle =
-    some_none m
-    (sym is
-    ∙ sym (ap (λ b. cond b s.mode (mode_at w.settings s.file s.owner s.first)) (covers_first s ordered))
-    ∙ sym (newest_wins w.settings s s.file s.owner s.first)
-    ∙ idle.holds_nothing s.file s.first)
+    none-some m
+    (sym (idle.holds_nothing s.file s.first)
+    ∙ newest_wins w.settings s s.file s.owner s.first
+    ∙ ap (λ b. cond b s.mode (mode_at w.settings s.file s.owner s.first)) (covers_first s ordered)
+    ∙ is)
 
 -- whoever waits isn't idle
 any_last : {X : Type 0} (p : X → Bool) (xs : List X) (x : X) → p x ≡ true → is_any p (xs ++ x ∷ []) ≡ true
@@ -69,11 +67,10 @@ module _ (w : World) (x : Waiter) (there : first_ready the_limits w ≡ Some x) 
       go : (b : Bool) → same_owner x.request.owner y ≡ b → b ≡ false
       go true e =
           let is = (same_owner-Decides x.request.owner y).0 e in
-          absurd (some_none x.request.mode
-          (sym (ap (λ b. cond b (Some x.request.mode) (mode_at w.settings x.request.file x.request.owner x.request.first)) (covers_first (setting_of x.request) ordered))
-          ∙ sym (newest_wins w.settings (setting_of x.request) x.request.file x.request.owner x.request.first)
-          ∙ ap (λ z. mode_at (w.settings ++ setting_of x.request ∷ []) x.request.file z x.request.first) is
-          ∙ idle.holds_nothing x.request.file x.request.first))
+          absurd (none-some x.request.mode
+          (sym (ap (λ z. mode_at (w.settings ++ setting_of x.request ∷ []) x.request.file z x.request.first) is ∙ idle.holds_nothing x.request.file x.request.first)
+          ∙ newest_wins w.settings (setting_of x.request) x.request.file x.request.owner x.request.first
+          ∙ ap (λ b. cond b (Some x.request.mode) (mode_at w.settings x.request.file x.request.owner x.request.first)) (covers_first (setting_of x.request) ordered)))
       go false e = refl
 
   held_nothing : IsIdle (granted the_limits w x) y → (file : Bytes) (byte : ℕ) → mode_at w.settings file y byte ≡ None
@@ -81,7 +78,7 @@ module _ (w : World) (x : Waiter) (there : first_ready the_limits w ≡ Some x) 
       go (covers (setting_of x.request) file y byte) (sym (newest_wins w.settings (setting_of x.request) file y byte) ∙ idle.holds_nothing file byte)
     where
       go : (b : Bool) → cond b (Some x.request.mode) (mode_at w.settings file y byte) ≡ None → mode_at w.settings file y byte ≡ None
-      go true e = absurd (some_none x.request.mode e)
+      go true e = absurd (none-some x.request.mode (sym e))
       go false e = e
 
   pub idle_granted : IsIdle (granted the_limits w x) y → IsIdle w y
@@ -89,8 +86,5 @@ module _ (w : World) (x : Waiter) (there : first_ready the_limits w ≡ Some x) 
     holds_nothing = held_nothing idle;
     waits_not =
         none_there (is_ready_in the_limits w) (λ (z : Waiter). same_owner z.request.owner y) w.waiters
-        (λ z e. ap (λ (v : Waiter). same_owner v.request.owner y) (one z x (sym e ∙ there)) ∙ another idle) idle.waits_not;
+        (λ z e. ap (λ (v : Waiter). same_owner v.request.owner y) (same_Some z x (sym e ∙ there)) ∙ another idle) idle.waits_not;
   }
-    where
-      one : (a b : Waiter) → Some a ≡ Some b → a ≡ b
-      one a b e = cc

@@ -2,7 +2,7 @@
 use Rattle.std.proofs.Common.{◌≡◌, ◌≢◌, ℕ, ◌==◌, ◌||◌, Bool, true, false, List, [], ◌∷◌, length, refl, sym, ap, ◌∙◌, subst, Option, Some, None, unwrap_or, arith}
 use Rattle.std.specs.Option.{IsSome}
 use Rattle.std.specs.List.{list_any}
-use Rattle.std.proofs.lemmas.Bool.{or_right}
+use Rattle.std.proofs.lemmas.Bool.{false≢true, or_right}
 use Rattle.definitions.specs.Bytes.{Bytes, is_any}
 use Rattle.definitions.specs.Owners.{Owner, Process, is_of_host, same_owner}
 use Rattle.definitions.proofs.OwnerLaws.{same_owner-Decides}
@@ -23,11 +23,12 @@ use Rattle.lock_state.specs.Whole.{IsWhole, AreWaitersShown}
 use Rattle.lock_state.proofs.Shown.{none_passes, shown_without, waiters_without}
 
 pub some_of : {X : Type 0} (o : Option X) → IsSome o → (x : X) × (o ≡ Some x)
-some_of None h = absurd (none_is h)
-  where
-    none_is : false ≡ true → ⊥
-    none_is e = cc
+some_of None h = absurd (false≢true h)
 some_of (Some x) h = (x, refl)
+
+neither : (a b : Bool) → (a || b) ≡ false → (a ≡ false) × (b ≡ false)
+neither true b e = cc
+neither false b e = (refl, e)
 
 -- each waiter's number stays with its owner
 abbrev pub KeepsWaiters : List (Option Owner) → List (Option Owner) → List Waiting → Type 0
@@ -48,10 +49,6 @@ module _ (names after : List (Option Owner)) where
       let s = some_of (named names w.wanted.owner) a.0 in
       let f = neither (is_of_host name (owner_at (named names) w.wanted.owner)) (is_any (λ (w : Waiter). is_of_host name w.request.owner) (waiters_by (named names) ws)) e in
       (keep w.wanted.owner s.0 (sym (ap (λ o. is_of_host name (unwrap_or o (Process 0))) s.1) ∙ f.0) s.1 ∙ sym s.1, kept_strangers name keep ws a.1 f.1)
-    where
-      neither : (a b : Bool) → (a || b) ≡ false → (a ≡ false) × (b ≡ false)
-      neither true b e = cc
-      neither false b e = (refl, e)
 
   -- nobody of the number waits
   pub kept_others : (k : ℕ) (y : Owner) → AreDistinct (named names) → named names k ≡ Some y → ((n : ℕ) (x : Owner) → x ≢ y → named names n ≡ Some x → named after n ≡ Some x) → (ws : List Waiting) → AreNamed (named names) ws → list_any (λ (w : Waiting). w.wanted.owner == k) ws ≡ false → KeepsWaiters names after ws
@@ -62,10 +59,6 @@ module _ (names after : List (Option Owner)) where
       let other : s.0 ≢ y = λ same. differ w.wanted.owner k f.0 (distinct.once w.wanted.owner k y (s.1 ∙ ap Some same) is) in
       (keep w.wanted.owner s.0 other s.1 ∙ sym s.1, kept_others k y distinct is keep ws a.1 f.1)
     where
-      neither : (a b : Bool) → (a || b) ≡ false → (a ≡ false) × (b ≡ false)
-      neither true b e = cc
-      neither false b e = (refl, e)
-
       itself : (n : ℕ) → (n == n) ≡ true
       itself n = grind arith
 

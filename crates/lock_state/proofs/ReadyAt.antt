@@ -1,7 +1,7 @@
 -- Where somebody may be ready, through the changes.
 use Rattle.std.proofs.Common.{◌≡◌, Bool, true, false, not, ◌&&◌, ◌||◌, cond, List, [], ◌∷◌, ◌++◌, refl, sym, ap, ◌∙◌, subst, Some, None, Result, Ok, Err, OnOk, OnErr}
 use Rattle.std.proofs.lemmas.Bool.{false≢true, or_parts, and_right}
-use Rattle.std.proofs.lemmas.Option.{none-some}
+use Rattle.std.proofs.lemmas.Option.{none-some, same_Some}
 use Rattle.std.proofs.lemmas.Slice.Eq.{bytes_eq-Decides}
 use Rattle.definitions.specs.Bytes.{Bytes, same_bytes, is_any, first_that, without, without_first}
 use Rattle.definitions.specs.Moves.{AreRanges}
@@ -61,11 +61,8 @@ module _ {X : Type 0} (p : X → Bool) where
   not_first test [] x e f = absurd (none-some x f)
   not_first test (y ∷ ys) x e f = let n = or_parts (p y) (is_any p ys) e in go (test y) f n.0 (not_first test ys x n.1)
     where
-      one : Some y ≡ Some x → y ≡ x
-      one e = cc
-
       go : (b : Bool) → cond b (Some y) (first_that test ys) ≡ Some x → p y ≡ false → (first_that test ys ≡ Some x → p x ≡ false) → p x ≡ false
-      go true f h more = subst (λ z. p z ≡ false) (one f) h
+      go true f h more = subst (λ z. p z ≡ false) (same_Some y x f) h
       go false f h more = more f
 
 -- ---- files

@@ -1,5 +1,6 @@
 -- Which owners can be shown, through the changes of a list.
-use Rattle.std.proofs.Common.{◌≡◌, Bool, true, false, cond, List, [], ◌∷◌, ◌++◌, refl, Some, None, Result, Ok, Err, OnOk, OnErr}
+use Rattle.std.proofs.Common.{◌≡◌, Bool, true, false, cond, List, [], ◌∷◌, ◌++◌, refl, Some, Result, Ok, Err, OnOk, OnErr}
+use Rattle.std.proofs.lemmas.Option.{none-some, same_Some}
 use Rattle.definitions.specs.Bytes.{is_any, without, without_first, first_that}
 use Rattle.definitions.specs.Settings.{Setting}
 use Rattle.definitions.specs.Waits.{Waiter}
@@ -20,20 +21,14 @@ pub waiters_without_first : (test : Waiter → Bool) (waiters : List Waiter) →
 waiters_without_first = have_without_first (λ (x : Waiter). IsShown x.request.owner) AreWaitersShown (λ x waiters a. a) (λ x waiters h a. (h, a))
 
 pub first_shown : (test : Waiter → Bool) (waiters : List Waiter) (x : Waiter) → AreWaitersShown waiters → first_that test waiters ≡ Some x → IsShown x.request.owner
-first_shown test [] x a e = absurd (no_some x e)
-  where
-    no_some : (y : Waiter) → None ≡ Some y → ⊥
-    no_some y e = cc
+first_shown test [] x a e = absurd (none-some x e)
 first_shown test (y ∷ waiters) x a e = go (test y) e (first_shown test waiters x a.1)
   where
-    one : Some y ≡ Some x → y ≡ x
-    one e = cc
-
     is : (z : Waiter) → y ≡ z → IsShown z.request.owner
     is z e = rw (← e) a.0
 
     go : (b : Bool) → cond b (Some y) (first_that test waiters) ≡ Some x → (first_that test waiters ≡ Some x → IsShown x.request.owner) → IsShown x.request.owner
-    go true f more = is x (one f)
+    go true f more = is x (same_Some y x f)
     go false f more = more f
 
 -- what is taken out by a test passes it no more

@@ -12,7 +12,7 @@ use Rattle.range_table.proofs.RunFacts.{of_in}
 use Rattle.range_table.proofs.Inserting.{before_not_itself, before_first}
 use Rattle.range_table.proofs.Lasts.{last_in, trims_one}
 use Rattle.range_table.proofs.Edits.{stays, all_stay}
-use Rattle.range_arena.proofs.Sorts.{in_at, seat_in}
+use Rattle.range_arena.proofs.Sorts.{all_remove, in_at, seat_in}
 use Rattle.range_arena.proofs.Owned.{none_last, starts}
 
 pub none_before_0 : (c : Setting) (rs : List Run) → last_started c 0 rs ≡ None
@@ -140,12 +140,6 @@ filter_gone c (r ∷ rs) (suc at) x l e t =
     by_test (starts_in c r)
     (λ u. rw u m)
     (λ u. rw u (ap (λ ys. r ∷ ys) m))
-
-all_remove : (P : Run → Type 0) (xs : List Run) (at : ℕ) → AllByRecursion P xs → AllByRecursion P (remove xs at)
-all_remove P [] zero h = tt
-all_remove P [] (suc at) h = tt
-all_remove P (r ∷ rs) zero h = h.1
-all_remove P (r ∷ rs) (suc at) h = (h.0, all_remove P rs at h.1)
 
 pub IsRunList-remove : (rs : List Run) (at : ℕ) → IsRunList rs → IsRunList (remove rs at)
 IsRunList-remove [] zero h = tt

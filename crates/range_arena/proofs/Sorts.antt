@@ -93,7 +93,7 @@ all_insert P [] (suc at) x h p = (p, tt)
 all_insert P (r ∷ rs) zero x h p = (p, h)
 all_insert P (r ∷ rs) (suc at) x h p = (h.0, all_insert P rs at x h.1 p)
 
-all_remove : (P : Run → Type 0) (xs : List Run) (at : ℕ) → AllByRecursion P xs → AllByRecursion P (remove xs at)
+pub all_remove : (P : Run → Type 0) (xs : List Run) (at : ℕ) → AllByRecursion P xs → AllByRecursion P (remove xs at)
 all_remove P [] zero h = tt
 all_remove P [] (suc at) h = tt
 all_remove P (r ∷ rs) zero h = h.1

@@ -7,15 +7,11 @@ use Rattle.std.specs.Cmp.Lexicographic.{slice_cmp}
 use Rattle.std.proofs.lemmas.Bool.Decides.{nat_tests}
 use Rattle.std.proofs.lemmas.Cmp.{nat_list_cmp_total, tied_itself}
 use Rattle.std.proofs.lemmas.List.{get_or-drop, take-replicate, length-replicate}
+use Rattle.definitions.proofs.OwnerLaws.{then_equal}
 use Rattle.range_table.specs.Spelt.{spelt}
 
 abbrev pub bytes_cmp : List ℕ → List ℕ → Ordering
 bytes_cmp xs ys = slice_cmp nat_cmp xs ys
-
-then_equal : (o : Ordering) → ordering_then o Equal ≡ o
-then_equal Less = refl
-then_equal Equal = refl
-then_equal Greater = refl
 
 then_then : (o p q : Ordering) → ordering_then (ordering_then o p) q ≡ ordering_then o (ordering_then p q)
 then_then Less p q = refl

@@ -47,10 +47,7 @@ agreed_grant w (Some call) r = record { says = refl; settings = refl; calls = re
 -- where nothing is asked, both answers are one
 row_unasked : (w : World) (o : Option StoreCall) (stat : Stat) (change : World → World) → (after_row w o stat change).asks ≡ None → (after_row w o stat change).refused ≡ (after_row w o stat change).agreed
 row_unasked w None stat change e = refl
-row_unasked w (Some call) stat change e = absurd (no_call call e)
-  where
-    no_call : (call : StoreCall) → Some call ≡ None → ⊥
-    no_call call e = cc
+row_unasked w (Some call) stat change e = absurd (none-some call (sym e))
 
 range_fine : (w : World) (a : LockArgs) → w.phase ≡ Grace → a.reclaim ≡ true → is_stale a.alock.fh ≡ false → is_too_far a.alock.l_offset a.alock.l_len ≡ false → range_refusal w (Locking a.reclaim) a.alock ≡ None
 range_fine w a g e stale far =

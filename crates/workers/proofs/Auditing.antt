@@ -1,7 +1,8 @@
 -- An audit meets entries one after another.
-use Rattle.std.proofs.Common.{append_assoc, ◌+◌, ◌<◌, length, take, drop, get_or, ◌≡◌, ℕ, suc, Bool, true, false, cond, List, [], ◌∷◌, ◌++◌, map, Option, Some, None, refl, sym, ap, ◌∙◌, subst, true≢false, ◌==◌, ◌&&◌, not, is_some, arith}
+use Rattle.std.proofs.Common.{append_assoc, ◌+◌, ◌<◌, length, take, drop, get_or, ◌≡◌, ℕ, suc, Bool, true, false, cond, List, [], ◌∷◌, ◌++◌, map, Option, Some, None, refl, sym, ap, ◌∙◌, subst, true≢false, ◌==◌, ◌&&◌, not, arith}
 use Rattle.std.proofs.lemmas.Bool.{eq-eqb, eqb-true, and_from, and_parts}
 use Rattle.std.proofs.lemmas.List.{take_more, take-append-drop, map-append, append-nil}
+use Rattle.std.proofs.lemmas.Option.{none-some}
 use Rattle.std.proofs.Math.Seq.{drop-cons}
 use Rattle.std.proofs.lemmas.Slice.Eq.{bytes_eq-Decides}
 use Rattle.definition_laws.proofs.KeptLaws.{local_same, local_is}
@@ -101,9 +102,6 @@ abbrev left_or : Option At → List Receipt
 left_or None = []
 left_or (Some at) = at.1
 
-no_some : (at : At) → None ≡ Some at → ⊥
-no_some at e = true≢false (sym (ap is_some e))
-
 abbrev Met : ℕ → List Receipt → List Note → Type 0
 Met first left notes = RunOn first notes × (left ≡ receipts_of notes)
 
@@ -112,18 +110,18 @@ abbrev Follows : Note → List Note → ℕ → Type 0
 Follows n notes k = (left : List Receipt) → meet_all n.number left notes ≡ Some (k, []) → Met (suc n.number) left notes
 
 own_first : (n : Note) (notes : List Note) (k : ℕ) (r : Receipt) (rest : List Receipt) (b : Bool) → is_take n.event ≡ true → same_receipt (receipt_of n) r ≡ b → Follows n notes k → onwards (cond b (Some (n.number, rest)) None) notes ≡ Some (k, []) → RunOn (suc n.number) notes × (r ∷ rest ≡ receipt_of n ∷ receipts_of notes)
-own_first n notes k r rest false t s after e = absurd (no_some (k, []) e)
+own_first n notes k r rest false t s after e = absurd (none-some (k, []) e)
 own_first n notes k r rest true t s after e =
     let m = after rest e in
     (m.0, λ i. sym (receipt_is n.number n.event (record_of n.upshot.given) r t s) i ∷ m.1 i)
 
 from_taken : (n : Note) (notes : List Note) (k : ℕ) (left : List Receipt) (t : Bool) → is_take n.event ≡ t → Follows n notes k → onwards (taken_from left n t) notes ≡ Some (k, []) → RunOn (suc n.number) notes × (left ≡ cond t (receipt_of n ∷ receipts_of notes) (receipts_of notes))
 from_taken n notes k left false t after e = after left e
-from_taken n notes k [] true t after e = absurd (no_some (k, []) e)
+from_taken n notes k [] true t after e = absurd (none-some (k, []) e)
 from_taken n notes k (r ∷ rest) true t after e = own_first n notes k r rest (same_receipt (receipt_of n) r) t refl after e
 
 from_number : (last : ℕ) (left : List Receipt) (n : Note) (notes : List Note) (k : ℕ) (b : Bool) → (n.number == suc last) ≡ b → Follows n notes k → onwards (cond b (taken_from left n (is_take n.event)) None) notes ≡ Some (k, []) → Met (suc last) left (n ∷ notes)
-from_number last left n notes k false h after e = absurd (no_some (k, []) e)
+from_number last left n notes k false h after e = absurd (none-some (k, []) e)
 from_number last left n notes k true h after e =
     let number : n.number ≡ suc last = eqb-true n.number (suc last) h in
     let m = from_taken n notes k left (is_take n.event) refl after e in
@@ -162,7 +160,7 @@ left_none left segments k r rest e agrees =
 pub met_none : (left : List Receipt) (segments : List Journal) → meet_all 0 left (notes_of segments) ≡ None → Agrees segments left → ⊥
 met_none left segments e agrees =
     let all = meets_to 0 (notes_of segments) agrees.runs_on in
-    no_some (all.0, []) (sym e ∙ ap (λ l. meet_all 0 l (notes_of segments)) agrees.each_once ∙ all.1)
+    none-some (all.0, []) (sym e ∙ ap (λ l. meet_all 0 l (notes_of segments)) agrees.each_once ∙ all.1)
 
 -- ---- the loops
 
