@@ -11,7 +11,6 @@ use rpc_msg::{AcceptError, Denial, RPC_VERSION, Reply, reply_success};
 use xdr_core::{Frame, FrameFull};
 
 /// What comes of a call.
-#[derive(Drop)]
 pub enum Outcome {
     /// Its procedure was done.
     Success(CallResult),
@@ -19,6 +18,16 @@ pub enum Outcome {
     Refuses(Refusal),
     /// It could not be done, for want of memory or of a place.
     SystemErr,
+}
+
+// It is written out, so that no crate above proves again how each part of it is dropped.
+impl Drop for Outcome {
+    fn drop(self) {
+        match self {
+            Outcome::Success(result) => drop(result),
+            Outcome::Refuses(_) | Outcome::SystemErr => {}
+        }
+    }
 }
 
 impl Outcome {

@@ -41,10 +41,16 @@ impl Destination {
 }
 
 /// What a call says, and to whom. It stays what it is however often it is sent.
-#[derive(Drop)]
 pub struct Letter {
     to: Destination,
     message: Message,
+}
+
+// It is written out, so that no crate above proves again how each part of it is dropped.
+impl Drop for Letter {
+    fn drop(self) {
+        let Letter { to: _, message: _ } = self;
+    }
 }
 
 impl Model for Letter {

@@ -14,12 +14,23 @@ use book::{Reply, StoreAnswer, Upshot};
 
 /// What comes of an event: what became of it, what the store answered it, what is sent, and the refusal of an event that
 /// has nobody to answer.
-#[derive(Drop)]
 pub struct Outputs {
     pub outcome: Outcome,
     pub store: StoreAnswer,
     pub sent: Option<Sent>,
     pub refusal: Option<Refusal>,
+}
+
+// It is written out, so that no crate above proves again how each part of it is dropped.
+impl Drop for Outputs {
+    fn drop(self) {
+        let Outputs {
+            outcome: _,
+            store: _,
+            sent: _,
+            refusal: _,
+        } = self;
+    }
 }
 
 /// Nothing.

@@ -11,10 +11,19 @@ use std::alloc::Global;
 use std::marker::Model;
 
 /// Runs in order of file, first byte and owner's number. A clause sees the settings that stand, oldest first.
-#[derive(Drop)]
 pub struct ArenaTable {
     runs: Indexed,
     history: History<Setting>,
+}
+
+// It is written out, so that no crate above proves again how each part of it is dropped.
+impl Drop for ArenaTable {
+    fn drop(self) {
+        let ArenaTable {
+            runs: _,
+            history: _,
+        } = self;
+    }
 }
 
 impl Model for ArenaTable {
