@@ -2,11 +2,12 @@
 //! growth refused. An event that comes to want of memory is told so and is made again, and what every other event sends is
 //! printed: its number, to whom, and the bytes. So the text is the same whichever growth of the daemon's was refused.
 //!
-//! The program's own memory is got before the daemon is made. Where that is refused the program ends in an error.
-use crate::daemons::opened;
-use anyhow::{Result, anyhow};
+//! The program's own memory is got before the daemon is made. Where that is refused nothing is printed, and the program ends in an
+//! error.
+use callbacks::ShortBytes;
 use daemon_core::{Addressee, Daemon, Event, Frame, Outcome, Outputs, Peer, Posting};
-use hosts_db::HostStore;
+use hosts_db::{HostStore, MemHosts};
+use range_arena::ArenaTable;
 use range_table::RangeTable;
 use std::alloc::Global;
 use std::fmt::Write;
@@ -79,11 +80,11 @@ struct Step {
     starved: String,
 }
 
-fn put_hex(text: &mut String, bytes: &[u8]) -> Result<()> {
+fn put_hex(text: &mut String, bytes: &[u8]) -> Option<()> {
     for byte in bytes {
-        write!(text, "{byte:02x}")?;
+        write!(text, "{byte:02x}").ok()?;
     }
-    Ok(())
+    Some(())
 }
 
 /// What the last event was told, and all that is printed.
@@ -97,11 +98,11 @@ struct Page {
 }
 
 impl Page {
-    fn new(alloc: Global) -> Result<Page> {
-        let sent = Vec::with_capacity(alloc, MOST_BYTES)?;
-        let told = String::with_capacity(alloc, MOST_PRINTED)?;
-        let printed = String::with_capacity(alloc, MOST_PRINTED)?;
-        Ok(Page {
+    fn new(alloc: Global) -> Option<Page> {
+        let sent = Vec::with_capacity(alloc, MOST_BYTES).ok()?;
+        let told = String::with_capacity(alloc, MOST_PRINTED).ok()?;
+        let printed = String::with_capacity(alloc, MOST_PRINTED).ok()?;
+        Some(Page {
             sent,
             told,
             printed,
@@ -109,58 +110,58 @@ impl Page {
         })
     }
 
-    fn put_whom(&mut self, to: Addressee<'_>) -> Result<()> {
+    fn put_whom(&mut self, to: Addressee<'_>) -> Option<()> {
         match to {
-            Addressee::Client(number) => write!(self.told, "client {number} ")?,
-            Addressee::Local(number) => write!(self.told, "local {number} ")?,
+            Addressee::Client(number) => write!(self.told, "client {number} ").ok()?,
+            Addressee::Local(number) => write!(self.told, "local {number} ").ok()?,
             Addressee::Host(name) => {
-                self.told.push_str("host ")?;
+                self.told.push_str("host ").ok()?;
                 put_hex(&mut self.told, name)?;
-                self.told.push_str(" ")?;
+                self.told.push_str(" ").ok()?;
             }
         }
-        Ok(())
+        Some(())
     }
 
-    fn hear(&mut self, outputs: &Outputs) -> Result<()> {
+    fn hear(&mut self, outputs: &Outputs) -> Option<()> {
         self.sent.clear();
         self.told.clear();
         if let Some(refusal) = outputs.refusal {
-            write!(self.told, "refused {refusal}")?;
+            write!(self.told, "refused {refusal}").ok()?;
         }
         if let Some(sent) = &outputs.sent {
             self.put_whom(sent.to())?;
-            sent.write(&mut self.room, &mut self.sent)?;
+            sent.write(&mut self.room, &mut self.sent).ok()?;
             put_hex(&mut self.told, self.sent.as_slice())?;
         }
-        Ok(())
+        Some(())
     }
 
     /// Prints what this event was told, if it was told something.
-    fn print(&mut self, number: u32, outputs: &Outputs) -> Result<()> {
+    fn print(&mut self, number: u32, outputs: &Outputs) -> Option<()> {
         self.hear(outputs)?;
         if outputs.outcome != Outcome::Applied {
-            writeln!(self.printed, "wrong {number} starves once more")?;
+            writeln!(self.printed, "wrong {number} starves once more").ok()?;
         }
         if !self.told.is_empty() {
-            writeln!(self.printed, "{number} {}", self.told)?;
+            writeln!(self.printed, "{number} {}", self.told).ok()?;
         }
-        Ok(())
+        Some(())
     }
 
     /// Prints what this event was told if it isn't what it should be.
-    fn print_if_not(&mut self, number: u32, outputs: &Outputs, wanted: &str) -> Result<()> {
+    fn print_if_not(&mut self, number: u32, outputs: &Outputs, wanted: &str) -> Option<()> {
         self.hear(outputs)?;
         if self.told.as_str() != wanted {
-            writeln!(self.printed, "wrong {number} {}", self.told)?;
+            writeln!(self.printed, "wrong {number} {}", self.told).ok()?;
         }
-        Ok(())
+        Some(())
     }
 
     /// Prints what an event was told that makes another again, as may those behind it.
-    fn take_again(&mut self, number: u32, outputs: &Outputs) -> Result<bool> {
+    fn take_again(&mut self, number: u32, outputs: &Outputs) -> Option<bool> {
         self.print(number, outputs)?;
-        Ok(true)
+        Some(true)
     }
 
     /// Prints what an event was told, or that it came to want of memory otherwise than it should: whether it came to that.
@@ -170,86 +171,87 @@ impl Page {
         outputs: &Outputs,
         starved: &str,
         is_left: bool,
-    ) -> Result<bool> {
+    ) -> Option<bool> {
         if outputs.outcome == Outcome::Applied {
             self.print(number, outputs)?;
-            return Ok(false);
+            return Some(false);
         }
         self.print_if_not(number, outputs, starved)?;
         if !is_left {
-            writeln!(self.printed, "wrong {number} leaves other rows of hosts")?;
+            writeln!(self.printed, "wrong {number} leaves other rows of hosts").ok()?;
         }
-        Ok(true)
+        Some(true)
     }
 }
 
-fn bytes_of(alloc: Global, words: &str) -> Result<Vec<u8>> {
-    let mut bytes = Vec::with_capacity(alloc, MOST_BYTES)?;
+fn bytes_of(alloc: Global, words: &str) -> Option<Vec<u8>> {
+    let mut bytes = Vec::with_capacity(alloc, MOST_BYTES).ok()?;
     for word in words.split_whitespace() {
         if word != "|" {
-            let word = u32::from_str_radix(word, 16)?;
-            bytes.extend_from_slice(word.to_be_bytes().as_slice())?;
+            let word = u32::from_str_radix(word, 16).ok()?;
+            bytes.extend_from_slice(word.to_be_bytes().as_slice()).ok()?;
         }
     }
-    Ok(bytes)
+    Some(bytes)
 }
 
-fn piece(alloc: Global, words: &str) -> Result<Event> {
-    Ok(Event::Piece {
+fn piece(alloc: Global, words: &str) -> Option<Event> {
+    let bytes = bytes_of(alloc, words)?;
+    Some(Event::Piece {
         connection: CONNECTION,
-        bytes: bytes_of(alloc, words)?,
+        bytes,
     })
 }
 
-fn line(alloc: Global, text: &str) -> Result<Event> {
-    Ok(Event::Local {
+fn line(alloc: Global, text: &str) -> Option<Event> {
+    let line = Vec::from_slice(alloc, text.as_bytes()).ok()?;
+    Some(Event::Local {
         connection: LOCAL,
-        line: Vec::from_slice(alloc, text.as_bytes())?,
+        line,
     })
 }
 
-fn send(alloc: Global) -> Result<Event> {
-    Ok(Event::Send {
-        posting: Box::new(alloc, Posting::new())?,
-    })
+fn send(alloc: Global) -> Option<Event> {
+    let posting = Box::new(alloc, Posting::new()).ok()?;
+    Some(Event::Send { posting })
 }
 
 /// The event of this name, with what it brings.
-fn event_of(alloc: Global, name: &str, brought: &str) -> Result<Event> {
+fn event_of(alloc: Global, name: &str, brought: &str) -> Option<Event> {
     match name {
-        "restart" => Ok(Event::Restart),
-        "grace-over" => Ok(Event::GraceOver),
-        "connect" => Ok(Event::Connect {
+        "restart" => Some(Event::Restart),
+        "grace-over" => Some(Event::GraceOver),
+        "connect" => Some(Event::Connect {
             connection: CONNECTION,
             peer: Peer::PIPE,
         }),
-        "disconnect" => Ok(Event::Disconnect {
+        "disconnect" => Some(Event::Disconnect {
             connection: CONNECTION,
         }),
         "piece" => piece(alloc, brought),
-        "take" => Ok(Event::Take {
+        "take" => Some(Event::Take {
             connection: CONNECTION,
             index: 0,
         }),
         "line" => line(alloc, brought),
         "send" => send(alloc),
-        _ => Err(anyhow!("no event is named {name}")),
+        _ => None,
     }
 }
 
 /// What is told of an event that has nobody to answer.
-fn refusal(alloc: Global) -> Result<String> {
-    Ok(String::from_str(alloc, "refused 1 Starved")?)
+fn refusal(alloc: Global) -> Option<String> {
+    String::from_str(alloc, "refused 1 Starved").ok()
 }
 
 /// The reply SYSTEM_ERR, under the xid of this record (RFC 5531, section 9).
-fn system_err(alloc: Global, words: &str) -> Result<String> {
+fn system_err(alloc: Global, words: &str) -> Option<String> {
     let xid = words.split_whitespace().nth(1).unwrap_or("");
-    let xid = u32::from_str_radix(xid, 16)?;
-    let mut told = String::with_capacity(alloc, MOST_BYTES)?;
-    write!(told, "client {CONNECTION} 80000018{xid:08x}00000001")?;
-    told.push_str("00000000000000000000000000000005")?;
-    Ok(told)
+    let xid = u32::from_str_radix(xid, 16).ok()?;
+    let mut told = String::with_capacity(alloc, MOST_BYTES).ok()?;
+    write!(told, "client {CONNECTION} 80000018{xid:08x}00000001").ok()?;
+    told.push_str("00000000000000000000000000000005").ok()?;
+    Some(told)
 }
 
 /// Makes the steps of the script.
@@ -260,39 +262,40 @@ struct Steps {
 }
 
 // What a local program is told.
-fn starved_line(alloc: Global) -> Result<String> {
-    let mut told = String::with_capacity(alloc, MOST_BYTES)?;
-    write!(told, "local {LOCAL} ")?;
+fn starved_line(alloc: Global) -> Option<String> {
+    let mut told = String::with_capacity(alloc, MOST_BYTES).ok()?;
+    write!(told, "local {LOCAL} ").ok()?;
     put_hex(&mut told, STARVED_LINE)?;
-    Ok(told)
+    Some(told)
 }
 
 impl Steps {
     // The only place that has an event in hand, which is dear to prove beside an early end.
-    fn put_step(&mut self, turn: Turn, name: &str, brought: &str, starved: String) -> Result<()> {
+    fn put_step(&mut self, turn: Turn, name: &str, brought: &str, starved: String) -> Option<()> {
         let event = event_of(self.alloc, name, brought)?;
-        self.steps.push(Step {
-            event,
-            turn,
-            starved,
-        })?;
-        Ok(())
+        self.steps
+            .push(Step {
+                event,
+                turn,
+                starved,
+            })
+            .ok()
     }
 
-    fn put_again(&mut self, name: &str, brought: &str) -> Result<()> {
+    fn put_again(&mut self, name: &str, brought: &str) -> Option<()> {
         let nothing = String::new(self.alloc);
         self.put_step(Turn::Again, name, brought, nothing)
     }
 
     // An event that has nobody to answer, and the same again.
-    fn put_twice(&mut self, name: &str) -> Result<()> {
+    fn put_twice(&mut self, name: &str) -> Option<()> {
         let starved = refusal(self.alloc)?;
         self.put_step(Turn::Always, name, "", starved)?;
         self.put_again(name, "")
     }
 
     // After a piece that starved the connection receives no more: a new one gets the record whole.
-    fn put_piece(&mut self, turn: Turn, part: &str, record: &str) -> Result<()> {
+    fn put_piece(&mut self, turn: Turn, part: &str, record: &str) -> Option<()> {
         let starved = refusal(self.alloc)?;
         self.put_step(turn, "piece", part, starved)?;
         self.put_again("disconnect", "")?;
@@ -300,14 +303,14 @@ impl Steps {
         self.put_again("piece", record)
     }
 
-    fn put_take(&mut self, record: &str) -> Result<()> {
+    fn put_take(&mut self, record: &str) -> Option<()> {
         let starved = system_err(self.alloc, record)?;
         self.put_step(Turn::Always, "take", "", starved)?;
         self.put_again("piece", record)?;
         self.put_again("take", "")
     }
 
-    fn put_call(&mut self, record: &str) -> Result<()> {
+    fn put_call(&mut self, record: &str) -> Option<()> {
         match record.split_once(" | ") {
             None => self.put_piece(Turn::Always, record, record)?,
             Some((front, rest)) => {
@@ -318,13 +321,13 @@ impl Steps {
         self.put_take(record)
     }
 
-    fn put_line(&mut self, text: &str) -> Result<()> {
+    fn put_line(&mut self, text: &str) -> Option<()> {
         let starved = starved_line(self.alloc)?;
         self.put_step(Turn::Always, "line", text, starved)?;
         self.put_again("line", text)
     }
 
-    fn put(&mut self, row: &str) -> Result<()> {
+    fn put(&mut self, row: &str) -> Option<()> {
         match row.split_once(" ").unwrap_or((row, "")) {
             ("call", record) => self.put_call(record),
             ("line", text) => self.put_line(text),
@@ -333,14 +336,14 @@ impl Steps {
     }
 }
 
-fn script(alloc: Global) -> Result<Vec<Step>> {
-    let steps = Vec::with_capacity(alloc, SCRIPT.len())?;
+fn script(alloc: Global) -> Option<Vec<Step>> {
+    let steps = Vec::with_capacity(alloc, SCRIPT.len()).ok()?;
     let mut steps = Steps { alloc, steps };
     for row in SCRIPT {
         steps.put(row)?;
     }
     let Steps { steps, .. } = steps;
-    Ok(steps)
+    Some(steps)
 }
 
 // What starved stored a host's row, or nothing.
@@ -354,7 +357,7 @@ fn goes<T: RangeTable, S: HostStore>(
     page: &mut Page,
     number: u32,
     step: Step,
-) -> Result<bool> {
+) -> Option<bool> {
     let Step {
         event,
         turn,
@@ -375,7 +378,7 @@ fn play<T: RangeTable, S: HostStore>(
     daemon: &mut Daemon<T, S>,
     page: &mut Page,
     steps: Vec<Step>,
-) -> Result<()> {
+) -> Option<()> {
     let mut number = 0u32;
     let mut is_again = false;
     for step in steps {
@@ -387,31 +390,39 @@ fn play<T: RangeTable, S: HostStore>(
             drop(step);
         }
     }
-    Ok(())
+    Some(())
 }
 
 // Plays the steps over a daemon, if there is one. It is generic, so that what has to drop it sees no more of its parts than their traits.
 fn play_over<T: RangeTable + Drop, S: HostStore + Drop>(
-    daemon: Result<Daemon<T, S>>,
+    daemon: Option<Daemon<T, S>>,
     page: &mut Page,
     steps: Vec<Step>,
-) -> Result<()> {
-    let Ok(mut daemon) = daemon else {
+) -> Option<()> {
+    let Some(mut daemon) = daemon else {
         drop(steps);
-        page.printed.push_str("wrong 0 no daemon is made\n")?;
-        return Ok(());
+        page.printed.push_str("wrong 0 no daemon is made\n").ok()?;
+        return Some(());
     };
     let played = play(&mut daemon, page, steps);
     drop(daemon);
     played
 }
 
+// The daemon of a server named `server`, with nothing stored. None where there is no memory for it.
+fn opened(alloc: Global) -> Option<Daemon<ArenaTable, MemHosts>> {
+    let name = ShortBytes::copy_of(alloc, b"server").ok()?;
+    let table = ArenaTable::new(alloc).ok()?;
+    let store = MemHosts::new(alloc, 0, Vec::new(alloc), Vec::new(alloc)).ok()?;
+    Daemon::new(alloc, table, store, name).ok()
+}
+
 /// All that is printed.
-pub(crate) fn printed(alloc: Global) -> Result<String> {
+pub(crate) fn printed(alloc: Global) -> Option<String> {
     let mut page = Page::new(alloc)?;
     let steps = script(alloc)?;
-    let daemon = opened(alloc).or_else(|_| opened(alloc));
+    let daemon = opened(alloc).or_else(|| opened(alloc));
     play_over(daemon, &mut page, steps)?;
     let Page { printed, .. } = page;
-    Ok(printed)
+    Some(printed)
 }
