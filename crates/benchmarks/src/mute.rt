@@ -1,5 +1,5 @@
 //! Clients that make calls and read no reply.
-use super::calls::{Calls, Cell};
+use crate::calls::{Calls, Cell};
 use std::alloc::Global;
 use std::io::{self, Write};
 use std::net::{Ipv4Addr, Net, SocketAddr, SocketAddrV4, TcpStream};

@@ -1,5 +1,5 @@
 //! Connections that ask.
-use super::calls::{Calls, Cell};
+use crate::calls::{Calls, Cell};
 use record_mark::Assembler;
 use std::alloc::Global;
 use std::io::{self, ErrorKind, Read, Write};
