@@ -1,11 +1,12 @@
 //! The calls that write, over the rows in memory.
-ghost use Rattle.std.specs.Prelude.{◌≡◌, OnOk, OnErr, Some, None};
+ghost use Rattle.std.specs.Prelude.{OnOk, OnErr};
 ghost use Rattle.std.specs.Option.{option_copied};
 ghost use Rattle.sqlite.specs.State.{HasCleanDisk, KeepsCommit, Survives};
 ghost use Rattle.sqlite.specs.Held.{state};
 ghost use Rattle.definitions.specs.Hosts.{after_store, Acked, Seen, Unwatched, Watched, Quota};
-ghost use Rattle.hosts_statements.specs.Wrote.{HasTables, IsAsKept, IsFresh, MayWriteHosts, WroteHosts};
-ghost use Rattle.hosts_statements.specs.declared.tables.Version.TheVariants.{First, Second};
+ghost use Rattle.hosts_statements.specs.Wrote.{HasTables, IsAsKept, MayWriteHosts, WroteHosts};
+ghost use Rattle.hosts_statements.specs.declared.tables.Version.TheVariants.{Second};
+ghost use Rattle.hosts_sql.specs.Holds.{Holds};
 
 use hosts_db::{HostRows, MyId};
 use hosts_statements::statements::{
@@ -23,9 +24,7 @@ pub(crate) fn write_start<S: Alter>(
     version: Option<Version>,
     own: u32,
 ) -> Result<(), Error>
-    requires fresh { version ≡ None → IsFresh (state S.Store conn.old) }
-    requires first { version ≡ Some First → HasTables First (state S.Store conn.old) }
-    requires second { version ≡ Some Second → HasTables Second (state S.Store conn.old) }
+    requires { Holds version (state S.Store conn.old) }
     ensures ok { HasCleanDisk (state S.Store conn.new) → OnOk result (WroteHosts (λ h. record h { own = own }) (state S.Store conn.old) (state S.Store conn.new)) }
     ensures err { HasCleanDisk (state S.Store conn.new) → OnErr result (KeepsCommit (state S.Store conn.old) (state S.Store conn.new)) }
     ensures crash { Survives (state S.Store conn.old) (state S.Store conn.new) (MayWriteHosts (λ h. record h { own = own }) (state S.Store conn.old)) }

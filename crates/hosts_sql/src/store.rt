@@ -1,11 +1,11 @@
 //! A store over a database.
-ghost use Rattle.std.specs.Prelude.{◌≡◌, IsTrue, Some, None, IfOk, IfErr, IfSome};
-ghost use Rattle.std.specs.Coded.{→_prop};
+ghost use Rattle.std.specs.Prelude.{◌≡◌, IsTrue, Some, IfOk, IfErr, IfSome};
 ghost use Rattle.sqlite.specs.State.{HasCleanDisk, KeepsCommit, Survives};
 ghost use Rattle.sqlite.specs.Held.{state};
 ghost use Rattle.hosts_statements.specs.Own.{has_host_numbers, AllFit};
-ghost use Rattle.hosts_statements.specs.Wrote.{HasTables, HasTables-prop, IsAsKept, IsFresh, IsFresh-prop, hosts_of};
-ghost use Rattle.hosts_statements.specs.declared.tables.Version.TheVariants.{First, Second};
+ghost use Rattle.hosts_statements.specs.Wrote.{IsAsKept, hosts_of};
+ghost use Rattle.hosts_statements.specs.declared.tables.Version.TheVariants.{Second};
+ghost use Rattle.hosts_sql.specs.Holds.{Holds, Holds-prop};
 
 use crate::calls::{write_acked, write_quota, write_seen, write_start, write_unwatch, write_watch};
 use definitions::own_state::next_own_state;
@@ -27,9 +27,7 @@ pub struct SqlHosts<S: Alter> {
     refusals: Refusals,
     alloc: Global,
     ghost kept: { IsAsKept (state S.Store conn) rows },
-    ghost fresh: { version ≡ None → IsFresh (state S.Store conn) } by { →_prop (IsFresh-prop (state S.Store conn)) },
-    ghost first: { version ≡ Some First → HasTables First (state S.Store conn) } by { →_prop (HasTables-prop First (state S.Store conn)) },
-    ghost second: { version ≡ Some Second → HasTables Second (state S.Store conn) } by { →_prop (HasTables-prop Second (state S.Store conn)) },
+    ghost holds: { Holds version (state S.Store conn) } by { Holds-prop version (state S.Store conn) },
 }
 
 impl<S: Alter> SqlHosts<S> {
@@ -139,11 +137,7 @@ impl<S: Alter> HostStore for SqlHosts<S> {
     }
 
     fn seen(&mut self, name: &[u8], state: i32) -> Result<(), StoreError> {
-        if !self.is_ready() {
-            self.refusals.add();
-            return Err(StoreError::StoreRefused);
-        }
-        if write_seen(&mut self.conn, &self.rows, name, state).is_err() {
+        if !self.is_ready() || write_seen(&mut self.conn, &self.rows, name, state).is_err() {
             self.refusals.add();
             return Err(StoreError::StoreRefused);
         }
@@ -152,11 +146,7 @@ impl<S: Alter> HostStore for SqlHosts<S> {
     }
 
     fn acked(&mut self, name: &[u8], epoch: u32) -> Result<(), StoreError> {
-        if !self.is_ready() {
-            self.refusals.add();
-            return Err(StoreError::StoreRefused);
-        }
-        if write_acked(&mut self.conn, &self.rows, name, epoch).is_err() {
+        if !self.is_ready() || write_acked(&mut self.conn, &self.rows, name, epoch).is_err() {
             self.refusals.add();
             return Err(StoreError::StoreRefused);
         }
@@ -165,11 +155,7 @@ impl<S: Alter> HostStore for SqlHosts<S> {
     }
 
     fn quota(&mut self, name: &[u8], runs: u32) -> Result<(), StoreError> {
-        if !self.is_ready() {
-            self.refusals.add();
-            return Err(StoreError::StoreRefused);
-        }
-        if write_quota(&mut self.conn, &self.rows, name, runs).is_err() {
+        if !self.is_ready() || write_quota(&mut self.conn, &self.rows, name, runs).is_err() {
             self.refusals.add();
             return Err(StoreError::StoreRefused);
         }
@@ -202,11 +188,7 @@ impl<S: Alter> HostStore for SqlHosts<S> {
     }
 
     fn unwatch(&mut self, mon_name: Option<&[u8]>, my_id: &MyId<'_>) -> Result<(), StoreError> {
-        if !self.is_ready() {
-            self.refusals.add();
-            return Err(StoreError::StoreRefused);
-        }
-        if write_unwatch(&mut self.conn, mon_name, my_id).is_err() {
+        if !self.is_ready() || write_unwatch(&mut self.conn, mon_name, my_id).is_err() {
             self.refusals.add();
             return Err(StoreError::StoreRefused);
         }
