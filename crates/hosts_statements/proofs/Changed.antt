@@ -22,9 +22,10 @@ use Rattle.hosts_transactions.specs.Work.{RanTwo, RanThree}
 use Rattle.hosts_statements.specs.Wrote.{IsWhole}
 use Rattle.hosts_statements.specs.declared.tables.Version.TheVariants.{Second}
 use Rattle.hosts_statements.proofs.Monitor.{params}
-use Rattle.hosts_statements.proofs.Watch.{watch_params, watch_total, watch_exact}
+use Rattle.hosts_statements.specs.Given.{watch_given, watch_params}
+use Rattle.hosts_statements.proofs.Watch.{watch_total, watch_exact}
 use Rattle.hosts_statements.proofs.Rows.{Makes, makes_then, made_host, made_watch}
-use Rattle.hosts_statements.proofs.Fewer.{host_given, watch_given, made_without_host, made_without_watch}
+use Rattle.hosts_statements.proofs.Fewer.{host_given, made_without_host, made_without_watch}
 use Rattle.hosts_statements.proofs.Shrink.{shown_left}
 use Rattle.hosts_statements.proofs.Listed.{bytes_exact, host_put, watch_put, key_agrees, monitored_at}
 

@@ -5,7 +5,7 @@ use Rattle.std.specs.Cmp.Lexicographic.{nat_list_cmp_total}
 use Rattle.std.specs.FinMap.{from_entries, slice_cmp-IsAntisymmetric, nat_cmp-IsAntisymmetric}
 use Rattle.std.specs.Ordering.{is_eq, ordering_then, int_cmp}
 use Rattle.std.proofs.lemmas.Map.Text.{is_eq-slice_cmp}
-use Rattle.sqlite_value.specs.declared.value.Value.TheVariants.{Null, Int, Blob}
+use Rattle.sqlite_value.specs.declared.value.Value.TheVariants.{Null, Blob}
 use Rattle.sqlite_value.specs.Order.{Row, column, bytes}
 use Rattle.sqlite_sql.specs.Term.{Term}
 use Rattle.sqlite_sql.specs.Program.{overlay}
@@ -27,6 +27,7 @@ use Rattle.sqlite.specs.Effect.{Database}
 use Rattle.definitions.specs.Bytes.{Bytes, bytes_cmp, same_bytes}
 use Rattle.definitions.specs.Nsm.{MyId}
 use Rattle.definitions.specs.Hosts.{my_id_cmp}
+use Rattle.hosts_statements.specs.Given.{my_given, watch_given}
 use Rattle.hosts_statements.specs.Maps.{is_key_of, without_host, without_watches}
 use Rattle.hosts_statements.specs.Own.{is_blob, is_host, is_watched, AreOwn}
 use Rattle.hosts_statements.specs.Tables.{Place, hosts_tree, hosts_at, host_tables, host_schema, hosts_table, watches_table, delete_host_text, delete_watch_text, delete_watches_text}
@@ -53,12 +54,6 @@ watch_whole r h = (and_parts (is_int (rowid r)) _ h).0
 
 abbrev pub host_given : Bytes → Row
 host_given name = Blob name ∷ []
-
-abbrev pub my_given : MyId → Row
-my_given my = Blob my.my_name ∷ Int my.prog ∷ Int my.vers ∷ Int my.proc ∷ []
-
-abbrev pub watch_given : Bytes → MyId → Row
-watch_given mon my = Blob mon ∷ my_given my
 
 host_test : (name : Bytes) (r : Row) → is_host r ≡ true → passes host_tests (host_given name) r ≡ same_bytes (host_of r).0 name
 host_test name r h = and-true _ ∙ blob_holds (column r 1) name (and_parts (is_int (rowid r)) (is_blob (column r 1)) h).1

@@ -32,7 +32,8 @@ use Rattle.hosts_statements.proofs.OwnIds.{own_put}
 use Rattle.hosts_statements.proofs.Texts.{monitor_is, monitor_plain, watch_is, watch_plain}
 use Rattle.hosts_statements.proofs.PutLemmas.{put_is_insert}
 use Rattle.hosts_statements.proofs.Monitor.{Grown, params, terms, does_monitor}
-use Rattle.hosts_statements.proofs.Watch.{watch_params, watch_terms, does_watch, grown_watches}
+use Rattle.hosts_statements.specs.Given.{watch_params}
+use Rattle.hosts_statements.proofs.Watch.{watch_terms, does_watch, grown_watches}
 
 -- what statements make of a database with the tables
 pub record Makes (change : Rows → Rows) (old new : Database) : Type 0 where

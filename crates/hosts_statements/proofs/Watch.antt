@@ -18,6 +18,7 @@ use Rattle.sqlite_rules.specs.declared.error.Rowids.TheVariants.{Chosen}
 use Rattle.sqlite.specs.declared.run.Mode.{Mode}
 use Rattle.sqlite.specs.Does.{Tally, Does}
 use Rattle.sqlite.specs.Effect.{Database}
+use Rattle.hosts_statements.specs.Given.{watch_params}
 use Rattle.hosts_statements.specs.Maps.{WatchKey, key_cmp, with_watch}
 use Rattle.definitions.specs.Nsm.{MyId}
 use Rattle.hosts_statements.specs.Tables.{Place, hosts_tree, watches_table, host_schema}
@@ -49,9 +50,6 @@ watch_row id k private = id ∷ Blob k.mon ∷ Blob k.my.my_name ∷ Int k.my.pr
 
 abbrev pub watch_terms : List Term
 watch_terms = lit Null ∷ col 0 0 ∷ col 0 1 ∷ col 0 2 ∷ col 0 3 ∷ col 0 4 ∷ col 0 5 ∷ []
-
-abbrev pub watch_params : WatchKey → List ℕ → Row
-watch_params k private = Blob k.mon ∷ Blob k.my.my_name ∷ Int k.my.prog ∷ Int k.my.vers ∷ Int k.my.proc ∷ Blob private ∷ []
 
 pub record GrownWatches (place : Place) (row : Row) (old new : Trees) : Type 0 where
   pub rows : new 3 ≡ put_row row (old 3)

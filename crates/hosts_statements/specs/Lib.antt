@@ -1,5 +1,6 @@
 pub mod Tables
 pub mod Maps
+pub mod Given
 pub mod Shown
 pub mod Own
 pub mod Reading

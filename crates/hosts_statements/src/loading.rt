@@ -29,8 +29,7 @@ fn read<S: Alter>(conn: &mut Connection<S>, sql: &str) -> Result<Vec<Row>, Error
         return Err(Error::SqliteFailure(ErrorCode::TransactionState));
     }
     let select = conn.prepare(sql)?;
-    let rows = select.query_all(conn, &[])?;
-    Ok(rows)
+    select.query_all(conn, &[])
 }
 
 fn own_in(rows: &[Row], version: Version) -> Result<u32, StoreError>

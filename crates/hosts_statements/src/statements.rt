@@ -1,9 +1,11 @@
 //! The statements that write, each with what it makes of the rows.
 ghost use Rattle.std.specs.Prelude.{◌≡◌, pos, true, false, IsTrue, OnOk, OnErr, Some, None};
+ghost use Rattle.sqlite.specs.Values.{bound};
 ghost use Rattle.sqlite.specs.State.{HasCleanDisk, KeepsCommit, Survives};
 ghost use Rattle.sqlite.specs.Held.{state};
 ghost use Rattle.definitions.specs.Bytes.{same_bytes, without};
 ghost use Rattle.definitions.specs.Hosts.{HostRow, has_row, after_store, Monitor, Watched, Unwatched};
+ghost use Rattle.hosts_statements.specs.Given.{watch_given, watch_params};
 ghost use Rattle.hosts_statements.specs.Maps.{with_listed_host, with_listed_watch};
 ghost use Rattle.hosts_statements.specs.Tables.{no_schema};
 ghost use Rattle.hosts_statements.specs.Wrote.{HasMade, HasTables, IsFresh, MayWriteHosts, WroteHosts, hosts_in};
@@ -11,6 +13,7 @@ ghost use Rattle.hosts_statements.specs.declared.tables.Version.TheVariants.{Sec
 
 use hosts_db::MyId;
 use hosts_transactions::{One, Then, run_one, run_two, transact};
+use sqlite::types::ValueRef;
 use sqlite::{Alter, Connection, Error, ErrorCode, Transaction, params};
 
 /// Adds the row of a new host.
@@ -66,6 +69,42 @@ pub fn delete_host<S: Alter>(conn: &mut Connection<S>, name: &[u8]) -> Result<()
     run_one(conn, "DELETE FROM hosts2 WHERE name = ?1", params![name])
 }
 
+// Takes out the watch of a key.
+const DELETE_WATCH: &str =
+    "DELETE FROM watches WHERE mon = ?1 AND my = ?2 AND prog = ?3 AND vers = ?4 AND proc = ?5";
+
+// Adds the row of a watch.
+const INSERT_WATCH: &str =
+    "INSERT INTO watches (mon, my, prog, vers, proc, priv) VALUES (?1, ?2, ?3, ?4, ?5, ?6)";
+
+/// What the statement is given that takes out a watch.
+fn watch_key<'a>(mon: &'a [u8], my_id: &MyId<'a>) -> [ValueRef<'a>; 5]
+    ensures { bound result ≡ watch_given mon.now my_id.now }
+{
+    [
+        ValueRef::Blob(mon),
+        ValueRef::Blob(my_id.my_name()),
+        ValueRef::Int(i64::from(my_id.prog())),
+        ValueRef::Int(i64::from(my_id.vers())),
+        ValueRef::Int(i64::from(my_id.proc())),
+    ]
+}
+
+/// What the statement is given that adds a watch.
+fn watch_row<'a>(mon: &'a [u8], my_id: &MyId<'a>, private: &'a [u8; 16]) -> [ValueRef<'a>; 6]
+    ensures { bound result ≡ watch_params (record { mon = mon.now; my = my_id.now }) private.now }
+{
+    let [mon, my, prog, vers, proc] = watch_key(mon, my_id);
+    [
+        mon,
+        my,
+        prog,
+        vers,
+        proc,
+        ValueRef::Blob(private.as_slice()),
+    ]
+}
+
 /// Puts a watch in the place of the watch of its key, or adds it.
 pub fn put_watch<S: Alter>(
     conn: &mut Connection<S>,
@@ -78,15 +117,9 @@ pub fn put_watch<S: Alter>(
     ensures err { HasCleanDisk (state S.Store conn.new) → OnErr result (KeepsCommit (state S.Store conn.old) (state S.Store conn.new)) }
     ensures crash { Survives (state S.Store conn.old) (state S.Store conn.new) (MayWriteHosts (with_listed_watch (record { mon = mon.now; my = my_id.now }) private.now) (state S.Store conn.old)) }
 {
-    let my = my_id.my_name();
-    let (prog, vers, proc) = (my_id.prog(), my_id.vers(), my_id.proc());
-    run_two(
-        conn,
-        "DELETE FROM watches WHERE mon = ?1 AND my = ?2 AND prog = ?3 AND vers = ?4 AND proc = ?5",
-        params![mon, my, prog, vers, proc],
-        "INSERT INTO watches (mon, my, prog, vers, proc, priv) VALUES (?1, ?2, ?3, ?4, ?5, ?6)",
-        params![mon, my, prog, vers, proc, private.as_slice()],
-    )
+    let key = watch_key(mon, my_id);
+    let row = watch_row(mon, my_id, private);
+    run_two(conn, DELETE_WATCH, &key, INSERT_WATCH, &row)
 }
 
 /// Adds the row of a new host, and puts a watch of it.
@@ -104,20 +137,14 @@ pub fn put_host_and_watch<S: Alter>(
     ensures err { HasCleanDisk (state S.Store conn.new) → OnErr result (KeepsCommit (state S.Store conn.old) (state S.Store conn.new)) }
     ensures crash { Survives (state S.Store conn.old) (state S.Store conn.new) (MayWriteHosts (λ h. after_store h (Watched mon.now my_id.now private.now)) (state S.Store conn.old)) }
 {
-    let my = my_id.my_name();
-    let (prog, vers, proc) = (my_id.prog(), my_id.vers(), my_id.proc());
+    let key = watch_key(mon, my_id);
+    let row = watch_row(mon, my_id, private);
     let host = One(
         "INSERT INTO hosts2 (name, epoch, seen, quota) VALUES (?1, ?2, ?3, ?4)",
         params![mon, epoch, 0i32, 65_536u32],
     );
-    let none = One(
-        "DELETE FROM watches WHERE mon = ?1 AND my = ?2 AND prog = ?3 AND vers = ?4 AND proc = ?5",
-        params![mon, my, prog, vers, proc],
-    );
-    let watch = One(
-        "INSERT INTO watches (mon, my, prog, vers, proc, priv) VALUES (?1, ?2, ?3, ?4, ?5, ?6)",
-        params![mon, my, prog, vers, proc, private.as_slice()],
-    );
+    let none = One(DELETE_WATCH, &key);
+    let watch = One(INSERT_WATCH, &row);
     transact(conn, &Then(Then(host, none), watch))
 }
 
@@ -132,13 +159,7 @@ pub fn delete_watch<S: Alter>(
     ensures err { HasCleanDisk (state S.Store conn.new) → OnErr result (KeepsCommit (state S.Store conn.old) (state S.Store conn.new)) }
     ensures crash { Survives (state S.Store conn.old) (state S.Store conn.new) (MayWriteHosts (λ h. after_store h (Unwatched (Some mon.now) my_id.now)) (state S.Store conn.old)) }
 {
-    let my = my_id.my_name();
-    let (prog, vers, proc) = (my_id.prog(), my_id.vers(), my_id.proc());
-    run_one(
-        conn,
-        "DELETE FROM watches WHERE mon = ?1 AND my = ?2 AND prog = ?3 AND vers = ?4 AND proc = ?5",
-        params![mon, my, prog, vers, proc],
-    )
+    run_one(conn, DELETE_WATCH, &watch_key(mon, my_id))
 }
 
 /// Takes out the watches of a watcher.
@@ -198,8 +219,7 @@ pub fn make_and_start<S: Alter>(conn: &mut Connection<S>, own: u32) -> Result<()
         "INSERT INTO own (id, version, state) VALUES (1, 2, ?1)",
         params![own],
     )?;
-    tx.commit()?;
-    Ok(())
+    tx.commit()
 }
 
 /// Sets the own state, where the tables are there.

@@ -38,7 +38,7 @@ pub survives_both : {a b c : State} → Survives a b (λ _. ⊥) → Survives b 
 survives_both {a} {b} {c} one two = survives_then a b c _ _ (λ _. ⊥) (λ _ db none. none) (λ _ db none. none) one two
 
 module _ {S : Type 0} {g : Ghosts S} {Work : Database → Database → Type 0} {old last end new : Held S} (t : Transacts g Work old last end new) where
-  clean_end : HasCleanDisk (state g new) → HasCleanDisk (state g end)
+  pub clean_end : HasCleanDisk (state g new) → HasCleanDisk (state g end)
   clean_end clean = subst (λ h. HasCleanDisk (state g h)) (sym t.same) clean
 
   clean_last : HasCleanDisk (state g end) → HasCleanDisk (state g last)

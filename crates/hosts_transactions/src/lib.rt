@@ -30,8 +30,10 @@ impl Work for One<'_> {
     ghost works = { λ one. Ran one.0.now (bound one.1.now) };
 
     fn run<S: Alter>(&self, tx: &mut Transaction<'_, S>) -> Result<(), Error> {
-        tx.execute(self.0, self.1)?;
-        Ok(())
+        match tx.execute(self.0, self.1) {
+            Ok(_) => Ok(()),
+            Err(error) => Err(error),
+        }
     }
 }
 
@@ -59,8 +61,7 @@ pub fn transact<S: Alter, W: Work>(conn: &mut Connection<S>, work: &W) -> Result
     }
     let mut tx = conn.transaction();
     work.run(&mut tx)?;
-    tx.commit()?;
-    Ok(())
+    tx.commit()
 }
 
 /// Runs three statements in a transaction that is open.

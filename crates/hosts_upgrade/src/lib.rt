@@ -52,6 +52,5 @@ pub fn upgrade<S: Alter>(conn: &mut Connection<S>, own: u32) -> Result<(), Error
         "UPDATE own SET version = 2, state = ?1",
         params![own],
     )?;
-    tx.commit()?;
-    Ok(())
+    tx.commit()
 }

@@ -6,14 +6,15 @@ use Rattle.hosts_statements.specs.Tables.{copy_hosts_text, empty_hosts_text, sec
 use Rattle.hosts_transactions.specs.Work.{HasWorked, RanThree}
 use Rattle.hosts_statements.specs.Wrote.{IsWhole}
 use Rattle.hosts_statements.specs.declared.tables.Version.TheVariants.{First}
-use Rattle.hosts_transactions.proofs.Transactions.{Transacts, survives_both, work_committed, work_survives}
+use Rattle.hosts_transactions.proofs.Results.{on_then, on_error}
+use Rattle.hosts_transactions.proofs.Transactions.{Transacts, clean_end, survives_both, work_committed, work_survives, work_undone}
 use Rattle.hosts_statements.proofs.Commits.{own_wrote, own_survives}
 use Rattle.hosts_upgrade.specs.Made.{HasMadeHosts}
 use Rattle.hosts_upgrade.proofs.Whole.{IsUpgraded, upgraded_inside, upgraded_makes}
 use Rattle.hosts_upgrade.proofs.upgrade.Goals as goal
-use Rattle.hosts_upgrade.proofs.upgrade.Goals.{After-branch-commit}
+use Rattle.hosts_upgrade.proofs.upgrade.Goals.{After-conn-2-1}
 
-transaction : (g : _) (c : After-branch-commit g) → Transacts g.S.Store (IsUpgraded c.args.own) c.args.conn.now c.do_three.new.tx.conn.now c.commit.new.self.0 c.conn-2-1.given.0
+transaction : (g : _) (c : After-conn-2-1 g) → Transacts g.S.Store (IsUpgraded c.args.own) c.args.conn.now c.do_three.new.tx.conn.now c.commit.new.self.0 c.conn-2-1.given.0
 transaction g c =
     let old = c.args.conn.now in
     let mid = state g.S.Store c.make_hosts.new.tx.conn.now in
@@ -35,13 +36,19 @@ transaction g c =
     }
 
 pub returns-clause-ok : goal.returns-clause-ok
-returns-clause-ok g c clean = own_wrote c.args.own (upgraded_makes c.args.own) (work_committed (transaction g (goal.at.returns-clause-ok g c).After-branch-commit) clean (λ late. (c.in_ok-commit.ensures.ok late).1))
+returns-clause-ok g c clean =
+    let whole = transaction g c in
+    on_then c.commit.result (c.commit.ensures.ok (clean_end whole clean)) (λ done. own_wrote c.args.own (upgraded_makes c.args.own) (work_committed whole clean (λ _. done.1)))
 
 pub returns-clause-emptied : goal.returns-clause-emptied
-returns-clause-emptied g c clean = (work_committed (transaction g (goal.at.returns-clause-emptied g c).After-branch-commit) clean (λ late. (c.in_ok-commit.ensures.ok late).1)).work.emptied
+returns-clause-emptied g c clean =
+    let whole = transaction g c in
+    on_then c.commit.result (c.commit.ensures.ok (clean_end whole clean)) (λ done. (work_committed whole clean (λ _. done.1)).work.emptied)
+
+pub returns-clause-err : goal.returns-clause-err
+returns-clause-err g c clean =
+    let whole = transaction g c in
+    on_error c.commit.result (c.commit.ensures.err (clean_end whole clean)) (λ e fails. work_undone whole e clean (λ _. fails))
 
 pub returns-clause-crash : goal.returns-clause-crash
-returns-clause-crash g c = own_survives c.args.own (upgraded_makes c.args.own) (work_survives (transaction g (goal.at.returns-clause-crash g c).After-branch-commit))
-
-pub returns-in_err-commit-clause-crash : goal.returns-in_err-commit-clause-crash
-returns-in_err-commit-clause-crash g c = own_survives c.args.own (upgraded_makes c.args.own) (work_survives (transaction g (goal.at.returns-in_err-commit-clause-crash g c).After-branch-commit))
+returns-clause-crash g c = own_survives c.args.own (upgraded_makes c.args.own) (work_survives (transaction g c))

@@ -6,7 +6,8 @@ use Rattle.hosts_statements.specs.Maps.{without_watches}
 use Rattle.hosts_statements.specs.Tables.{delete_watches_text}
 use Rattle.hosts_transactions.specs.Work.{Ran}
 use Rattle.hosts_statements.specs.Wrote.{rows_in}
-use Rattle.hosts_statements.proofs.Fewer.{my_given, made_without_watches}
+use Rattle.hosts_statements.specs.Given.{my_given}
+use Rattle.hosts_statements.proofs.Fewer.{made_without_watches}
 use Rattle.hosts_statements.proofs.Commits.{CommitsWork, commits_work, hosts_by_work}
 use Rattle.hosts_statements.proofs.Changed.{watches_gone}
 use Rattle.hosts_statements.proofs.statements.delete_watches.Goals as goal

@@ -6,12 +6,13 @@ use Rattle.hosts_statements.specs.Maps.{with_own}
 use Rattle.hosts_statements.specs.Wrote.{HasMade}
 use Rattle.hosts_statements.proofs.Create.{started}
 use Rattle.hosts_statements.proofs.Rows.{Makes}
-use Rattle.hosts_transactions.proofs.Transactions.{Transacts, survives_both, work_committed, work_survives}
+use Rattle.hosts_transactions.proofs.Results.{on_then, on_error}
+use Rattle.hosts_transactions.proofs.Transactions.{Transacts, clean_end, survives_both, work_committed, work_survives, work_undone}
 use Rattle.hosts_statements.proofs.Commits.{own_wrote, own_survives}
 use Rattle.hosts_statements.proofs.statements.make_and_start.Goals as goal
-use Rattle.hosts_statements.proofs.statements.make_and_start.Goals.{After-branch-commit}
+use Rattle.hosts_statements.proofs.statements.make_and_start.Goals.{After-conn-2-1}
 
-transaction : (g : _) (c : After-branch-commit g) → Transacts g.S.Store (Makes (with_own c.args.own)) c.args.conn.now c.execute.new.self.conn.now c.commit.new.self.0 c.conn-2-1.given.0
+transaction : (g : _) (c : After-conn-2-1 g) → Transacts g.S.Store (Makes (with_own c.args.own)) c.args.conn.now c.execute.new.self.conn.now c.commit.new.self.0 c.conn-2-1.given.0
 transaction g c =
     let old = c.args.conn.now in
     let mid = state g.S.Store c.make_tables.new.tx.conn.now in
@@ -32,10 +33,14 @@ transaction g c =
     }
 
 pub returns-clause-ok : goal.returns-clause-ok
-returns-clause-ok g c clean = own_wrote c.args.own (λ from to made. made) (work_committed (transaction g (goal.at.returns-clause-ok g c).After-branch-commit) clean (λ late. (c.in_ok-commit.ensures.ok late).1))
+returns-clause-ok g c clean =
+    let whole = transaction g c in
+    on_then c.commit.result (c.commit.ensures.ok (clean_end whole clean)) (λ done. own_wrote c.args.own (λ from to made. made) (work_committed whole clean (λ _. done.1)))
+
+pub returns-clause-err : goal.returns-clause-err
+returns-clause-err g c clean =
+    let whole = transaction g c in
+    on_error c.commit.result (c.commit.ensures.err (clean_end whole clean)) (λ e fails. work_undone whole e clean (λ _. fails))
 
 pub returns-clause-crash : goal.returns-clause-crash
-returns-clause-crash g c = own_survives c.args.own (λ from to made. made) (work_survives (transaction g (goal.at.returns-clause-crash g c).After-branch-commit))
-
-pub returns-in_err-commit-clause-crash : goal.returns-in_err-commit-clause-crash
-returns-in_err-commit-clause-crash g c = own_survives c.args.own (λ from to made. made) (work_survives (transaction g (goal.at.returns-in_err-commit-clause-crash g c).After-branch-commit))
+returns-clause-crash g c = own_survives c.args.own (λ from to made. made) (work_survives (transaction g c))

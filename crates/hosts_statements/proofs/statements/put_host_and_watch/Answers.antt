@@ -1,5 +1,4 @@
-use Rattle.std.proofs.Common.{w32, pos, Some, rules}
-use Rattle.std.proofs.lemmas.Int.{to_z-of_z}
+use Rattle.std.proofs.Common.{pos, Some, rules}
 use Rattle.sqlite.specs.Held.{state}
 use Rattle.definitions.specs.Hosts.{Hosts, after_store, Watched}
 use Rattle.hosts_statements.specs.Maps.{WatchKey, made_now, with_host, with_watch, without_watches}
@@ -7,8 +6,7 @@ use Rattle.hosts_statements.specs.Tables.{monitor_text, watch_text, delete_watch
 use Rattle.hosts_transactions.specs.Work.{RanThree}
 use Rattle.hosts_statements.specs.Wrote.{rows_in}
 use Rattle.hosts_statements.proofs.Monitor.{params}
-use Rattle.hosts_statements.proofs.Watch.{watch_params}
-use Rattle.hosts_statements.proofs.Fewer.{watch_given}
+use Rattle.hosts_statements.specs.Given.{watch_given, watch_params}
 use Rattle.hosts_statements.proofs.Listed.{no_host}
 use Rattle.hosts_statements.proofs.Commits.{CommitsWork, commits_work, hosts_by_work}
 use Rattle.hosts_statements.proofs.Changed.{host_and_watch_put, host_and_watch_listed}
@@ -20,7 +18,7 @@ returns g c =
     let key : WatchKey = record { mon = c.args.mon.now; my = c.args.my_id.now } in
     let private = c.args.private.now in
     let host = made_now c.args.epoch (pos 0) in
-    let ran : CommitsWork (RanThree monitor_text (params key.mon host) delete_watch_text (watch_given key.mon key.my) watch_text (watch_params key private)) old (state g.S.Store c.transact.new.conn) c.transact.result = rw (c.params-to_sql.ensures, c.params-to_sql-2.ensures, c.params-to_sql-3.ensures, c.params-to_sql-4.ensures, c.params-to_sql-5.ensures, c.params-to_sql-6.ensures, c.params-to_sql-7.ensures, c.params-to_sql-8.ensures, c.params-to_sql-9.ensures, c.params-to_sql-10.ensures, c.params-to_sql-11.ensures, c.params-to_sql-12.ensures, c.params-to_sql-13.ensures, c.params-to_sql-14.ensures, c.params-to_sql-15.ensures, to_z-of_z w32 c.prog-prog.result (record { sfits = c.prog-prog.type_inv }), to_z-of_z w32 c.vers-vers.result (record { sfits = c.vers-vers.type_inv }), to_z-of_z w32 c.proc-proc.result (record { sfits = c.proc-proc.type_inv }), c.my_name-my.ensures.value, c.prog-prog.ensures, c.vers-vers.ensures, c.proc-proc.ensures, c.as_slice.ensures) at (commits_work c.transact.result c.transact.ensures.ok c.transact.ensures.crash) in
+    let ran : CommitsWork (RanThree monitor_text (params key.mon host) delete_watch_text (watch_given key.mon key.my) watch_text (watch_params key private)) old (state g.S.Store c.transact.new.conn) c.transact.result = rw (c.params-to_sql.ensures, c.params-to_sql-2.ensures, c.params-to_sql-3.ensures, c.params-to_sql-4.ensures, c.watch_key-key.ensures, c.watch_row-row.ensures) at (commits_work c.transact.result c.transact.ensures.ok c.transact.ensures.crash) in
     let wrote = hosts_by_work (λ r. with_watch key private (without_watches (Some key.mon) key.my (with_host key.mon host r))) (λ (h : Hosts). after_store h (Watched key.mon key.my private)) (λ clean is_open to work.
     let none = c.requires.new clean is_open in
     (host_and_watch_put host key private old.committed to (c.requires.tables clean is_open) (no_host (rows_in old).hosts key.mon none) work, host_and_watch_listed (rows_in old) key private c.args.epoch (c.requires.own clean is_open) none)) ran in
