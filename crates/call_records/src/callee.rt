@@ -94,10 +94,10 @@ impl<'r> Arguments<'r> {
         let start = f.len();
         let xid = (number % 4_294_967_296) as u32;
         put_call(f, xid, to.program, to.version, to.procedure)?;
-        let put = self.put(f);
-        if put.is_err() {
+        if self.put(f).is_err() {
             f.truncate(start);
+            return Err(FrameFull);
         }
-        put
+        Ok(())
     }
 }

@@ -57,9 +57,10 @@ fn with_needed<'a>(
 ) -> Result<Command<'a>, AllocError>
     ensures { IfOk result (λ r. IsOkAnd command.entry (λ c. app_of r ≡ with_rule (app_of c) (needed_rule id.entry.now))) }
 {
-    let command = command?;
-    let needed = value(alloc, id, shown, help).required(true);
-    command.arg(needed)
+    match command {
+        Ok(command) => command.arg(value(alloc, id, shown, help).required(true)),
+        Err(refused) => Err(refused),
+    }
 }
 
 /// Adds one with a default.
@@ -73,9 +74,10 @@ fn with_default<'a>(
 ) -> Result<Command<'a>, AllocError>
     ensures { IfOk result (λ r. IsOkAnd command.entry (λ c. app_of r ≡ with_rule (app_of c) (default_rule id.entry.now default.entry.now))) }
 {
-    let command = command?;
-    let defaulted = value(alloc, id, shown, help).default_value(default);
-    command.arg(defaulted)
+    match command {
+        Ok(command) => command.arg(value(alloc, id, shown, help).default_value(default)),
+        Err(refused) => Err(refused),
+    }
 }
 
 /// Adds an option without value.
@@ -87,8 +89,10 @@ fn with_flag<'a>(
 ) -> Result<Command<'a>, AllocError>
     ensures { IfOk result (λ r. IsOkAnd command.entry (λ c. app_of r ≡ with_rule (app_of c) (flag_rule id.entry.now))) }
 {
-    let command = command?;
-    command.arg(flag(alloc, id, help))
+    match command {
+        Ok(command) => command.arg(flag(alloc, id, help)),
+        Err(refused) => Err(refused),
+    }
 }
 
 /// Adds the server's own name.
@@ -126,14 +130,15 @@ fn with_grace<'a>(
         "grace",
         "Begin in the grace period, and stay in it",
     );
-    let command = with_own_name(alloc, command)?;
-    let db = value(
-        alloc,
-        "db",
-        "FILE",
-        "The file of stored hosts; without it they are in memory",
-    );
-    command.arg(db)
+    match with_own_name(alloc, command) {
+        Ok(command) => command.arg(value(
+            alloc,
+            "db",
+            "FILE",
+            "The file of stored hosts; without it they are in memory",
+        )),
+        Err(refused) => Err(refused),
+    }
 }
 
 fn with_own_ports<'a>(
@@ -290,8 +295,10 @@ fn with_command<'a>(
     name: &'a str,
     about: &'a str,
 ) -> Result<Command<'a>, AllocError> {
-    let command = command?;
-    command.subcommand(bare(alloc, name, about))
+    match command {
+        Ok(command) => command.subcommand(bare(alloc, name, about)),
+        Err(refused) => Err(refused),
+    }
 }
 
 /// `lockd` alone, which answers help, the version, and words that begin with no command.
