@@ -1,16 +1,18 @@
 -- What a line comes to.
-use Rattle.std.proofs.Common.{◌≡◌, ℕ, true, refl, sym, ap}
+use Rattle.std.proofs.Common.{◌≡◌, ℕ, Bool, true, false, refl, sym, ap}
 use Rattle.std.specs.Prelude.{Result, Ok, Err, IfOk, OnErr}
 use Rattle.definitions.specs.Bytes.{Bytes}
 use Rattle.definitions.specs.Hosts.{StoreAnswer, NotAsked}
 use Rattle.definitions.specs.Replay.{fits}
-use Rattle.definitions.specs.Rulings.{ruled}
+use Rattle.definitions.specs.Rulings.{ruled, stays}
 use Rattle.call_plans.specs.Planned.{view_of_stored}
 use Rattle.call_plans.specs.declared.plans.StoreAnswer.{StoreAnswer as Said}
 use Rattle.definitions.specs.Replies.{Line, LineReply, LineStarved}
 use Rattle.definitions.specs.Lines.{line_answer}
 use Rattle.definitions.specs.World.{World, the_limits, settled}
 use Rattle.definitions.specs.Step.{State, Local, Applied, Starved, Says, with_world}
+use Rattle.lock_service.specs.declared.local.SetLine as line
+use Rattle.lock_service.specs.Lined.{set_line_if, set_line_of}
 use Rattle.local_ops.specs.declared.answer.LocalAnswer.{LocalAnswer}
 use Rattle.local_ops.specs.Answers.{view_of_local_answer}
 use Rattle.local_ops.specs.Grammar.{Reads as LineReads}
@@ -25,6 +27,24 @@ module _ (s : State) (line : Line) (store : StoreAnswer) where
     leaves = ap (with_world s) (sym (leaves l));
     fits = fit;
   }
+
+-- a line that changes nothing by itself
+pub settled_so : (s : State) (l : ℕ) (line : Line) (reply said : LineReply) (w : World) → line_answer the_limits s.world l line ≡ stays s.world reply → fits the_limits s (record { event = Local l line; doing = Applied; store = NotAsked }) ≡ true → said ≡ reply → w ≡ settled the_limits s.world
+    → IsStep s (Local l line) (comes_to Applied NotAsked (Says said)) (with_world s w)
+settled_so s l line reply said w is fit says leaves = rw (says, leaves) (record { gives = rw is refl; leaves = rw is refl; fits = fit })
+
+-- a line that sets
+pub set_so : (s : State) (x : line.SetLine) (said : LineReply) (w : World) → said ≡ (ruled NotAsked (line_answer the_limits s.world x.connection (set_line_of x))).says
+    → w ≡ settled the_limits (ruled NotAsked (line_answer the_limits s.world x.connection (set_line_of x))).world → IsStep s (Local x.connection (set_line_of x)) (comes_to Applied NotAsked (Says said)) (with_world s w)
+set_so s x said w says leaves = record {
+  gives = ap (λ (r : LineReply). Says r) (sym says);
+  leaves = ap (with_world s) (sym leaves);
+  fits = go x.waits;
+}
+  where
+    go : (b : Bool) → fits the_limits s (record { event = Local x.connection (set_line_if b x); doing = Applied; store = NotAsked }) ≡ true
+    go true = refl
+    go false = refl
 
 pub read_as : (s new : State) (l : ℕ) (bytes : Bytes) (whole : Line) (upshot : Upshot) → LineReads bytes whole
     → IsStep s (Local l whole) upshot new → Steps s (AsksLine l bytes) upshot new

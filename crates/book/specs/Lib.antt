@@ -4,3 +4,4 @@ pub mod Shared
 pub mod Journal
 pub mod Kept
 pub mod Receipts
+pub mod Lines

@@ -1,14 +1,15 @@
 //! A local program's line is answered.
 ghost use Rattle.std.specs.Prelude.{◌≡◌, ℕ, IfOk, OnErr};
 ghost use Rattle.definitions.specs.Hosts.{NotAsked};
-ghost use Rattle.definitions.specs.Replies.{LineStarved};
+ghost use Rattle.definitions.specs.Replies.{Line, LineReply, LineStarved};
 ghost use Rattle.definitions.specs.Step.{Local, Applied, Starved as IsStarved, Says};
 ghost use Rattle.call_plans.specs.Planned.{view_of_stored, counted};
 ghost use Rattle.local_ops.specs.Answers.{view_of_local_answer};
 ghost use Rattle.local_ops.specs.Calls.{line_of};
+ghost use Rattle.lock_service.specs.Lined.{set_line_of};
 ghost use Rattle.book.specs.Given.{comes_to};
+ghost use Rattle.book.specs.Lines.{IsDone, IsToldOnly};
 ghost use Rattle.book.specs.Notes.{AsksLine, IsStep, Steps};
-ghost use Rattle.definitions.specs.Replies.{BadLine as IsBad};
 
 use crate::shared::Shared;
 use hosts_db::HostStore;
@@ -34,7 +35,7 @@ impl<R: RangeTable, S: HostStore> Shared<R, S> {
     {
         match LocalCall::read(bytes) {
             Ok(call) => self.asked(connection, &call),
-            Err(_) => Ok((self.bad(), StoreAnswer::NotAsked)),
+            Err(_) => self.settled(Ok(LocalAnswer::Bad)),
         }
     }
 
@@ -50,56 +51,61 @@ impl<R: RangeTable, S: HostStore> Shared<R, S> {
     {
         match call {
             LocalCall::GetLock { mode, lock } => {
-                let answer = get_lock(&self.world, *mode, lock)?;
-                self.world.settle();
-                Ok((answer, StoreAnswer::NotAsked))
+                let told = get_lock(&self.world, *mode, lock);
+                self.settled(told)
             }
-            LocalCall::SetLock { mode, lock } => {
-                let line = SetLine {
-                    connection,
-                    waits: false,
-                    mode: *mode,
-                    lock,
-                };
-                Ok((set_lock(&mut self.world, &line)?, StoreAnswer::NotAsked))
-            }
-            LocalCall::SetLockWait { mode, lock } => {
-                let line = SetLine {
-                    connection,
-                    waits: true,
-                    mode: *mode,
-                    lock,
-                };
-                Ok((set_lock(&mut self.world, &line)?, StoreAnswer::NotAsked))
-            }
+            LocalCall::SetLock { mode, lock } => self.set(&SetLine {
+                connection,
+                waits: false,
+                mode: *mode,
+                lock,
+            }),
+            LocalCall::SetLockWait { mode, lock } => self.set(&SetLine {
+                connection,
+                waits: true,
+                mode: *mode,
+                lock,
+            }),
             LocalCall::Close { owner, file } => {
                 close_file(&mut self.world, owner, file);
                 Ok((LocalAnswer::Done, StoreAnswer::NotAsked))
             }
             LocalCall::Quota(quota) => Ok(set_quota(&mut self.world, quota)),
             LocalCall::Table => {
-                let table = list_table(&self.world)?;
-                self.world.settle();
-                Ok((table, StoreAnswer::NotAsked))
+                let told = list_table(&self.world);
+                self.settled(told)
             }
             LocalCall::Hosts => {
-                let hosts = list_hosts(&self.world)?;
-                self.world.settle();
-                Ok((hosts, StoreAnswer::NotAsked))
+                let told = list_hosts(&self.world);
+                self.settled(told)
             }
-            LocalCall::Stop => {
-                self.world.settle();
-                Ok((LocalAnswer::Done, StoreAnswer::NotAsked))
-            }
+            LocalCall::Stop => self.settled(Ok(LocalAnswer::Done)),
         }
     }
 
-    // Of a line that is none of the protocol.
-    fn bad(&mut self) -> LocalAnswer
-        ensures step { (l : ℕ) → IsStep self.old.state (Local l IsBad) (comes_to Applied NotAsked (Says (view_of_local_answer result))) self.new.state }
-        ensures refusals { self.new.refusals ≡ self.old.refusals }
+    // Of `setlk`, and of `setlkw`.
+    fn set(&mut self, line: &SetLine<'_>) -> Result<(LocalAnswer, StoreAnswer), Starved>
+        ensures ok { IfOk result (λ told. IsStep self.old.state (Local line.now.connection (set_line_of line.now)) (comes_to Applied (view_of_stored told.1) (Says (view_of_local_answer told.0))) self.new.state) }
+        ensures err { OnErr result (IsStep self.old.state (Local line.now.connection (set_line_of line.now)) (comes_to IsStarved NotAsked (Says LineStarved)) self.new.state) }
+        ensures counts { IfOk result (λ told. self.new.refusals ≡ counted (view_of_stored told.1) self.old.refusals) }
+        ensures refusals { OnErr result (self.new.refusals ≡ self.old.refusals) }
     {
+        let answer = set_lock(&mut self.world, line)?;
+        Ok((answer, StoreAnswer::NotAsked))
+    }
+
+    // What a line was told that by itself changes nothing: unless it starved, what waits for what is free is granted.
+    fn settled(
+        &mut self,
+        told: Result<LocalAnswer, Starved>,
+    ) -> Result<(LocalAnswer, StoreAnswer), Starved>
+        ensures ok { (l : ℕ) (line : Line) (reply : LineReply) → IsToldOnly self.old.state l line reply → IfOk told (λ answer. view_of_local_answer answer ≡ reply) → IfOk result (IsDone self.old.state l line self.new.state) }
+        ensures err { (l : ℕ) (line : Line) → OnErr result (IsStep self.old.state (Local l line) (comes_to IsStarved NotAsked (Says LineStarved)) self.new.state) }
+        ensures counts { IfOk result (λ made. self.new.refusals ≡ counted (view_of_stored made.1) self.old.refusals) }
+        ensures refusals { OnErr result (self.new.refusals ≡ self.old.refusals) }
+    {
+        let answer = told?;
         self.world.settle();
-        LocalAnswer::Bad
+        Ok((answer, StoreAnswer::NotAsked))
     }
 }

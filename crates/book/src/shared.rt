@@ -24,7 +24,6 @@ use std::alloc::Global;
 use std::marker::Model;
 
 /// What the events of the book act on. A contract sees it as the state of `definitions`, and how often the store refused.
-#[derive(Drop)]
 pub(crate) struct Shared<R: RangeTable, S: HostStore> {
     pub(crate) world: World<R, S>,
     pub(crate) kept: KeptReplies<KeptReply>,
@@ -36,6 +35,13 @@ impl<R: RangeTable, S: HostStore> Model for Shared<R, S> {
     ghost Value = { Shared };
 
     ghost view = { λ s. record { state = record { world = s.world.world; kept = s.kept }; refusals = s.world.refusals } };
+}
+
+// It is written out, so that each part of a world is proved to be dropped once.
+impl<R: RangeTable + Drop, S: HostStore + Drop> Drop for Shared<R, S> {
+    fn drop(self) {
+        let Shared { world: _, kept: _ } = self;
+    }
 }
 
 impl<R: RangeTable + Drop, S: HostStore + Drop> Shared<R, S> {
