@@ -20,7 +20,6 @@ use xdr_core::Frame;
 
 /// Makes the server's own calls, on one thread. It keeps one connection to each peer while that answers. Contracts see the
 /// calls that it was handed.
-#[derive(Drop)]
 pub struct Sender<'a, R, D> {
     pub(crate) rt: &'a R,
     locals: &'a D,
@@ -31,6 +30,23 @@ pub struct Sender<'a, R, D> {
     pub(crate) kept: Option<Untaken>,
     pub(crate) now: Instant,
     all: History<Parcel>,
+}
+
+// It is written out, so that no crate above proves again how each part is dropped.
+impl<'a, R, D> Drop for Sender<'a, R, D> {
+    fn drop(self) {
+        let Sender {
+            rt: _,
+            locals: _,
+            settings: _,
+            peers: _,
+            office: _,
+            awaited: _,
+            kept: _,
+            now: _,
+            all: _,
+        } = self;
+    }
 }
 
 impl<'a, R, D> Model for Sender<'a, R, D> {

@@ -61,7 +61,6 @@ fn write_reply<O: Write>(output: &mut O, reply: &Reply) -> Result<(), WriteFault
 }
 
 // Writes it, and hands it on.
-#[tactic(auto, using(crate::proofs::LineLemmas::flush_done, crate::proofs::LineLemmas::flush_failed))]
 fn tell<O: Write>(output: &mut O, reply: &Reply) -> Result<(), WriteFault>
     ensures { Wrote (O.contents output.old) (O.contents output.new) result (text_of (view_of_reply reply.now)) }
 {

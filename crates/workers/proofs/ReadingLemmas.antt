@@ -1,5 +1,5 @@
 -- A connection's own thread reads on.
-use Rattle.std.proofs.Common.{◌≡◌, ℕ, suc, ◌+◌, ◌<◌, Bool, true, false, List, [], ◌∷◌, ◌++◌, length, take, map, Option, Some, None, Result, Err, refl, sym, ap, ◌∙◌, subst, append_assoc, arith}
+use Rattle.std.proofs.Common.{◌≡◌, ℕ, suc, ◌+◌, ◌<◌, Bool, true, false, cond, List, [], ◌∷◌, ◌++◌, length, take, map, Option, Some, None, Result, Err, refl, sym, ap, ◌∙◌, subst, append_assoc, arith, rules}
 use Rattle.std.proofs.lemmas.List.{map-append, append-nil, length-append, length-take-le}
 use Rattle.std.proofs.Math.Seq.{take-append-add, take-length}
 use Rattle.std.proofs.KnownBytes.{Consumes-nil, Consumes-trans}
@@ -220,7 +220,7 @@ module _ (o p : Origin) (before mid after : Option (List ℕ)) (a : Assembled) (
 
     -- ---- by what became of the piece
 
-    pub closes : (fault : Option Ending) → Cuts a piece records fault a' → Puts false records p q w x → IsRead Closed o q before after v y s s''
+    closes : (fault : Option Ending) → Cuts a piece records fault a' → Puts false records p q w x → IsRead Closed o q before after v y s s''
     closes None cuts puts = cut_short false cuts puts.0 puts.1 puts.2 (length-take-le puts.0 records (omega (arith, puts.1)))
     closes (Some TooLong) cuts puts = cut_short true cuts puts.0 puts.1 puts.2 (length-take-le puts.0 records (omega (arith, puts.1)))
     closes (Some Starved) cuts puts = let e = ap length cuts.1 in absurd (omega (arith, puts.1, e))
@@ -228,36 +228,54 @@ module _ (o p : Origin) (before mid after : Option (List ℕ)) (a : Assembled) (
     closes (Some Failed) cuts puts = absurd cuts
     closes (Some Closed) cuts puts = absurd cuts
 
-    pub ends : (ending : Ending) → Cuts a piece records (Some ending) a' → Puts true records p q w x → IsRead ending o q before after v y s s''
+    ends : (ending : Ending) → Cuts a piece records (Some ending) a' → Puts true records p q w x → IsRead ending o q before after v y s s''
     ends TooLong cuts puts = too_long true cuts refl puts
     ends Starved cuts puts = starved cuts.1 puts
     ends Over cuts puts = absurd cuts
     ends Failed cuts puts = absurd cuts
     ends Closed cuts puts = absurd cuts
 
-    pub goes_on : Cuts a piece records None a' → Puts true records p q w x → SoFar o q before after a' v y s s''
+    goes_on : Cuts a piece records None a' → Puts true records p q w x → SoFar o q before after a' v y s s''
     goes_on cuts puts = more false cuts refl puts
+
+    -- and by whether all of its records were put
+    pub ended_so : (put : Bool) (fault ended : Option Ending) (ending : Ending) → ended ≡ cond put fault (Some Closed) → ended ≡ Some ending → Cuts a piece records fault a' → Puts put records p q w x → IsRead ending o q before after v y s s''
+    ended_so true fault ended ending is some cuts puts = ends ending (subst (λ f. Cuts a piece records f a') (sym is ∙ some) cuts) puts
+    ended_so false fault ended ending is some cuts puts = subst (λ e. IsRead e o q before after v y s s'') (the_one (sym is ∙ some)) (closes fault cuts puts)
+      where
+        the_one : Some Closed ≡ Some ending → Closed ≡ ending
+        the_one e = cc
+
+    pub not_ended : (put : Bool) (fault ended : Option Ending) → ended ≡ cond put fault (Some Closed) → ended ≡ None → Cuts a piece records fault a' → Puts put records p q w x → SoFar o q before after a' v y s s''
+    not_ended true fault ended is none cuts puts = goes_on (subst (λ f. Cuts a piece records f a') (sym is ∙ none) cuts) puts
+    not_ended false fault ended is none cuts puts = absurd (apart (sym is ∙ none))
+      where
+        apart : Some Closed ≡ None → ⊥
+        apart e = cc
 
 -- ---- a piece, where a read may have been interrupted
 
 pub heard_some : (mid after : Option (List ℕ)) (place : List ℕ) (r : Result ℕ Ending) (ending : Ending) → r ≡ Err ending → Consumes mid after (heard r place) → Consumes mid after []
 heard_some mid after place r ending is c = subst (λ (q : Result ℕ Ending). Consumes mid after (heard q place)) is c
 
+-- no bytes make no records
+unsplit : Splits [] [] false
+unsplit = record { begun = []; rest = []; reads = record { fragments = []; each = search rules; fit = tt; whole = refl; makes = refl; leaves = refl }; ending = search rules }
+
 -- nothing was read
-pub unread : (o : Origin) (before : Option (List ℕ)) (w : Worker) (s : List Sent) (a : Assembled) → a ≡ record { received = []; given = []; failed = false } → IsSplit a → IsRead Starved o o before before w w s s
-unread o before w s a new split =
-    let none : Splits [] [] false = subst (λ (b : Assembled). IsSplit b) new split in record {
-      bytes = [];
-      lost = [];
-      consumed = Consumes-nil before;
-      records = [];
-      fault = false;
-      splits = none;
-      count = 0;
-      ends = (refl, refl);
-      numbered = sym (counted-none o);
-      serves = Serves-none w s;
-    }
+pub unread : (o : Origin) (before : Option (List ℕ)) (w : Worker) (s : List Sent) → IsRead Starved o o before before w w s s
+unread o before w s = record {
+  bytes = [];
+  lost = [];
+  consumed = Consumes-nil before;
+  records = [];
+  fault = false;
+  splits = unsplit;
+  count = 0;
+  ends = (refl, refl);
+  numbered = sym (counted-none o);
+  serves = Serves-none w s;
+}
 
 -- one came back: those before it were put
 pub Puts-some : (o p : Origin) (v w : Worker) (xs : List Bytes) (asked : Bytes) (rest all : List Bytes) → xs ++ asked ∷ rest ≡ all → HavePut xs o p v w → Puts false all o p v w

@@ -1,7 +1,8 @@
 //! A connection's own thread: it reads records, puts each as a job, and answers as many jobs as it put.
-ghost use Rattle.std.specs.Prelude.{◌≡◌, ◌+◌, ◌<◌, ◌≤◌, true, false, length, take, ◌∷◌, [], vec_len, IfOk, MatchResult};
+ghost use Rattle.std.specs.Prelude.{◌≡◌, ℕ, ◌+◌, ◌<◌, ◌≤◌, true, false, cond, length, take, ◌∷◌, [], List, Some, Err, vec_len, IfOk, IfErr, MatchResult};
 ghost use Rattle.std.specs.Io.KnownBytes.{Consumes};
 ghost use Rattle.jobs.specs.Passes.{with_put};
+ghost use Rattle.record_mark.specs.Assembled.{IsSplit};
 ghost use Rattle.workers.specs.Reading.{heard, EndsSo, Cuts, Puts, job_of, counted, IsRead};
 
 use crate::outbox::{Gate, Outbox};
@@ -15,6 +16,7 @@ use range_table::RangeTable;
 use record_mark::{Assembler, MarkError, Records};
 use std::alloc::{AllocError, Global};
 use std::io::{ErrorKind, Read};
+use std::marker::Model;
 use std::sync::ledger::Ledger;
 use std::sync::{Mutex, Wait};
 
@@ -90,6 +92,63 @@ fn cut(assembler: &mut Assembler, alloc: Global, piece: &[u8]) -> (Records, Opti
     }
 }
 
+/// What cuts a stream in records. Contracts see what came and was cut so far.
+struct Intake {
+    alloc: Global,
+    assembler: Assembler,
+}
+
+impl Model for Intake {
+    ghost use Rattle.record_mark.specs.Assembled.{Assembled};
+
+    ghost Value = { Assembled };
+
+    ghost view = { λ i. i.assembler };
+}
+
+// It is written out, so that each early end of whoever reads makes a call.
+impl Drop for Intake {
+    fn drop(self) {
+        let Intake {
+            alloc: _,
+            assembler: _,
+        } = self;
+    }
+}
+
+impl Intake {
+    fn new(alloc: Global) -> Intake
+        ensures new { result ≡ record { received = []; given = []; failed = false } }
+        ensures split { IsSplit result }
+    {
+        Intake {
+            alloc,
+            assembler: Assembler::new(alloc),
+        }
+    }
+
+    // Reads once: the records that end with what came, and how the stream ends with them, if it does.
+    fn read<T: Read>(
+        &mut self,
+        stream: &mut T,
+        place: &mut [u8],
+    ) -> Result<(Records, Option<Ending>), Ending>
+        requires { 0 < length place.old }
+        ensures ok { IfOk result (λ read. (piece : List ℕ) × Consumes (T.remaining stream.old) (T.remaining stream.new) piece × Cuts self.old piece read.0.items read.1 self.new) }
+        ensures err { IfErr result (λ ending. Consumes (T.remaining stream.old) (T.remaining stream.new) [] × EndsSo (Err ending) (T.remaining stream.new)) }
+    {
+        let count = hear(stream, place)?;
+        Ok(cut(&mut self.assembler, self.alloc, &place[..count]))
+    }
+}
+
+// How the reading ends behind the records of one read, if it does.
+fn ended(is_put: bool, fault: Option<Ending>) -> Option<Ending>
+    ensures { result ≡ cond is_put fault (Some Ending.Closed) }
+{
+    if is_put { fault } else { Some(Ending::Closed) }
+}
+
 impl<P: Place, L: Ledger> Worker<P, L> {
     /// Reads the stream to its end. Each whole record is a job, numbered from `put` on, in order. While there are places
     /// nobody is woken for them, since this worker takes as many jobs as it put before it reads on, whoever put them.
@@ -106,24 +165,19 @@ impl<P: Place, L: Ledger> Worker<P, L> {
             self.old self.new (O.handed outbox.old) (O.handed outbox.new) }
     {
         let alloc = self.alloc();
-        let mut assembler = Assembler::new(alloc);
         let Ok(mut place) = make_place(alloc) else {
             return Ending::Starved;
         };
+        let mut intake = Intake::new(alloc);
         for _ in 0..READS {
-            let piece = place.as_mut_slice();
-            let count = match hear(&mut source.stream, piece) {
-                Ok(count) => count,
+            let (records, fault) = match intake.read(&mut source.stream, place.as_mut_slice()) {
+                Ok(read) => read,
                 Err(ending) => return ending,
             };
-            let (records, fault) = cut(&mut assembler, alloc, &piece[..count]);
             let asked = records.len();
             let is_put = self.put_all(rt, channel, &mut source.origin, records);
             self.help(rt, channel, shared, gate, outbox, asked);
-            if !is_put {
-                return Ending::Closed;
-            }
-            match fault {
+            match ended(is_put, fault) {
                 Some(ending) => return ending,
                 None => {}
             }

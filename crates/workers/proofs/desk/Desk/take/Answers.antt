@@ -1,4 +1,4 @@
-use Rattle.std.proofs.Common.{ap, ◌∙◌, ◌++◌, ◌∷◌, []}
+use Rattle.std.proofs.Common.{refl, ap, ◌∙◌, ◌++◌, ◌∷◌, []}
 use Rattle.book.specs.Given.{view_of_reply}
 use Rattle.workers.proofs.desk.Desk.take.Goals as goal
 
@@ -11,3 +11,6 @@ returns-clause-taken g c = (
   c.add.ensures ∙ ap (λ l. l ++ c.in_ok-receipt.field-0.receipt ∷ []) c.prepare.ensures.all,
   c.post.ensures,
 )
+
+pub returns-in_default-clause-none : goal.returns-in_default-clause-none
+returns-in_default-clause-none g c = (refl, c.prepare.ensures.all, refl)
