@@ -1,5 +1,5 @@
 //! Bytes as text: words of 4 bytes in hexadecimal, the first of a record its mark; `00*9` is nine bytes 00.
-use std::alloc::Global;
+use std::alloc::{AllocError, Global};
 
 fn put_repeated(bytes: &mut Vec<u8>, byte: &str, count: &str) -> Option<()> {
     let byte = u8::from_str_radix(byte, 16).ok()?;
@@ -28,6 +28,14 @@ pub(crate) fn put_words(bytes: &mut Vec<u8>, words: &str) -> bool {
         }
     }
     true
+}
+
+/// Appends the header of a call of the lock manager's version 4 under no credentials.
+pub(crate) fn put_header(bytes: &mut Vec<u8>, xid: u32, procedure: u32) -> Result<(), AllocError> {
+    for word in [xid, 0, 2, 100_021, 4, procedure, 0, 0, 0, 0] {
+        bytes.extend_from_slice(word.to_be_bytes().as_slice())?;
+    }
+    Ok(())
 }
 
 /// Whether the bytes are these lines, and behind them these words.

@@ -1,7 +1,8 @@
 //! Streams, by the names of the worked rows that they are of.
 use super::loops::{AMPLE, Ends, Loop, Stream, is_served};
 use pipe_loops::Fault;
-use std::alloc::Global;
+use std::alloc::{AllocError, Global};
+use std::fmt::Write;
 use std::test::*;
 
 const EMPTY: Stream = Stream {
@@ -325,15 +326,18 @@ const FAULTS: &[Fault] = &[
     Fault::WriteFault,
 ];
 
-#[test]
-fn names_of_faults(rt: HostRuntime) -> Result<(), Fail> {
-    let mut names = String::new(rt.alloc());
+fn put_names(names: &mut String) -> Result<(), AllocError> {
     for fault in FAULTS {
-        names.push_str(fault.to_string(rt.alloc())?.as_str())?;
+        write!(names, "{fault}")?;
     }
-    assert_eq!(rt;
-        names.as_str(),
-        "1 Starved10 RecordTooLong19 StoreRefused23 ReadFault24 WriteFault"
-    );
     Ok(())
+}
+
+const NAMES: &str = "1 Starved10 RecordTooLong19 StoreRefused23 ReadFault24 WriteFault";
+
+#[test]
+fn names_of_faults(rt: HostRuntime) {
+    let mut names = String::new(rt.alloc());
+    let are_put = put_names(&mut names).is_ok();
+    assert!(rt; are_put && names.as_str() == NAMES);
 }

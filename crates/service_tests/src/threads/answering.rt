@@ -11,6 +11,7 @@ use std::sync::ledger::Ledger;
 use std::sync::{Mutex, Wait};
 use std::test::*;
 use std::thread::Threads;
+use std::time::Clock;
 use workers::{MemoryOutbox, Worker};
 
 /// The first call of a connection, by its words.
@@ -92,7 +93,7 @@ const PAIR: Crew = Crew {
 };
 
 // Whether this comes of the calls, and each has its receipt.
-fn is_so<R: Threads + Wait + Sync>(rt: &R, alloc: Global, waiting: &Waiting<'_>) -> bool {
+fn is_so<R: Threads + Wait + Clock + Sync>(rt: &R, alloc: Global, waiting: &Waiting<'_>) -> bool {
     audited(rt, alloc, PAIR, Turn::Answers(waiting)) == Some(waiting.calls.len() as u64)
 }
 

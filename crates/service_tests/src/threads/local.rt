@@ -13,6 +13,7 @@ use std::sync::ledger::Ledger;
 use std::sync::{Mutex, Wait};
 use std::test::*;
 use std::thread::Threads;
+use std::time::Clock;
 
 /// Lines, how they come, and what comes of them.
 #[derive(Clone, Copy)]
@@ -58,7 +59,7 @@ const NOBODY: Crew = Crew {
     is_audited: true,
 };
 
-fn is_so<R: Threads + Wait + Sync>(rt: &R, alloc: Global, talk: &Talk<'_>) -> bool {
+fn is_so<R: Threads + Wait + Clock + Sync>(rt: &R, alloc: Global, talk: &Talk<'_>) -> bool {
     audited(rt, alloc, NOBODY, Turn::Talks(talk)) == Some(0)
 }
 
@@ -224,7 +225,7 @@ fn one_answer_a_line(rt: HostRuntime) -> Result<(), &'static str> {
 }
 
 // Whether a line of so many bytes is bad, and the one behind it is answered.
-fn is_bad<R: Threads + Wait + Sync>(rt: &R, alloc: Global, count: usize) -> bool {
+fn is_bad<R: Threads + Wait + Clock + Sync>(rt: &R, alloc: Global, count: usize) -> bool {
     match vec![in alloc; b'x'; count] {
         Ok(mut lines) => {
             lines.extend_from_slice(b"\nsetlk p1 aa w 0 1\n").is_ok()
@@ -292,7 +293,7 @@ impl Waiters {
 }
 
 // Whether each of so many waiters gets its line, in these turns.
-fn are_granted<R: Threads + Wait + Sync>(
+fn are_granted<R: Threads + Wait + Clock + Sync>(
     rt: &R,
     alloc: Global,
     count: u32,

@@ -1,7 +1,7 @@
 //! What the tests share: a book, records to be answered, and what goes through a worker's seat.
 ghost use Rattle.std.specs.Prelude.{◌≡◌, [], IfSome};
 
-use crate::words::are;
+use crate::words::{are, put_header};
 use book::Book;
 use bytes::Bytes;
 use callbacks::ShortBytes;
@@ -42,11 +42,7 @@ pub(crate) fn begun(alloc: Global) -> Option<Book<FlatTable, MemHosts>>
 /// The record of a NULL of the lock manager under this xid. None where there is no memory.
 pub(crate) fn null(alloc: Global, xid: u32) -> Option<Bytes> {
     let mut record = Vec::new(alloc);
-    for word in [xid, 0, 2, 100_021, 4, 0, 0, 0, 0, 0] {
-        record
-            .extend_from_slice(word.to_be_bytes().as_slice())
-            .ok()?;
-    }
+    put_header(&mut record, xid, 0).ok()?;
     Bytes::from_vec(record).ok()
 }
 

@@ -10,6 +10,7 @@ use std::sync::ledger::Ledger;
 use std::sync::{Mutex, Wait};
 use std::test::*;
 use std::thread::Threads;
+use std::time::Clock;
 use workers::{Ending, MemoryOutbox, Origin, Worker};
 
 /// The connection that is read.
@@ -78,7 +79,7 @@ const READER: Crew = Crew {
     is_audited: false,
 };
 
-fn is_so<R: Threads + Wait + Sync>(rt: &R, alloc: Global, reading: &Reading<'_>) -> bool {
+fn is_so<R: Threads + Wait + Clock + Sync>(rt: &R, alloc: Global, reading: &Reading<'_>) -> bool {
     audited(rt, alloc, READER, Turn::Reads(reading)) == Some(0)
 }
 

@@ -19,6 +19,7 @@ use std::marker::Brand;
 use std::sync::ledger::{Blank, Ledger};
 use std::sync::{Mutex, Wait};
 use std::thread::Threads;
+use std::time::Clock;
 use workers::{Shared, Worker};
 
 /// How many workers there are, and whether what they do is kept for the audit.
@@ -73,7 +74,7 @@ fn opens<L: Ledger>(shared: &mut Kept<L>) -> bool {
     enters(shared, BookEvent::Restart) && enters(shared, BookEvent::GraceOver)
 }
 
-fn goes<P: Place + Send + Sync, L: Ledger + Send + Sync, R: Threads + Wait + Sync>(
+fn goes<P: Place + Send + Sync, L: Ledger + Send + Sync, R: Threads + Wait + Clock + Sync>(
     rt: &R,
     alloc: Global,
     channel: &Channel<P>,
@@ -90,7 +91,7 @@ fn goes<P: Place + Send + Sync, L: Ledger + Send + Sync, R: Threads + Wait + Syn
 }
 
 // Where there is no memory for the workers, none are taken in, and so they don't settle.
-fn work<P: Place + Send + Sync, L: Ledger + Send + Sync, R: Threads + Wait + Sync>(
+fn work<P: Place + Send + Sync, L: Ledger + Send + Sync, R: Threads + Wait + Clock + Sync>(
     rt: &R,
     alloc: Global,
     channel: &Channel<P>,
@@ -111,7 +112,7 @@ fn work<P: Place + Send + Sync, L: Ledger + Send + Sync, R: Threads + Wait + Syn
     if goes { audited } else { None }
 }
 
-fn staff<P: Place + Send + Sync, L: Ledger + Send + Sync, R: Threads + Wait + Sync>(
+fn staff<P: Place + Send + Sync, L: Ledger + Send + Sync, R: Threads + Wait + Clock + Sync>(
     rt: &R,
     alloc: Global,
     channel: &Channel<P>,
@@ -133,7 +134,7 @@ fn staff<P: Place + Send + Sync, L: Ledger + Send + Sync, R: Threads + Wait + Sy
     if is_open { audited } else { None }
 }
 
-fn play<P: Place + Send + Sync, L: Ledger + Send + Sync, R: Threads + Wait + Sync>(
+fn play<P: Place + Send + Sync, L: Ledger + Send + Sync, R: Threads + Wait + Clock + Sync>(
     rt: &R,
     alloc: Global,
     opened: Opened,
@@ -153,7 +154,7 @@ fn play<P: Place + Send + Sync, L: Ledger + Send + Sync, R: Threads + Wait + Syn
 }
 
 /// How many calls the audit finds behind a round: 0 where nothing was kept for it. None where the turn or the audit went wrong.
-pub(crate) fn audited<R: Threads + Wait + Sync>(
+pub(crate) fn audited<R: Threads + Wait + Clock + Sync>(
     rt: &R,
     alloc: Global,
     crew: Crew,

@@ -1,6 +1,6 @@
 //! A server, and who talks to it.
-use crate::hall::Hall;
-use crate::talks::{Talk, Told};
+use super::talks::{Talk, Told};
+use crate::hall::{Hall, LONG};
 use callbacks::ShortBytes;
 use hosts_db::MemHosts;
 use log::Log;
@@ -84,7 +84,7 @@ fn served<R: Runtime>(
     wanted: u64,
     talk: (Ports, Talk),
 ) -> Option<Served> {
-    let hall = Hall::new(rt, wanted);
+    let hall = Hall::new(rt, wanted, LONG);
     let gate = &hall;
     let (ports, talk) = talk;
     let (taken, told) = thread::join(

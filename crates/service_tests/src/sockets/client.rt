@@ -1,5 +1,7 @@
 //! Who asks.
-use crate::servers::loopback;
+use super::calls::{Call, put_call};
+use super::servers::loopback;
+use std::alloc::Global;
 use std::io::{self, ErrorKind, Read, Write};
 use std::net::{Net, TcpStream};
 use std::thread;
@@ -32,6 +34,13 @@ pub(crate) fn read<const N: usize>(mut from: &TcpStream) -> io::Result<[u8; N]> 
 /// Sends bytes.
 pub(crate) fn write(mut to: &TcpStream, bytes: &[u8]) -> io::Result<()> {
     to.write_all(bytes)
+}
+
+/// Sends the call under this xid.
+pub(crate) fn ask(to: &TcpStream, alloc: Global, xid: u32, call: &Call) -> io::Result<()> {
+    let mut record = Vec::new(alloc);
+    put_call(&mut record, xid, call)?;
+    write(to, &record)
 }
 
 /// Has the server stop: whether it said `ok`.

@@ -1,26 +1,26 @@
 //! Workers that are inside at once.
-use crate::servers::served_to;
-use crate::talks::{Talk, Told};
+use super::servers::served_to;
+use super::talks::{Talk, Told};
 use std::test::*;
 
 #[test]
 fn overlapping_connections(rt: HostRuntime) {
     let served = served_to(&rt, rt.alloc(), 16, 16, Talk::Sixteen);
-    assert_eq!(rt; served, Some((16, Told::of(16), true)));
+    assert!(rt; served == Some((16, Told::of(16), true)));
 }
 
 // One connection, whose own thread is inside beside the workers.
 #[test]
 fn overlapping_workers(rt: HostRuntime) {
     let few = served_to(&rt, rt.alloc(), 2, 3, Talk::One(3));
-    assert_eq!(rt; few, Some((3, Told::of(3), true)));
+    assert!(rt; few == Some((3, Told::of(3), true)));
     let many = served_to(&rt, rt.alloc(), 16, 17, Talk::One(17));
-    assert_eq!(rt; many, Some((17, Told::of(17), true)));
+    assert!(rt; many == Some((17, Told::of(17), true)));
 }
 
 // More calls in one write than wait for a worker, so that whoever reads them can't put them all before one is taken.
 #[test]
 fn more_calls_at_once_than_wait(rt: HostRuntime) {
     let served = served_to(&rt, rt.alloc(), 2, 0, Talk::AtOnce(600));
-    assert_eq!(rt; served, Some((600, Told::of(600), true)));
+    assert!(rt; served == Some((600, Told::of(600), true)));
 }

@@ -1,8 +1,8 @@
 //! What is said to a server.
-use crate::calls::{lock, null, unlock};
-use crate::client::{dial, read, stop, write};
+use super::calls::{Call, LOCK_BY_FIRST, LOCK_BY_SECOND, NULL, UNLOCK_BY_FIRST, put_call};
+use super::client::{ask, dial, read, stop, write};
+use super::servers::{Ports, loopback};
 use crate::hall::Hall;
-use crate::servers::{Ports, loopback};
 use std::alloc::Global;
 use std::net::{Net, TcpListener, TcpStream};
 use std::time::{Clock, Duration};
@@ -34,7 +34,7 @@ pub(crate) enum Talk {
 }
 
 /// How many calls were answered, and of a grant the statuses of the replies and the procedure of the call that came.
-#[derive(Clone, Copy, Debug, PartialEq, Eq)]
+#[derive(Clone, Copy, PartialEq, Eq)]
 pub(crate) struct Told {
     pub(crate) answered: u32,
     pub(crate) statuses: [u8; 3],
@@ -57,28 +57,48 @@ fn answers(reply: [u8; REPLY], xid: u32) -> bool {
     reply.get(4..8) == Some(xid.to_be_bytes().as_slice())
 }
 
-// Fifteen connections ask, and once their calls are held the sixteenth. How many are answered.
-fn ask_each<R>(rt: &R, alloc: Global, ports: Ports, hall: &Hall<'_, R>) -> io::Result<Told>
+// Fifteen connections ask, and once their calls are held the sixteenth. All that have asked are in the list.
+fn ask_each<R>(
+    rt: &R,
+    alloc: Global,
+    port: u16,
+    hall: &Hall<'_, R>,
+    asked: &mut Vec<(u32, TcpStream)>,
+) -> io::Result<()>
 where
     R: Net<Stream = TcpStream> + Clock,
 {
-    let mut asked = Vec::new(alloc);
     for xid in 1..16 {
-        let connection = dial(rt, ports.rpc)?;
-        write(&connection, &null(alloc, xid)?)?;
+        let connection = dial(rt, port)?;
+        ask(&connection, alloc, xid, &NULL)?;
         asked.push((xid, connection))?;
     }
-    let last = dial(rt, ports.rpc)?;
+    let last = dial(rt, port)?;
     if hall.waits(15) {
-        write(&last, &null(alloc, 16)?)?;
+        ask(&last, alloc, 16, &NULL)?;
         asked.push((16, last))?;
     }
+    Ok(())
+}
+
+fn count_answers(asked: &[(u32, TcpStream)]) -> io::Result<u32> {
     let mut count = 0u32;
-    for (xid, connection) in asked.iter() {
+    for (xid, connection) in asked {
         if answers(read::<REPLY>(connection)?, *xid) {
             count = count.wrapping_add(1);
         }
     }
+    Ok(count)
+}
+
+// How many of sixteen connections are answered.
+fn ask_sixteen<R>(rt: &R, alloc: Global, ports: Ports, hall: &Hall<'_, R>) -> io::Result<Told>
+where
+    R: Net<Stream = TcpStream> + Clock,
+{
+    let mut asked = Vec::new(alloc);
+    ask_each(rt, alloc, ports.rpc, hall, &mut asked)?;
+    let count = count_answers(&asked)?;
     let is_stopped = stop(rt, ports.local)?;
     Ok(Told::of(if is_stopped { count } else { 0 }))
 }
@@ -90,9 +110,18 @@ where
 {
     let connection = dial(rt, ports.rpc)?;
     for xid in 0..calls {
-        write(&connection, &null(alloc, xid)?)?;
+        ask(&connection, alloc, xid, &NULL)?;
     }
     count_replies(rt, ports, &connection, calls)
+}
+
+// Sends so many calls in one write.
+fn write_calls(connection: &TcpStream, alloc: Global, calls: u32) -> io::Result<()> {
+    let mut all = Vec::new(alloc);
+    for xid in 0..calls {
+        put_call(&mut all, xid, &NULL)?;
+    }
+    write(connection, &all)
 }
 
 // One connection asks as often as this in one write. How many are answered.
@@ -101,11 +130,7 @@ where
     R: Net<Stream = TcpStream> + Clock,
 {
     let connection = dial(rt, ports.rpc)?;
-    let mut all = Vec::new(alloc);
-    for xid in 0..calls {
-        all.extend_from_slice(&null(alloc, xid)?)?;
-    }
-    write(&connection, &all)?;
+    write_calls(&connection, alloc, calls)?;
     count_replies(rt, ports, &connection, calls)
 }
 
@@ -123,16 +148,17 @@ where
     Ok(Told::of(if is_stopped { count } else { 0 }))
 }
 
-// The status that ends a reply.
-fn status(reply: [u8; LOCK_REPLY]) -> u8 {
-    reply[LOCK_REPLY - 1]
+// Sends the call: the status that ends its reply.
+fn answered(connection: &TcpStream, alloc: Global, xid: u32, call: &Call) -> io::Result<u8> {
+    ask(connection, alloc, xid, call)?;
+    let reply = read::<LOCK_REPLY>(connection)?;
+    Ok(reply[LOCK_REPLY - 1])
 }
 
 // Asks until the grace period is over.
 fn lock_first<R: Clock>(rt: &R, alloc: Global, connection: &TcpStream) -> io::Result<u8> {
     for xid in 100..TRIES {
-        write(connection, &lock(alloc, xid, 1)?)?;
-        let told = status(read(connection)?);
+        let told = answered(connection, alloc, xid, &LOCK_BY_FIRST)?;
         if told != GRACE {
             return Ok(told);
         }
@@ -141,26 +167,39 @@ fn lock_first<R: Clock>(rt: &R, alloc: Global, connection: &TcpStream) -> io::Re
     Ok(GRACE)
 }
 
-// One owner locks, another waits, the first unlocks: the second is granted.
+// One owner locks, another waits, the first unlocks.
+fn lock_both<R: Clock>(rt: &R, alloc: Global, connection: &TcpStream) -> io::Result<[u8; 3]> {
+    let held = lock_first(rt, alloc, connection)?;
+    let waits = answered(connection, alloc, 2, &LOCK_BY_SECOND)?;
+    let freed = answered(connection, alloc, 3, &UNLOCK_BY_FIRST)?;
+    Ok([held, waits, freed])
+}
+
+// The procedure of the call that comes to the peer. Then the server stops.
+fn called<R>(rt: &R, ports: Ports, peer: &TcpListener) -> io::Result<u8>
+where
+    R: Net<Listener = TcpListener, Stream = TcpStream> + Clock,
+{
+    let (granting, _) = peer.accept()?;
+    // Its mark, and its words up to the procedure.
+    let call = read::<28>(&granting)?;
+    let _ = stop(rt, ports.local)?;
+    Ok(call[27])
+}
+
+// The second owner is granted.
 fn grant<R>(rt: &R, alloc: Global, ports: Ports) -> io::Result<Told>
 where
     R: Net<Listener = TcpListener, Stream = TcpStream> + Clock,
 {
     let peer = TcpListener::bind(rt, loopback(ports.peer))?;
     let connection = dial(rt, ports.rpc)?;
-    let held = lock_first(rt, alloc, &connection)?;
-    write(&connection, &lock(alloc, 2, 2)?)?;
-    let waits = status(read(&connection)?);
-    write(&connection, &unlock(alloc, 3, 1)?)?;
-    let freed = status(read(&connection)?);
-    let (granting, _) = peer.accept()?;
-    // Its mark, and its words up to the procedure.
-    let call = read::<28>(&granting)?;
-    let _ = stop(rt, ports.local)?;
+    let statuses = lock_both(rt, alloc, &connection)?;
+    let procedure = called(rt, ports, &peer)?;
     Ok(Told {
         answered: 3,
-        statuses: [held, waits, freed],
-        procedure: call[27],
+        statuses,
+        procedure,
     })
 }
 
@@ -176,7 +215,7 @@ impl Talk {
         R: Net<Listener = TcpListener, Stream = TcpStream> + Clock,
     {
         match self {
-            Talk::Sixteen => ask_each(rt, alloc, ports, hall),
+            Talk::Sixteen => ask_sixteen(rt, alloc, ports, hall),
             Talk::One(calls) => ask_all(rt, alloc, ports, calls),
             Talk::AtOnce(calls) => ask_at_once(rt, alloc, ports, calls),
             Talk::Granting => grant(rt, alloc, ports),

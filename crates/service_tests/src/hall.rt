@@ -5,31 +5,33 @@ use std::thread;
 use std::time::{Clock, Duration};
 use workers::Gate;
 
-/// How long is waited for all to be inside, in milliseconds.
-const TURNS: u32 = 10_000;
+/// How long is waited where all are to be inside, in milliseconds.
+pub(crate) const LONG: u32 = 10_000;
 
-/// Holds jobs until so many were inside; nobody, where that is none.
+/// Holds jobs until so many were inside, or for so many milliseconds; nobody, where that is none.
 #[derive(Drop)]
 pub(crate) struct Hall<'a, R> {
     rt: &'a R,
     wanted: u64,
+    turns: u32,
     inside: AtomicU64,
     is_missed: AtomicBool,
 }
 
 impl<'a, R: Clock> Hall<'a, R> {
-    pub(crate) fn new(rt: &'a R, wanted: u64) -> Hall<'a, R> {
+    pub(crate) fn new(rt: &'a R, wanted: u64, turns: u32) -> Hall<'a, R> {
         Hall {
             rt,
             wanted,
+            turns,
             inside: AtomicU64::new(0),
             is_missed: AtomicBool::new(false),
         }
     }
 
-    // Whether so many were inside in time.
+    /// Whether so many were inside in time.
     pub(crate) fn waits(&self, count: u64) -> bool {
-        for _ in 0..TURNS {
+        for _ in 0..self.turns {
             if self.inside.load(Ordering::SeqCst) >= count {
                 return true;
             }
@@ -38,6 +40,7 @@ impl<'a, R: Clock> Hall<'a, R> {
         false
     }
 
+    /// Whether no job was held to the end of the time.
     pub(crate) fn was_full(&self) -> bool {
         !self.is_missed.load(Ordering::SeqCst)
     }

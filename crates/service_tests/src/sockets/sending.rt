@@ -1,0 +1,17 @@
+//! A GRANTED that reaches its peer.
+use super::servers::served_to;
+use super::talks::{Talk, Told};
+use std::test::*;
+
+const GRANTED: Told = Told {
+    answered: 3,
+    statuses: [0, 3, 0],
+    procedure: 5,
+};
+
+// The first has the lock, the second waits, the first is rid of it: GRANTED is called.
+#[test]
+fn granted_goes_to_its_peer(rt: HostRuntime) {
+    let served = served_to(&rt, rt.alloc(), 2, 0, Talk::Granting);
+    assert!(rt; matches!(served, Some((_, told, _)) if told == GRANTED));
+}
