@@ -4,11 +4,11 @@
 use crate::messages::put_message;
 use crate::page::{Page, read_xid};
 use crate::script::{goes, is_answered};
-use crate::servers::{Misplayed, PIECE, memory, opened, told};
+use crate::servers::{Misplayed, PIECE, memory, play_over, told};
 use crate::state::known;
 use daemon_core::Daemon;
 use hosts_db::{HostStore, MemHosts};
-use range_arena::ArenaTable;
+use hosts_lent::Lent;
 use range_table::RangeTable;
 use std::alloc::{AllocError, Global};
 
@@ -129,15 +129,10 @@ fn wrong_at_last<'a, T: RangeTable, S: HostStore>(
     None
 }
 
-fn server(alloc: Global) -> Option<Daemon<ArenaTable, MemHosts>> {
-    let store = memory(alloc, 0, Vec::new(alloc))?;
-    opened(alloc, ArenaTable::new(alloc).ok()?, store)
-}
-
-fn server_at_last(alloc: Global) -> Option<Daemon<ArenaTable, MemHosts>> {
-    match server(alloc) {
-        Some(daemon) => Some(daemon),
-        None => server(alloc),
+fn store_at_last(alloc: Global) -> Option<MemHosts> {
+    match memory(alloc, 0, Vec::new(alloc)) {
+        Some(store) => Some(store),
+        None => memory(alloc, 0, Vec::new(alloc)),
     }
 }
 
@@ -148,22 +143,37 @@ fn reserve_at_last(bytes: &mut Vec<u8>) -> bool {
     }
 }
 
-fn play_in_want(alloc: Global, lines: &[&str]) -> Result<(), Misplayed> {
-    let Some(mut daemon) = server_at_last(alloc) else {
-        return Err(Misplayed::NoServer);
-    };
-    let mut page = Page::new(alloc, PIECE);
+/// Plays the lines, of which each may starve once.
+pub(crate) fn play_in_room<'a, T: RangeTable, S: HostStore>(
+    daemon: &mut Daemon<T, S>,
+    page: &mut Page<'a>,
+    lines: &[&'a str],
+) -> Result<(), Misplayed> {
     let has_room = reserve_at_last(&mut page.come)
         && reserve_at_last(&mut page.told)
         && reserve_at_last(&mut page.sent)
         && reserve_at_last(&mut page.was_sent);
-    let wrong = wrong_at_last(&mut daemon, &mut page, lines);
-    drop(page);
-    drop(daemon);
+    let wrong = wrong_at_last(daemon, page, lines);
     if has_room {
         told(wrong)
     } else {
         Err(Misplayed::NoServer)
+    }
+}
+
+fn played(alloc: Global, store: &mut MemHosts, lines: &[&str]) -> Option<Result<(), Misplayed>> {
+    let mut writes = 0;
+    play_over(alloc, Lent::new(store, &mut writes), PIECE, lines, true)
+}
+
+// A server that can't begin changes nothing of its store, and is made again.
+fn play_in_want(alloc: Global, lines: &[&str]) -> Result<(), Misplayed> {
+    let Some(mut store) = store_at_last(alloc) else {
+        return Err(Misplayed::NoServer);
+    };
+    match played(alloc, &mut store, lines) {
+        Some(outcome) => outcome,
+        None => played(alloc, &mut store, lines).unwrap_or(Err(Misplayed::NoServer)),
     }
 }
 

@@ -8,6 +8,7 @@ use crate::servers::{memory, opened};
 use crate::words::Terms;
 use daemon_core::Daemon;
 use hosts_db::HostStore;
+use hosts_lent::Lent;
 use range_arena::ArenaTable;
 use range_table::{FlatTable, RangeTable};
 use std::alloc::Global;
@@ -58,8 +59,9 @@ fn is_sent<T: RangeTable, S: HostStore>(
 fn sent_over<T: RangeTable + Drop>(alloc: Global, table: T, most: usize) -> Option<Vec<u8>>
     requires { T.settings table ≡ [] }
 {
-    let store = memory(alloc, 0, Vec::new(alloc))?;
-    let mut daemon = opened(alloc, table, store)?;
+    let mut store = memory(alloc, 0, Vec::new(alloc))?;
+    let mut writes = 0;
+    let mut daemon = opened(alloc, table, Lent::new(&mut store, &mut writes))?;
     let mut page = Page::new(alloc, most);
     let is_sent = is_sent(&mut daemon, &mut page);
     drop(daemon);

@@ -123,15 +123,17 @@ fn words_in(table: &[&'static str], name: &str) -> Option<&'static str> {
     None
 }
 
+const TABLES: &[&[&str]] = &[
+    LOCK_CALLS,
+    REPLIES,
+    NARROW_CALLS,
+    STATUS_CALLS,
+    CLIENT_CALLS,
+    OWN_CALLS,
+];
+
 fn words_of(name: &str) -> Option<&'static str> {
-    for table in [
-        LOCK_CALLS,
-        REPLIES,
-        NARROW_CALLS,
-        STATUS_CALLS,
-        CLIENT_CALLS,
-        OWN_CALLS,
-    ] {
+    for table in TABLES {
         if let Some(words) = words_in(table, name) {
             return Some(words);
         }

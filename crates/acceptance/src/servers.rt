@@ -2,11 +2,13 @@
 //! so cheap to prove.
 ghost use Rattle.std.specs.Prelude.{◌≡◌, ◌<◌, []};
 
+use crate::growths::play_in_room;
 use crate::page::Page;
 use crate::script::wrong_line;
 use callbacks::ShortBytes;
 use daemon_core::Daemon;
 use hosts_db::{FULL_QUOTA, HostRow, HostStore, MemHosts};
+use hosts_lent::Lent;
 use range_arena::ArenaTable;
 use range_table::RangeTable;
 use std::alloc::Global;
@@ -45,24 +47,43 @@ pub(crate) fn told(wrong: Option<usize>) -> Result<(), Misplayed> {
     }
 }
 
-/// Whether a server over this store plays the lines.
+/// Plays the lines with a server over this store. Where a growth may be refused, it is as `growths` says. None where the server
+/// can't begin.
 pub(crate) fn play_over<'a, S: HostStore + Drop>(
     alloc: Global,
     store: S,
     most: usize,
     lines: &[&'a str],
-) -> Result<(), Misplayed> {
+    is_in_want: bool,
+) -> Option<Result<(), Misplayed>> {
     let Ok(table) = ArenaTable::new(alloc) else {
-        return Err(Misplayed::NoServer);
+        return None;
     };
     let Some(mut daemon) = opened(alloc, table, store) else {
-        return Err(Misplayed::NoServer);
+        return None;
     };
     let mut page = Page::new(alloc, most);
-    let wrong = wrong_line(&mut daemon, &mut page, lines);
+    let played = if is_in_want {
+        play_in_room(&mut daemon, &mut page, lines)
+    } else {
+        told(wrong_line(&mut daemon, &mut page, lines))
+    };
     drop(page);
     drop(daemon);
-    told(wrong)
+    Some(played)
+}
+
+/// Whether a server over the store that is lent to it plays the lines, and how often it asks the store. All servers have such a
+/// store, since the compiler builds a daemon of its own for each kind.
+pub(crate) fn played<S: HostStore>(
+    alloc: Global,
+    store: &mut S,
+    most: usize,
+    lines: &[&str],
+) -> (Result<(), Misplayed>, usize) {
+    let mut writes = 0;
+    let played = play_over(alloc, Lent::new(store, &mut writes), most, lines, false);
+    (played.unwrap_or(Err(Misplayed::NoServer)), writes)
 }
 
 /// A store in memory whose own state is this, with these rows.
@@ -85,7 +106,7 @@ fn play_in_memory(
         return Err(Misplayed::NoServer);
     };
     match memory(alloc, own, hosts) {
-        Some(store) => play_over(alloc, store, most, lines),
+        Some(mut store) => played(alloc, &mut store, most, lines).0,
         None => Err(Misplayed::NoServer),
     }
 }

@@ -1,10 +1,9 @@
 //! Stores that are lent: which rows they hold behind a server, and how often they are asked. `hosts_trials` has the same over a
 //! database, and over one that refuses.
 use crate::rows::{REFUSED_HOST, SHARE_CONFLICT};
-use crate::servers::{Misplayed, PIECE, all_hosts, memory, play_over};
+use crate::servers::{PIECE, all_hosts, memory, played};
 use crate::state::are_rows;
 use hosts_db::HostStore;
-use hosts_lent::Lent;
 use std::alloc::Global;
 use std::test::*;
 
@@ -81,21 +80,10 @@ const ONE_SERVER: &[Server<'static>] = &[(BOTH_HOSTS, 4, 3, "a 1 3 b 3 3")];
 /// A restart is all that a server asks for where no host locks.
 const NO_LOCK: &[Server<'static>] = &[(SHARE_CONFLICT, 1, 1, "")];
 
-// Whether a server over the store that is lent to it plays the lines, and how often it asks the store.
-fn played<S: HostStore>(
-    alloc: Global,
-    store: &mut S,
-    lines: &[&str],
-) -> (Result<(), Misplayed>, usize) {
-    let mut writes = 0;
-    let played = play_over(alloc, Lent::new(store, &mut writes), PIECE, lines);
-    (played, writes)
-}
-
 // Whether it goes so with these servers, one after the other.
 fn goes<S: HostStore>(alloc: Global, store: &mut S, servers: &[Server<'_>]) -> bool {
     for (lines, asked, own, rows) in servers {
-        if played(alloc, store, lines) != (Ok(()), *asked)
+        if played(alloc, store, PIECE, lines) != (Ok(()), *asked)
             || store.own() != *own
             || !are_rows(store, rows)
         {
@@ -126,7 +114,7 @@ fn hosts_after_a_restart(rt: HostRuntime) {
 // A full store is asked for one row, and stays.
 fn stays_full(alloc: Global) -> Option<bool> {
     let mut full = memory(alloc, 0, all_hosts(alloc)?)?;
-    let told = played(alloc, &mut full, REFUSED_HOST);
+    let told = played(alloc, &mut full, PIECE, REFUSED_HOST);
     Some(told == (Ok(()), 2) && full.hosts().len() == 4_096)
 }
 

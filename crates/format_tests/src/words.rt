@@ -31,6 +31,11 @@ pub(crate) fn round<'r, T: Wire<'r> + Drop>(bytes: &'r [u8]) -> Option<T> {
     }
 }
 
+/// Whether the bytes spell a value of this type, whole, which is written as they are.
+pub(crate) fn is_round<'r, T: Wire<'r> + Drop>(bytes: &'r [u8]) -> bool {
+    round::<T>(bytes).is_some()
+}
+
 /// Whether an error's text is this.
 pub(crate) fn reads<E: Display + Drop>(alloc: Global, error: E, want: &str) -> bool {
     match error.to_string(alloc) {

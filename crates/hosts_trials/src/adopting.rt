@@ -268,9 +268,12 @@ const FIRST_ROWS: &[Row] = &[
     ("INSERT INTO own VALUES (1, 1, 3); DROP TABLE hosts", None),
 ];
 
+/// Files of schema 2.
+const SECOND_ROWS: &[&[Row]] = &[TABLES, OWN, HOSTS, WATCHES, ROWS];
+
 #[test]
 fn adopts_just_what_fits(rt: HostRuntime) -> Result<(), &'static str> {
-    for rows in [TABLES, OWN, HOSTS, WATCHES, ROWS] {
+    for rows in SECOND_ROWS {
         are_so(rt.alloc(), SECOND, rows)?;
     }
     are_so(rt.alloc(), FIRST, FIRST_ROWS)

@@ -110,11 +110,11 @@ fn send(alloc: Global) -> Option<Event> {
     Some(Event::Send { posting })
 }
 
-// The first three bytes of a message.
-fn front(alloc: Global, text: &str) -> Option<Vec<u8>> {
+// A message, of which at most so many bytes come.
+fn answer(alloc: Global, text: &str, most: usize) -> Option<Event> {
     let mut bytes = message(alloc, text)?;
-    bytes.truncate(3);
-    Some(bytes)
+    bytes.truncate(most);
+    Some(Event::Answer { bytes })
 }
 
 // The own state, and the number of the call under it.
@@ -145,21 +145,23 @@ fn event_of(alloc: Global, event: &str) -> Option<Event> {
             connection: CONNECTION,
         }),
         "send" => send(alloc),
-        "answer" => Some(Event::Answer {
-            bytes: message(alloc, rest)?,
-        }),
-        "answer-cut" => Some(Event::Answer {
-            bytes: front(alloc, rest)?,
-        }),
+        "answer" => answer(alloc, rest, usize::MAX),
+        "answer-cut" => answer(alloc, rest, 3),
         "silent" => silent(rest),
-        "local" => Some(Event::Local {
-            connection: LOCAL,
-            line: Vec::from_slice(alloc, rest.as_bytes()).ok()?,
-        }),
-        _ => Some(Event::Piece {
-            connection: CONNECTION,
-            bytes: message(alloc, event)?,
-        }),
+        "local" => {
+            let line = Vec::from_slice(alloc, rest.as_bytes()).ok()?;
+            Some(Event::Local {
+                connection: LOCAL,
+                line,
+            })
+        }
+        _ => {
+            let bytes = message(alloc, event)?;
+            Some(Event::Piece {
+                connection: CONNECTION,
+                bytes,
+            })
+        }
     }
 }
 

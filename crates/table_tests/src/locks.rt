@@ -141,10 +141,10 @@ fn random_row(random: u32) -> Row<'static> {
 impl Play {
     // Whether everybody is known exactly where he holds something.
     fn are_right(&mut self, row: &Row<'_>) -> bool {
-        for who in WHO {
+        for who in &WHO {
             let asked = Row {
                 verb: "right",
-                who,
+                who: *who,
                 ..*row
             };
             if self.by_owner(&asked) != Some(true) {

@@ -14,7 +14,8 @@ pub(crate) fn read_owner(alloc: Global, text: &str) -> Option<Owner> {
     match text.split_once("/") {
         Some((name, rest)) => {
             let (svid, oh) = rest.split_once("/")?;
-            remote(alloc, name.as_bytes(), svid.parse().ok()?, oh.as_bytes()).ok()
+            let svid = svid.parse().ok()?;
+            remote(alloc, name.as_bytes(), svid, oh.as_bytes()).ok()
         }
         None => read_local(text),
     }

@@ -14,7 +14,10 @@ use xdr_core::Frame;
 
 /// What a line asks, but for its lock.
 fn kind_of(line: &[u8]) -> &'static str {
-    kind(&LocalCall::read(line))
+    let read = LocalCall::read(line);
+    let kind = kind(&read);
+    drop(read);
+    kind
 }
 
 fn kind(read: &Result<LocalCall, BadLine>) -> &'static str {
@@ -31,18 +34,24 @@ fn kind(read: &Result<LocalCall, BadLine>) -> &'static str {
     }
 }
 
-/// Whether the line grants what `setlk` asks, or there is none where it asks no lock.
-fn is_granted(line: &[u8], want: &str) -> bool {
-    let mut f = Frame::new();
+fn put_grant(read: &Result<LocalCall, BadLine>, f: &mut Frame) {
     if let Ok(
         LocalCall::SetLock {
             mode: Some(mode),
             lock,
         },
-    ) = LocalCall::read(line)
+    ) = read
     {
-        let _ = put_granted(mode, &lock, &mut f);
+        let _ = put_granted(*mode, lock, f);
     }
+}
+
+/// Whether the line grants what `setlk` asks, or there is none where it asks no lock.
+fn is_granted(line: &[u8], want: &str) -> bool {
+    let mut f = Frame::new();
+    let read = LocalCall::read(line);
+    put_grant(&read, &mut f);
+    drop(read);
     match f.as_slice() {
         [granted @ .., b'\n'] => granted == want.as_bytes(),
         [] => want == "granted nothing",

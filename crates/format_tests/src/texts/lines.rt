@@ -88,18 +88,14 @@ fn is_set(
     locks.set(&setting).is_ok()
 }
 
-/// Sets what a line says. Whether it was set.
-fn sets(locks: &mut Locks<FlatTable>, alloc: Global, line: &str) -> bool {
-    let [file, mode, first, last, owner] = words_of(line);
-    let file = bytes_of(alloc, file);
-    let owner = owner_of(alloc, owner);
-    is_set(locks, (&file, &owner), mode_of(mode), first, last)
-}
-
+/// Sets what each line says. Whether all was set.
 fn set_all(locks: &mut Locks<FlatTable>, alloc: Global, lines: &str) -> bool {
     let mut are_set = true;
     for line in lines.lines() {
-        are_set = sets(locks, alloc, line) && are_set;
+        let [file, mode, first, last, owner] = words_of(line);
+        let file = bytes_of(alloc, file);
+        let owner = owner_of(alloc, owner);
+        are_set = is_set(locks, (&file, &owner), mode_of(mode), first, last) && are_set;
     }
     are_set
 }

@@ -1,5 +1,5 @@
 //! The lock manager's calls, results and messages, versions 1, 3 and 4 (RFC 1813, appendix II; XNFS).
-use crate::words::{round, words};
+use crate::words::{is_round, words};
 use nlm4_types::{
     CallError, CancelArgs, LockArgs, NARROW, NlmCall, Notify, Res, ShareArgs, ShareRes, TestArgs,
     TestRes, UnlockArgs, Version, WIDE, is_known, one_call,
@@ -37,16 +37,16 @@ fn are_spelled(kind: &str, text: &str) -> bool {
     let f = words(text);
     let bytes = f.as_slice();
     match kind {
-        "lock" => round::<LockArgs<WIDE>>(bytes).is_some(),
-        "narrow lock" => round::<LockArgs<NARROW>>(bytes).is_some(),
-        "test" => round::<TestArgs<WIDE>>(bytes).is_some(),
-        "cancel" => round::<CancelArgs<WIDE>>(bytes).is_some(),
-        "unlock" => round::<UnlockArgs<WIDE>>(bytes).is_some(),
-        "share" => round::<ShareArgs>(bytes).is_some(),
-        "notify" => round::<Notify>(bytes).is_some(),
-        "res" => round::<Res>(bytes).is_some(),
-        "share res" => round::<ShareRes>(bytes).is_some(),
-        "test res" => round::<TestRes<WIDE>>(bytes).is_some(),
+        "lock" => is_round::<LockArgs<WIDE>>(bytes),
+        "narrow lock" => is_round::<LockArgs<NARROW>>(bytes),
+        "test" => is_round::<TestArgs<WIDE>>(bytes),
+        "cancel" => is_round::<CancelArgs<WIDE>>(bytes),
+        "unlock" => is_round::<UnlockArgs<WIDE>>(bytes),
+        "share" => is_round::<ShareArgs>(bytes),
+        "notify" => is_round::<Notify>(bytes),
+        "res" => is_round::<Res>(bytes),
+        "share res" => is_round::<ShareRes>(bytes),
+        "test res" => is_round::<TestRes<WIDE>>(bytes),
         _ => false,
     }
 }

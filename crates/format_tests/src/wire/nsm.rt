@@ -1,5 +1,5 @@
 //! The status monitor's calls, results and messages (XNFS).
-use crate::words::{is_words, reads, round, words};
+use crate::words::{is_round, is_words, reads, words};
 use nsm_types::{
     CallError, Mon, MonId, MonitorRes, MyId, NsmCall, NsmMessage, NsmResult, SmStat, SmStatRes,
     StatChge, Status, is_known, one_call,
@@ -29,13 +29,13 @@ fn are_spelled(kind: &str, text: &str) -> bool {
     let f = words(text);
     let bytes = f.as_slice();
     match kind {
-        "sm_stat_res" => round::<SmStatRes>(bytes).is_some(),
-        "sm_stat" => round::<SmStat>(bytes).is_some(),
-        "stat_chge" => round::<StatChge>(bytes).is_some(),
-        "my_id" => round::<MyId>(bytes).is_some(),
-        "mon_id" => round::<MonId>(bytes).is_some(),
-        "mon" => round::<Mon>(bytes).is_some(),
-        "status" => round::<Status>(bytes).is_some(),
+        "sm_stat_res" => is_round::<SmStatRes>(bytes),
+        "sm_stat" => is_round::<SmStat>(bytes),
+        "stat_chge" => is_round::<StatChge>(bytes),
+        "my_id" => is_round::<MyId>(bytes),
+        "mon_id" => is_round::<MonId>(bytes),
+        "mon" => is_round::<Mon>(bytes),
+        "status" => is_round::<Status>(bytes),
         _ => false,
     }
 }
