@@ -1,7 +1,12 @@
-//! `lockd`: the lock manager and status monitor of an NFS server.
+//! `lockd`: the lock manager and status monitor of an NFS server. What its words ask, where its hosts are stored, and how it ends.
 #![tactic(auto)]
 
-use lockd_program::run_lockd;
+mod program;
+mod serving;
+mod stores;
+mod streams;
+
+use program::run_lockd;
 use std::process::ExitCode;
 
 fn main(rt: HostRuntime) -> ExitCode {

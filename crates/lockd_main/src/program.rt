@@ -92,7 +92,7 @@ fn end_server<F: Display + Drop>(
 /// was told to stop, or where the words ask for help or the version; 1 where a fault ended it, whose number and name go to
 /// standard error; and 2 where the words are refused, and standard error says which word is wrong and what would be right.
 /// `host` and `rt` are the same: what asks for files, and what asks for threads and sockets.
-pub fn run_lockd<R>(host: &HostRuntime, rt: &R) -> ExitCode
+pub(crate) fn run_lockd<R>(host: &HostRuntime, rt: &R) -> ExitCode
 where
     R: Net<Listener = TcpListener, Stream = TcpStream>
         + Threads
