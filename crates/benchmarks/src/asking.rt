@@ -11,7 +11,7 @@ use std::thread::Threads;
 use std::time::{Clock, Instant};
 
 /// What is asked, where, and how often.
-#[derive(Clone, Copy, Debug)]
+#[derive(Clone, Copy)]
 pub(crate) struct Plan {
     pub(crate) cell: Cell,
     /// A port of loopback.

@@ -2,7 +2,7 @@
 use std::alloc::{AllocError, Global};
 
 /// What is asked.
-#[derive(Clone, Copy, Debug, PartialEq, Eq)]
+#[derive(Clone, Copy, PartialEq, Eq)]
 pub(crate) enum Cell {
     Null,
     Test,

@@ -14,7 +14,7 @@ use std::marker::Model;
 use xdr_core::Frame;
 
 /// A call: its peer, and its whole record, which shares the bytes that were received.
-#[derive(Debug, PartialEq, Eq, Drop)]
+#[derive(Drop)]
 pub struct Taken {
     pub peer: Peer,
     pub record: Bytes,

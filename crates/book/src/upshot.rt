@@ -17,7 +17,7 @@ use std::marker::Model;
 use std::sync::Arc;
 
 /// Whether an event was done, or met want of memory.
-#[derive(Clone, Copy, Debug, PartialEq, Eq)]
+#[derive(Clone, Copy, PartialEq, Eq)]
 pub enum Doing {
     Applied,
     Starved,

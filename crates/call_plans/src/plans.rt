@@ -123,7 +123,7 @@ pub enum Plan {
 }
 
 /// What the store answered.
-#[derive(Clone, Copy, Debug, PartialEq, Eq)]
+#[derive(Clone, Copy, PartialEq, Eq)]
 pub enum StoreAnswer {
     NotAsked,
     Yes,

@@ -1,7 +1,7 @@
 //! What came of a sending.
 
 /// What came of a sending.
-#[derive(Clone, Copy, Debug, PartialEq, Eq)]
+#[derive(Clone, Copy, PartialEq, Eq)]
 pub enum Posted {
     /// No call was due.
     Nothing,

@@ -5,7 +5,7 @@ ghost use Rattle.definitions.specs.Shares.{meets as is_met};
 use std::marker::Model;
 
 /// None, read, write or both (XNFS, fsh4_mode and fsh4_access).
-#[derive(Clone, Copy, Debug, PartialEq, Eq)]
+#[derive(Clone, Copy, PartialEq, Eq)]
 pub struct Access {
     read: bool,
     write: bool,

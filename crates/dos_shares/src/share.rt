@@ -8,7 +8,7 @@ use std::marker::Model;
 
 /// What one owner does with a file, and what it denies the others. An owner is a host and an owner handle
 /// (XNFS, nlm4_share).
-#[derive(Debug, Drop)]
+#[derive(Drop)]
 pub struct Share {
     file: Vec<u8>,
     caller_name: Vec<u8>,

@@ -25,7 +25,7 @@ pub enum ShareError {
 /// The shares that are held: one for each file and owner, the newest last. Contracts see the list of them.
 ///
 /// Room for all of them is reserved at the start, so no later call takes memory.
-#[derive(Debug, Drop)]
+#[derive(Drop)]
 pub struct Shares {
     held: Vec<Share>,
 }

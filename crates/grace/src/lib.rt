@@ -6,7 +6,7 @@ ghost use Rattle.definitions.specs.Phases.{admits as is_admitted};
 ghost use Rattle.grace.specs.Meanings.{phase_of, kind_of};
 
 /// Where the daemon is after a restart.
-#[derive(Clone, Copy, Debug, PartialEq, Eq)]
+#[derive(Clone, Copy, PartialEq, Eq)]
 pub enum Phase {
     /// Clients reclaim the locks and shares that they held before the restart.
     Grace,
@@ -15,7 +15,7 @@ pub enum Phase {
 }
 
 /// The kinds of call, as far as the phase asks. A message form is of its procedure's kind.
-#[derive(Clone, Copy, Debug, PartialEq, Eq)]
+#[derive(Clone, Copy, PartialEq, Eq)]
 pub enum CallKind {
     /// TEST.
     Testing,

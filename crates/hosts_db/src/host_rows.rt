@@ -13,7 +13,7 @@ use std::marker::Model;
 
 /// What a store holds: the own state, the rows in order of name, and the watches in order of mon_name and my_id,
 /// with room for as many as there may be, so that no change takes memory.
-#[derive(Debug, Drop)]
+#[derive(Drop)]
 pub struct HostRows {
     own: u32,
     hosts: Vec<HostRow>,

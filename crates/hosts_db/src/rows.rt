@@ -17,7 +17,7 @@ pub const MOST_NAME_BYTES: usize = 1024;
 pub const FULL_QUOTA: u32 = 65_536;
 
 /// A host that is told of a restart.
-#[derive(Debug, Drop)]
+#[derive(Drop)]
 pub struct HostRow {
     name: Vec<u8>,
     epoch: u32,
@@ -106,7 +106,7 @@ impl HostRow {
 }
 
 /// Whom to call when a monitored host has restarted (XNFS, my_id).
-#[derive(Debug, Drop)]
+#[derive(Drop)]
 pub struct MyId<'a> {
     my_name: &'a [u8],
     prog: i32,
@@ -178,7 +178,7 @@ impl<'a> MyId<'a> {
 }
 
 /// Who is called when a host restarts, and 16 bytes that are handed back (XNFS, mon).
-#[derive(Debug, Drop)]
+#[derive(Drop)]
 pub struct Watch {
     mon_name: Vec<u8>,
     my_name: Vec<u8>,

@@ -20,7 +20,7 @@ impl Peer {
 }
 
 /// The whole record of the call, which shares the bytes that were received, and who asked.
-#[derive(Debug, PartialEq, Eq, Drop)]
+#[derive(PartialEq, Eq, Drop)]
 pub struct Key {
     pub record: Bytes,
     pub peer: Peer,

@@ -1,7 +1,7 @@
 use xdr_core::{Below, Cursor, Frame, FrameFull, Wire, XdrError};
 
 /// What a share does with the file, or denies the others (XNFS, fsh_access and fsh_mode).
-#[derive(Clone, Copy, Debug, PartialEq, Eq)]
+#[derive(Clone, Copy, PartialEq, Eq)]
 pub enum Access {
     None,
     Read,

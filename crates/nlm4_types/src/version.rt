@@ -3,7 +3,7 @@ ghost use Rattle.std.specs.Option.{option_map};
 ghost use Rattle.nlm4_types.specs.Version.{view_of_version, version_number, numbered_version};
 
 /// A version of the protocol that is served (XNFS; RFC 1813, appendix II).
-#[derive(Clone, Copy, Debug, PartialEq, Eq)]
+#[derive(Clone, Copy, PartialEq, Eq)]
 pub enum Version {
     V1,
     V3,

@@ -1,7 +1,7 @@
 use xdr_core::{Below, Cursor, Frame, FrameFull, Wire, XdrError, get_record, put_record};
 
 /// Whether the monitor does what it was asked (res).
-#[derive(Clone, Copy, Debug, PartialEq, Eq)]
+#[derive(Clone, Copy, PartialEq, Eq)]
 pub enum MonitorRes {
     Succ,
     Fail,
@@ -35,7 +35,7 @@ impl<'r> Wire<'r> for MonitorRes {
 }
 
 /// The result of SM_STAT and SM_MON (sm_stat_res).
-#[derive(Clone, Copy, Debug, PartialEq, Eq)]
+#[derive(Clone, Copy)]
 pub struct SmStatRes {
     pub res: MonitorRes,
     /// The monitor's own state.
@@ -62,7 +62,7 @@ impl<'r> Wire<'r> for SmStatRes {
 }
 
 /// The result of SM_UNMON and SM_UNMON_ALL (sm_stat).
-#[derive(Clone, Copy, Debug, PartialEq, Eq)]
+#[derive(Clone, Copy)]
 pub struct SmStat {
     /// The monitor's own state.
     pub state: i32,

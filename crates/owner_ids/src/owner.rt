@@ -9,7 +9,7 @@ use std::alloc::AllocError;
 use std::cmp::Ordering;
 
 /// An owner that a client names, a process, or an open file description.
-#[derive(Debug, Drop)]
+#[derive(Drop)]
 pub enum Owner {
     /// What a client says of an owner (XNFS, `nlm4_lock`): its host's name, its number there, and its own bytes.
     Remote {

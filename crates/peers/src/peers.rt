@@ -14,7 +14,7 @@ use std::net::IpAddr;
 const MAX_LINES: usize = 4_096;
 
 /// A host, and where it is.
-#[derive(Debug, Drop)]
+#[derive(Drop)]
 struct Peer {
     name: Vec<u8>,
     address: IpAddr,
@@ -27,7 +27,7 @@ impl Model for Peer {
 }
 
 /// The hosts that the server calls, with their addresses. Contracts see them in the order of their lines.
-#[derive(Debug, Drop)]
+#[derive(Drop)]
 pub struct Peers {
     peers: Vec<Peer>,
 }

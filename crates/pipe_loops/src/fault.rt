@@ -52,7 +52,7 @@ impl From<WriteFault> for Fault {
 }
 
 /// A read failed.
-#[derive(Clone, Copy, Debug, PartialEq, Eq)]
+#[derive(Clone, Copy)]
 pub(crate) struct FailedRead;
 
 impl From<FailedRead> for Fault {

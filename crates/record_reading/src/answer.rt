@@ -8,7 +8,7 @@ use rpc_msg::{Answer, AnswerOutcome};
 use xdr_core::{Cursor, read};
 
 /// What an answer to one of the server's own calls says (RFC 5531, section 9).
-#[derive(Clone, Copy, Debug, PartialEq, Eq)]
+#[derive(Clone, Copy, PartialEq, Eq)]
 pub enum AnswerReading {
     /// No front of it is a reply up to its accept_stat or reject_stat.
     Unreadable,

@@ -10,7 +10,7 @@ pub enum Call<'r> {
 }
 
 /// Why a call is not given to its procedure (RFC 5531, section 9). The first that fits, in this order.
-#[derive(Clone, Copy, Debug, PartialEq, Eq)]
+#[derive(Clone, Copy, PartialEq, Eq)]
 pub enum Refusal {
     /// Its RPC version is not 2.
     RpcMismatch,

@@ -9,7 +9,7 @@ use thiserror::Error;
 use xdr_core::{Cursor, read};
 
 /// What a call's header says but for its credential and verifier.
-#[derive(Clone, Copy, Debug, PartialEq, Eq)]
+#[derive(Clone, Copy, PartialEq, Eq)]
 pub struct Header {
     pub xid: u32,
     pub prog: u32,

@@ -10,7 +10,7 @@ use crate::{MSG_ACCEPTED, MSG_DENIED, REPLY};
 use xdr_core::{Frame, FrameFull, Wire};
 
 /// Why an accepted call is not done, where nothing more is said.
-#[derive(Clone, Copy, Debug, PartialEq, Eq)]
+#[derive(Clone, Copy, PartialEq, Eq)]
 pub enum AcceptError {
     /// The program is not served here.
     ProgUnavail,
@@ -23,7 +23,7 @@ pub enum AcceptError {
 }
 
 /// Why a call is denied.
-#[derive(Clone, Copy, Debug, PartialEq, Eq)]
+#[derive(Clone, Copy)]
 pub enum Denial {
     /// The RPC version is none from `low` to `high`.
     RpcMismatch { low: u32, high: u32 },
@@ -32,7 +32,7 @@ pub enum Denial {
 }
 
 /// What a server says to the call of an xid, but for the result that follows a `Success`.
-#[derive(Clone, Copy, Debug, PartialEq, Eq)]
+#[derive(Clone, Copy)]
 pub enum Reply {
     Success { xid: u32 },
     AcceptFailure { xid: u32, error: AcceptError },

@@ -8,7 +8,7 @@ use std::time::Instant;
 const PLACES: usize = 8_192;
 
 /// A call that was sent.
-#[derive(Clone, Copy, Debug, Drop)]
+#[derive(Clone, Copy, Drop)]
 pub(crate) struct Waiting {
     /// Its number. Its low 32 bits are the xid.
     number: u64,

@@ -13,7 +13,7 @@ const PIECE: usize = 4_096;
 pub(crate) const TIMES: usize = 16;
 
 /// How far a turn came.
-#[derive(Clone, Copy, Debug, PartialEq, Eq)]
+#[derive(Clone, Copy, PartialEq, Eq)]
 pub(crate) enum Progress {
     /// The socket says when it goes on.
     Waits,

@@ -8,7 +8,7 @@ const NLM_PROGRAM: u32 = 100_021;
 const NSM_PROGRAM: u32 = 100_024;
 
 /// The ports that peers listen on, and how long the sender waits.
-#[derive(Clone, Copy, Debug)]
+#[derive(Clone, Copy)]
 pub struct Settings {
     /// The port of calls to the lock manager.
     pub nlm_port: u16,

@@ -2,7 +2,7 @@
 use std::time::{Duration, Instant};
 
 /// Watches the grace period of the server's own state.
-#[derive(Clone, Copy, Debug, Drop)]
+#[derive(Clone, Copy, Drop)]
 pub(crate) struct Watch {
     grace: Duration,
     own_state: u32,

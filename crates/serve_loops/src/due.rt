@@ -14,7 +14,7 @@ use workers::{Next, Shared};
 pub const MOST_CALLS: usize = 64;
 
 /// What a turn left.
-#[derive(Clone, Copy, Debug, PartialEq, Eq)]
+#[derive(Clone, Copy, PartialEq, Eq)]
 pub enum Due {
     /// Nothing was due then.
     Nothing,

@@ -1,7 +1,7 @@
 //! How a local program's connection ends.
 
 /// How a local program's connection ends.
-#[derive(Clone, Copy, Debug, PartialEq, Eq)]
+#[derive(Clone, Copy, PartialEq, Eq)]
 pub enum Ending {
     /// The stream's end. What stood there without a line feed was dropped.
     Over,

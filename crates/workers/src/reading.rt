@@ -27,7 +27,7 @@ const PIECE: usize = 65_536;
 const READS: u64 = 1_000_000_000;
 
 /// Whose records they are, and how many of them were put as jobs: that is the next one's number.
-#[derive(Clone, Copy, Debug, PartialEq, Eq)]
+#[derive(Clone, Copy)]
 pub struct Origin {
     /// The number of the connection.
     pub connection: u64,
@@ -45,7 +45,7 @@ pub struct Source<T> {
 }
 
 /// How reading ended.
-#[derive(Clone, Copy, Debug, PartialEq, Eq)]
+#[derive(Clone, Copy, PartialEq, Eq)]
 pub enum Ending {
     /// The stream ended. An end inside a record is no fault.
     Over,
