@@ -6,3 +6,4 @@ pub mod Asks
 pub mod Locking
 pub mod Lined
 pub mod MayAsk
+pub mod Dropping

@@ -15,6 +15,7 @@ mod lock_rules;
 mod null;
 mod quota;
 mod share;
+mod status;
 mod steps;
 mod telling;
 mod test;

@@ -14,7 +14,7 @@ ghost use Rattle.lock_service.specs.MayAsk.{may_ask};
 
 use crate::lock::LockCall;
 use crate::telling::Form;
-use crate::{cancel, free_all, granted, lock, null, share, test, unlock, unshare};
+use crate::{cancel, free_all, granted, lock, null, share, status, test, unlock, unshare};
 use call_outcome::Outcome;
 use call_plans::{Plan, StoreAnswer, agree, commit};
 use hosts_db::HostStore;
@@ -37,7 +37,7 @@ pub fn plan<R: RangeTable, S: HostStore>(
 {
     match call {
         Call::Nlm(version, call) => plan_nlm(world, *version, call),
-        Call::Nsm(call) => status_calls::plan(world, local, call),
+        Call::Nsm(call) => status::plan(world, local, call),
     }
 }
 

@@ -1,11 +1,15 @@
-//! A call is planned, by its procedure.
+//! What a call of the status monitor comes to, by procedure (XNFS, NSM): its plan, which changes nothing.
 ghost use Rattle.std.specs.Prelude.{IfOk};
 ghost use Rattle.definitions.specs.World.{the_limits};
 ghost use Rattle.definitions.specs.Answer.{nsm_answer};
 ghost use Rattle.nsm_types.specs.Call.{view_of_call};
 ghost use Rattle.call_plans.specs.Planned.{IsPlan};
 
-use crate::{crash, notify, stat, watches};
+mod crash;
+mod notify;
+mod stat;
+mod watches;
+
 use call_plans::{Plan, World};
 use hosts_db::HostStore;
 use nsm_types::{MonitorRes, NsmCall};
@@ -14,7 +18,7 @@ use range_table::RangeTable;
 
 /// What is to be done for a call of the status monitor, whether its peer is local or not (XNFS, NSM). Changes nothing.
 /// Starved: there is no memory for the plan.
-pub fn plan<R: RangeTable, S: HostStore>(
+pub(crate) fn plan<R: RangeTable, S: HostStore>(
     world: &World<R, S>,
     local: bool,
     call: &NsmCall<'_>,

@@ -12,7 +12,7 @@ use Rattle.definitions.specs.Waits.{Waiter}
 use Rattle.definitions.specs.World.{World, the_limits, slots_free, with_hosts, with_all_due, without_host_of}
 use Rattle.definitions.specs.Answer.{Answered, gives, status_letter}
 use Rattle.definitions.proofs.Lists.{length_without}
-use Rattle.status_calls.specs.Dropping.{dropped, dropped_if_room}
+use Rattle.lock_service.specs.Dropping.{dropped, dropped_if_room}
 
 module _ (w : World) (name : Bytes) (state : ℤ) where
   abbrev letters_of : List Letter

@@ -9,7 +9,7 @@ ghost use Rattle.callbacks.specs.Meanings.{my_id_of};
 ghost use Rattle.nsm_types.specs.Arguments.{view_of_my_id};
 ghost use Rattle.call_plans.specs.Planned.{asked_of, CanAskFor, IsPlan};
 
-use crate::stat;
+use super::stat;
 use call_outcome::Outcome;
 use call_plans::{Answer, Asked, Change, Plan, Told, World};
 use callbacks::{self, ShortBytes};

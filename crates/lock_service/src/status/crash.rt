@@ -5,7 +5,7 @@ ghost use Rattle.definitions.specs.World.{the_limits};
 ghost use Rattle.definitions.specs.Answer.{nsm_answer};
 ghost use Rattle.call_plans.specs.Planned.{IsPlan};
 
-use crate::stat;
+use super::stat;
 use call_outcome::{CallResult, Outcome};
 use call_plans::{Answer, Asked, Change, Plan, Told, World};
 use hosts_db::HostStore;

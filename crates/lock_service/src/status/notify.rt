@@ -4,9 +4,9 @@ ghost use Rattle.definitions.specs.Hosts.{Seen};
 ghost use Rattle.definitions.specs.World.{World as SaidWorld, the_limits};
 ghost use Rattle.definitions.specs.Answer.{notify_answer};
 ghost use Rattle.call_plans.specs.Planned.{asked_of, CanAskFor, IsPlan};
-ghost use Rattle.status_calls.specs.Dropping.{dropped_if_room};
+ghost use Rattle.lock_service.specs.Dropping.{dropped_if_room};
 
-use crate::stat;
+use super::stat;
 use call_outcome::{CallResult, Outcome};
 use call_plans::{Answer, Asked, Change, Plan, Shared, Told, World};
 use callbacks::ShortBytes;

@@ -4,8 +4,8 @@ use Rattle.definitions.specs.Hosts.{watches_of}
 use Rattle.definitions.specs.World.{the_limits, slots_free}
 use Rattle.call_outcome.specs.Values.{view_of_outcome}
 use Rattle.call_plans.specs.Planned.{asked_of, told_in}
-use Rattle.status_calls.proofs.Dropping.{same, with_room, fits}
-use Rattle.status_calls.proofs.notify.dropped.Goals as goal
+use Rattle.lock_service.proofs.Dropping.{same, with_room, fits}
+use Rattle.lock_service.proofs.status.notify.dropped.Goals as goal
 
 pub returns : goal.returns
 returns g c =
