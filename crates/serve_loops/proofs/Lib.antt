@@ -1,3 +1,4 @@
 pub mod LineLemmas
 pub mod CallLemmas
 pub mod PartLemmas
+pub mod HandingLemmas

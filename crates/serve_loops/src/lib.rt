@@ -8,6 +8,7 @@ mod due;
 mod ending;
 mod lines;
 mod part;
+pub mod sender;
 mod signals;
 
 pub use courier::{Courier, MemoryCourier, Parcel};

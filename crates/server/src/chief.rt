@@ -2,7 +2,7 @@
 use crate::signals::Bells;
 use hosts_db::HostStore;
 use range_table::RangeTable;
-use sender::{Locals, Sender};
+use serve_loops::sender::{Locals, Sender};
 use server_threads::Chief;
 use std::io::Print;
 use std::net::Net;

@@ -18,6 +18,6 @@ mod wire;
 
 pub use fault::Fault;
 pub use runtime::Runtime;
-pub use sender::Settings as CallSettings;
+pub use serve_loops::sender::Settings as CallSettings;
 pub use serving::serve;
 pub use settings::{Backing, Settings};

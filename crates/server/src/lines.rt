@@ -1,6 +1,6 @@
 //! Lines for local programs that nobody asked for just then.
 use connections::Roster;
-use sender::Locals;
+use serve_loops::sender::Locals;
 use std::sync::{Mutex, Wait};
 
 /// Finds local programs by their connections' numbers.

@@ -17,7 +17,7 @@ use jobs::{Channel, Opened, Place};
 use peers::Peers;
 use range_arena::ArenaTable;
 use range_table::RangeTable;
-use sender::Sender;
+use serve_loops::sender::Sender;
 use server_threads::{NoThread, Service, Staff, run};
 use staff::{Cutter, Gatherer};
 use std::alloc::Global;

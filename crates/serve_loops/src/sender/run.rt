@@ -1,16 +1,16 @@
 //! The sender.
 ghost use Rattle.std.specs.Prelude.{◌≡◌, [], IfOk};
 
-use crate::awaited::{Awaited, Waiting};
-use crate::locals::Locals;
-use crate::office::Office;
-use crate::settings::Settings;
-use crate::turn::Untaken;
+use super::awaited::{Awaited, Waiting};
+use super::locals::Locals;
+use super::office::Office;
+use super::settings::Settings;
+use super::turn::Untaken;
+use crate::{Courier, Parcel};
 use book::Dest;
 use history::History;
 use mio::Waker;
 use peers::Peers;
-use serve_loops::{Courier, Parcel};
 use std::alloc::Global;
 use std::io;
 use std::marker::Model;

@@ -1,6 +1,5 @@
 //! The thread that makes the server's own calls: it sends what is due, hears the answers, and knows what falls silent and when the
 //! grace period is over. No socket of it blocks, so no peer holds it up.
-#![tactic(auto)]
 
 mod awaited;
 mod locals;

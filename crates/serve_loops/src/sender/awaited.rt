@@ -1,5 +1,5 @@
 //! Calls that wait for their answers, and the answers that came.
-use crate::settings::{ends_with_reply, xid_of};
+use super::settings::{ends_with_reply, xid_of};
 use std::alloc::{AllocError, Global};
 use std::collections::VecDeque;
 use std::time::Instant;

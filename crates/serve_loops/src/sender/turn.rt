@@ -1,16 +1,16 @@
 //! The turns of the sender.
 ghost use Rattle.std.specs.Prelude.{◌≡◌, false};
 ghost use Rattle.book.specs.Notes.{view_of_event};
-ghost use Rattle.sender.specs.Handing.{HandsOn};
+ghost use Rattle.serve_loops.specs.Handing.{HandsOn};
 ghost use Rattle.workers.specs.Holds.{is_take};
 
-use crate::locals::Locals;
-use crate::run::Sender;
-use crate::watch::Watch;
+use super::locals::Locals;
+use super::run::Sender;
+use super::watch::Watch;
+use crate::{Due, MOST_CALLS, Signals, send_due};
 use book::BookEvent;
 use hosts_db::HostStore;
 use range_table::RangeTable;
-use serve_loops::{Due, MOST_CALLS, Signals, send_due};
 use std::net::Net;
 use std::sync::ledger::Ledger;
 use std::sync::{Mutex, Wait};

@@ -1,5 +1,5 @@
-use Rattle.sender.proofs.HandingLemmas.{HandsOn-kept, HandsOn-more}
-use Rattle.sender.proofs.run.Sender.run.Goals as goal
+use Rattle.serve_loops.proofs.HandingLemmas.{HandsOn-kept, HandsOn-more}
+use Rattle.serve_loops.proofs.sender.run.Sender.run.Goals as goal
 
 pub loop-init : goal.loop-init
 loop-init g c = HandsOn-kept _ _ c.tick.ensures

@@ -1,6 +1,6 @@
 //! All peers.
-use crate::awaited::Awaited;
-use crate::peer::{Peer, Progress, TIMES};
+use super::awaited::Awaited;
+use super::peer::{Peer, Progress, TIMES};
 use bytes::Bytes;
 use mio::net::TcpStream;
 use mio::{Events, Interest, Poll, Token, Waker};

@@ -2,7 +2,7 @@
 use Rattle.std.proofs.Common.{◌≡◌, ◌+◌, List, subst, sym}
 use Rattle.serve_loops.specs.Calls.{Call}
 use Rattle.serve_loops.proofs.CallLemmas.{Hands-none, Hands-more}
-use Rattle.sender.specs.Handing.{HandsOn}
+use Rattle.serve_loops.specs.Handing.{HandsOn}
 
 pub HandsOn-none : (l : List Call) → HandsOn l l
 HandsOn-none l = (0, Hands-none 0 l)
