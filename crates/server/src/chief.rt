@@ -1,9 +1,9 @@
 //! What the thread that started all others does.
 use crate::signals::Bells;
+use crate::threads::Chief;
 use hosts_db::HostStore;
 use range_table::RangeTable;
 use serve_loops::sender::{Locals, Sender};
-use server_threads::Chief;
 use std::io::Print;
 use std::net::Net;
 use std::sync::ledger::Ledger;

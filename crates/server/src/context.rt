@@ -1,16 +1,16 @@
 //! What every thread knows, and what it does.
+use crate::connections::{Latch, Roster, Writer};
 use crate::incoming::Incoming;
 use crate::notes;
 use crate::outbox::SocketOutbox;
 use crate::peer::peer_at;
 use crate::signals::Bells;
-use connections::{Latch, Roster, Writer};
+use crate::threads::{Guest, Service, Side};
 use hosts_db::HostStore;
 use jobs::{Channel, Place};
 use log::Log;
 use range_table::RangeTable;
 use serve_loops::{Signals, serve_lines};
-use server_threads::{Guest, Service, Side};
 use std::alloc::Global;
 use std::net::{SocketAddr, TcpStream};
 use std::sync::ledger::Ledger;

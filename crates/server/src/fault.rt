@@ -1,7 +1,7 @@
 //! Why a server ends before it is told to.
 ghost use Rattle.std.specs.Prelude.{◌≡◌};
 
-use staff::StaffFault;
+use crate::staff::StaffFault;
 use std::alloc::AllocError;
 use thiserror::Error;
 

@@ -1,7 +1,8 @@
-//! The server over sockets: connections, workers, and the sender, over one book.
+//! The server over sockets: its connections, the threads, the staff that answers jobs, and the sender, over one book.
 #![tactic(auto)]
 
 mod chief;
+mod connections;
 mod context;
 mod fault;
 mod incoming;
@@ -14,6 +15,8 @@ mod seats;
 mod serving;
 mod settings;
 mod signals;
+pub mod staff;
+mod threads;
 mod wire;
 
 pub use fault::Fault;

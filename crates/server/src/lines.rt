@@ -1,5 +1,5 @@
 //! Lines for local programs that nobody asked for just then.
-use connections::Roster;
+use crate::connections::Roster;
 use serve_loops::sender::Locals;
 use std::sync::{Mutex, Wait};
 

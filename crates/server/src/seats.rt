@@ -1,8 +1,8 @@
 //! What the places of connections lend.
+use crate::connections::{PLACES, Roster};
 use crate::fault::Fault;
-use connections::{PLACES, Roster};
+use crate::staff::{Cutter, Gatherer};
 use jobs::{Channel, Place};
-use staff::{Cutter, Gatherer};
 use std::alloc::Global;
 use std::sync::ledger::Ledger;
 use workers::Worker;

@@ -2,6 +2,7 @@
 ghost use Rattle.std.specs.Prelude.{◌≡◌, ◌+◌, [], IfOk};
 
 use crate::chief::Sends;
+use crate::connections::{Door, PLACES, Roster};
 use crate::context::{Context, Latches, Rosters};
 use crate::fault::Fault;
 use crate::lines::LocalLines;
@@ -9,17 +10,16 @@ use crate::runtime::Runtime;
 use crate::seats::{callers, locals, take_back};
 use crate::settings::{Backing, Settings};
 use crate::signals::Bells;
+use crate::staff::{Cutter, Gatherer};
+use crate::threads::{NoThread, Service, Staff, run};
 use book::{Book, BookEvent, Reply, Upshot};
 use callbacks::ShortBytes;
-use connections::{Door, PLACES, Roster};
 use hosts_db::HostStore;
 use jobs::{Channel, Opened, Place};
 use peers::Peers;
 use range_arena::ArenaTable;
 use range_table::RangeTable;
 use serve_loops::sender::Sender;
-use server_threads::{NoThread, Service, Staff, run};
-use staff::{Cutter, Gatherer};
 use std::alloc::Global;
 use std::io;
 use std::marker::Brand;

@@ -1,5 +1,5 @@
 //! Replies on their way to their connections.
-use connections::{Connection, Roster};
+use crate::connections::{Connection, Roster};
 use record_mark::last_mark;
 use std::alloc::{AllocError, Global};
 use std::sync::{Arc, Mutex, Wait};

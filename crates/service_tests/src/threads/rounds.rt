@@ -13,7 +13,7 @@ use book::{Book, BookEvent};
 use hosts_db::MemHosts;
 use jobs::{Channel, Keeper, Opened, Place};
 use range_table::FlatTable;
-use staff::{Cutter, Gatherer};
+use server::staff::{Cutter, Gatherer};
 use std::alloc::Global;
 use std::marker::Brand;
 use std::sync::ledger::{Blank, Ledger};

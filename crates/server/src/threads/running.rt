@@ -1,7 +1,7 @@
 //! All threads.
-use crate::accepting::{Post, accept};
-use crate::service::{Chief, Service, Side};
-use connections::Door;
+use super::accepting::{Post, accept};
+use super::service::{Chief, Service, Side};
+use crate::connections::Door;
 use std::alloc::Global;
 use std::sync::Wait;
 use std::thread;
@@ -12,17 +12,17 @@ use thiserror::Error;
 /// A thread could not be started. All that were started have ended.
 #[derive(Clone, Copy, Debug, PartialEq, Eq, Error)]
 #[error("1 Starved")]
-pub struct NoThread;
+pub(crate) struct NoThread;
 
 /// Where connections come in, and what each worker has.
 #[derive(Drop)]
-pub struct Staff<W> {
-    pub alloc: Global,
-    pub callers: Door,
-    pub locals: Door,
-    pub workers: Vec<W>,
+pub(crate) struct Staff<W> {
+    pub(crate) alloc: Global,
+    pub(crate) callers: Door,
+    pub(crate) locals: Door,
+    pub(crate) workers: Vec<W>,
     /// The bytes of each thread's stack.
-    pub stack: usize,
+    pub(crate) stack: usize,
 }
 
 // A worker's thread.
@@ -177,7 +177,7 @@ where
 }
 
 /// Starts all threads, and comes back with what the workers had once the server was stopped and all have ended.
-pub fn run<R, W, C, K>(
+pub(crate) fn run<R, W, C, K>(
     rt: &R,
     service: &C,
     staff: Staff<W>,

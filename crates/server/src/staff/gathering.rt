@@ -1,7 +1,7 @@
 //! What is left at the end.
 ghost use Rattle.std.specs.Prelude.{◌≡◌, ◌+◌};
 
-use crate::fault::StaffFault;
+use super::fault::StaffFault;
 use book::Receipt;
 use hosts_db::HostStore;
 use jobs::{Channel, Keeper, Place};

@@ -17,7 +17,7 @@ pub enum StaffFault {
 
 impl From<AllocError> for StaffFault {
     ghost use Rattle.std.specs.Prelude.{◌≡◌};
-    ghost use Rattle.staff.specs.declared.fault.StaffFault.TheVariants.{Starved};
+    ghost use Rattle.server.specs.declared.staff.fault.StaffFault.TheVariants.{Starved};
 
     ghost from_gives = { λ _ f. f ≡ Starved };
 

@@ -1,12 +1,12 @@
 //! What the threads do.
-use connections::Connection;
+use crate::connections::Connection;
 use std::alloc::Global;
 use std::net::{SocketAddr, TcpStream};
 use std::sync::Arc;
 
 /// Which door a connection came in by.
 #[derive(Clone, Copy, PartialEq, Eq)]
-pub enum Side {
+pub(crate) enum Side {
     /// Calls by record.
     Callers,
     /// Lines of local programs.
@@ -15,15 +15,15 @@ pub enum Side {
 
 /// A connection that was taken in.
 #[derive(Drop)]
-pub struct Guest {
-    pub side: Side,
-    pub connection: Arc<Connection, Global>,
+pub(crate) struct Guest {
+    pub(crate) side: Side,
+    pub(crate) connection: Arc<Connection, Global>,
     /// Where its peer is.
-    pub from: SocketAddr,
+    pub(crate) from: SocketAddr,
 }
 
 /// What the threads of a server do. `W` is what a worker has.
-pub trait Service<R, W> {
+pub(crate) trait Service<R, W> {
     /// Takes a connection in. `None`: there is no place for it, and it is closed.
     fn admit(&self, rt: &R, side: Side, stream: TcpStream, from: SocketAddr) -> Option<Guest>;
 
@@ -47,7 +47,7 @@ pub trait Service<R, W> {
 }
 
 /// What the thread that started all others does meanwhile.
-pub trait Chief<R> {
+pub(crate) trait Chief<R> {
     /// It comes back once the server is stopped, or stops it.
     fn preside(&mut self, rt: &R);
 }

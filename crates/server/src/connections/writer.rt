@@ -1,5 +1,5 @@
 //! What is written to a connection in pieces.
-use crate::connection::{Connection, Lost, Outgoing};
+use super::connection::{Connection, Lost, Outgoing};
 use std::alloc::Global;
 use std::io::{self, ErrorKind, Write};
 use std::sync::{MutexGuard, Wait};
@@ -9,7 +9,7 @@ const MOST: usize = 16_384;
 
 /// Writes to a connection. What is written between two flushes stays together, whatever others write to it.
 #[derive(Drop)]
-pub struct Writer<'a, R> {
+pub(crate) struct Writer<'a, R> {
     rt: &'a R,
     connection: &'a Connection,
     bytes: Vec<u8>,
@@ -22,7 +22,7 @@ fn broken(_lost: Lost) -> io::Error {
 }
 
 impl<'a, R: Wait> Writer<'a, R> {
-    pub fn new(alloc: Global, rt: &'a R, connection: &'a Connection) -> Writer<'a, R> {
+    pub(crate) fn new(alloc: Global, rt: &'a R, connection: &'a Connection) -> Writer<'a, R> {
         Writer {
             rt,
             connection,

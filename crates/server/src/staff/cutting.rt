@@ -1,8 +1,8 @@
 //! What it takes to answer jobs is cut at the start.
 ghost use Rattle.std.specs.Prelude.{◌≡◌, IfSome};
 
-use crate::fault::StaffFault;
-use crate::gathering::{Back, Gatherer};
+use super::fault::StaffFault;
+use super::gathering::{Back, Gatherer};
 use jobs::{Channel, Keeper, Place};
 use std::alloc::Global;
 use std::sync::ledger::{Ledger, Share};

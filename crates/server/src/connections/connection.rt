@@ -18,7 +18,7 @@ const TURNS: usize = 4;
 /// The bytes were not all written. The connection is shut, and never written again.
 #[derive(Clone, Copy, Debug, PartialEq, Eq, Error)]
 #[error("its peer takes no bytes")]
-pub struct Lost;
+pub(crate) struct Lost;
 
 // What the connection's own lock keeps.
 #[derive(Drop)]
@@ -28,7 +28,7 @@ pub(crate) struct Outgoing {
 
 /// A connection that is open. Whoever has something for it writes it whole, one after another. Contracts see its number.
 #[derive(Drop)]
-pub struct Connection {
+pub(crate) struct Connection {
     number: u64,
     stream: TcpStream,
     outgoing: Mutex<Outgoing>,
@@ -65,7 +65,11 @@ fn write_in_turns(stream: &TcpStream, bytes: &[u8]) -> Result<(), Lost> {
 impl Connection {
     /// Over this stream, whose writes get their timeout. `idle` is how long a read waits for bytes; with `None` it waits on.
     /// The error is the socket's.
-    pub fn new(number: u64, stream: TcpStream, idle: Option<Duration>) -> io::Result<Connection>
+    pub(crate) fn new(
+        number: u64,
+        stream: TcpStream,
+        idle: Option<Duration>,
+    ) -> io::Result<Connection>
         ensures { IfOk result (λ c. c ≡ number) }
     {
         stream.set_nodelay(true)?;
@@ -80,20 +84,20 @@ impl Connection {
         })
     }
 
-    pub fn number(&self) -> u64
+    pub(crate) fn number(&self) -> u64
         ensures { result ≡ self.now }
     {
         self.number
     }
 
     /// What comes in.
-    pub fn stream(&self) -> &TcpStream {
+    pub(crate) fn stream(&self) -> &TcpStream {
         &self.stream
     }
 
     /// Writes the bytes whole, before or behind what others write. A turn of 20 ms that moves none of them, or the end of the
     /// fourth before all are written, loses the connection: it is shut, and this and each later call answers `Lost`.
-    pub fn send<R: Wait>(&self, rt: &R, bytes: &[u8]) -> Result<(), Lost> {
+    pub(crate) fn send<R: Wait>(&self, rt: &R, bytes: &[u8]) -> Result<(), Lost> {
         let mut outgoing = self.outgoing.lock(rt);
         self.write(&mut outgoing, bytes)
     }
@@ -117,17 +121,17 @@ impl Connection {
     }
 
     /// Nothing more is read. What was read is still answered.
-    pub fn end_reading(&self) {
+    pub(crate) fn end_reading(&self) {
         let _ = self.stream.shutdown(Shutdown::Read);
     }
 
     /// Nothing more is read or written.
-    pub fn shut(&self) {
+    pub(crate) fn shut(&self) {
         let _ = self.stream.shutdown(Shutdown::Both);
     }
 
     /// So many jobs more are done: their replies are written, or lost.
-    pub fn count_done(&self, jobs: u64) {
+    pub(crate) fn count_done(&self, jobs: u64) {
         self.done.fetch_add(jobs, Ordering::SeqCst);
         if self.is_awaited.load(Ordering::SeqCst) {
             self.done.wake_all();
@@ -135,7 +139,7 @@ impl Connection {
     }
 
     /// Waits until so many of its jobs are done.
-    pub fn wait_for<R: Wait>(&self, rt: &R, jobs: u64) {
+    pub(crate) fn wait_for<R: Wait>(&self, rt: &R, jobs: u64) {
         // It says that it waits before it looks, so that it is woken for what it doesn't see.
         self.is_awaited.store(true, Ordering::SeqCst);
         for _ in rt.forever() {

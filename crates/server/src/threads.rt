@@ -1,9 +1,7 @@
 //! The threads of a server: who starts them, who joins them, and what ends them.
-#![tactic(auto)]
-
 mod accepting;
 mod running;
 mod service;
 
-pub use running::{NoThread, Staff, run};
-pub use service::{Chief, Guest, Service, Side};
+pub(crate) use running::{NoThread, Staff, run};
+pub(crate) use service::{Chief, Guest, Service, Side};

@@ -1,6 +1,4 @@
 //! Those who answer jobs over one book: what each needs is cut at the start, and what each leaves is gathered and settled.
-#![tactic(auto)]
-
 mod cutting;
 mod fault;
 mod gathering;
