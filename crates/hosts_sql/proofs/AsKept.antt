@@ -1,5 +1,5 @@
 -- What a call's statements make is what the call is to make.
-use Rattle.std.proofs.Common.{◌≡◌, ℕ, ℤ, pos, Bool, true, false, cond, List, [], ◌∷◌, Some, Result, IsTrue, is_err, refl, sym, ap, ◌∙◌, arith}
+use Rattle.std.proofs.Common.{◌≡◌, pos, Bool, true, false, cond, List, [], ◌∷◌, Some, Result, IsTrue, is_err, refl, sym, ap, ◌∙◌, arith}
 use Rattle.std.proofs.lemmas.Map.Text.{is_eq-slice_cmp}
 use Rattle.std.proofs.lemmas.Option.{same_Some}
 use Rattle.sqlite_trees.specs.Tree.{Trees}
@@ -7,15 +7,18 @@ use Rattle.sqlite.specs.State.{State, HasCleanDisk}
 use Rattle.sqlite.proofs.StateLemmas.{survives_weaker}
 use Rattle.definitions.specs.Bytes.{Bytes, IsAscending, bytes_cmp, same_bytes, first_that, put, without}
 use Rattle.definitions.specs.Nsm.{MyId}
-use Rattle.definitions.specs.Hosts.{HostRow, Hosts, row_cmp, watch_cmp, row_of, has_row, after_store, Seen, Acked, Watched, Quota}
-use Rattle.hosts_statements.specs.Maps.{listed}
-use Rattle.hosts_statements.specs.Shown.{shown}
-use Rattle.hosts_statements.specs.Wrote.{IsAsKept, MayLeave, MayWriteHosts, hosts_in}
+use Rattle.definitions.specs.Hosts.{HostRow, Hosts, row_cmp, watch_cmp, row_of, has_row, after_store, Watched}
+use Rattle.hosts_sql.specs.Maps.{listed}
+use Rattle.hosts_sql.specs.Notes.{call_of, noted}
+use Rattle.hosts_sql.specs.declared.notes.Note.{Note}
+use Rattle.hosts_sql.specs.declared.notes.Note.TheVariants as to
+use Rattle.hosts_sql.specs.Shown.{shown}
+use Rattle.hosts_sql.specs.Wrote.{IsAsKept, MayLeave, MayWriteHosts, hosts_in}
 use Rattle.hosts_transactions.proofs.Results.{gave, on_then}
-use Rattle.hosts_statements.proofs.Commits.{CommitsHosts}
-use Rattle.hosts_statements.proofs.Listed.{bytes_exact}
-use Rattle.hosts_statements.proofs.OwnIds.{eq_equal}
-use Rattle.hosts_statements.proofs.Changed.{put_changes, none_changes, seen_is, epoch_is, quota_is}
+use Rattle.hosts_sql.proofs.Commits.{CommitsHosts}
+use Rattle.hosts_sql.proofs.Listed.{bytes_exact}
+use Rattle.hosts_sql.proofs.OwnIds.{eq_equal}
+use Rattle.hosts_sql.proofs.Changed.{change, put_changes, none_changes, seen_is, epoch_is, quota_is}
 
 -- the last commit shows the rows that are in memory, and of these both changes make the same
 pub hosts_as_kept : {X E : Type 0} {from : Hosts → Hosts} {old new : State} {r : Result X E} (to : Hosts → Hosts) (rows : Hosts) → IsAsKept old rows → from rows ≡ to rows → CommitsHosts from old new r → CommitsHosts to old new r
@@ -61,25 +64,21 @@ found_name name (r ∷ rs) row found = go (same_bytes r.name name) refl found (�
     go true e found more = ap (λ (x : HostRow). x.name) (sym (same_Some {A = HostRow} r row found)) ∙ same_name r.name name e
     go false e found more = more found
 
+keeps_name : (note : Note) (row : HostRow) → (noted note row).name ≡ row.name
+keeps_name (to.Seen seen) row = refl
+keeps_name (to.Epoch epoch) row = refl
+keeps_name (to.Quota runs) row = refl
+
 module _ (h : Hosts) (name : Bytes) where
-  pub unseen : (seen : ℤ) → has_row h name ≡ false → ◌≡◌ {A = Hosts} (record h { rows = without (λ (r : HostRow). same_bytes r.name name) h.rows }) (after_store h (Seen name seen))
-  unseen seen none = let both = none_changes name (λ r. record r { seen = seen }) h.rows none in ap (λ rows. record h { rows = rows }) (both.0 ∙ sym both.1 ∙ seen_is name seen h.rows)
+  note_is : (note : Note) → ◌≡◌ {A = Hosts} (record h { rows = change name (noted note) h.rows }) (after_store h (call_of name note))
+  note_is (to.Seen seen) = ap (λ rows. record h { rows = rows }) (seen_is name seen h.rows)
+  note_is (to.Epoch epoch) = ap (λ rows. record h { rows = rows }) (epoch_is name epoch h.rows)
+  note_is (to.Quota runs) = ap (λ rows. record h { rows = rows }) (quota_is name runs h.rows)
 
-  pub unacked : (epoch : ℕ) → has_row h name ≡ false → ◌≡◌ {A = Hosts} (record h { rows = without (λ (r : HostRow). same_bytes r.name name) h.rows }) (after_store h (Acked name epoch))
-  unacked epoch none = let both = none_changes name (λ r. record r { epoch = epoch }) h.rows none in ap (λ rows. record h { rows = rows }) (both.0 ∙ sym both.1 ∙ epoch_is name epoch h.rows)
+  pub unnoted : (note : Note) → has_row h name ≡ false → ◌≡◌ {A = Hosts} (record h { rows = without (λ (r : HostRow). same_bytes r.name name) h.rows }) (after_store h (call_of name note))
+  unnoted note none = let both = none_changes name (noted note) h.rows none in ap (λ rows. record h { rows = rows }) (both.0 ∙ sym both.1) ∙ note_is note
 
-  pub unset : (runs : ℕ) → has_row h name ≡ false → ◌≡◌ {A = Hosts} (record h { rows = without (λ (r : HostRow). same_bytes r.name name) h.rows }) (after_store h (Quota name runs))
-  unset runs none = let both = none_changes name (λ r. record r { quota = runs }) h.rows none in ap (λ rows. record h { rows = rows }) (both.0 ∙ sym both.1 ∙ quota_is name runs h.rows)
-
-  module _ (rise : IsAscending row_cmp h.rows) (row : HostRow) (is : row_of h name ≡ Some row) where
-    named : row.name ≡ name
-    named = found_name name h.rows row is
-
-    pub seen_at : (seen : ℤ) → ◌≡◌ {A = Hosts} (record h { rows = put row_cmp (record { name = name; epoch = row.epoch; seen = seen; quota = row.quota }) h.rows }) (after_store h (Seen name seen))
-    seen_at seen = ap (λ n. record h { rows = put row_cmp (record { name = n; epoch = row.epoch; seen = seen; quota = row.quota }) h.rows }) (sym named) ∙ ap (λ rows. record h { rows = rows }) (put_changes name (λ r. record r { seen = seen }) (λ r. refl) row h.rows rise is ∙ seen_is name seen h.rows)
-
-    pub acked_at : (epoch : ℕ) → ◌≡◌ {A = Hosts} (record h { rows = put row_cmp (record { name = name; epoch = epoch; seen = row.seen; quota = row.quota }) h.rows }) (after_store h (Acked name epoch))
-    acked_at epoch = ap (λ n. record h { rows = put row_cmp (record { name = n; epoch = epoch; seen = row.seen; quota = row.quota }) h.rows }) (sym named) ∙ ap (λ rows. record h { rows = rows }) (put_changes name (λ r. record r { epoch = epoch }) (λ r. refl) row h.rows rise is ∙ epoch_is name epoch h.rows)
-
-    pub set_at : (runs : ℕ) → ◌≡◌ {A = Hosts} (record h { rows = put row_cmp (record { name = name; epoch = row.epoch; seen = row.seen; quota = runs }) h.rows }) (after_store h (Quota name runs))
-    set_at runs = ap (λ n. record h { rows = put row_cmp (record { name = n; epoch = row.epoch; seen = row.seen; quota = runs }) h.rows }) (sym named) ∙ ap (λ rows. record h { rows = rows }) (put_changes name (λ r. record r { quota = runs }) (λ r. refl) row h.rows rise is ∙ quota_is name runs h.rows)
+  pub noted_at : IsAscending row_cmp h.rows → (row : HostRow) → row_of h name ≡ Some row → (note : Note) → ◌≡◌ {A = Hosts} (record h { rows = put row_cmp (record (noted note row) { name = name }) h.rows }) (after_store h (call_of name note))
+  noted_at rise row is note =
+      let named : name ≡ (noted note row).name = sym (found_name name h.rows row is) ∙ sym (keeps_name note row) in
+      ap (λ n. record h { rows = put row_cmp (record (noted note row) { name = n }) h.rows }) named ∙ ap (λ rows. record h { rows = rows }) (put_changes name (noted note) (keeps_name note) row h.rows rise is) ∙ note_is note

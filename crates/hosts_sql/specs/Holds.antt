@@ -1,8 +1,8 @@
 -- What a store knows of its database.
 use Rattle.std.specs.Prelude.{Option, Some, None}
 use Rattle.sqlite.specs.State.{State}
-use Rattle.hosts_statements.specs.Wrote.{HasTables, HasTables-prop, IsFresh, IsFresh-prop}
-use Rattle.hosts_statements.specs.declared.tables.Version.{Version}
+use Rattle.hosts_sql.specs.Wrote.{HasTables, HasTables-prop, IsFresh, IsFresh-prop}
+use Rattle.hosts_sql.specs.declared.tables.Version.{Version}
 
 -- the last commit holds the tables of this version, or no object
 abbrev pub Holds : Option Version → State → Type 0

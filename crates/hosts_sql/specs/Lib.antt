@@ -1,1 +1,10 @@
+pub mod Tables
+pub mod Maps
+pub mod Given
+pub mod Shown
+pub mod Own
+pub mod Reading
+pub mod Wrote
+pub mod Making
+pub mod Notes
 pub mod Holds

@@ -1,18 +1,22 @@
 //! A store over a database.
-ghost use Rattle.std.specs.Prelude.{◌≡◌, IsTrue, Some, IfOk, IfErr, IfSome};
+ghost use Rattle.std.specs.Prelude.{◌≡◌, false, IsTrue, Some, IfOk, IfErr, IfSome};
 ghost use Rattle.sqlite.specs.State.{HasCleanDisk, KeepsCommit, Survives};
 ghost use Rattle.sqlite.specs.Held.{state};
-ghost use Rattle.hosts_statements.specs.Own.{has_host_numbers, AllFit};
-ghost use Rattle.hosts_statements.specs.Wrote.{IsAsKept, hosts_of};
-ghost use Rattle.hosts_statements.specs.declared.tables.Version.TheVariants.{Second};
+ghost use Rattle.hosts_sql.specs.Own.{has_host_numbers, AllFit};
+ghost use Rattle.hosts_sql.specs.Wrote.{IsAsKept, hosts_of};
+ghost use Rattle.hosts_sql.specs.declared.tables.Version.TheVariants.{Second};
 ghost use Rattle.hosts_sql.specs.Holds.{Holds, Holds-prop};
+ghost use Rattle.definitions.specs.Hosts.{after_store};
+ghost use Rattle.hosts_db.specs.Calls.{Counts, Leaves, Makes, IsNotStarved, OnRefused};
+ghost use Rattle.hosts_sql.specs.Notes.{call_of};
 
-use crate::calls::{write_acked, write_quota, write_seen, write_start, write_unwatch, write_watch};
+use crate::calls::{write_start, write_watch};
+use crate::loading::load;
+use crate::notes::{Note, write_note};
+use crate::statements::{delete_watches, insert_host};
+use crate::tables::{Version, is_none, version_of};
 use definitions::own_state::next_own_state;
 use hosts_db::{HostRow, HostRows, HostStore, MyId, Refusals, StoreError, Watch};
-use hosts_statements::loading::load;
-use hosts_statements::statements::insert_host;
-use hosts_statements::tables::{Version, is_none, version_of};
 use sqlite::{Alter, Connection};
 use std::alloc::Global;
 
@@ -86,6 +90,22 @@ impl<S: Alter> SqlHosts<S> {
         self.is_started && matches!(self.version, Some(Version::Second))
     }
 
+    // Notes this in the row of a host. Without a row of that name nothing changes.
+    fn note(&mut self, name: &[u8], note: Note) -> Result<(), StoreError>
+        ensures makes { Makes result self.old.rows self.new.rows (after_store self.old.rows (call_of name.now note)) }
+        ensures counts { Counts result self.old.refusals self.new.refusals }
+        ensures refused { OnRefused result (⟦<SqlHosts<S> as HostStore>⟧.may_refuse self.old false) }
+        ensures not_starved { IsNotStarved result }
+        ensures crash { Leaves result (⟦<SqlHosts<S> as HostStore>⟧.may_leave self.old) (⟦<SqlHosts<S> as HostStore>⟧.may_leave self.new) (after_store self.old.rows (call_of name.now note)) }
+    {
+        if !self.is_ready() || write_note(&mut self.conn, &self.rows, name, note).is_err() {
+            self.refusals.add();
+            return Err(StoreError::StoreRefused);
+        }
+        note.keep(&mut self.rows, name);
+        Ok(())
+    }
+
     /// Gives the connection back, as the last call left it.
     pub fn into_connection(self) -> Connection<S>
         ensures { result ≡ self.conn }
@@ -97,7 +117,7 @@ impl<S: Alter> SqlHosts<S> {
 
 impl<S: Alter> HostStore for SqlHosts<S> {
     ghost use Rattle.sqlite.specs.Held.{state};
-    ghost use Rattle.hosts_statements.specs.Wrote.{MayLeave};
+    ghost use Rattle.hosts_sql.specs.Wrote.{MayLeave};
 
     ghost rows = { λ s. s.rows };
 
@@ -137,30 +157,15 @@ impl<S: Alter> HostStore for SqlHosts<S> {
     }
 
     fn seen(&mut self, name: &[u8], state: i32) -> Result<(), StoreError> {
-        if !self.is_ready() || write_seen(&mut self.conn, &self.rows, name, state).is_err() {
-            self.refusals.add();
-            return Err(StoreError::StoreRefused);
-        }
-        self.rows.seen(name, state);
-        Ok(())
+        self.note(name, Note::Seen(state))
     }
 
     fn acked(&mut self, name: &[u8], epoch: u32) -> Result<(), StoreError> {
-        if !self.is_ready() || write_acked(&mut self.conn, &self.rows, name, epoch).is_err() {
-            self.refusals.add();
-            return Err(StoreError::StoreRefused);
-        }
-        self.rows.acked(name, epoch);
-        Ok(())
+        self.note(name, Note::Epoch(epoch))
     }
 
     fn quota(&mut self, name: &[u8], runs: u32) -> Result<(), StoreError> {
-        if !self.is_ready() || write_quota(&mut self.conn, &self.rows, name, runs).is_err() {
-            self.refusals.add();
-            return Err(StoreError::StoreRefused);
-        }
-        self.rows.quota(name, runs);
-        Ok(())
+        self.note(name, Note::Quota(runs))
     }
 
     fn watch(
@@ -188,7 +193,7 @@ impl<S: Alter> HostStore for SqlHosts<S> {
     }
 
     fn unwatch(&mut self, mon_name: Option<&[u8]>, my_id: &MyId<'_>) -> Result<(), StoreError> {
-        if !self.is_ready() || write_unwatch(&mut self.conn, mon_name, my_id).is_err() {
+        if !self.is_ready() || delete_watches(&mut self.conn, mon_name, my_id).is_err() {
             self.refusals.add();
             return Err(StoreError::StoreRefused);
         }

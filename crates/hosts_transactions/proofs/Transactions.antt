@@ -3,7 +3,7 @@ use Rattle.std.proofs.Common.{◌≡◌, true, false, sym, subst, subst₂, ◌�
 use Rattle.sqlite_trees.specs.declared.store.Store.{Ghosts}
 use Rattle.sqlite.specs.declared.error.Error.{Error}
 use Rattle.sqlite.specs.Effect.{Database}
-use Rattle.sqlite.specs.State.{State, HasCleanDisk, KeepsCommit, Shows, Survives}
+use Rattle.sqlite.specs.State.{HasCleanDisk, KeepsCommit, Shows, Survives}
 use Rattle.sqlite.specs.Steps.{FailsToCommit}
 use Rattle.sqlite.specs.Held.{Held, state}
 use Rattle.sqlite.proofs.StateLemmas.{survives_then}
@@ -32,10 +32,6 @@ transacts begun settled worked inside ended same = record {
   ended = ended;
   same = same;
 }
-
--- two steps inside
-pub survives_both : {a b c : State} → Survives a b (λ _. ⊥) → Survives b c (λ _. ⊥) → Survives a c (λ _. ⊥)
-survives_both {a} {b} {c} one two = survives_then a b c _ _ (λ _. ⊥) (λ _ db none. none) (λ _ db none. none) one two
 
 module _ {S : Type 0} {g : Ghosts S} {Work : Database → Database → Type 0} {old last end new : Held S} (t : Transacts g Work old last end new) where
   pub clean_end : HasCleanDisk (state g new) → HasCleanDisk (state g end)

@@ -6,7 +6,7 @@ ghost use Rattle.sqlite.specs.Values.{bound};
 ghost use Rattle.sqlite.specs.Effect.{Database};
 ghost use Rattle.sqlite.specs.State.{HasCleanDisk, KeepsCommit, Survives};
 ghost use Rattle.sqlite.specs.Held.{state};
-ghost use Rattle.hosts_transactions.specs.Work.{Committed, MayWork, Ran, RanThree, RanTwo, WorksInside};
+ghost use Rattle.hosts_transactions.specs.Work.{Committed, MayWork, Ran, RanTwo, WorksInside};
 
 use sqlite::types::ValueRef;
 use sqlite::{Alter, Connection, Error, ErrorCode, Transaction};
@@ -62,24 +62,6 @@ pub fn transact<S: Alter, W: Work>(conn: &mut Connection<S>, work: &W) -> Result
     let mut tx = conn.transaction();
     work.run(&mut tx)?;
     tx.commit()
-}
-
-/// Runs three statements in a transaction that is open.
-pub fn do_three<S: Alter>(
-    tx: &mut Transaction<'_, S>,
-    first: &str,
-    given: &[ValueRef<'_>],
-    second: &str,
-    more: &[ValueRef<'_>],
-    third: &str,
-    last: &[ValueRef<'_>],
-) -> Result<(), Error>
-    ensures same_reference { tx.new.conn.ghost_name ≡ tx.old.conn.ghost_name }
-    ensures ok { WorksInside result (RanThree first.now (bound given.now) second.now (bound more.now) third.now (bound last.now)) (state S.Store tx.old.conn.now) (state S.Store tx.new.conn.now) }
-    ensures err { HasCleanDisk (state S.Store tx.new.conn.now) → IsTrue (state S.Store tx.old.conn.now).in_transaction → OnErr result (KeepsCommit (state S.Store tx.old.conn.now) (state S.Store tx.new.conn.now)) }
-    ensures survives { Survives (state S.Store tx.old.conn.now) (state S.Store tx.new.conn.now) (λ _. ⊥) }
-{
-    Then(Then(One(first, given), One(second, more)), One(third, last)).run(tx)
 }
 
 /// Runs a statement, in a transaction of its own.

@@ -1,6 +1,6 @@
 use Rattle.std.proofs.Common.{◌≡◌, true, rules}
 use Rattle.definitions.specs.Hosts.{Hosts, has_row, after_store, Watched}
-use Rattle.hosts_statements.proofs.Commits.{commits_hosts}
+use Rattle.hosts_sql.proofs.Commits.{commits_hosts}
 use Rattle.hosts_sql.proofs.AsKept.{hosts_as_kept, watch_of_host}
 use Rattle.hosts_sql.proofs.calls.write_watch.Goals as goal
 

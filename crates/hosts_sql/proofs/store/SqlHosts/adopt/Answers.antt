@@ -1,10 +1,10 @@
 use Rattle.std.proofs.Common.{◌≡◌, sym, ap, subst, ◌∙◌, rules}
 use Rattle.sqlite.specs.Held.{state}
-use Rattle.hosts_statements.specs.Maps.{listed}
-use Rattle.hosts_statements.specs.Tables.{no_schema}
-use Rattle.hosts_statements.specs.Wrote.{IsWhole}
-use Rattle.hosts_statements.proofs.Create.{shown_fresh}
-use Rattle.hosts_statements.proofs.Listed.{none_listed}
+use Rattle.hosts_sql.specs.Maps.{listed}
+use Rattle.hosts_sql.specs.Tables.{no_schema}
+use Rattle.hosts_sql.specs.Wrote.{IsWhole}
+use Rattle.hosts_sql.proofs.Create.{shown_fresh}
+use Rattle.hosts_sql.proofs.Listed.{none_listed}
 use Rattle.hosts_sql.proofs.store.SqlHosts.adopt.Goals as goal
 
 pub invariant_of-result : goal.invariant_of-result

@@ -1,9 +1,15 @@
-use Rattle.std.proofs.Common.{w32, sym, ◌∙◌}
+use Rattle.std.proofs.Common.{rules, w32, sym, ◌∙◌}
 use Rattle.std.proofs.lemmas.Int.{to_z-of_z}
 use Rattle.definitions.specs.Hosts.{Monitor, after_store}
-use Rattle.hosts_statements.proofs.Commits.{commits_hosts}
+use Rattle.hosts_sql.proofs.Commits.{commits_hosts}
 use Rattle.hosts_sql.proofs.AsKept.{left_is}
 use Rattle.hosts_sql.proofs.store.SqlHostsHostStore.monitor.Goals as goal
+
+pub insert_host-requires-clause-new : goal.insert_host-requires-clause-new
+insert_host-requires-clause-new g c = search rules
+
+pub insert_host-requires-clause-own : goal.insert_host-requires-clause-own
+insert_host-requires-clause-own g c = search rules
 
 pub returns-clause-crash : goal.returns-clause-crash
 returns-clause-crash g c left may =

@@ -1,6 +1,6 @@
 use Rattle.std.proofs.Common.{sym, ◌∙◌}
 use Rattle.definitions.specs.Hosts.{Watched, after_store}
-use Rattle.hosts_statements.proofs.Commits.{commits_hosts}
+use Rattle.hosts_sql.proofs.Commits.{commits_hosts}
 use Rattle.hosts_sql.proofs.AsKept.{left_is}
 use Rattle.hosts_sql.proofs.store.SqlHostsHostStore.watch.Goals as goal
 

@@ -1,0 +1,10 @@
+use Rattle.std.proofs.Common.{◌≤◌, length, None, sym, subst, rules}
+use Rattle.hosts_sql.specs.Own.{is_watched, Rises}
+use Rattle.hosts_sql.proofs.Lists.{past_end}
+use Rattle.hosts_sql.proofs.OwnIds.{rising_own}
+use Rattle.hosts_sql.proofs.rowids.are_own_watches.Goals as goal
+
+pub returns : goal.returns
+returns c passed =
+    let end : length c.args.rows.now ≤ c.loop-at.at = search rules in
+    rising_own is_watched None c.args.rows.now (c.loop-at.invariant (subst (λ xs. Rises is_watched c.loop-at.last xs) (sym (past_end c.args.rows.now c.loop-at.at end)) tt))

@@ -1,0 +1,113 @@
+-- What a statement leaves of a connection.
+use Rattle.std.specs.Prelude.{◌≡◌, ℕ, pos, List, [], ◌∷◌, map, IsTrue}
+use Rattle.sqlite_value.specs.declared.value.Value.TheVariants.{Null, Int}
+use Rattle.sqlite_value.specs.Order.{Row, column}
+use Rattle.sqlite_value.specs.contracts.row.Row as row
+use Rattle.std.specs.Coded.{Coded-set, coded_list, →_prop, ×_prop}
+use Rattle.sqlite_schema.specs.contracts.schema.Schema.{the_row}
+use Rattle.sqlite_sql.specs.Term.{Term}
+use Rattle.sqlite_trees.specs.Tree.{Trees}
+use Rattle.sqlite_schema.specs.declared.schema.Table.{Table}
+use Rattle.sqlite_schema.specs.declared.schema.Schema.{Schema}
+use Rattle.sqlite.specs.State.{State, HasCleanDisk}
+use Rattle.definitions.specs.Hosts.{Hosts}
+use Rattle.hosts_sql.specs.Maps.{Rows, listed}
+use Rattle.sqlite.specs.Effect.{Database}
+use Rattle.hosts_sql.specs.Tables.{Place, Fresh, Upgraded, hosts_tree, host_schema, first_schema, no_schema, read_hosts_text, read_first_hosts_text}
+use Rattle.hosts_sql.specs.declared.tables.Version.{Version}
+use Rattle.hosts_sql.specs.declared.tables.Version.TheVariants.{First, Second}
+use Rattle.hosts_sql.specs.Own.{is_host, is_watched, AreOwn, AreOwn-prop}
+use Rattle.hosts_sql.specs.Shown.{number_at, upgraded_row, shown}
+
+-- the CHECKs of the first table
+abbrev pub checks_in : List Table → List Term
+checks_in [] = []
+checks_in (table ∷ tables) = table.checks
+
+-- four tables are those of a file that was upgraded
+abbrev pub place_of : List Table → Place
+place_of (own ∷ hosts ∷ watches ∷ second ∷ more) = Upgraded
+place_of more = Fresh
+
+abbrev pub number : Version → ℕ
+number First = 1
+number Second = 2
+
+-- the tables of a version, whatever the CHECK of the first is
+abbrev pub IsHostSchema : Version → Schema → Type 0
+IsHostSchema First schema = schema ≡ first_schema (checks_in schema.tables)
+IsHostSchema Second schema = schema ≡ host_schema (place_of schema.tables) (checks_in schema.tables)
+
+-- the rows of the hosts, as those of schema 2
+abbrev pub hosts_of : Version → Database → List Row
+hosts_of First d = map upgraded_row (d.trees 1)
+hosts_of Second d = d.trees (hosts_tree (place_of d.schema.tables))
+
+-- the text that reads them
+abbrev pub hosts_text : Version → List ℕ
+hosts_text First = read_first_hosts_text
+hosts_text Second = read_hosts_text
+
+-- the rows that the last commit left
+abbrev pub rows_in : State → Rows
+rows_in s = shown s.committed.trees
+
+-- and as a store shows them
+abbrev pub hosts_in : State → Hosts
+hosts_in s = listed (rows_in s)
+
+-- the row of the own state, whose id is its rowid
+abbrev pub own_row_at : ℕ → ℕ → Row
+own_row_at version own = Int (pos 1) ∷ Null ∷ Int (pos version) ∷ Int (pos own) ∷ []
+
+-- its id, version and state
+abbrev pub own_shown : Row → Row
+own_shown row = column row 0 ∷ column row 2 ∷ column row 3 ∷ []
+
+-- the table of the own state has its one row, of this version
+abbrev pub HasOwnRow : ℕ → List Row → Type 0
+HasOwnRow version rows = map own_shown rows ≡ (Int (pos 1) ∷ Int (pos version) ∷ Int (pos (number_at rows 3)) ∷ []) ∷ []
+
+-- the tables are there, the own state is, and the rows of the others are told apart by their rowids
+abbrev pub IsWhole : Version → Database → Type 0
+IsWhole version d = (IsHostSchema version d.schema × HasOwnRow (number version) (d.trees 0)) × (AreOwn is_host (hosts_of version d) × AreOwn is_watched (d.trees 3))
+
+IsHostSchema-prop : (version : Version) (schema : Schema) → IsProp (IsHostSchema version schema)
+IsHostSchema-prop First schema = Coded-set the_row.coded _ _
+IsHostSchema-prop Second schema = Coded-set the_row.coded _ _
+
+pub IsWhole-prop : (version : Version) (d : Database) → IsProp (IsWhole version d)
+IsWhole-prop version d = ×_prop (×_prop (IsHostSchema-prop version d.schema) (Coded-set (coded_list row.the_row.coded) _ _)) (×_prop (AreOwn-prop is_host (hosts_of version d)) (AreOwn-prop is_watched (d.trees 3)))
+
+-- the last commit holds the tables of this version
+abbrev pub HasTables : Version → State → Type 0
+HasTables version s = HasCleanDisk s → IsTrue s.is_open → IsWhole version s.committed
+
+pub HasTables-prop : (version : Version) (s : State) → IsProp (HasTables version s)
+HasTables-prop version s = →_prop (→_prop (IsWhole-prop version s.committed))
+
+-- a database with no object
+abbrev pub IsFresh : State → Type 0
+IsFresh s = HasCleanDisk s → IsTrue s.is_open → s.committed.schema ≡ no_schema
+
+pub IsFresh-prop : (s : State) → IsProp (IsFresh s)
+IsFresh-prop s = →_prop (→_prop (Coded-set the_row.coded _ _))
+
+-- the change is committed
+pub record WroteHosts (change : Hosts → Hosts) (old new : State) : Type 0 where
+  pub was_open : IsTrue old.is_open
+  pub is_open : IsTrue new.is_open
+  pub whole : IsWhole Second new.committed
+  pub rows : hosts_in new ≡ change (hosts_in old)
+
+-- what the call writes, if it gets that far
+abbrev pub MayWriteHosts : (Hosts → Hosts) → State → Trees → Type 0
+MayWriteHosts change old db = IsTrue old.is_open × (listed (shown db) ≡ change (hosts_in old))
+
+-- an open after a crash at this moment may find these rows, if no wrong answer of the disk was taken as true
+abbrev pub MayLeave : State → Hosts → Type 0
+MayLeave s left = HasCleanDisk s × (db : Trees) × s.may_leave db × (listed (shown db) ≡ left)
+
+-- the last commit shows these rows
+abbrev pub IsAsKept : State → Hosts → Type 0
+IsAsKept s hosts = HasCleanDisk s → IsTrue s.is_open → listed (rows_in s) ≡ hosts

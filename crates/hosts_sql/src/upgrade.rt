@@ -1,0 +1,31 @@
+//! The upgrade of a file of hosts from schema 1 to schema 2.
+ghost use Rattle.std.specs.Prelude.{◌≡◌, [], IsTrue, OnOk, OnErr};
+ghost use Rattle.sqlite.specs.State.{HasCleanDisk, KeepsCommit, Survives};
+ghost use Rattle.sqlite.specs.Held.{state};
+ghost use Rattle.hosts_sql.specs.Wrote.{HasTables, MayWriteHosts, WroteHosts};
+ghost use Rattle.hosts_sql.specs.declared.tables.Version.TheVariants.{First};
+
+use crate::making::{HOSTS, Make};
+use hosts_transactions::{One, Then, transact};
+use sqlite::{Alter, Connection, Error, params};
+
+/// Makes a file of schema 1 one of schema 2 and sets the own state, in one transaction: each host has its row and the
+/// full quota, and the table of schema 1 stays, with no row. After an error, and after a crash before the commit, the
+/// file is as it was.
+pub(crate) fn upgrade<S: Alter>(conn: &mut Connection<S>, own: u32) -> Result<(), Error>
+    requires { HasTables First (state S.Store conn.old) }
+    ensures ok { HasCleanDisk (state S.Store conn.new) → OnOk result (WroteHosts (λ h. record h { own = own }) (state S.Store conn.old) (state S.Store conn.new)) }
+    ensures emptied { HasCleanDisk (state S.Store conn.new) → OnOk result ((state S.Store conn.new).committed.trees 1 ≡ []) }
+    ensures err { HasCleanDisk (state S.Store conn.new) → OnErr result (KeepsCommit (state S.Store conn.old) (state S.Store conn.new)) }
+    ensures crash { Survives (state S.Store conn.old) (state S.Store conn.new) (MayWriteHosts (λ h. record h { own = own }) (state S.Store conn.old)) }
+{
+    let _schema = conn.schema();
+    let copy = One(
+        "INSERT INTO hosts2 (name, epoch, seen, quota) SELECT name, epoch, seen, 65536 FROM hosts",
+        &[],
+    );
+    let empty = One("DELETE FROM hosts", &[]);
+    let row = One("UPDATE own SET version = 2, state = ?1", params![own]);
+    let moves = Then(Then(copy, empty), row);
+    transact(conn, &Then(Make(HOSTS), moves))
+}
