@@ -97,7 +97,6 @@ impl Call {
         self.letter.message().is_granted_msg() && self.has_cookie(cookie) && self.sendings >= 1
     }
 
-    #[tactic(auto, using(nlm4_types::proofs::Eight::eight_bytes_written))]
     fn has_cookie(&self, cookie: &[u8]) -> bool
         ensures { result ≡ same_bytes (eight_bytes self.now.number) cookie.now }
     {

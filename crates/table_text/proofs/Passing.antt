@@ -4,6 +4,7 @@ use Rattle.std.proofs.lemmas.List.{append-nil, take_all}
 use Rattle.std.proofs.lemmas.Option.{get_or_from_slice_get, slice_get_within}
 use Rattle.std.specs.Prelude.{Result, Ok, Err, IsErr, slice_get}
 use Rattle.std.specs.List.{flat_map}
+use Rattle.std.specs.Io.KnownBytes.{Appends}
 use Rattle.std.proofs.KnownBytes.{Appends-nil, Appends-trans}
 use Rattle.hex.specs.Hex.{encode_with}
 use Rattle.written.specs.Written.{WroteFront, Wrote}
@@ -48,6 +49,14 @@ WroteAllBut-start a p = record { front = []; parts = sym (append-nil p); appends
 pub Passed-wrote : {E : Type 0} (a b : Option (List ℕ)) (r : Result (Unit {0}) E) (s bytes : List ℕ) → IsErr r → Passed a b r s bytes → Wrote a b r bytes
 Passed-wrote a b (Ok done) s bytes e w = absurd cc
 Passed-wrote a b (Err fault) s bytes e w = w
+
+-- they wait behind those that did
+pub WroteAllBut-behind : (a : Option (List ℕ)) (p x s : List ℕ) → s ≡ p ++ x → WroteAllBut a a s (p ++ x)
+WroteAllBut-behind a p x s e = record { front = []; parts = e; appends = Appends-nil a }
+
+-- those in front are written, and the others wait
+pub WroteAllBut-front : (a b : Option (List ℕ)) (p x s : List ℕ) → Appends a b p → s ≡ x → WroteAllBut a b s (p ++ x)
+WroteAllBut-front a b p x s w e = record { front = p; parts = ap (λ (t : List ℕ). p ++ t) e; appends = w }
 
 -- nothing waits
 pub Passed-whole : {E : Type 0} (a b : Option (List ℕ)) (r : Result (Unit {0}) E) (s bytes : List ℕ) → s ≡ [] → Wrote a b r bytes → Passed a b r s bytes

@@ -1,11 +1,31 @@
 use Rattle.std.proofs.Common.{◌≡◌, false, sym, ap, set, arith, ◌∙◌}
 use Rattle.std.proofs.lemmas.List.{length-set}
 use Rattle.definitions.specs.Outgoing.{Outgoing, once_more}
-use Rattle.definitions.proofs.Firsts.{same_at}
+use Rattle.definitions.proofs.Firsts.{first_within, first_is, same_at}
 use Rattle.definitions.specs.First.{IsFirstAt}
 use Rattle.out_calls.proofs.Order.{in_order-within, in_order-sent}
 use Rattle.out_calls.proofs.Sendings.{due, after_sending-ends, after_sending-waits}
 use Rattle.out_calls.proofs.calls.OutCalls.sent_at.Goals as goal
+
+pub index-requires : goal.index-requires
+index-requires c =
+    let within = first_within due c.args.self.now c.args.place c.requires in
+    let same = rw (← c.self.view_is) at within in
+    omega (arith, same, c.self.inside.calls.ok.0)
+
+pub take_out-requires : goal.take_out-requires
+take_out-requires c = first_within due c.args.self.now c.args.place c.requires
+
+pub index_mut-requires : goal.index_mut-requires
+index_mut-requires c =
+    let within = first_within due c.args.self.now c.args.place c.requires in
+    let same = rw (← c.self.view_is) at within in
+    omega (arith, same, c.self.inside.calls.ok.0)
+
+pub send-requires : goal.send-requires
+send-requires c =
+    let at = rw c.self.view_is at c.index_mut.ensures.value in
+    ap due (at ∙ first_is due c.args.self.now c.args.place c.index_mut.result.now c.requires) ∙ c.requires.passes
 
 pub returns-then-ends_when_sent : goal.returns-then-ends_when_sent
 returns-then-ends_when_sent c =
