@@ -1,11 +1,16 @@
 //! The program: its words, and how it ends.
 ghost use Rattle.std.specs.Prelude.{◌≡◌, ◌≤◌, IfOk, IfErr};
 
-use crate::serving::serve_config;
+use crate::serving::{read_peers, serve_sockets};
+use crate::stores::{no_hosts, stored_hosts};
 use crate::streams::{Told, serve_stream};
-use config::{Config, ConfigFault, ServeConfig, config};
+use config::{Config, ConfigFault, FilePath, ServeConfig, StreamConfig, config};
+use hosts_db::HostStore;
 use log::Log;
+use peers::Peers;
 use pipe_loops::Fault;
+use server::Runtime;
+use sqlite::{Alter, Connection};
 use std::fmt::Display;
 use std::io::Print;
 use std::net::{Net, TcpListener, TcpStream};
@@ -69,7 +74,7 @@ fn end<F: Display + Drop>(rt: &HostRuntime, ended: Result<(), F>) -> ExitCode
     }
 }
 
-// The server's end, and what its audit found.
+/// The server's end, and what its audit found.
 fn end_server<F: Display + Drop>(
     rt: &HostRuntime,
     asked: &ServeConfig,
@@ -85,6 +90,79 @@ fn end_server<F: Display + Drop>(
         },
         Ok(_) => ExitCode::SUCCESS,
         Err(fault) => end(rt, Err(fault)),
+    }
+}
+
+/// What is served, over hosts that a file stores.
+#[derive(Drop)]
+enum Work<'a> {
+    /// The stream on standard input.
+    Stream(Told, &'a StreamConfig),
+    /// Sockets, with the peers that a file names.
+    Sockets(&'a ServeConfig, Peers),
+}
+
+// Serves over the store, where it could be had.
+fn serve_over<S, R>(host: &HostRuntime, rt: &R, work: Work<'_>, store: Result<S, Fault>) -> ExitCode
+where
+    S: HostStore + Drop + Send,
+    R: Runtime,
+    ensures { result.status ≤ 1 }
+{
+    match work {
+        Work::Stream(told, asked) => end(host, serve_stream(host, told, asked, store)),
+        Work::Sockets(asked, peers) => {
+            end_server(
+                host,
+                asked,
+                serve_sockets(rt, host.alloc(), asked, peers, store),
+            )
+        }
+    }
+}
+
+// It is generic, so that the proof of a call sees no more of a database than its trait.
+fn serve_database<S, R>(
+    host: &HostRuntime,
+    rt: &R,
+    work: Work<'_>,
+    opened: Result<Connection<S>, sqlite::Error>,
+) -> ExitCode
+where
+    S: Alter + Drop + Send,
+    R: Runtime,
+    ensures { result.status ≤ 1 }
+{
+    serve_over(host, rt, work, stored_hosts(host.alloc(), opened))
+}
+
+/// Does the work with the hosts of the file, which is made where it isn't there. It opens for streams and sockets, since each
+/// function that has a database over a real file in hand is a dear proof.
+fn serve_file<R: Runtime>(host: &HostRuntime, rt: &R, work: Work<'_>, path: &FilePath) -> ExitCode
+    ensures { result.status ≤ 1 }
+{
+    serve_database(host, rt, work, Connection::open(host, path.as_str()))
+}
+
+fn run_stream<R: Runtime>(host: &HostRuntime, rt: &R, told: Told, asked: &StreamConfig) -> ExitCode
+    ensures { result.status ≤ 1 }
+{
+    match &asked.db {
+        None => end(
+            host,
+            serve_stream(host, told, asked, no_hosts(host.alloc())),
+        ),
+        Some(path) => serve_file(host, rt, Work::Stream(told, asked), path),
+    }
+}
+
+// The peers are read before the database is opened, so that none is made for a server that doesn't start.
+fn run_server<R: Runtime>(host: &HostRuntime, rt: &R, asked: &ServeConfig) -> ExitCode
+    ensures { result.status ≤ 1 }
+{
+    match read_peers(host, asked.peers.as_str()) {
+        Ok(peers) => serve_file(host, rt, Work::Sockets(asked, peers), &asked.db),
+        Err(fault) => end(host, Err(fault)),
     }
 }
 
@@ -107,9 +185,9 @@ where
         return refuse_for(host, "the words can't be read");
     };
     match config(host.alloc(), &words) {
-        Ok(Config::Pipe(asked)) => end(host, serve_stream(host, Told::Replies, &asked)),
-        Ok(Config::Table(asked)) => end(host, serve_stream(host, Told::Table, &asked)),
-        Ok(Config::Serve(asked)) => end_server(host, &asked, serve_config(host, rt, &asked)),
+        Ok(Config::Pipe(asked)) => run_stream(host, rt, Told::Replies, &asked),
+        Ok(Config::Table(asked)) => run_stream(host, rt, Told::Table, &asked),
+        Ok(Config::Serve(asked)) => run_server(host, rt, &asked),
         Err(fault) => refuse(host, &fault),
     }
 }

@@ -1,6 +1,5 @@
 //! A server on sockets.
 
-use crate::stores::stored_hosts;
 use callbacks::ShortBytes;
 use config::ServeConfig;
 use hosts_db::HostStore;
@@ -8,7 +7,6 @@ use jobs::Job;
 use peers::{Peers, PeersFault};
 use pipe_loops::Fault as StoreFault;
 use server::{Backing, CallSettings, Runtime, Settings, serve};
-use sqlite::{Alter, Connection};
 use std::alloc::Global;
 use std::fs;
 use std::net::SocketAddr;
@@ -47,7 +45,8 @@ impl Gate for Open {
     fn before(&self, _job: &Job) {}
 }
 
-fn read_peers(host: &HostRuntime, path: &str) -> Result<Peers, ServeFault> {
+/// The peers that a file names. Standard error says which line is wrong.
+pub(crate) fn read_peers(host: &HostRuntime, path: &str) -> Result<Peers, ServeFault> {
     let Ok(bytes) = fs::read(host, path) else {
         return Err(ServeFault::ReadFault);
     };
@@ -96,8 +95,9 @@ fn backing_of<S: HostStore + Drop>(
     }
 }
 
-// Serves over the store, where it could be had.
-fn serve_over<S, R>(
+/// Serves over the store, where it could be had, until a local program says `stop`: how many calls were taken, where that was
+/// kept.
+pub(crate) fn serve_sockets<S, R>(
     rt: &R,
     alloc: Global,
     asked: &ServeConfig,
@@ -118,30 +118,4 @@ where
         }
         Err(fault) => Err(fault),
     }
-}
-
-// It is generic, so that the proof of a call sees no more of a database than its trait.
-fn serve_database<S, R>(
-    rt: &R,
-    alloc: Global,
-    asked: &ServeConfig,
-    peers: Peers,
-    opened: Result<Connection<S>, sqlite::Error>,
-) -> Result<u64, ServeFault>
-where
-    S: Alter + Drop + Send,
-    R: Runtime,
-{
-    serve_over(rt, alloc, asked, peers, stored_hosts(alloc, opened))
-}
-
-/// Serves until a local program says `stop`: how many calls were taken, where that was kept.
-pub(crate) fn serve_config<R: Runtime>(
-    host: &HostRuntime,
-    rt: &R,
-    asked: &ServeConfig,
-) -> Result<u64, ServeFault> {
-    let peers = read_peers(host, asked.peers.as_str())?;
-    let opened = Connection::open(host, asked.db.as_str());
-    serve_database(rt, host.alloc(), asked, peers, opened)
 }

@@ -1,12 +1,10 @@
 //! The stream on standard input is served.
 
-use crate::stores::{no_hosts, stored_hosts};
 use callbacks::ShortBytes;
 use config::{Name, StreamConfig};
 use hosts_db::HostStore;
 use pipe_loops::{Fault, Server, pipe_loop, table_loop};
 use range_arena::ArenaTable;
-use sqlite::{Alter, Connection};
 use std::alloc::Global;
 use std::io::{self, BufWriter};
 
@@ -29,7 +27,8 @@ fn own_name(alloc: Global, name: &Name) -> Result<ShortBytes, Fault> {
     }
 }
 
-fn serve_over<S: HostStore + Drop>(
+/// Serves the stream on standard input over the store, where it could be had.
+pub(crate) fn serve_stream<S: HostStore + Drop>(
     rt: &HostRuntime,
     told: Told,
     asked: &StreamConfig,
@@ -52,27 +51,5 @@ fn serve_over<S: HostStore + Drop>(
     match told {
         Told::Replies => pipe_loop(alloc, server, &mut reader, &mut writer, MAX_READS),
         Told::Table => table_loop(alloc, server, &mut reader, &mut writer, MAX_READS),
-    }
-}
-
-// It is generic, so that the proof of a call sees no more of a database than its trait.
-fn serve_database<S: Alter + Drop>(
-    rt: &HostRuntime,
-    told: Told,
-    asked: &StreamConfig,
-    opened: Result<Connection<S>, sqlite::Error>,
-) -> Result<(), Fault> {
-    serve_over(rt, told, asked, stored_hosts(rt.alloc(), opened))
-}
-
-/// Serves the stream on standard input, with the hosts of the file, which is made where it isn't there, or none.
-pub(crate) fn serve_stream(
-    rt: &HostRuntime,
-    told: Told,
-    asked: &StreamConfig,
-) -> Result<(), Fault> {
-    match &asked.db {
-        None => serve_over(rt, told, asked, no_hosts(rt.alloc())),
-        Some(path) => serve_database(rt, told, asked, Connection::open(rt, path.as_str())),
     }
 }
