@@ -1,138 +1,6 @@
 //! Lines of local programs, beside the calls of clients: all share one table.
-use crate::servers::{Misplayed, PIECE, play, play_by};
+use crate::servers::{Misplayed, PIECE, Row, Way, play_by, play_rows};
 use std::alloc::{AllocError, Global};
-
-const LOCAL_LINES: &[&str] = &[
-    "begins",
-    "local |setlk p1 aa w 5 0| ok",
-    "local |setlk p1 aa r 7 1| ok",
-    "local |setlk p1 aa u 6 1| ok",
-    "local |getlk d1 AA r 0 0| held w 5 1 p1",
-    "local |getlk d1 aa w 6 2| held r 7 1 p1",
-    "local |getlk d1 aa r 8 1| held w 8 0 p1",
-    "local |setlk p1 aa w 9223372036854775807 2| fbig",
-    "local |setlk p01 aa w 0 1| bad",
-    "local |setlk d1 aa r 5 1| again",
-    "local |setlk d1 aa r 7 1| ok",
-    "local |setlk d1 bb w 0 0| ok",
-    "local |close d1 aa| ok",
-    "local |getlk d1 aa w 5 1| held w 5 1 p1",
-    "local |close p1 aa| ok",
-    "local |getlk d1 aa w 0 0| free",
-    "local |getlk p1 bb r 9 1| held w 0 0 d1",
-    "local |setlkw p1 bb w 9 1| wait",
-    "local |setlkw p1 bb w 9 1| wait",
-    "local |setlkw d1 bb u 0 8| ok",
-];
-
-#[test]
-fn local_lines(rt: HostRuntime) -> Result<(), Misplayed> {
-    play(rt.alloc(), LOCAL_LINES)
-}
-
-const LOCAL_LINES_AND_CALLS: &[&str] = &[
-    "begins",
-    "local |setlk p42 01020304 w 3 3| ok",
-    "49 test b 4 1 = held-by-process 42 3 3",
-    "local |getlk d7 01020304 w 0 0| held w 3 3 p42",
-    "local |setlk d7 01020304 r 5 1| again",
-    "local |close p42 01020304| ok",
-    "local |setlk d7 01020304 w 0 0| ok",
-    "50 test b 1 1 = held-by-description 7 0 0",
-    "local |setlk p42 01020304 x 0 1| bad",
-];
-
-#[test]
-fn local_lines_and_calls(rt: HostRuntime) -> Result<(), Misplayed> {
-    play(rt.alloc(), LOCAL_LINES_AND_CALLS)
-}
-
-/// An answer that lists has a line for each lock or host, and `end` behind them.
-const HOSTS_LINE: &[&str] = &[
-    "begins",
-    "local |table| end",
-    "local |hosts| end",
-    "150 lock a 0 10 = granted",
-    "local |hosts| 61 1 3 65536;end",
-    "local |table| 01020304 w 0 9 h61/7/41;end",
-    "local |hosts | bad",
-    "local |stop| ok",
-];
-
-#[test]
-fn hosts_line(rt: HostRuntime) -> Result<(), Misplayed> {
-    play(rt.alloc(), HOSTS_LINE)
-}
-
-/// In grace nothing is locked or asked about, but `close` acts.
-const LINES_IN_GRACE: &[&str] = &[
-    "restarts",
-    "local |setlk p1 01020304 w 0 1| grace",
-    "local |getlk p1 01020304 w 0 1| grace",
-    "local |setlk p1 01020304 w 9223372036854775807 2| fbig",
-    "local |close p1 01020304| ok",
-    "grace-over",
-    "local |getlk d1 01020304 w 0 0| free",
-    "local |setlk d1 01020304 r 3 3| ok",
-    "51 lock a 0 4 = denied",
-    "52 lock a 6 4 = granted",
-    "local |getlk d1 01020304 r 0 0| held w 6 4 h61/7/41",
-];
-
-#[test]
-fn lines_in_grace(rt: HostRuntime) -> Result<(), Misplayed> {
-    play(rt.alloc(), LINES_IN_GRACE)
-}
-
-/// Whatever is none of the protocol.
-const BAD_LINES: &[&str] = &[
-    "begins",
-    "local || bad",
-    "local |getlk p1 aa u 0 1| bad",
-    "local |getlk p1 aa r 0 1 | bad",
-    "local |setlk h61/7/41 aa w 0 1| bad",
-    "local |setlkw p1 aa w 0 1 | bad",
-    "local |getlk d1 aa w 0 0| free",
-];
-
-#[test]
-fn bad_lines(rt: HostRuntime) -> Result<(), Misplayed> {
-    play(rt.alloc(), BAD_LINES)
-}
-
-/// How many owners have a number after each line.
-const KNOWN_BY_LINES: &[&str] = &[
-    "begins",
-    "local |getlk p1 aa w 5 1| free",
-    "known 0",
-    "local |setlk p1 aa w 5 1| ok",
-    "known 1",
-    "local |setlk p2 aa w 5 1| again",
-    "known 1",
-    "local |setlk d1 aa r 7 1| ok",
-    "known 2",
-    "local |setlk p1 aa u 5 1| ok",
-    "known 1",
-    "local |setlk p1 bb w 0 1| ok",
-    "known 2",
-    "local |setlk p1 aa w 0 1| ok",
-    "known 2",
-    "local |close p1 aa| ok",
-    "known 2",
-    "local |close p1 bb| ok",
-    "known 1",
-    "local |close p9 aa| ok",
-    "known 1",
-    "local |close d1 bb| ok",
-    "known 1",
-    "local |close d1 aa| ok",
-    "known 0",
-];
-
-#[test]
-fn known_by_lines(rt: HostRuntime) -> Result<(), Misplayed> {
-    play(rt.alloc(), KNOWN_BY_LINES)
-}
 
 /// A LOCK of ten bytes by an owner whose host's name and own bytes are as long as can be: 1,024.
 const LONG_LOCK: &str =
@@ -168,4 +36,127 @@ fn play_long_owner(alloc: Global) -> Result<(), Misplayed> {
 #[test]
 fn longest_line(rt: HostRuntime) -> Result<(), Misplayed> {
     play_long_owner(rt.alloc())
+}
+
+/// Lines alone, and beside calls.
+const ROWS: &[Row] = &[
+    (
+        "local_lines",
+        &[
+            "begins",
+            "local |setlk p1 aa w 5 0| ok",
+            "local |setlk p1 aa r 7 1| ok",
+            "local |setlk p1 aa u 6 1| ok",
+            "local |getlk d1 AA r 0 0| held w 5 1 p1",
+            "local |getlk d1 aa w 6 2| held r 7 1 p1",
+            "local |getlk d1 aa r 8 1| held w 8 0 p1",
+            "local |setlk p1 aa w 9223372036854775807 2| fbig",
+            "local |setlk p01 aa w 0 1| bad",
+            "local |setlk d1 aa r 5 1| again",
+            "local |setlk d1 aa r 7 1| ok",
+            "local |setlk d1 bb w 0 0| ok",
+            "local |close d1 aa| ok",
+            "local |getlk d1 aa w 5 1| held w 5 1 p1",
+            "local |close p1 aa| ok",
+            "local |getlk d1 aa w 0 0| free",
+            "local |getlk p1 bb r 9 1| held w 0 0 d1",
+            "local |setlkw p1 bb w 9 1| wait",
+            "local |setlkw p1 bb w 9 1| wait",
+            "local |setlkw d1 bb u 0 8| ok",
+        ],
+    ),
+    (
+        "local_lines_and_calls",
+        &[
+            "begins",
+            "local |setlk p42 01020304 w 3 3| ok",
+            "49 test b 4 1 = held-by-process 42 3 3",
+            "local |getlk d7 01020304 w 0 0| held w 3 3 p42",
+            "local |setlk d7 01020304 r 5 1| again",
+            "local |close p42 01020304| ok",
+            "local |setlk d7 01020304 w 0 0| ok",
+            "50 test b 1 1 = held-by-description 7 0 0",
+            "local |setlk p42 01020304 x 0 1| bad",
+        ],
+    ),
+    // An answer that lists has a line for each lock or host, and `end` behind them.
+    (
+        "hosts_line",
+        &[
+            "begins",
+            "local |table| end",
+            "local |hosts| end",
+            "150 lock a 0 10 = granted",
+            "local |hosts| 61 1 3 65536;end",
+            "local |table| 01020304 w 0 9 h61/7/41;end",
+            "local |hosts | bad",
+            "local |stop| ok",
+        ],
+    ),
+    // In grace nothing is locked or asked about, but `close` acts.
+    (
+        "lines_in_grace",
+        &[
+            "restarts",
+            "local |setlk p1 01020304 w 0 1| grace",
+            "local |getlk p1 01020304 w 0 1| grace",
+            "local |setlk p1 01020304 w 9223372036854775807 2| fbig",
+            "local |close p1 01020304| ok",
+            "grace-over",
+            "local |getlk d1 01020304 w 0 0| free",
+            "local |setlk d1 01020304 r 3 3| ok",
+            "51 lock a 0 4 = denied",
+            "52 lock a 6 4 = granted",
+            "local |getlk d1 01020304 r 0 0| held w 6 4 h61/7/41",
+        ],
+    ),
+    // Whatever is none of the protocol.
+    (
+        "bad_lines",
+        &[
+            "begins",
+            "local || bad",
+            "local |getlk p1 aa u 0 1| bad",
+            "local |getlk p1 aa r 0 1 | bad",
+            "local |setlk h61/7/41 aa w 0 1| bad",
+            "local |setlkw p1 aa w 0 1 | bad",
+            "local |getlk d1 aa w 0 0| free",
+        ],
+    ),
+    // How many owners have a number after each line.
+    (
+        "known_by_lines",
+        &[
+            "begins",
+            "local |getlk p1 aa w 5 1| free",
+            "known 0",
+            "local |setlk p1 aa w 5 1| ok",
+            "known 1",
+            "local |setlk p2 aa w 5 1| again",
+            "known 1",
+            "local |setlk d1 aa r 7 1| ok",
+            "known 2",
+            "local |setlk p1 aa u 5 1| ok",
+            "known 1",
+            "local |setlk p1 bb w 0 1| ok",
+            "known 2",
+            "local |setlk p1 aa w 0 1| ok",
+            "known 2",
+            "local |close p1 aa| ok",
+            "known 2",
+            "local |close p1 bb| ok",
+            "known 1",
+            "local |close p9 aa| ok",
+            "known 1",
+            "local |close d1 bb| ok",
+            "known 1",
+            "local |close d1 aa| ok",
+            "known 0",
+        ],
+    ),
+];
+
+#[test]
+fn local_lines(rt: HostRuntime) -> Result<(), (&'static str, Misplayed)> {
+    play_rows(rt.alloc(), Way::Pieces, ROWS)
 }

@@ -24,6 +24,23 @@ pub(crate) enum Misplayed {
     Stream(usize),
 }
 
+/// A worked row: its name, and its script.
+pub(crate) type Row = (&'static str, &'static [&'static str]);
+
+/// A row of some streams, each of which is a script.
+pub(crate) type Streams = (&'static str, &'static [&'static [&'static str]]);
+
+/// How the rows of a table are played.
+#[derive(Clone, Copy)]
+pub(crate) enum Way {
+    /// A stream comes by 64 bytes.
+    Pieces,
+    /// It comes whole, and once more by five bytes.
+    Cut,
+    /// It comes by 64 bytes, to a server that knows as many hosts as a store has.
+    Full,
+}
+
 /// The bytes of a stream that come at once, where the test doesn't care.
 pub(crate) const PIECE: usize = 64;
 
@@ -121,14 +138,14 @@ pub(crate) fn play_by(alloc: Global, most: usize, lines: &[&str]) -> Result<(), 
     play_in_memory(alloc, 0, Some(Vec::new(alloc)), most, lines)
 }
 
-/// The same of a stream that comes whole, and of one that comes by five bytes.
-pub(crate) fn play_cut(alloc: Global, lines: &[&str]) -> Result<(), Misplayed> {
+// The same of a stream that comes whole, and of one that comes by five bytes.
+fn play_cut(alloc: Global, lines: &[&str]) -> Result<(), Misplayed> {
     play_by(alloc, 8_192, lines)?;
     play_by(alloc, 5, lines)
 }
 
-/// The same of each stream, after the grace period: whole, and byte by byte.
-pub(crate) fn play_each(alloc: Global, streams: &[&[&str]]) -> Result<(), Misplayed> {
+// The same of each stream, after the grace period: whole, and byte by byte.
+fn play_each(alloc: Global, streams: &[&[&str]]) -> Result<(), Misplayed> {
     for (place, lines) in streams.iter().enumerate() {
         if play_by(alloc, 8_192, lines).is_err() || play_by(alloc, 1, lines).is_err() {
             return Err(Misplayed::Stream(place));
@@ -165,8 +182,8 @@ fn put_hosts(alloc: Global, hosts: &mut Vec<HostRow>, names: &[u8]) -> Option<()
     Some(())
 }
 
-/// Of a server that knows as many hosts as a store has.
-pub(crate) fn play_with_all_hosts(alloc: Global, lines: &[&str]) -> Result<(), Misplayed> {
+// Of a server that knows as many hosts as a store has.
+fn play_with_all_hosts(alloc: Global, lines: &[&str]) -> Result<(), Misplayed> {
     play_in_memory(alloc, 0, all_hosts(alloc), PIECE, lines)
 }
 
@@ -185,4 +202,40 @@ fn put_all_hosts(alloc: Global, hosts: &mut Vec<HostRow>) -> Option<()> {
         hosts.push(HostRow::new(name, 1, 0, FULL_QUOTA)).ok()?;
     }
     Some(())
+}
+
+fn play_row(alloc: Global, way: Way, lines: &[&str]) -> Result<(), Misplayed> {
+    match way {
+        Way::Pieces => play(alloc, lines),
+        Way::Cut => play_cut(alloc, lines),
+        Way::Full => play_with_all_hosts(alloc, lines),
+    }
+}
+
+/// Plays each row with a server of its own. The error is the first that goes otherwise than it says.
+pub(crate) fn play_rows(
+    alloc: Global,
+    way: Way,
+    rows: &[Row],
+) -> Result<(), (&'static str, Misplayed)> {
+    for (name, lines) in rows {
+        if let Err(why) = play_row(alloc, way, lines) {
+            return Err((*name, why));
+        }
+    }
+    Ok(())
+}
+
+/// Plays the streams of each row, whole and byte by byte, each with a server of its own. The error is the first row of which
+/// one goes otherwise.
+pub(crate) fn play_streams(
+    alloc: Global,
+    rows: &[Streams],
+) -> Result<(), (&'static str, Misplayed)> {
+    for (name, streams) in rows {
+        if let Err(why) = play_each(alloc, streams) {
+            return Err((*name, why));
+        }
+    }
+    Ok(())
 }
