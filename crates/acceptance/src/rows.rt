@@ -1,5 +1,5 @@
 //! The rows of the lock manager, under their own names.
-use crate::servers::{Misplayed, Row, Way, play_rows};
+use crate::servers::{Misplayed, Row, Way, play, play_rows};
 
 pub(crate) const SHARE_CONFLICT: &[&str] = &[
     "begins",
@@ -109,47 +109,53 @@ const ROWS: &[Row] = &[
         ],
     ),
     ("share_conflict", SHARE_CONFLICT),
-    // The bytes 0 to 2 of the file 01020304 and each second byte behind them are 63 runs; 64 in each of 1,023 files more fill
-    // the table but for one. Only what adds no run is done then.
-    (
-        "table_full",
-        &[
-            "begins",
-            "40 lock a 0 3 = granted",
-            "locks 0x01020304 2 64",
-            "fills 1023",
-            "41 lock a 200000 1 = no-locks",
-            "42 unlock a 1 1 = no-locks",
-            "43 test b 1 1 = held a 0 3",
-            "44 unlock a 4 1 = granted",
-            "45 unlock a 1 1 = granted",
-            "46 test b 0 2 = held a 0 1",
-        ],
-    ),
-    // The same where the locks of others leave room for one run more.
-    (
-        "table_full_of_others",
-        &[
-            "begins",
-            "locks 2000 0 62",
-            "fills 1023",
-            "50 lock a 0 10 = granted",
-            "51 lock a 20 1 = no-locks",
-            "52 nm-lock b 20 1 = no-locks",
-            "53 unlock a 3 3 = no-locks",
-            "54 test b 0 0 = held a 0 10",
-            "55 unlock a 0 3 = granted",
-            "56 test b 0 0 = held a 3 7",
-            "57 unlock b 0 0 = granted",
-            "58 unlock a 0 0 = granted",
-            "59 lock b 20 1 = granted",
-        ],
-    ),
 ];
 
 #[test]
 fn rows(rt: HostRuntime) -> Result<(), (&'static str, Misplayed)> {
     play_rows(rt.alloc(), Way::Pieces, ROWS)
+}
+
+/// The bytes 0 to 2 of the file 01020304 and each second byte behind them are 63 runs; 64 in each of 1,023 files more fill
+/// the table but for one. Only what adds no run is done then.
+const TABLE_FULL: &[&str] = &[
+    "begins",
+    "40 lock a 0 3 = granted",
+    "locks 0x01020304 2 64",
+    "fills 1023",
+    "41 lock a 200000 1 = no-locks",
+    "42 unlock a 1 1 = no-locks",
+    "43 test b 1 1 = held a 0 3",
+    "44 unlock a 4 1 = granted",
+    "45 unlock a 1 1 = granted",
+    "46 test b 0 2 = held a 0 1",
+];
+
+#[test]
+fn table_full(rt: HostRuntime) -> Result<(), Misplayed> {
+    play(rt.alloc(), TABLE_FULL)
+}
+
+/// The same where the locks of others leave room for one run more.
+const TABLE_FULL_OF_OTHERS: &[&str] = &[
+    "begins",
+    "locks 2000 0 62",
+    "fills 1023",
+    "50 lock a 0 10 = granted",
+    "51 lock a 20 1 = no-locks",
+    "52 nm-lock b 20 1 = no-locks",
+    "53 unlock a 3 3 = no-locks",
+    "54 test b 0 0 = held a 0 10",
+    "55 unlock a 0 3 = granted",
+    "56 test b 0 0 = held a 3 7",
+    "57 unlock b 0 0 = granted",
+    "58 unlock a 0 0 = granted",
+    "59 lock b 20 1 = granted",
+];
+
+#[test]
+fn table_full_of_others(rt: HostRuntime) -> Result<(), Misplayed> {
+    play(rt.alloc(), TABLE_FULL_OF_OTHERS)
 }
 
 /// Of a server that knows as many hosts as a store has.
