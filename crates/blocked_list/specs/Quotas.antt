@@ -23,4 +23,5 @@ IsLimit quotas owner (Some l) = (host_of owner ≡ Some l.host.now) × (quotas l
 -- who isn't held back by a quota goes past none
 abbrev pub UnlimitedLaw : Type 0
 UnlimitedLaw =
-    (quotas : Quotas) (settings : List Setting) (s : Setting) → is_limited quotas s.owner ≡ false → refuses 65536 settings s ≡ false → exceeds quotas settings s ≡ false
+    (quotas : Quotas) (settings : List Setting) (s : Setting) → is_limited quotas s.owner ≡ false
+    → refuses 65536 settings s ≡ false → exceeds quotas settings s ≡ false

@@ -81,4 +81,6 @@ pub record Enters (old : Book) (event : Happening) (upshot : Upshot) (new : Book
 -- the call that is due first is sent, with its number, to whom it is for, and its record; or none is due, and nothing happens
 abbrev pub IsNext : Book → Option (ℕ × Dest × Bytes) → Book → Type 0
 IsNext old None new = (next_due old.journal.end.world.calls ≡ None) × (new ≡ old)
-IsNext old (Some (number, to, bytes)) new = (letter : Letter) × (dest_of to ≡ letter.to) × (bytes ≡ record_of (Sends number letter)) × Enters old SendsNext (comes_to Applied NotAsked (Sends number letter)) new
+IsNext old (Some (number, to, bytes)) new =
+    (letter : Letter) × (dest_of to ≡ letter.to) × (bytes ≡ record_of (Sends number letter))
+    × Enters old SendsNext (comes_to Applied NotAsked (Sends number letter)) new

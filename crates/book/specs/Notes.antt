@@ -78,5 +78,6 @@ pub record Steps (old : State) (event : Happening) (upshot : Upshot) (new : Stat
 -- what an event gives and leaves is fixed by what became of it and the store's answer: a record, an answer and a line have one reading each
 abbrev pub OneStep : Type 0
 OneStep =
-    (old new end : State) (event : Happening) (doing : Doing) (store : StoreAnswer) (given other : Given) → Steps old event (comes_to doing store given) new → Steps old event (comes_to doing store other) end
+    (old new end : State) (event : Happening) (doing : Doing) (store : StoreAnswer) (given other : Given)
+    → Steps old event (comes_to doing store given) new → Steps old event (comes_to doing store other) end
     → (given ≡ other) × (new ≡ end)

@@ -50,4 +50,5 @@ is_noted r notes = is_any (λ (n : Note). same_receipt (receipt_of n) r) notes
 -- what entered last is the newest entry
 abbrev pub NewestLaw : Type 0
 NewestLaw =
-    (old new : Book) (event : Happening) (upshot : Upshot) → Enters old event upshot new → newest new.journal.notes ≡ Some (record { number = next_of old.journal; event = event; upshot = upshot })
+    (old new : Book) (event : Happening) (upshot : Upshot) → Enters old event upshot new
+    → newest new.journal.notes ≡ Some (record { number = next_of old.journal; event = event; upshot = upshot })

@@ -37,5 +37,6 @@ call_record number (TestResult version r) = record_to number (lock_manager versi
 call_record number (LockResult version r) = record_to number (lock_manager version 12) (res.written r)
 call_record number (CancelResult version r) = record_to number (lock_manager version 13) (res.written r)
 call_record number (UnlockResult version r) = record_to number (lock_manager version 14) (res.written r)
-call_record number (Status m mon_name state bytes) = record_to number (watcher m) (status.written (record { mon_name = mon_name; state = state; private_bytes = bytes }))
+call_record number (Status m mon_name state bytes) =
+    record_to number (watcher m) (status.written (record { mon_name = mon_name; state = state; private_bytes = bytes }))
 call_record number (Notify name state) = record_to number status_monitor (stat_chge.written (record { mon_name = name; state = state }))

@@ -121,7 +121,8 @@ links_after (AsksLine l line) store links = links
 links_after (FallsSilent number) store links = links
 links_after GraceEnds store links = links
 
--- an event of the shared state, and what is told of it: a sending, an answer, a silence and the end of grace starve only where there is no segment for their entry
+-- an event of the shared state, and what is told of it: a sending, an answer, a silence and the end of grace starve only where
+-- there is no segment for their entry
 pub record Happens (tell : Outcome → StoreAnswer → Given → Outputs) (event : Happening) (old : Hub) (out : Outputs) (new : Hub) : Type 0 where
   pub given : Given
   pub step : Steps old.state event (upshot_of out given) new.state

@@ -46,10 +46,12 @@ pub record TellsStat (link : Link) (xid : ℕ) (stat : Stat) (out : Outputs) : T
   pub stat_is : stat_in outcome ≡ Some stat
   pub sent : out.sent ≡ reply_to link.number (Replies xid outcome)
 
--- a call that is done anew and has an early refusal is answered by it, as its version shows it: so in grace each that the phase turns away is answered DENIED_GRACE_PERIOD
+-- a call that is done anew and has an early refusal is answered by it, as its version shows it: so in grace each that the phase
+-- turns away is answered DENIED_GRACE_PERIOD
 abbrev pub RefusalIsTold : Type 0
 RefusalIsTold =
-    (place i : ℕ) (old new : Hub) (out : Outputs) (taken : Answers place i old out new) (xid : ℕ) (version : Version) (call : NlmCall) (stat : Stat) → IsCall taken xid (Nlm version call) → kept_of taken ≡ None
+    (place i : ℕ) (old new : Hub) (out : Outputs) (taken : Answers place i old out new) (xid : ℕ) (version : Version) (call : NlmCall) (stat : Stat)
+    → IsCall taken xid (Nlm version call) → kept_of taken ≡ None
     → view_of_outcome out.outcome ≡ Applied → early_refusal old.state.world call ≡ Some stat → TellsStat taken.link xid (shown_stat version stat) out
 
 -- the kept reply is sent again, the calls that went with it are due again, and the pair is now the newest
@@ -63,13 +65,16 @@ pub record IsTurnedBack (link : Link) (xid : ℕ) (old : Hub) (out : Outputs) (n
   pub sent : out.sent ≡ reply_to link.number (Replies xid SystemErr)
   pub state : new.state ≡ old.state
 
--- a call whose reply is kept is not done again: locks, waiters, shares, phase and hosts stay. It gets its reply again, unless memory or the places for its calls are wanting
+-- a call whose reply is kept is not done again: locks, waiters, shares, phase and hosts stay. It gets its reply again, unless
+-- memory or the places for its calls are wanting
 pub record AnswersRepeat (link : Link) (xid : ℕ) (k : KeptPair) (old : Hub) (out : Outputs) (new : Hub) : Type 0 where
   pub unapplied : IsUnapplied old.state.world new.state.world
   pub again : view_of_outcome out.outcome ≡ Applied → leb (length k.letters) (slots_free the_limits old.state.world) ≡ true → IsRepeated link k old out new
-  pub full : view_of_outcome out.outcome ≡ Applied → leb (length k.letters) (slots_free the_limits old.state.world) ≡ false → IsTurnedBack link k.xid old out new
+  pub full : view_of_outcome out.outcome ≡ Applied → leb (length k.letters) (slots_free the_limits old.state.world) ≡ false
+      → IsTurnedBack link k.xid old out new
   pub starved : view_of_outcome out.outcome ≡ Starved → IsTurnedBack link xid old out new
 
 abbrev pub KeptIsGivenAgain : Type 0
 KeptIsGivenAgain =
-    (place i : ℕ) (old new : Hub) (out : Outputs) (taken : Answers place i old out new) (xid : ℕ) (call : Call) (k : KeptPair) → IsCall taken xid call → kept_of taken ≡ Some k → AnswersRepeat taken.link xid k old out new
+    (place i : ℕ) (old new : Hub) (out : Outputs) (taken : Answers place i old out new) (xid : ℕ) (call : Call) (k : KeptPair)
+    → IsCall taken xid call → kept_of taken ≡ Some k → AnswersRepeat taken.link xid k old out new

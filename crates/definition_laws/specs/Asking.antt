@@ -21,7 +21,9 @@ UnaskedLaw =
 
 -- an event that starved leaves all as it was, but for the hosts where the store had answered yes
 pub record StarvedLaw : Type 0 where
-  pub hosts_alone : (limits : Limits) (s : State) (event : Event) (store : StoreAnswer) → (step limits s event Starved store).state ≡ with_world s (with_hosts s.world (step limits s event Starved store).state.world.hosts)
+  pub hosts_alone : (limits : Limits) (s : State) (event : Event) (store : StoreAnswer)
+      → (step limits s event Starved store).state
+      ≡ with_world s (with_hosts s.world (step limits s event Starved store).state.world.hosts)
   pub unless_agreed : (limits : Limits) (s : State) (event : Event) (store : StoreAnswer) → store ≢ Yes → (step limits s event Starved store).state ≡ s
 
 -- hosts change as the store call of the event says, where the store answered yes, and never else
@@ -32,9 +34,13 @@ hosts_after hosts _ _ = hosts
 -- so the rows that a store keeps stay those of the world, whatever is done, starved or refused
 abbrev pub StoreLaw : Type 0
 StoreLaw =
-    (limits : Limits) (s : State) (event : Event) (doing : Doing) (store : StoreAnswer) → fits limits s (record { event = event; doing = doing; store = store }) ≡ true → (step limits s event doing store).state.world.hosts ≡ hosts_after s.world.hosts (store_call limits s event) store
+    (limits : Limits) (s : State) (event : Event) (doing : Doing) (store : StoreAnswer)
+    → fits limits s (record { event = event; doing = doing; store = store }) ≡ true
+    → (step limits s event doing store).state.world.hosts ≡ hosts_after s.world.hosts (store_call limits s event) store
 
 -- and rows and watches stay in order, none twice
 abbrev pub HostRunLaw : Type 0
 HostRunLaw =
-    (limits : Limits) (name : Bytes) (hosts : Hosts) (done : List Done) → AreInOrder hosts → all_fit limits (opening_state name hosts) done ≡ true → AreInOrder (state_after limits (opening_state name hosts) done).world.hosts
+    (limits : Limits) (name : Bytes) (hosts : Hosts) (done : List Done) → AreInOrder hosts
+    → all_fit limits (opening_state name hosts) done ≡ true
+    → AreInOrder (state_after limits (opening_state name hosts) done).world.hosts

@@ -17,7 +17,9 @@ HasRow a t = stands t.says ≡ true → has_row t.world.hosts a.alock.caller_nam
 
 -- whatever the store answered
 abbrev pub MonitoredLaw : Type 0
-MonitoredLaw = (limits : Limits) (w : World) (version : Version) (a : LockArgs) (store : StoreAnswer) → HasRow a (ruled store (lock_answer limits w version a)) × HasRow a (ruled store (lock_msg_answer limits w version a))
+MonitoredLaw =
+    (limits : Limits) (w : World) (version : Version) (a : LockArgs) (store : StoreAnswer)
+    → HasRow a (ruled store (lock_answer limits w version a)) × HasRow a (ruled store (lock_msg_answer limits w version a))
 
 -- where a row is asked for and the store refuses it, the lock is answered DENIED_NOLOCKS and nothing has changed
 abbrev pub IsGivenUp : World → Ruling (Told Stat) → Type 0
@@ -25,4 +27,6 @@ IsGivenUp w r = (call : StoreCall) → r.asks ≡ Some call → r.refused ≡ re
 
 abbrev pub RefusedRowLaw : Type 0
 RefusedRowLaw =
-    (limits : Limits) (w : World) (version : Version) (a : LockArgs) → IsGivenUp w (lock_answer limits w version a) × IsGivenUp w (nm_lock_answer limits w version a) × IsGivenUp w (lock_msg_answer limits w version a)
+    (limits : Limits) (w : World) (version : Version) (a : LockArgs)
+    → IsGivenUp w (lock_answer limits w version a) × IsGivenUp w (nm_lock_answer limits w version a)
+    × IsGivenUp w (lock_msg_answer limits w version a)

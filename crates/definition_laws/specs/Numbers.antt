@@ -66,4 +66,6 @@ is_beginning _ _ = false
 -- so it is at every step: numbers rise by one, and due calls keep their order
 abbrev pub NumbersLaw : Type 0
 NumbersLaw =
-    (limits : Limits) (s : State) (event : Event) (doing : Doing) (store : StoreAnswer) → GoesOn s.world (step limits s event doing store).state.world ⊎ ((is_beginning event store ≡ true) × BeginsAnew (step limits s event doing store).state.world)
+    (limits : Limits) (s : State) (event : Event) (doing : Doing) (store : StoreAnswer)
+    → GoesOn s.world (step limits s event doing store).state.world
+    ⊎ ((is_beginning event store ≡ true) × BeginsAnew (step limits s event doing store).state.world)

@@ -21,14 +21,16 @@ eight_runs = record the_limits { runs = 8 }
 -- A holds 0 to 2 and the single bytes 4, 6, .., 14: 7 runs
 abbrev pub seven_behind : ℕ → List Event
 seven_behind xid =
-    LOCK (xid + 1) A w 0 3 ∷ LOCK (xid + 2) A w 4 1 ∷ LOCK (xid + 3) A w 6 1 ∷ LOCK (xid + 4) A w 8 1 ∷ LOCK (xid + 5) A w 10 1 ∷ LOCK (xid + 6) A w 12 1 ∷ LOCK (xid + 7) A w 14 1 ∷ []
+    LOCK (xid + 1) A w 0 3 ∷ LOCK (xid + 2) A w 4 1 ∷ LOCK (xid + 3) A w 6 1 ∷ LOCK (xid + 4) A w 8 1 ∷ LOCK (xid + 5) A w 10 1
+    ∷ LOCK (xid + 6) A w 12 1 ∷ LOCK (xid + 7) A w 14 1 ∷ []
 
 abbrev pub seven_set : List Event
 seven_set = seven_behind 0
 
 abbrev pub seven_granted : ℕ → List Given
 seven_granted xid =
-    stat (xid + 1) GRANTED ∷ stat (xid + 2) GRANTED ∷ stat (xid + 3) GRANTED ∷ stat (xid + 4) GRANTED ∷ stat (xid + 5) GRANTED ∷ stat (xid + 6) GRANTED ∷ stat (xid + 7) GRANTED ∷ []
+    stat (xid + 1) GRANTED ∷ stat (xid + 2) GRANTED ∷ stat (xid + 3) GRANTED ∷ stat (xid + 4) GRANTED ∷ stat (xid + 5) GRANTED
+    ∷ stat (xid + 6) GRANTED ∷ stat (xid + 7) GRANTED ∷ []
 
 abbrev pub table_full : List Event
 table_full = seven_set ++ LOCK 41 B w 200000 1 ∷ UNLOCK 42 A 1 1 ∷ TEST 43 B w 1 1 ∷ UNLOCK 44 A 4 1 ∷ UNLOCK 45 A 1 1 ∷ []
@@ -67,7 +69,10 @@ abbrev pub slots_full : List Event
 slots_full = four_waiters ++ LOCK+block 6 B w 0 5 ∷ TEST_MSG 7 B w 0 0 ∷ CANCEL 8 B w 0 1 ∷ LOCK_MSG+block 9 B w 0 9 ∷ Send ∷ []
 
 abbrev pub slots_full_gives : List Given
-slots_full_gives = four_blocked ++ stat 6 DENIED_NOLOCKS ∷ Replies 7 SystemErr ∷ stat 8 GRANTED ∷ told 9 NoResult ∷ Sends (number 1 1) (record { to = ToHost B.name; message = LockResult V4 (record { cookie = cookie_of 9; stat = DENIED_NOLOCKS }) }) ∷ []
+slots_full_gives =
+    four_blocked ++ stat 6 DENIED_NOLOCKS ∷ Replies 7 SystemErr ∷ stat 8 GRANTED ∷ told 9 NoResult
+    ∷ Sends (number 1 1) (record { to = ToHost B.name; message = LockResult V4 (record { cookie = cookie_of 9; stat = DENIED_NOLOCKS }) })
+    ∷ []
 
 abbrev pub send_all : List Event
 send_all = Send ∷ Send ∷ Send ∷ Send ∷ []
@@ -83,10 +88,13 @@ four_nothings = Nothing ∷ Nothing ∷ Nothing ∷ Nothing ∷ []
 
 abbrev pub silent_hosts : List Event
 silent_hosts =
-    four_waiters ++ UNLOCK 6 A 0 10 ∷ send_all ++ all_silent ++ send_all ++ all_silent ++ send_all ++ all_silent ++ send_all ++ TEST_MSG 7 B w 0 0 ∷ TEST 8 C w 0 0 ∷ []
+    four_waiters ++ UNLOCK 6 A 0 10 ∷ send_all ++ all_silent ++ send_all ++ all_silent ++ send_all ++ all_silent ++ send_all
+    ++ TEST_MSG 7 B w 0 0 ∷ TEST 8 C w 0 0 ∷ []
 
 abbrev pub silent_hosts_gives : List Given
-silent_hosts_gives = four_blocked ++ stat 6 GRANTED ∷ four_grants ++ four_nothings ++ four_grants ++ four_nothings ++ four_grants ++ four_nothings ++ four_nothings ++ told 7 NoResult ∷ held_by 8 B w 0 4 ∷ []
+silent_hosts_gives =
+    four_blocked ++ stat 6 GRANTED ∷ four_grants ++ four_nothings ++ four_grants ++ four_nothings ++ four_grants ++ four_nothings
+    ++ four_nothings ++ told 7 NoResult ∷ held_by 8 B w 0 4 ∷ []
 
 -- ---- shares
 
@@ -115,13 +123,17 @@ abbrev pub hosts_full : List Event
 hosts_full = LOCK 1 A r 0 1 ∷ LOCK 2 B r 0 1 ∷ LOCK 3 C r 0 1 ∷ LOCK 4 D r 0 1 ∷ NM_LOCK 5 D r 0 1 ∷ monitors 6 D 1 7 ∷ SM_NOTIFY 7 C.name (pos 5) ∷ []
 
 abbrev pub hosts_full_gives : List Given
-hosts_full_gives = stat 1 GRANTED ∷ stat 2 GRANTED ∷ stat 3 GRANTED ∷ stat 4 DENIED_NOLOCKS ∷ stat 5 GRANTED ∷ told 6 (MonitorResult STAT_FAIL (pos 1)) ∷ told 7 NoResult ∷ []
+hosts_full_gives =
+    stat 1 GRANTED ∷ stat 2 GRANTED ∷ stat 3 GRANTED ∷ stat 4 DENIED_NOLOCKS ∷ stat 5 GRANTED
+    ∷ told 6 (MonitorResult STAT_FAIL (pos 1)) ∷ told 7 NoResult ∷ []
 
 abbrev pub watches_full : List Event
 watches_full = LOCK 1 A r 0 1 ∷ monitors 2 A 1 7 ∷ monitors 3 A 2 7 ∷ monitors 4 A 3 7 ∷ monitors 5 A 1 8 ∷ []
 
 abbrev pub watches_full_gives : List Given
-watches_full_gives = stat 1 GRANTED ∷ told 2 (MonitorResult STAT_SUCC (pos 1)) ∷ told 3 (MonitorResult STAT_SUCC (pos 1)) ∷ told 4 (MonitorResult STAT_FAIL (pos 1)) ∷ told 5 (MonitorResult STAT_SUCC (pos 1)) ∷ []
+watches_full_gives =
+    stat 1 GRANTED ∷ told 2 (MonitorResult STAT_SUCC (pos 1)) ∷ told 3 (MonitorResult STAT_SUCC (pos 1))
+    ∷ told 4 (MonitorResult STAT_FAIL (pos 1)) ∷ told 5 (MonitorResult STAT_SUCC (pos 1)) ∷ []
 
 -- a message form with no slot for its _RES, and its repeat
 abbrev pub message_without_slot : List Event
@@ -138,30 +150,41 @@ abbrev pub stale_without_slot : List Event
 stale_without_slot = four_waiters ++ stale_message 6 ∷ CANCEL 7 B w 0 1 ∷ stale_message 8 ∷ Send ∷ []
 
 abbrev pub stale_without_slot_gives : List Given
-stale_without_slot_gives = four_blocked ++ Replies 6 SystemErr ∷ stat 7 GRANTED ∷ told 8 NoResult ∷ Sends (number 1 1) (record { to = ToHost B.name; message = LockResult V4 (record { cookie = cookie_of 8; stat = STALE_FH }) }) ∷ []
+stale_without_slot_gives =
+    four_blocked ++ Replies 6 SystemErr ∷ stat 7 GRANTED ∷ told 8 NoResult
+    ∷ Sends (number 1 1) (record { to = ToHost B.name; message = LockResult V4 (record { cookie = cookie_of 8; stat = STALE_FH }) })
+    ∷ []
 
 -- a repeat needs a slot where its reply came with a call, and none where it came alone
 abbrev pub two_slots : Limits
 two_slots = record the_limits { slots = 2 }
 
 abbrev pub repeat_without_slot : List Event
-repeat_without_slot = LOCK_MSG 7 A w 0 10 ∷ LOCK+block 8 B w 0 10 ∷ LOCK_MSG 7 A w 0 10 ∷ LOCK+block 8 B w 0 10 ∷ CANCEL 9 B w 0 10 ∷ LOCK_MSG 7 A w 0 10 ∷ Send ∷ Send ∷ []
+repeat_without_slot =
+    LOCK_MSG 7 A w 0 10 ∷ LOCK+block 8 B w 0 10 ∷ LOCK_MSG 7 A w 0 10 ∷ LOCK+block 8 B w 0 10 ∷ CANCEL 9 B w 0 10
+    ∷ LOCK_MSG 7 A w 0 10 ∷ Send ∷ Send ∷ []
 
 abbrev pub lock_res : ℕ → Given
 lock_res n = Sends (number 1 n) (record { to = ToHost A.name; message = LockResult V4 (record { cookie = cookie_of 7; stat = GRANTED }) })
 
 abbrev pub repeat_without_slot_gives : List Given
-repeat_without_slot_gives = told 7 NoResult ∷ stat 8 BLOCKED ∷ Replies 7 SystemErr ∷ stat 8 BLOCKED ∷ stat 9 GRANTED ∷ told 7 NoResult ∷ lock_res 1 ∷ lock_res 2 ∷ []
+repeat_without_slot_gives =
+    told 7 NoResult ∷ stat 8 BLOCKED ∷ Replies 7 SystemErr ∷ stat 8 BLOCKED ∷ stat 9 GRANTED ∷ told 7 NoResult ∷ lock_res 1
+    ∷ lock_res 2 ∷ []
 
 -- the order of the checks on a lock that would wait: an equal waiter, a cycle, a slot, and only then the row
 abbrev pub one_slot : Limits
 one_slot = record the_limits { slots = 1 }
 
 abbrev pub waits_in_order : List Event
-waits_in_order = NM_LOCK 1 B w 2 1 ∷ LOCK 2 A w 1 1 ∷ LOCK+block 3 A w 2 1 ∷ LOCK+block 4 A w 2 1 ∷ LOCK+block 5 B w 1 1 ∷ LOCK+block 6 C w 1 1 ∷ Local 1 HostList ∷ []
+waits_in_order =
+    NM_LOCK 1 B w 2 1 ∷ LOCK 2 A w 1 1 ∷ LOCK+block 3 A w 2 1 ∷ LOCK+block 4 A w 2 1 ∷ LOCK+block 5 B w 1 1 ∷ LOCK+block 6 C w 1 1
+    ∷ Local 1 HostList ∷ []
 
 abbrev pub waits_in_order_give : List Given
-waits_in_order_give = stat 1 GRANTED ∷ stat 2 GRANTED ∷ stat 3 BLOCKED ∷ stat 4 BLOCKED ∷ stat 5 DEADLCK ∷ stat 6 DENIED_NOLOCKS ∷ Says (LineHosts (host 0x61 1 3 ∷ [])) ∷ []
+waits_in_order_give =
+    stat 1 GRANTED ∷ stat 2 GRANTED ∷ stat 3 BLOCKED ∷ stat 4 BLOCKED ∷ stat 5 DEADLCK ∷ stat 6 DENIED_NOLOCKS
+    ∷ Says (LineHosts (host 0x61 1 3 ∷ [])) ∷ []
 
 -- and on one that is free: runs come before the row
 abbrev pub runs_before_row : List Event

@@ -37,7 +37,9 @@ grant_taken =
     ∷ []
 
 abbrev pub grant_taken_gives : List Given
-grant_taken_gives = passed_on_gives ++ Nothing ∷ grants 1 B w 0 10 ∷ Nothing ∷ grants 1 B w 0 10 ∷ Nothing ∷ Nothing ∷ Nothing ∷ Nothing ∷ held_by 4 B w 0 10 ∷ []
+grant_taken_gives =
+    passed_on_gives ++ Nothing ∷ grants 1 B w 0 10 ∷ Nothing ∷ grants 1 B w 0 10 ∷ Nothing ∷ Nothing ∷ Nothing ∷ Nothing
+    ∷ held_by 4 B w 0 10 ∷ []
 
 -- any other answer ends the call, and the lock stays
 abbrev pub grant_turned : List Event
@@ -72,7 +74,9 @@ abbrev pub blocked_res : ℕ → ℕ → Given
 blocked_res n xid = Sends (number 1 n) (record { to = ToHost B.name; message = LockResult V4 (record { cookie = cookie_of xid; stat = BLOCKED }) })
 
 abbrev pub message_turned_gives : List Given
-message_turned_gives = stat 1 GRANTED ∷ told 2 NoResult ∷ blocked_res 1 2 ∷ stat 3 GRANTED ∷ granted_msg 2 ∷ Nothing ∷ Nothing ∷ granted_msg 2 ∷ Nothing ∷ Nothing ∷ Nothing ∷ []
+message_turned_gives =
+    stat 1 GRANTED ∷ told 2 NoResult ∷ blocked_res 1 2 ∷ stat 3 GRANTED ∷ granted_msg 2 ∷ Nothing ∷ Nothing ∷ granted_msg 2
+    ∷ Nothing ∷ Nothing ∷ Nothing ∷ []
 
 -- the number's 8 bytes are the cookie
 abbrev pub GrantCookie : Type 0
@@ -99,17 +103,22 @@ unlock_refused =
     ∷ []
 
 abbrev pub unlock_refused_gives : List Given
-unlock_refused_gives = stat 1 GRANTED ∷ stat 2 GRANTED ∷ stat 3 GRANTED ∷ stat 4 BLOCKED ∷ stat 5 GRANTED ∷ stat 6 GRANTED ∷ stat 7 GRANTED ∷ grants 1 B w 3 4 ∷ Nothing ∷ Nothing ∷ Nothing ∷ held_by 8 B w 0 10 ∷ []
+unlock_refused_gives =
+    stat 1 GRANTED ∷ stat 2 GRANTED ∷ stat 3 GRANTED ∷ stat 4 BLOCKED ∷ stat 5 GRANTED ∷ stat 6 GRANTED ∷ stat 7 GRANTED
+    ∷ grants 1 B w 3 4 ∷ Nothing ∷ Nothing ∷ Nothing ∷ held_by 8 B w 0 10 ∷ []
 
 -- a store that refuses the epoch: the row stays, and the notice ends all the same
 abbrev pub after_refusal : World
-after_refusal = (after the_limits (left_by the_limits (opening_state server two_hosts) (Restart ∷ Send ∷ [])) (refused (Answer (AcceptedSuccess 1 None)))).state.world
+after_refusal =
+    (after the_limits (left_by the_limits (opening_state server two_hosts) (Restart ∷ Send ∷ [])) (refused (Answer (AcceptedSuccess 1 None)))).state.world
 
 abbrev pub EpochRefusedRows : Type 0
 EpochRefusedRows = after_refusal.hosts.rows ≡ two_hosts.rows
 
 abbrev pub EpochRefusedEnds : Type 0
-EpochRefusedEnds = (left_by the_limits (record { world = after_refusal; kept = [] }) (Send ∷ Silent (number 3 1) ∷ [])).world.calls ≡ (left_by the_limits (record { world = after_refusal; kept = [] }) (Send ∷ [])).world.calls
+EpochRefusedEnds =
+    (left_by the_limits (record { world = after_refusal; kept = [] }) (Send ∷ Silent (number 3 1) ∷ [])).world.calls
+    ≡ (left_by the_limits (record { world = after_refusal; kept = [] }) (Send ∷ [])).world.calls
 
 -- ---- the order of calls that one event makes due
 
@@ -121,14 +130,20 @@ abbrev pub result_first : List Event
 result_first = LOCK 1 A w 0 10 ∷ LOCK+block 2 B w 0 10 ∷ UNLOCK_MSG 3 A 0 10 ∷ Send ∷ Send ∷ Send ∷ []
 
 abbrev pub result_first_gives : List Given
-result_first_gives = stat 1 GRANTED ∷ stat 2 BLOCKED ∷ told 3 NoResult ∷ Sends (number 1 1) (record { to = ToHost A.name; message = UnlockResult V4 (record { cookie = cookie_of 3; stat = GRANTED }) }) ∷ grants 2 B w 0 10 ∷ Nothing ∷ []
+result_first_gives =
+    stat 1 GRANTED ∷ stat 2 BLOCKED ∷ told 3 NoResult
+    ∷ Sends (number 1 1) (record { to = ToHost A.name; message = UnlockResult V4 (record { cookie = cookie_of 3; stat = GRANTED }) })
+    ∷ grants 2 B w 0 10 ∷ Nothing ∷ []
 
 -- and so do the status calls of a notice
 abbrev pub status_first : List Event
 status_first = monitor_from the_peer 1 ∷ LOCK 2 A w 0 10 ∷ LOCK+block 3 B w 0 10 ∷ SM_NOTIFY 900 A.name (pos 5) ∷ Send ∷ Send ∷ Send ∷ []
 
 abbrev pub status_first_gives : List Given
-status_first_gives = told 1 (MonitorResult STAT_SUCC (pos 1)) ∷ stat 2 GRANTED ∷ stat 3 BLOCKED ∷ told 900 NoResult ∷ Sends (number 1 1) (record { to = ToHost server; message = Status watcher A.name (pos 5) sixteen }) ∷ grants 2 B w 0 10 ∷ Nothing ∷ []
+status_first_gives =
+    told 1 (MonitorResult STAT_SUCC (pos 1)) ∷ stat 2 GRANTED ∷ stat 3 BLOCKED ∷ told 900 NoResult
+    ∷ Sends (number 1 1) (record { to = ToHost server; message = Status watcher A.name (pos 5) sixteen }) ∷ grants 2 B w 0 10
+    ∷ Nothing ∷ []
 
 -- ---- watches that go, and peers that aren't local
 
@@ -147,4 +162,8 @@ unmonitored =
     ∷ []
 
 abbrev pub unmonitored_gives : List Given
-unmonitored_gives = told 1 (MonitorResult STAT_SUCC (pos 1)) ∷ told 2 (MonitorResult STAT_SUCC (pos 1)) ∷ told 3 (MonitorResult STAT_SUCC (pos 1)) ∷ told 4 (StateResult (pos 1)) ∷ told 5 NoResult ∷ told 6 (StateResult (pos 1)) ∷ told 7 NoResult ∷ told 8 NoResult ∷ Sends (number 1 1) (record { to = ToHost A.name; message = Status (numbered_watcher 2) A.name (pos 5) (8 ∷ []) }) ∷ Nothing ∷ []
+unmonitored_gives =
+    told 1 (MonitorResult STAT_SUCC (pos 1)) ∷ told 2 (MonitorResult STAT_SUCC (pos 1)) ∷ told 3 (MonitorResult STAT_SUCC (pos 1))
+    ∷ told 4 (StateResult (pos 1)) ∷ told 5 NoResult ∷ told 6 (StateResult (pos 1)) ∷ told 7 NoResult ∷ told 8 NoResult
+    ∷ Sends (number 1 1) (record { to = ToHost A.name; message = Status (numbered_watcher 2) A.name (pos 5) (8 ∷ []) }) ∷ Nothing
+    ∷ []

@@ -77,7 +77,9 @@ abbrev pub late_reclaims : List Event
 late_reclaims = LOCK+reclaim 1 A w 0 1 ∷ NM_LOCK+reclaim 2 A w 0 1 ∷ SHARE+reclaim 3 A ∷ LOCK_MSG+reclaim 4 A w 0 1 ∷ Send ∷ UNSHARE+reclaim 5 A ∷ []
 
 abbrev pub late_reclaims_give : List Given
-late_reclaims_give = stat 1 DENIED_GRACE_PERIOD ∷ stat 2 DENIED_GRACE_PERIOD ∷ share_stat 3 DENIED_GRACE_PERIOD ∷ told 4 NoResult ∷ lock_res 1 4 ∷ share_stat 5 GRANTED ∷ []
+late_reclaims_give =
+    stat 1 DENIED_GRACE_PERIOD ∷ stat 2 DENIED_GRACE_PERIOD ∷ share_stat 3 DENIED_GRACE_PERIOD ∷ told 4 NoResult ∷ lock_res 1 4
+    ∷ share_stat 5 GRANTED ∷ []
 
 -- a kept reply stays what it was, also past the end of grace
 abbrev pub kept_past_grace : List Event

@@ -49,7 +49,9 @@ restart_gives = Nothing ∷ notify_call 1 0x61 ∷ notify_call 2 0x62 ∷ Nothin
 
 -- an answer of SUCCESS to the notice stores the epoch
 abbrev pub NoticeAnswered : Type 0
-NoticeAnswered = (left_by the_limits (opening_state server two_hosts) (Restart ∷ Send ∷ Answer (AcceptedSuccess 1 None) ∷ [])).world.hosts.rows ≡ host 0x61 3 3 ∷ host 0x62 1 3 ∷ []
+NoticeAnswered =
+    (left_by the_limits (opening_state server two_hosts) (Restart ∷ Send ∷ Answer (AcceptedSuccess 1 None) ∷ [])).world.hosts.rows
+    ≡ host 0x61 3 3 ∷ host 0x62 1 3 ∷ []
 
 abbrev pub StateWraps : Type 0
 StateWraps = (left_by the_limits (opening_state server (record two_hosts { own = 2147483647 })) (Restart ∷ [])).world.hosts.own ≡ 1
@@ -79,7 +81,11 @@ monitor_and_simulated_crash =
     ∷ []
 
 abbrev pub monitor_and_simulated_crash_gives : List Given
-monitor_and_simulated_crash_gives = told 130 (MonitorResult STAT_FAIL (pos 1)) ∷ told 131 (MonitorResult STAT_SUCC (pos 1)) ∷ told 900 NoResult ∷ Sends (number 1 1) (record { to = ToHost server; message = Status watcher A.name (pos 5) sixteen }) ∷ told 901 (StateResult (pos 1)) ∷ told 902 NoResult ∷ Nothing ∷ told 903 NoResult ∷ told 904 (MonitorResult STAT_SUCC (pos 3)) ∷ notify_call 1 0x61 ∷ stat 132 DENIED_GRACE_PERIOD ∷ []
+monitor_and_simulated_crash_gives =
+    told 130 (MonitorResult STAT_FAIL (pos 1)) ∷ told 131 (MonitorResult STAT_SUCC (pos 1)) ∷ told 900 NoResult
+    ∷ Sends (number 1 1) (record { to = ToHost server; message = Status watcher A.name (pos 5) sixteen })
+    ∷ told 901 (StateResult (pos 1)) ∷ told 902 NoResult ∷ Nothing ∷ told 903 NoResult
+    ∷ told 904 (MonitorResult STAT_SUCC (pos 3)) ∷ notify_call 1 0x61 ∷ stat 132 DENIED_GRACE_PERIOD ∷ []
 
 abbrev pub stat_call : List Event
 stat_call = call_from the_peer 12 0 (Nsm (SmStat A.name)) ∷ []
@@ -91,7 +97,9 @@ abbrev pub rows_of_waiters : List Event
 rows_of_waiters = LOCK 133 A w 0 1 ∷ NM_LOCK+block 134 B w 0 1 ∷ Local 1 HostList ∷ LOCK+block 135 B w 0 1 ∷ Local 1 HostList ∷ []
 
 abbrev pub rows_of_waiters_gives : List Given
-rows_of_waiters_gives = stat 133 GRANTED ∷ stat 134 BLOCKED ∷ Says (LineHosts (host 0x61 1 3 ∷ [])) ∷ stat 135 BLOCKED ∷ Says (LineHosts (host 0x61 1 3 ∷ host 0x62 1 3 ∷ [])) ∷ []
+rows_of_waiters_gives =
+    stat 133 GRANTED ∷ stat 134 BLOCKED ∷ Says (LineHosts (host 0x61 1 3 ∷ [])) ∷ stat 135 BLOCKED
+    ∷ Says (LineHosts (host 0x61 1 3 ∷ host 0x62 1 3 ∷ [])) ∷ []
 
 -- a lock that starved leaves the world as it was, but for the row, where the store had answered
 abbrev pub StarvedEarly : Type 0

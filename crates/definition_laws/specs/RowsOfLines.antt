@@ -28,4 +28,6 @@ abbrev pub hosts_line : List Event
 hosts_line = LOCK 150 A w 0 10 ∷ Local 1 HostList ∷ Local 1 Table ∷ []
 
 abbrev pub hosts_line_gives : List Given
-hosts_line_gives = stat 150 GRANTED ∷ Says (LineHosts (host 0x61 1 3 ∷ [])) ∷ Says (LineTable (record { file = the_file; owner = Remote A; first = 0; last = 9; mode = w } ∷ [])) ∷ []
+hosts_line_gives =
+    stat 150 GRANTED ∷ Says (LineHosts (host 0x61 1 3 ∷ []))
+    ∷ Says (LineTable (record { file = the_file; owner = Remote A; first = 0; last = 9; mode = w } ∷ [])) ∷ []

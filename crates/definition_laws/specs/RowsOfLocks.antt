@@ -28,7 +28,9 @@ refused_headers =
     ∷ []
 
 abbrev pub refused_headers_gives : List Given
-refused_headers_gives = Nothing ∷ Replies 1 (Refuses RpcMismatch) ∷ Replies 1 (Refuses BadCredential) ∷ Replies 1 (Refuses ProgUnavail) ∷ Replies 1 (Refuses (ProgMismatch 1 4)) ∷ Replies 1 (Refuses ProcUnavail) ∷ Replies 2 (Refuses GarbageArgs) ∷ []
+refused_headers_gives =
+    Nothing ∷ Replies 1 (Refuses RpcMismatch) ∷ Replies 1 (Refuses BadCredential) ∷ Replies 1 (Refuses ProgUnavail)
+    ∷ Replies 1 (Refuses (ProgMismatch 1 4)) ∷ Replies 1 (Refuses ProcUnavail) ∷ Replies 2 (Refuses GarbageArgs) ∷ []
 
 abbrev pub RefusedChangeNothing : Type 0
 RefusedChangeNothing = left (LOCK 2 A w 0 10 ∷ refused_headers) ≡ left (LOCK 2 A w 0 10 ∷ [])
@@ -37,10 +39,15 @@ abbrev pub test_after_lock : List Event
 test_after_lock = LOCK 2 A w 0 10 ∷ TEST 3 B w 0 0 ∷ UNLOCK 4 A 3 3 ∷ TEST 5 B w 0 0 ∷ Local 1 Table ∷ []
 
 abbrev pub test_after_lock_gives : List Given
-test_after_lock_gives = stat 2 GRANTED ∷ held_by 3 A w 0 10 ∷ stat 4 GRANTED ∷ held_by 5 A w 0 3 ∷ Says (LineTable (record { file = the_file; owner = Remote A; first = 0; last = 2; mode = w } ∷ record { file = the_file; owner = Remote A; first = 6; last = 9; mode = w } ∷ [])) ∷ []
+test_after_lock_gives =
+    stat 2 GRANTED ∷ held_by 3 A w 0 10 ∷ stat 4 GRANTED ∷ held_by 5 A w 0 3
+    ∷ Says (LineTable (record { file = the_file; owner = Remote A; first = 0; last = 2; mode = w } ∷ record { file = the_file; owner = Remote A; first = 6; last = 9; mode = w } ∷ []))
+    ∷ []
 
 abbrev pub long_handle : List ℕ
-long_handle = the_file ++ the_file ++ the_file ++ the_file ++ the_file ++ the_file ++ the_file ++ the_file ++ the_file ++ the_file ++ the_file ++ the_file ++ the_file ++ the_file ++ the_file ++ the_file ++ 5 ∷ []
+long_handle =
+    the_file ++ the_file ++ the_file ++ the_file ++ the_file ++ the_file ++ the_file ++ the_file ++ the_file ++ the_file
+    ++ the_file ++ the_file ++ the_file ++ the_file ++ the_file ++ the_file ++ 5 ∷ []
 
 abbrev pub ends_of_file : List Event
 ends_of_file =
@@ -84,7 +91,9 @@ local_lines_and_calls =
     ∷ []
 
 abbrev pub local_lines_and_calls_gives : List Given
-local_lines_and_calls_gives = Says LineOk ∷ held 49 true (pos 42) [] 3 3 ∷ Says (LineHeld w 3 3 (p 42)) ∷ Says LineAgain ∷ Says LineOk ∷ Says LineOk ∷ held 50 true (negsuc 0) (0 ∷ 0 ∷ 0 ∷ 0 ∷ 0 ∷ 0 ∷ 0 ∷ 7 ∷ []) 0 0 ∷ Says LineBad ∷ []
+local_lines_and_calls_gives =
+    Says LineOk ∷ held 49 true (pos 42) [] 3 3 ∷ Says (LineHeld w 3 3 (p 42)) ∷ Says LineAgain ∷ Says LineOk ∷ Says LineOk
+    ∷ held 50 true (negsuc 0) (0 ∷ 0 ∷ 0 ∷ 0 ∷ 0 ∷ 0 ∷ 0 ∷ 7 ∷ []) 0 0 ∷ Says LineBad ∷ []
 
 abbrev pub local_lines : List Event
 local_lines =
@@ -103,7 +112,10 @@ local_lines =
     ∷ []
 
 abbrev pub local_lines_gives : List Given
-local_lines_gives = Says LineOk ∷ Says LineOk ∷ Says LineOk ∷ Says (LineHeld w 5 1 (p 1)) ∷ Says (LineHeld r 7 1 (p 1)) ∷ Says (LineHeld w 8 0 (p 1)) ∷ Says LineFbig ∷ Says LineBad ∷ Says LineOk ∷ Says (LineHeld w 5 1 (p 1)) ∷ Says LineOk ∷ Says LineFree ∷ []
+local_lines_gives =
+    Says LineOk ∷ Says LineOk ∷ Says LineOk ∷ Says (LineHeld w 5 1 (p 1)) ∷ Says (LineHeld r 7 1 (p 1))
+    ∷ Says (LineHeld w 8 0 (p 1)) ∷ Says LineFbig ∷ Says LineBad ∷ Says LineOk ∷ Says (LineHeld w 5 1 (p 1)) ∷ Says LineOk
+    ∷ Says LineFree ∷ []
 
 abbrev pub free_all : List Event
 free_all = LOCK 100 A w 0 10 ∷ SHARE 101 A reading reading ∷ FREE_ALL 102 A.name ∷ TEST 103 B w 0 0 ∷ SHARE 104 B both both ∷ []
@@ -161,7 +173,9 @@ abbrev pub negative_svid : Caller
 negative_svid = record B { svid = negsuc 0 }
 
 abbrev pub first_holder : List Event
-first_holder = Local 1 (SetLock (Some r) (lock_line (p 1) 0 1)) ∷ LOCK 2 B r 0 1 ∷ TEST 3 C w 0 0 ∷ LOCK 4 negative_svid r 0 5 ∷ TEST 5 C w 0 0 ∷ TEST 6 C w 1 0 ∷ []
+first_holder =
+    Local 1 (SetLock (Some r) (lock_line (p 1) 0 1)) ∷ LOCK 2 B r 0 1 ∷ TEST 3 C w 0 0 ∷ LOCK 4 negative_svid r 0 5
+    ∷ TEST 5 C w 0 0 ∷ TEST 6 C w 1 0 ∷ []
 
 abbrev pub first_holder_gives : List Given
 first_holder_gives = Says LineOk ∷ stat 2 GRANTED ∷ held_by 3 B r 0 1 ∷ stat 4 GRANTED ∷ held_by 5 negative_svid r 0 5 ∷ held_by 6 negative_svid r 0 5 ∷ []

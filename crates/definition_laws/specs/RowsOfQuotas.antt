@@ -57,17 +57,23 @@ quota_of_runs_gives =
 
 -- runs on all files and of all owners of the host count together, and what is there beyond a lowered quota stays
 abbrev pub lowered : List Event
-lowered = LOCK 1 A w 0 1 ∷ LOCK 2 A w 2 1 ∷ LOCK 3 A w 4 1 ∷ quota A.name 2 ∷ LOCK 4 A w 6 1 ∷ LOCK 5 A w 3 1 ∷ LOCK 6 A w 6 1 ∷ UNLOCK 7 A 0 5 ∷ LOCK 8 A w 6 1 ∷ []
+lowered =
+    LOCK 1 A w 0 1 ∷ LOCK 2 A w 2 1 ∷ LOCK 3 A w 4 1 ∷ quota A.name 2 ∷ LOCK 4 A w 6 1 ∷ LOCK 5 A w 3 1 ∷ LOCK 6 A w 6 1
+    ∷ UNLOCK 7 A 0 5 ∷ LOCK 8 A w 6 1 ∷ []
 
 abbrev pub lowered_gives : List Given
-lowered_gives = stat 1 GRANTED ∷ stat 2 GRANTED ∷ stat 3 GRANTED ∷ Says LineOk ∷ stat 4 DENIED_NOLOCKS ∷ stat 5 GRANTED ∷ stat 6 DENIED_NOLOCKS ∷ stat 7 GRANTED ∷ stat 8 GRANTED ∷ []
+lowered_gives =
+    stat 1 GRANTED ∷ stat 2 GRANTED ∷ stat 3 GRANTED ∷ Says LineOk ∷ stat 4 DENIED_NOLOCKS ∷ stat 5 GRANTED
+    ∷ stat 6 DENIED_NOLOCKS ∷ stat 7 GRANTED ∷ stat 8 GRANTED ∷ []
 
 -- one who waits is granted once another lock of its host has gone, on whatever file, and not before
 abbrev pub freed_by_own : List Event
 freed_by_own = LOCK 1 A w 0 1 ∷ LOCK 2 B w 10 1 ∷ LOCK+block 3 B w 0 1 ∷ quota B.name 1 ∷ UNLOCK 4 A 0 1 ∷ Send ∷ LOCK 5 C w 5 1 ∷ UNLOCK 6 B 10 1 ∷ Send ∷ []
 
 abbrev pub freed_by_own_gives : List Given
-freed_by_own_gives = stat 1 GRANTED ∷ stat 2 GRANTED ∷ stat 3 BLOCKED ∷ Says LineOk ∷ stat 4 GRANTED ∷ Nothing ∷ stat 5 GRANTED ∷ stat 6 GRANTED ∷ grants 1 B w 0 1 ∷ []
+freed_by_own_gives =
+    stat 1 GRANTED ∷ stat 2 GRANTED ∷ stat 3 BLOCKED ∷ Says LineOk ∷ stat 4 GRANTED ∷ Nothing ∷ stat 5 GRANTED ∷ stat 6 GRANTED
+    ∷ grants 1 B w 0 1 ∷ []
 
 -- a grant that its client refuses stays where the quota refuses its unlock, and its call has ended
 abbrev pub refused_grant_stays : List Event
@@ -85,7 +91,9 @@ refused_grant_stays =
     ∷ []
 
 abbrev pub refused_grant_stays_gives : List Given
-refused_grant_stays_gives = stat 1 GRANTED ∷ stat 2 GRANTED ∷ stat 3 GRANTED ∷ stat 4 BLOCKED ∷ stat 5 GRANTED ∷ Says LineOk ∷ grants 1 B w 3 4 ∷ Nothing ∷ held_by 6 B w 0 10 ∷ Nothing ∷ []
+refused_grant_stays_gives =
+    stat 1 GRANTED ∷ stat 2 GRANTED ∷ stat 3 GRANTED ∷ stat 4 BLOCKED ∷ stat 5 GRANTED ∷ Says LineOk ∷ grants 1 B w 3 4 ∷ Nothing
+    ∷ held_by 6 B w 0 10 ∷ Nothing ∷ []
 
 -- the line acts in grace, and a quota outlasts a restart
 abbrev pub quota_in_grace : List Event

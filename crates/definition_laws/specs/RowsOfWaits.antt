@@ -53,7 +53,9 @@ grant_refused =
     ∷ []
 
 abbrev pub grant_refused_gives : List Given
-grant_refused_gives = stat 36 GRANTED ∷ stat 37 BLOCKED ∷ stat 38 BLOCKED ∷ stat 39 GRANTED ∷ grants 1 B w 0 10 ∷ Nothing ∷ grants 2 C w 0 10 ∷ Nothing ∷ grants 2 C w 0 10 ∷ Nothing ∷ grants 2 C w 0 10 ∷ Nothing ∷ Nothing ∷ held_by 40 C w 0 10 ∷ []
+grant_refused_gives =
+    stat 36 GRANTED ∷ stat 37 BLOCKED ∷ stat 38 BLOCKED ∷ stat 39 GRANTED ∷ grants 1 B w 0 10 ∷ Nothing ∷ grants 2 C w 0 10
+    ∷ Nothing ∷ grants 2 C w 0 10 ∷ Nothing ∷ grants 2 C w 0 10 ∷ Nothing ∷ Nothing ∷ held_by 40 C w 0 10 ∷ []
 
 abbrev pub cancel : List Event
 cancel = LOCK 120 A w 0 10 ∷ LOCK+block 121 B w 0 10 ∷ LOCK+block 122 B w 0 10 ∷ CANCEL 123 B w 0 10 ∷ CANCEL 124 B w 0 10 ∷ UNLOCK 125 A 0 10 ∷ Send ∷ []
@@ -77,7 +79,9 @@ abbrev pub setlkw_granted : List Event
 setlkw_granted = LOCK 126 A w 0 1 ∷ Local 5 (SetLockWait (Some w) (lock_line (p 9) 0 1)) ∷ UNLOCK 127 A 0 1 ∷ Send ∷ Send ∷ []
 
 abbrev pub setlkw_granted_gives : List Given
-setlkw_granted_gives = stat 126 GRANTED ∷ Says LineWait ∷ stat 127 GRANTED ∷ Sends (number 1 1) (record { to = ToConnection 5; message = GrantedLine w (lock_line (p 9) 0 1) }) ∷ Nothing ∷ []
+setlkw_granted_gives =
+    stat 126 GRANTED ∷ Says LineWait ∷ stat 127 GRANTED
+    ∷ Sends (number 1 1) (record { to = ToConnection 5; message = GrantedLine w (lock_line (p 9) 0 1) }) ∷ Nothing ∷ []
 
 abbrev pub stray_answers : List Event
 stray_answers = Answer (AcceptedSuccess 77 (Some DENIED)) ∷ Answer Unreadable ∷ Silent (number 1 1) ∷ []
@@ -92,7 +96,10 @@ abbrev pub message_lock : List Event
 message_lock = LOCK_MSG 7 A w 0 10 ∷ Send ∷ []
 
 abbrev pub message_lock_gives : List Given
-message_lock_gives = told 7 NoResult ∷ Sends (number 1 1) (record { to = ToHost A.name; message = LockResult V4 (record { cookie = cookie_of 7; stat = GRANTED }) }) ∷ []
+message_lock_gives =
+    told 7 NoResult
+    ∷ Sends (number 1 1) (record { to = ToHost A.name; message = LockResult V4 (record { cookie = cookie_of 7; stat = GRANTED }) })
+    ∷ []
 
 -- a LOCK_MSG that waits is granted by GRANTED_MSG, whose answer comes by GRANTED_RES with the number as cookie
 abbrev pub granted_by_message : List Event
@@ -108,7 +115,11 @@ granted_by_message =
     ∷ []
 
 abbrev pub granted_by_message_gives : List Given
-granted_by_message_gives = stat 1 GRANTED ∷ told 2 NoResult ∷ Sends (number 1 1) (record { to = ToHost B.name; message = LockResult V4 (record { cookie = cookie_of 2; stat = BLOCKED }) }) ∷ stat 3 GRANTED ∷ Sends (number 1 2) (record { to = ToHost B.name; message = GrantedMsg V4 true (lock_at the_file B 0 10) }) ∷ Nothing ∷ told 4 NoResult ∷ test_stat 5 GRANTED ∷ []
+granted_by_message_gives =
+    stat 1 GRANTED ∷ told 2 NoResult
+    ∷ Sends (number 1 1) (record { to = ToHost B.name; message = LockResult V4 (record { cookie = cookie_of 2; stat = BLOCKED }) })
+    ∷ stat 3 GRANTED ∷ Sends (number 1 2) (record { to = ToHost B.name; message = GrantedMsg V4 true (lock_at the_file B 0 10) })
+    ∷ Nothing ∷ told 4 NoResult ∷ test_stat 5 GRANTED ∷ []
 
 -- the script of the refused growths, with ample memory
 abbrev pub script_h : List Event
@@ -124,7 +135,10 @@ script_h =
     ∷ []
 
 abbrev pub script_h_gives : List Given
-script_h_gives = stat 2 GRANTED ∷ stat 60 BLOCKED ∷ share_stat 61 GRANTED ∷ Says LineOk ∷ told 62 NoResult ∷ stat 63 GRANTED ∷ Sends (number 1 1) (record { to = ToHost D.name; message = LockResult V4 (record { cookie = cookie_of 62; stat = GRANTED }) }) ∷ grants 2 B w 0 10 ∷ []
+script_h_gives =
+    stat 2 GRANTED ∷ stat 60 BLOCKED ∷ share_stat 61 GRANTED ∷ Says LineOk ∷ told 62 NoResult ∷ stat 63 GRANTED
+    ∷ Sends (number 1 1) (record { to = ToHost D.name; message = LockResult V4 (record { cookie = cookie_of 62; stat = GRANTED }) })
+    ∷ grants 2 B w 0 10 ∷ []
 
 -- a description that waits is no step of a cycle: B waits for it, and it for B
 abbrev pub description_between : List Event
@@ -137,7 +151,8 @@ description_between_gives = Says LineOk ∷ stat 16 GRANTED ∷ Says LineWait �
 -- a silence of a call that is due now doesn't move it behind the others
 abbrev pub silent_while_due : List Event
 silent_while_due =
-    LOCK 10 A w 0 10 ∷ LOCK 11 D w 20 1 ∷ LOCK+block 12 B r 0 1 ∷ LOCK+block 13 A r 0 21 ∷ UNLOCK 14 D 20 1 ∷ Silent (number 1 1) ∷ Send ∷ Send ∷ Silent (number 1 1) ∷ Send ∷ []
+    LOCK 10 A w 0 10 ∷ LOCK 11 D w 20 1 ∷ LOCK+block 12 B r 0 1 ∷ LOCK+block 13 A r 0 21 ∷ UNLOCK 14 D 20 1 ∷ Silent (number 1 1)
+    ∷ Send ∷ Send ∷ Silent (number 1 1) ∷ Send ∷ []
 
 abbrev pub silent_while_due_gives : List Given
 silent_while_due_gives =
@@ -158,4 +173,7 @@ abbrev pub equal_waiters : List Event
 equal_waiters = LOCK 1 A w 0 10 ∷ LOCK+block 2 B w 5 0 ∷ LOCK_MSG+block 3 B w 5 9223372036854775803 ∷ UNLOCK 4 A 0 10 ∷ Send ∷ Send ∷ Send ∷ []
 
 abbrev pub equal_waiters_give : List Given
-equal_waiters_give = stat 1 GRANTED ∷ stat 2 BLOCKED ∷ told 3 NoResult ∷ stat 4 GRANTED ∷ Sends (number 1 1) (record { to = ToHost B.name; message = LockResult V4 (record { cookie = cookie_of 3; stat = BLOCKED }) }) ∷ grants 2 B w 5 0 ∷ Nothing ∷ []
+equal_waiters_give =
+    stat 1 GRANTED ∷ stat 2 BLOCKED ∷ told 3 NoResult ∷ stat 4 GRANTED
+    ∷ Sends (number 1 1) (record { to = ToHost B.name; message = LockResult V4 (record { cookie = cookie_of 3; stat = BLOCKED }) })
+    ∷ grants 2 B w 5 0 ∷ Nothing ∷ []

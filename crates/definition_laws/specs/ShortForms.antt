@@ -209,7 +209,8 @@ number own n = own * 0x1_0000_0000 + n
 
 -- GRANTED under own state 1, to the host of the owner
 abbrev pub grants_in : Version → ℕ → Caller → Mode → ℕ → ℕ → Given
-grants_in version n o mode offset len = Sends (number 1 n) (record { to = ToHost o.name; message = Granted version (is_exclusive mode) (lock_at the_file o offset len) })
+grants_in version n o mode offset len =
+    Sends (number 1 n) (record { to = ToHost o.name; message = Granted version (is_exclusive mode) (lock_at the_file o offset len) })
 
 abbrev pub grants : ℕ → Caller → Mode → ℕ → ℕ → Given
 grants n o mode offset len = grants_in V4 n o mode offset len

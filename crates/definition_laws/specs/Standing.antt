@@ -1,4 +1,5 @@
--- What stands over every step and every list of events, besides the table: the own name, shares that coexist, and in grace no share but a reclaim and no grant; and what is shown of it.
+-- What stands over every step and every list of events, besides the table: the own name, shares that coexist, and in grace no
+-- share but a reclaim and no grant; and what is shown of it.
 use Rattle.std.specs.Prelude.{◌≡◌, ◌⊎◌, Bool, true, false, List, [], is_some}
 use Rattle.definitions.specs.Bytes.{Bytes, Holds, is_any}
 use Rattle.definitions.specs.Hosts.{Hosts, StoreAnswer}
@@ -18,11 +19,15 @@ use Rattle.definitions.specs.Replay.{Done, state_after}
 
 -- no event, outcome or answer of the store changes the own name
 abbrev pub OwnNameLaw : Type 0
-OwnNameLaw = (limits : Limits) (s : State) (event : Event) (doing : Doing) (store : StoreAnswer) → (step limits s event doing store).state.world.own_name ≡ s.world.own_name
+OwnNameLaw =
+    (limits : Limits) (s : State) (event : Event) (doing : Doing) (store : StoreAnswer)
+    → (step limits s event doing store).state.world.own_name ≡ s.world.own_name
 
 -- after any events: one share for each file and owner, and none does what another denies
 abbrev pub ShareRunLaw : Type 0
-ShareRunLaw = (limits : Limits) (name : Bytes) (hosts : Hosts) (done : List Done) → SharesStand (state_after limits (opening_state name hosts) done).world.shares
+ShareRunLaw =
+    (limits : Limits) (name : Bytes) (hosts : Hosts) (done : List Done)
+    → SharesStand (state_after limits (opening_state name hosts) done).world.shares
 
 -- ---- in grace
 
@@ -38,7 +43,8 @@ IsShareReclaim _ new = ⊥
 -- a share that is there after a step was there before it, or the event reclaims it
 abbrev pub GraceSharesLaw : Type 0
 GraceSharesLaw =
-    (limits : Limits) (s : State) (event : Event) (doing : Doing) (store : StoreAnswer) → s.world.phase ≡ Grace → (share : Share) → Holds (step limits s event doing store).state.world.shares share → Holds s.world.shares share ⊎ IsShareReclaim event share
+    (limits : Limits) (s : State) (event : Event) (doing : Doing) (store : StoreAnswer) → s.world.phase ≡ Grace → (share : Share)
+    → Holds (step limits s event doing store).state.world.shares share → Holds s.world.shares share ⊎ IsShareReclaim event share
 
 abbrev pub is_grant_call : Outgoing → Bool
 is_grant_call c = is_grant c.letter.message
@@ -51,13 +57,18 @@ pub record IsGrantless (w : World) : Type 0 where
 -- after any events that end in grace
 abbrev pub GraceCallsLaw : Type 0
 GraceCallsLaw =
-    (limits : Limits) (name : Bytes) (hosts : Hosts) (done : List Done) → (state_after limits (opening_state name hosts) done).world.phase ≡ Grace → IsGrantless (state_after limits (opening_state name hosts) done).world
+    (limits : Limits) (name : Bytes) (hosts : Hosts) (done : List Done)
+    → (state_after limits (opening_state name hosts) done).world.phase ≡ Grace
+    → IsGrantless (state_after limits (opening_state name hosts) done).world
 
 -- a lock or a share is answered GRANTED, or comes to wait, only where it is a reclaim, and a line's lock never is
 pub record GraceAnswersLaw : Type 0 where
-  pub locks : (limits : Limits) (w : World) (version : Version) (a : LockArgs) (store : StoreAnswer) → w.phase ≡ Grace → stands (ruled store (lock_answer limits w version a)).says ≡ true → a.reclaim ≡ true
-  pub unmonitored_locks : (limits : Limits) (w : World) (version : Version) (a : LockArgs) (store : StoreAnswer) → w.phase ≡ Grace → stands (ruled store (nm_lock_answer limits w version a)).says ≡ true → a.reclaim ≡ true
-  pub message_locks : (limits : Limits) (w : World) (version : Version) (a : LockArgs) (store : StoreAnswer) → w.phase ≡ Grace → stands (ruled store (lock_msg_answer limits w version a)).says ≡ true → a.reclaim ≡ true
+  pub locks : (limits : Limits) (w : World) (version : Version) (a : LockArgs) (store : StoreAnswer) → w.phase ≡ Grace
+      → stands (ruled store (lock_answer limits w version a)).says ≡ true → a.reclaim ≡ true
+  pub unmonitored_locks : (limits : Limits) (w : World) (version : Version) (a : LockArgs) (store : StoreAnswer) → w.phase ≡ Grace
+      → stands (ruled store (nm_lock_answer limits w version a)).says ≡ true → a.reclaim ≡ true
+  pub message_locks : (limits : Limits) (w : World) (version : Version) (a : LockArgs) (store : StoreAnswer) → w.phase ≡ Grace
+      → stands (ruled store (lock_msg_answer limits w version a)).says ≡ true → a.reclaim ≡ true
   pub shares : (limits : Limits) (w : World) (a : ShareArgs) → w.phase ≡ Grace → stands (share_verdict limits w a).says ≡ true → a.reclaim ≡ true
   pub lines : (w : World) (lock : LocalLock) → w.phase ≡ Grace → is_some (line_refusal w lock) ≡ true
 

@@ -5,7 +5,8 @@ use Rattle.std.specs.Ordering.{int_cmp, ordering_then, is_eq}
 use Rattle.definitions.specs.Bytes.{IsAscending, Bytes, same_bytes, bytes_cmp, is_any, first_that, without, put}
 use Rattle.definitions.specs.Nsm.{MyId}
 
--- a host's name; the own state that was current when the row was made or that the host last acknowledged; the host's state as it was last seen; and how many runs its owners may have
+-- a host's name; the own state that was current when the row was made or that the host last acknowledged; the host's state as it
+-- was last seen; and how many runs its owners may have
 pub record HostRow : Type 0 where
   pub name : Bytes
   pub epoch : ℕ

@@ -24,7 +24,8 @@ pub data TableMove (Reclaimed : Request → Type 0) (phase : Phase) (before : Li
   DropsHost : (name : Bytes) → TableMove Reclaimed phase before (without_host name before)
   DropsOwner : (file : Bytes) (owner : Owner) → TableMove Reclaimed phase before (without_owner_on file owner before)
   Unlocks : (s : Setting) → s.mode ≡ None → TableMove Reclaimed phase before (before ++ s ∷ [])
-  Sets : (r : Request) → r.first ≤ r.last → conflicts before r ≡ false → (phase ≡ Grace → Reclaimed r) → TableMove Reclaimed phase before (before ++ setting_of r ∷ [])
+  Sets : (r : Request) → r.first ≤ r.last → conflicts before r ≡ false → (phase ≡ Grace → Reclaimed r)
+      → TableMove Reclaimed phase before (before ++ setting_of r ∷ [])
   Empties : TableMove Reclaimed phase before []
 
 -- each waiter waits for a range
@@ -64,12 +65,16 @@ pub record IsSound (limits : Limits) (w : World) : Type 0 where
 
 -- so whatever the event, its outcome and the store's answer
 abbrev pub ExclusionLaw : Type 0
-ExclusionLaw = (limits : Limits) (s : State) (event : Event) (doing : Doing) (store : StoreAnswer) → IsSound limits s.world → IsSound limits (step limits s event doing store).state.world
+ExclusionLaw =
+    (limits : Limits) (s : State) (event : Event) (doing : Doing) (store : StoreAnswer) → IsSound limits s.world
+    → IsSound limits (step limits s event doing store).state.world
 
 -- in grace a step from a world under a list leads to one under it, unless its event is a reclaim that isn't honest in the list
 abbrev pub GraceLaw : Type 0
 GraceLaw =
-    (limits : Limits) (old : List Setting) (s : State) (event : Event) (doing : Doing) (store : StoreAnswer) → s.world.phase ≡ Grace → IsUnder old s.world → ((r : Request) → IsReclaim event r → IsHonest old r) → IsUnder old (step limits s event doing store).state.world
+    (limits : Limits) (old : List Setting) (s : State) (event : Event) (doing : Doing) (store : StoreAnswer)
+    → s.world.phase ≡ Grace → IsUnder old s.world → ((r : Request) → IsReclaim event r → IsHonest old r)
+    → IsUnder old (step limits s event doing store).state.world
 
 -- so it is after any events from the opening world, whatever was refused or starved
 abbrev pub RunIsSound : Type 0
@@ -78,18 +83,31 @@ RunIsSound = (limits : Limits) (name : Bytes) (hosts : Hosts) (done : List Done)
 -- each event finds grace, and each of its reclaims is honest in the list
 abbrev pub AreHonest : Limits → List Setting → State → List Done → Type 0
 AreHonest limits old s [] = Unit {0}
-AreHonest limits old s (d ∷ done) = (s.world.phase ≡ Grace) × ((r : Request) → IsReclaim d.event r → IsHonest old r) × AreHonest limits old (after limits s d).state done
+AreHonest limits old s (d ∷ done) =
+    (s.world.phase ≡ Grace) × ((r : Request) → IsReclaim d.event r → IsHonest old r)
+    × AreHonest limits old (after limits s d).state done
 
 -- and then the world stays under the list
 abbrev pub GraceRunLaw : Type 0
-GraceRunLaw = (limits : Limits) (old : List Setting) (s : State) (done : List Done) → IsUnder old s.world → AreHonest limits old s done → IsUnder old (state_after limits s done).world
+GraceRunLaw =
+    (limits : Limits) (old : List Setting) (s : State) (done : List Done) → IsUnder old s.world → AreHonest limits old s done
+    → IsUnder old (state_after limits s done).world
 
--- in grace an honest reclaim from a world under the list is granted, unless fewer than 2 runs are free, its host's quota doesn't admit it, or the store refuses its row
+-- in grace an honest reclaim from a world under the list is granted, unless fewer than 2 runs are free, its host's quota doesn't
+-- admit it, or the store refuses its row
 abbrev pub HonestIsGranted : Type 0
 HonestIsGranted =
-    (limits : Limits) (old : List Setting) (w : World) (version : Version) (a : LockArgs) → w.phase ≡ Grace → AreCompatible old → IsUnder old w → a.reclaim ≡ true → range_refusal w (Locking a.reclaim) a.alock ≡ None → IsHonest old (request_of a.exclusive a.alock) → is_short limits.runs w.settings ≡ false → exceeds (quotas_of w.hosts) w.settings (setting_of (request_of a.exclusive a.alock)) ≡ false → ((lock_answer limits w version a).agreed.says ≡ GRANTED) × ((nm_lock_answer limits w version a).agreed.says ≡ GRANTED) × ((lock_msg_answer limits w version a).agreed.says ≡ GRANTED)
+    (limits : Limits) (old : List Setting) (w : World) (version : Version) (a : LockArgs) → w.phase ≡ Grace → AreCompatible old
+    → IsUnder old w → a.reclaim ≡ true → range_refusal w (Locking a.reclaim) a.alock ≡ None
+    → IsHonest old (request_of a.exclusive a.alock) → is_short limits.runs w.settings ≡ false
+    → exceeds (quotas_of w.hosts) w.settings (setting_of (request_of a.exclusive a.alock)) ≡ false
+    → ((lock_answer limits w version a).agreed.says ≡ GRANTED) × ((nm_lock_answer limits w version a).agreed.says ≡ GRANTED)
+    × ((lock_msg_answer limits w version a).agreed.says ≡ GRANTED)
 
 -- in grace, where nobody waits, a table gains a mode only by a reclaim
 abbrev pub GraceGrantsLaw : Type 0
 GraceGrantsLaw =
-    (limits : Limits) (s : State) (event : Event) (doing : Doing) (store : StoreAnswer) → s.world.phase ≡ Grace → s.world.waiters ≡ [] → TableMove (IsReclaim event) Grace s.world.settings (step limits s event doing store).state.world.settings × ((step limits s event doing store).state.world.waiters ≡ [])
+    (limits : Limits) (s : State) (event : Event) (doing : Doing) (store : StoreAnswer) → s.world.phase ≡ Grace
+    → s.world.waiters ≡ []
+    → TableMove (IsReclaim event) Grace s.world.settings (step limits s event doing store).state.world.settings
+    × ((step limits s event doing store).state.world.waiters ≡ [])

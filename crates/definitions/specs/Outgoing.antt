@@ -17,7 +17,8 @@ pub record LocalLock : Type 0 where
   pub offset : ℕ
   pub len : ℕ
 
--- an NLM call is made in the version of the call that it answers. GRANTED and GRANTED_MSG carry the number's 8 bytes as cookie, so a message holds no cookie for them
+-- an NLM call is made in the version of the call that it answers. GRANTED and GRANTED_MSG carry the number's 8 bytes as cookie,
+-- so a message holds no cookie for them
 pub data Message : Type 0 where
   Granted : Version → Bool → Lock → Message
   GrantedMsg : Version → Bool → Lock → Message

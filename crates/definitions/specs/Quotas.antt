@@ -56,4 +56,5 @@ is_refused room quotas settings s = refuses room settings s || exceeds quotas se
 -- a quota of as many runs as the whole table may have refuses nothing that finds free runs
 abbrev pub FullQuotaLaw : Type 0
 FullQuotaLaw =
-    (settings : List Setting) (s : Setting) (name : Bytes) (quota : ℕ) → host_of s.owner ≡ Some name → full_quota ≤ quota → refuses full_quota settings s ≡ false → is_past settings s name quota ≡ false
+    (settings : List Setting) (s : Setting) (name : Bytes) (quota : ℕ) → host_of s.owner ≡ Some name → full_quota ≤ quota
+    → refuses full_quota settings s ≡ false → is_past settings s name quota ≡ false

@@ -84,12 +84,16 @@ pub record IsLegal (limits : Limits) (first : ℕ) (base : State) (entries : Lis
 -- the law: base, events, outcomes and the store's answers fix the whole history, its outputs and its end
 abbrev pub HistoryLaw : Type 0
 HistoryLaw =
-    (limits : Limits) (first : ℕ) (base end another_end : State) (entries others : List Entry) → IsLegal limits first base entries end → IsLegal limits first base others another_end → done_of entries ≡ done_of others → (entries ≡ others) × (end ≡ another_end)
+    (limits : Limits) (first : ℕ) (base end another_end : State) (entries others : List Entry)
+    → IsLegal limits first base entries end → IsLegal limits first base others another_end → done_of entries ≡ done_of others
+    → (entries ≡ others) × (end ≡ another_end)
 
 -- and one more step makes a legal history of one
 abbrev pub HistoryGrows : Type 0
 HistoryGrows =
-    (limits : Limits) (first : ℕ) (base end : State) (entries : List Entry) (d : Done) → IsLegal limits first base entries end → fits limits end d ≡ true → IsLegal limits first base (entries ++ record { number = first + length entries; done = d; given = (after limits end d).given } ∷ []) (after limits end d).state
+    (limits : Limits) (first : ℕ) (base end : State) (entries : List Entry) (d : Done) → IsLegal limits first base entries end
+    → fits limits end d ≡ true
+    → IsLegal limits first base (entries ++ record { number = first + length entries; done = d; given = (after limits end d).given } ∷ []) (after limits end d).state
 
 -- ---- a store that refuses only past its limits, and memory that is never wanting
 

@@ -52,7 +52,8 @@ AreSingle (s ∷ shares) = (is_any (is_same_place s) shares ≡ false) × AreSin
 
 abbrev pub SharesLaw : Type 0
 SharesLaw =
-    (shares : List Share) (new : Share) (name : Bytes) → AreSingle shares → AreSingle (with_share new shares) × AreSingle (without_share new shares) × AreSingle (without_host_shares name shares)
+    (shares : List Share) (new : Share) (name : Bytes) → AreSingle shares
+    → AreSingle (with_share new shares) × AreSingle (without_share new shares) × AreSingle (without_host_shares name shares)
 
 -- ---- the rule of clashes, both ways
 

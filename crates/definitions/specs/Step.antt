@@ -214,4 +214,5 @@ pub record IsUnapplied (w v : World) : Type 0 where
 
 abbrev pub RepeatLaw : Type 0
 RepeatLaw =
-    (limits : Limits) (s : State) (peer : Peer) (asked : Bytes) (xid : ℕ) (call : Call) (doing : Doing) (store : StoreAnswer) (k : KeptPair) → look s peer asked ≡ Some k → IsUnapplied s.world (step limits s (Take peer asked (Asks xid call)) doing store).state.world
+    (limits : Limits) (s : State) (peer : Peer) (asked : Bytes) (xid : ℕ) (call : Call) (doing : Doing) (store : StoreAnswer) (k : KeptPair)
+    → look s peer asked ≡ Some k → IsUnapplied s.world (step limits s (Take peer asked (Asks xid call)) doing store).state.world

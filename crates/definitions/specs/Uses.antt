@@ -43,9 +43,15 @@ distinct (k ∷ uses) = k ∷ without (is_same_key k.peer k.asked) (distinct use
 -- however the events went, the newest uses are kept, as many as there is room for
 abbrev pub KeptLaw : Type 0
 KeptLaw =
-    (limits : Limits) (name : Bytes) (hosts : Hosts) (done : List Done) → (state_after limits (opening_state name hosts) done).kept ≡ take limits.kept (distinct (uses_after limits (opening_state name hosts) [] done))
+    (limits : Limits) (name : Bytes) (hosts : Hosts) (done : List Done)
+    → (state_after limits (opening_state name hosts) done).kept
+    ≡ take limits.kept (distinct (uses_after limits (opening_state name hosts) [] done))
 
 -- a new call whose kind is kept and whose reply is SUCCESS is found by its repeat, with that reply and those calls
 abbrev pub KeptIsFound : Type 0
 KeptIsFound =
-    (limits : Limits) (s : State) (peer : Peer) (asked : Bytes) (xid : ℕ) (version : Version) (call : NlmCall) (store : StoreAnswer) → leb 1 limits.kept ≡ true → look s peer asked ≡ None → is_kept_kind (Nlm version call) ≡ true → is_success (ruled store (ruling limits s.world peer.local (Nlm version call))).outcome ≡ true → look (step limits s (Take peer asked (Asks xid (Nlm version call))) Applied store).state peer asked ≡ Some (new_pair peer asked xid (ruled store (ruling limits s.world peer.local (Nlm version call))))
+    (limits : Limits) (s : State) (peer : Peer) (asked : Bytes) (xid : ℕ) (version : Version) (call : NlmCall) (store : StoreAnswer)
+    → leb 1 limits.kept ≡ true → look s peer asked ≡ None → is_kept_kind (Nlm version call) ≡ true
+    → is_success (ruled store (ruling limits s.world peer.local (Nlm version call))).outcome ≡ true
+    → look (step limits s (Take peer asked (Asks xid (Nlm version call))) Applied store).state peer asked
+    ≡ Some (new_pair peer asked xid (ruled store (ruling limits s.world peer.local (Nlm version call))))

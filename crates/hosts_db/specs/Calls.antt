@@ -10,7 +10,8 @@ Counts (Ok x) before now = now ≡ before
 Counts (Err Starved) before now = now ≡ before
 Counts (Err StoreRefused) before now = now ≡ before + 1
 
--- what a crash may leave after a call that was to make this change: after an Ok the change and nothing else; after a refusal what it could leave before, or the whole change; a call that starved did nothing
+-- what a crash may leave after a call that was to make this change: after an Ok the change and nothing else; after a refusal what
+-- it could leave before, or the whole change; a call that starved did nothing
 abbrev pub Leaves : {X : Type 0} → Result X StoreError → (Hosts → Type 0) → (Hosts → Type 0) → Hosts → Type 0
 Leaves (Ok x) before now changed = (left : Hosts) → now left → left ≡ changed
 Leaves (Err Starved) before now changed = (left : Hosts) → now left → before left

@@ -23,7 +23,8 @@ is_host row = is_int (rowid row) && is_blob (column row 1)
 
 -- a rowid, two names in bytes and three numbers
 abbrev pub is_watched : Row → Bool
-is_watched row = is_int (rowid row) && (is_blob (column row 1) && (is_blob (column row 2) && (is_int (column row 3) && (is_int (column row 4) && is_int (column row 5)))))
+is_watched row =
+    is_int (rowid row) && (is_blob (column row 1) && (is_blob (column row 2) && (is_int (column row 3) && (is_int (column row 4) && is_int (column row 5)))))
 
 -- a number from 0 on, below a limit
 abbrev pub is_below : ℕ → Value → Bool

@@ -16,7 +16,9 @@ use Rattle.std.specs.declared.cmp.Ordering.{Ordering}
 
 -- the rows are what the query shows
 abbrev pub Tells : List ℕ → Database → List Row → Type 0
-Tells sql db rows = (q : Program) (names : List (List ℕ)) → command_in (understood db.schema sql) ≡ Select q names → reads_listing db.schema sql ≡ false → Answers db q [] rows
+Tells sql db rows =
+    (q : Program) (names : List (List ℕ)) → command_in (understood db.schema sql) ≡ Select q names
+    → reads_listing db.schema sql ≡ false → Answers db q [] rows
 
 -- one row, of this version
 abbrev pub ShowsOwn : ℕ → List Row → ℕ → Type 0

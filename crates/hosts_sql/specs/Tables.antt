@@ -20,7 +20,8 @@ abbrev pub hosts_text : List ℕ
 hosts_text = codes "CREATE TABLE hosts2 (name BLOB NOT NULL PRIMARY KEY, epoch INTEGER NOT NULL, seen INTEGER NOT NULL, quota INTEGER NOT NULL) STRICT"
 
 abbrev pub watches_text : List ℕ
-watches_text = codes "CREATE TABLE watches (mon BLOB NOT NULL, my BLOB NOT NULL, prog INTEGER NOT NULL, vers INTEGER NOT NULL, proc INTEGER NOT NULL, priv BLOB NOT NULL, PRIMARY KEY (mon, my, prog, vers, proc)) STRICT"
+watches_text =
+    codes "CREATE TABLE watches (mon BLOB NOT NULL, my BLOB NOT NULL, prog INTEGER NOT NULL, vers INTEGER NOT NULL, proc INTEGER NOT NULL, priv BLOB NOT NULL, PRIMARY KEY (mon, my, prog, vers, proc)) STRICT"
 
 -- a column that is NOT NULL
 abbrev pub required : List ℕ → Kind → Column
@@ -48,7 +49,8 @@ hosts_columns = required (codes "name") Blob ∷ required (codes "epoch") Intege
 
 abbrev pub watches_columns : List Column
 watches_columns =
-    required (codes "mon") Blob ∷ required (codes "my") Blob ∷ required (codes "prog") Integer ∷ required (codes "vers") Integer ∷ required (codes "proc") Integer ∷ required (codes "priv") Blob ∷ []
+    required (codes "mon") Blob ∷ required (codes "my") Blob ∷ required (codes "prog") Integer ∷ required (codes "vers") Integer
+    ∷ required (codes "proc") Integer ∷ required (codes "priv") Blob ∷ []
 
 abbrev pub one_key : Order
 one_key = record { digits = 0 }

@@ -70,14 +70,17 @@ HasOwnRow version rows = map own_shown rows ≡ (Int (pos 1) ∷ Int (pos versio
 
 -- the tables are there, the own state is, and the rows of the others are told apart by their rowids
 abbrev pub IsWhole : Version → Database → Type 0
-IsWhole version d = (IsHostSchema version d.schema × HasOwnRow (number version) (d.trees 0)) × (AreOwn is_host (hosts_of version d) × AreOwn is_watched (d.trees 3))
+IsWhole version d =
+    (IsHostSchema version d.schema × HasOwnRow (number version) (d.trees 0))
+    × (AreOwn is_host (hosts_of version d) × AreOwn is_watched (d.trees 3))
 
 IsHostSchema-prop : (version : Version) (schema : Schema) → IsProp (IsHostSchema version schema)
 IsHostSchema-prop First schema = Coded-set the_row.coded _ _
 IsHostSchema-prop Second schema = Coded-set the_row.coded _ _
 
 pub IsWhole-prop : (version : Version) (d : Database) → IsProp (IsWhole version d)
-IsWhole-prop version d = ×_prop (×_prop (IsHostSchema-prop version d.schema) (Coded-set (coded_list row.the_row.coded) _ _)) (×_prop (AreOwn-prop is_host (hosts_of version d)) (AreOwn-prop is_watched (d.trees 3)))
+IsWhole-prop version d =
+    ×_prop (×_prop (IsHostSchema-prop version d.schema) (Coded-set (coded_list row.the_row.coded) _ _)) (×_prop (AreOwn-prop is_host (hosts_of version d)) (AreOwn-prop is_watched (d.trees 3)))
 
 -- the last commit holds the tables of this version
 abbrev pub HasTables : Version → State → Type 0

@@ -43,7 +43,8 @@ no_hand = record { put = []; taken = [] }
 abbrev pub hand_at : ℕ → List Move → List Left → Hand
 hand_at p moves rest = record { put = taken_of p moves ++ left_of p rest; taken = taken_by p moves }
 
--- there is one order of the jobs taken, by which each pass put what was taken of it and then what is left of it, and took what went to it; and no other pass did a thing
+-- there is one order of the jobs taken, by which each pass put what was taken of it and then what is left of it, and took what
+-- went to it; and no other pass did a thing
 abbrev pub Settled : List Hand → List Task → Type 0
 Settled hands left =
     (moves : List Move) × (rest : List Left)

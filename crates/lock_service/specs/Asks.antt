@@ -23,7 +23,8 @@ abbrev pub new_host : host.NewHost → NewHost
 new_host h = record { name = h.name.now; state = h.state }
 
 abbrev pub granted_by : call.GrantCall → Message
-granted_by c = cond c.by_message (GrantedMsg (view_of_version c.version) c.exclusive (view_of_lock c.lock)) (Granted (view_of_version c.version) c.exclusive (view_of_lock c.lock))
+granted_by c =
+    cond c.by_message (GrantedMsg (view_of_version c.version) c.exclusive (view_of_lock c.lock)) (Granted (view_of_version c.version) c.exclusive (view_of_lock c.lock))
 
 abbrev pub call_letter_of : call.GrantCall → Letter
 call_letter_of c = record { to = ToHost c.lock.caller_name.bytes.now; message = granted_by c }

@@ -25,4 +25,5 @@ abbrev pub unlock_telling : Form → Version → unlock_declared.UnlockArgs 8 �
 unlock_telling form version a = record { form = form; result = Unlock; version = version; cookie = a.cookie; host = a.alock.caller_name }
 
 abbrev pub lock_told : LockCall → Version → lock_declared.LockArgs 8 → World → Ruling Answered
-lock_told call version a w = telling_of (form_by call) (lock_telling (form_by call) version a) w (answer_by call w (view_of_version version) (view_of_lockargs a))
+lock_told call version a w =
+    telling_of (form_by call) (lock_telling (form_by call) version a) w (answer_by call w (view_of_version version) (view_of_lockargs a))

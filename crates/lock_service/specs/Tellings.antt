@@ -35,7 +35,8 @@ res_told t stat = res (view_of_version t.version) t.cookie.bytes.now stat
 -- what is answered where this is told in a world
 abbrev pub told_as : Form → telling.Telling → nlm.Stat → World → Answered
 told_as form.Reply t stat w = gives w (Success (ResResult (res_told t stat)))
-told_as form.Message t stat w = sent_back (record { to = ToHost t.host.bytes.now; message = result_message t.result (view_of_version t.version) (res_told t stat) }) w
+told_as form.Message t stat w =
+    sent_back (record { to = ToHost t.host.bytes.now; message = result_message t.result (view_of_version t.version) (res_told t stat) }) w
 
 abbrev pub told_by : telling.Telling → Told nlm.Stat → Answered
 told_by t x = told_as t.form t x.says x.world
@@ -48,8 +49,12 @@ telling_of form.Message t w ruling =
 
 -- a plan that tells a verdict where the places for it are free
 abbrev pub IsToldIn : World → telling.Telling → Verdict → Plan → Type 0
-IsToldIn w t v p = (ruling : Ruling (Told nlm.Stat)) → places t.form ≤ slots_free the_limits w → IsVerdict ruling (places t.form) w v → IsPlan (each (told_by t) ruling) w p
+IsToldIn w t v p =
+    (ruling : Ruling (Told nlm.Stat)) → places t.form ≤ slots_free the_limits w → IsVerdict ruling (places t.form) w v
+    → IsPlan (each (told_by t) ruling) w p
 
 -- and wherever it is, if so many places are free
 abbrev pub IsTold : ℕ → telling.Telling → Verdict → Plan → Type 0
-IsTold free t v p = (w : World) (ruling : Ruling (Told nlm.Stat)) → free ≡ slots_free the_limits w → IsVerdict ruling (places t.form) w v → IsPlan (telling_of t.form t w ruling) w p
+IsTold free t v p =
+    (w : World) (ruling : Ruling (Told nlm.Stat)) → free ≡ slots_free the_limits w → IsVerdict ruling (places t.form) w v
+    → IsPlan (telling_of t.form t w ruling) w p

@@ -12,7 +12,8 @@ use Rattle.nlm4_types.specs.Lock.{view_of_lock, netobj, lock}
 -- ---- lockargs
 
 abbrev pub view_of_lockargs : {n : ℕ} → lock_declared.LockArgs n → LockArgs
-view_of_lockargs v = record { cookie = v.cookie.bytes.now; block = v.block; exclusive = v.exclusive; alock = view_of_lock v.alock; reclaim = v.reclaim; state = v.state }
+view_of_lockargs v =
+    record { cookie = v.cookie.bytes.now; block = v.block; exclusive = v.exclusive; alock = view_of_lock v.alock; reclaim = v.reclaim; state = v.state }
 
 unfoldable pub lockargs : Bool → Codec LockArgs
 lockargs wide =

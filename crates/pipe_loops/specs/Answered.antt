@@ -54,7 +54,8 @@ pub record SendStarves (old new : Hub) : Type 0 where
   pub step : SendStep old out new
   pub met : out.outcome ≡ NoSegment
 
--- what ends it while this was sent: a write fails, and a front of what was sent is written; or there is no segment for the entry of the next sending, and all is
+-- what ends it while this was sent: a write fails, and a front of what was sent is written; or there is no segment for the entry
+-- of the next sending, and all is
 abbrev pub Breaks : Fault → Hub → Hub → Option (List ℕ) → Option (List ℕ) → List Outputs → Type 0
 Breaks WriteFault old new before after outs = (new ≡ old) × WroteFront before after (all_bytes_sent outs)
 Breaks Starved old new before after outs = SendStarves old new × Appends before after (all_bytes_sent outs)

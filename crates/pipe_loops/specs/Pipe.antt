@@ -192,18 +192,22 @@ pub record Unbegun (events : List Event) (start : Hub) (why : Refusal) (unread l
   pub some : BeginsSome events why start end
   pub untouched : Untouched unread left before after
 
--- memory is wanted for the daemon, by its beginning, for the place of the pieces before one is read, by a piece, or for the entry of a sending. No contract can name that there was none for the daemon or for the place
+-- memory is wanted for the daemon, by its beginning, for the place of the pieces before one is read, by a piece, or for the entry
+-- of a sending. No contract can name that there was none for the daemon or for the place
 abbrev pub PipeStarves : List Event → Hub → ℕ → Option (List ℕ) → Option (List ℕ) → Option (List ℕ) → Option (List ℕ) → Type 0
 PipeStarves events start bound unread left before after =
     (Untouched unread left before after ⊎ Unbegun events start Refusal.Starved unread left before after)
     ⊎ ((WholePipe events start bound unread left before after [] ⊎ WholePipe events start bound unread left before after (Refusal.Starved ∷ []))
     ⊎ BrokenPipe Starved events start bound unread left before after)
 
--- at most `bound` pieces are read, and the end is a piece of no bytes; `end` is the state then. A ReadFault comes after `bound` pieces, or where a read failed, which no contract can name: it left what is left to read as it was
+-- at most `bound` pieces are read, and the end is a piece of no bytes; `end` is the state then. A ReadFault comes after `bound`
+-- pieces, or where a read failed, which no contract can name: it left what is left to read as it was
 abbrev pub StreamEnds : List Event → Hub → ℕ → Result (Unit {0}) Fault → Option (List ℕ) → Option (List ℕ) → Option (List ℕ) → Option (List ℕ) → Hub → Type 0
-StreamEnds events start bound (Ok done) unread left before after end = ((most : ℕ) × (most < bound) × EndsAt events start most unread left before after [] end) × IsAtEnd left
+StreamEnds events start bound (Ok done) unread left before after end =
+    ((most : ℕ) × (most < bound) × EndsAt events start most unread left before after [] end) × IsAtEnd left
 StreamEnds events start bound (Err ReadFault) unread left before after end = WholePipe events start bound unread left before after []
-StreamEnds events start bound (Err RecordTooLong) unread left before after end = WholePipe events start bound unread left before after (Refusal.RecordTooLong ∷ [])
+StreamEnds events start bound (Err RecordTooLong) unread left before after end =
+    WholePipe events start bound unread left before after (Refusal.RecordTooLong ∷ [])
 StreamEnds events start bound (Err Starved) unread left before after end = PipeStarves events start bound unread left before after
 StreamEnds events start bound (Err StoreRefused) unread left before after end = Unbegun events start Refusal.StoreRefused unread left before after
 StreamEnds events start bound (Err WriteFault) unread left before after end = BrokenPipe WriteFault events start bound unread left before after

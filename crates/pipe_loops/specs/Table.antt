@@ -25,12 +25,15 @@ PrintsNothing events start bound fault unread left before after = (end : Hub) ×
 
 -- the table could not be written whole
 abbrev pub PrintsFront : List Event → Hub → ℕ → Option (List ℕ) → Option (List ℕ) → Option (List ℕ) → Option (List ℕ) → Type 0
-PrintsFront events start bound unread left before after = (end : Hub) × Served events start bound (Ok tt) unread left end × WroteFront before after (table_of end)
+PrintsFront events start bound unread left before after =
+    (end : Hub) × Served events start bound (Ok tt) unread left end × WroteFront before after (table_of end)
 
 -- the table of the state at the stream's end is printed, and nothing else
 abbrev pub TableEnds : List Event → Hub → ℕ → Result (Unit {0}) Fault → Option (List ℕ) → Option (List ℕ) → Option (List ℕ) → Option (List ℕ) → Type 0
-TableEnds events start bound (Ok done) unread left before after = (end : Hub) × Served events start bound (Ok done) unread left end × Appends before after (table_of end)
-TableEnds events start bound (Err WriteFault) unread left before after = PrintsFront events start bound unread left before after ⊎ PrintsNothing events start bound WriteFault unread left before after
+TableEnds events start bound (Ok done) unread left before after =
+    (end : Hub) × Served events start bound (Ok done) unread left end × Appends before after (table_of end)
+TableEnds events start bound (Err WriteFault) unread left before after =
+    PrintsFront events start bound unread left before after ⊎ PrintsNothing events start bound WriteFault unread left before after
 TableEnds events start bound (Err Starved) unread left before after = PrintsNothing events start bound Starved unread left before after
 TableEnds events start bound (Err RecordTooLong) unread left before after = PrintsNothing events start bound RecordTooLong unread left before after
 TableEnds events start bound (Err StoreRefused) unread left before after = PrintsNothing events start bound StoreRefused unread left before after

@@ -38,31 +38,39 @@ WhereAsks names ns wanted Says = (settings : List Setting) (r : Request) → Sta
 -- and of another of them beside it
 abbrev pub WhereMeets : Names → List NumberSetting → NumberRun → ℕ → (List Setting → Request → Owner → Type 0) → Type 0
 WhereMeets names ns wanted n Says =
-    (settings : List Setting) (r : Request) (y : Owner) → Stands names (held_at ns) settings → IsSameRequest names wanted r → names n ≡ Some y → Says settings r y
+    (settings : List Setting) (r : Request) (y : Owner) → Stands names (held_at ns) settings → IsSameRequest names wanted r
+    → names n ≡ Some y → Says settings r y
 
 -- ---- what keeps it
 
 abbrev pub SettingLaw : Type 0
 SettingLaw =
-    (names : Names) (ns : List NumberSetting) (settings : List Setting) (s : NumberSetting) (t : Setting) → Stands names (held_at ns) settings → IsSameSetting names s t → Stands names (held_at (ns ++ s ∷ [])) (settings ++ t ∷ [])
+    (names : Names) (ns : List NumberSetting) (settings : List Setting) (s : NumberSetting) (t : Setting)
+    → Stands names (held_at ns) settings → IsSameSetting names s t → Stands names (held_at (ns ++ s ∷ [])) (settings ++ t ∷ [])
 
 abbrev pub DropHostLaw : Type 0
 DropHostLaw =
-    (names : Names) (ns : List NumberSetting) (settings : List Setting) (has : ℕ → Bool) (name : Bytes) → Stands names (held_at ns) settings → AreOfHost names has name → Stands names (held_at (filter (λ s. not (has s.owner)) ns)) (without_host name settings)
+    (names : Names) (ns : List NumberSetting) (settings : List Setting) (has : ℕ → Bool) (name : Bytes)
+    → Stands names (held_at ns) settings → AreOfHost names has name
+    → Stands names (held_at (filter (λ s. not (has s.owner)) ns)) (without_host name settings)
 
 abbrev pub DropOwnerLaw : Type 0
 DropOwnerLaw =
-    (names : Names) (ns : List NumberSetting) (settings : List Setting) (file : Bytes) (n : ℕ) (x : Owner) → Stands names (held_at ns) settings → names n ≡ Some x → Stands names (held_at (filter (λ s. not (is_by file n s)) ns)) (without_owner_on file x settings)
+    (names : Names) (ns : List NumberSetting) (settings : List Setting) (file : Bytes) (n : ℕ) (x : Owner)
+    → Stands names (held_at ns) settings → names n ≡ Some x
+    → Stands names (held_at (filter (λ s. not (is_by file n s)) ns)) (without_owner_on file x settings)
 
 -- a new owner gets a number that is not in use
 abbrev pub InternLaw : Type 0
 InternLaw =
-    (names after : Names) (held : Held) (settings : List Setting) (n : ℕ) (x : Owner) → Stands names held settings → names n ≡ None → ((k : ℕ) → names k ≢ Some x) → Renames names after n (Some x) → Stands after held settings
+    (names after : Names) (held : Held) (settings : List Setting) (n : ℕ) (x : Owner) → Stands names held settings
+    → names n ≡ None → ((k : ℕ) → names k ≢ Some x) → Renames names after n (Some x) → Stands after held settings
 
 -- the number of an owner who holds nothing goes out of use
 abbrev pub ReleaseLaw : Type 0
 ReleaseLaw =
-    (names after : Names) (held : Held) (settings : List Setting) (n : ℕ) → Stands names held settings → ((file : Bytes) (byte : ℕ) → held file n byte ≡ None) → Renames names after n None → Stands after held settings
+    (names after : Names) (held : Held) (settings : List Setting) (n : ℕ) → Stands names held settings
+    → ((file : Bytes) (byte : ℕ) → held file n byte ≡ None) → Renames names after n None → Stands after held settings
 
 abbrev pub ClearLaw : Type 0
 ClearLaw = (names : Names) → AreDistinct names → Stands names (held_at []) []
@@ -75,11 +83,15 @@ pub record OrdersNames (names : Names) (order : ℕ → ℕ → Ordering) : Type
 
 abbrev pub FirstConflictLaw : Type 0
 FirstConflictLaw =
-    (names : Names) (held : Held) (settings : List Setting) (order : ℕ → ℕ → Ordering) (wanted : NumberRun) (r : Request) (found : Option NumberRun) → Stands names held settings → OrdersNames names order → IsSameRequest names wanted r → wanted.first ≤ wanted.last → IsFirstConflict order held wanted found → IsSameFound names found (first_conflict settings r)
+    (names : Names) (held : Held) (settings : List Setting) (order : ℕ → ℕ → Ordering) (wanted : NumberRun) (r : Request) (found : Option NumberRun)
+    → Stands names held settings → OrdersNames names order → IsSameRequest names wanted r → wanted.first ≤ wanted.last
+    → IsFirstConflict order held wanted found → IsSameFound names found (first_conflict settings r)
 
 abbrev pub ConflictsLaw : Type 0
 ConflictsLaw =
-    (names : Names) (held : Held) (settings : List Setting) (wanted : NumberRun) (r : Request) (found : Bool) → Stands names held settings → IsSameRequest names wanted r → wanted.first ≤ wanted.last → Decides found (IsConflict held wanted) → found ≡ conflicts settings r
+    (names : Names) (held : Held) (settings : List Setting) (wanted : NumberRun) (r : Request) (found : Bool)
+    → Stands names held settings → IsSameRequest names wanted r → wanted.first ≤ wanted.last
+    → Decides found (IsConflict held wanted) → found ≡ conflicts settings r
 
 abbrev pub UsedLaw : Type 0
 UsedLaw =
@@ -87,25 +99,33 @@ UsedLaw =
 
 abbrev pub UsedOfLaw : Type 0
 UsedOfLaw =
-    (names : Names) (held : Held) (settings : List Setting) (has : ℕ → Bool) (name : Bytes) (count : ℕ) → Stands names held settings → AreOfHost names has name → IsUsed (held_by has held) count → count ≡ used_of name settings
+    (names : Names) (held : Held) (settings : List Setting) (has : ℕ → Bool) (name : Bytes) (count : ℕ)
+    → Stands names held settings → AreOfHost names has name → IsUsed (held_by has held) count → count ≡ used_of name settings
 
 abbrev pub UsedAfterLaw : Type 0
 UsedAfterLaw =
-    (names : Names) (ns : List NumberSetting) (settings : List Setting) (s : NumberSetting) (t : Setting) (count : ℕ) → Stands names (held_at ns) settings → IsSameSetting names s t → IsUsed (held_after (held_at ns) s) count → count ≡ used (settings ++ t ∷ [])
+    (names : Names) (ns : List NumberSetting) (settings : List Setting) (s : NumberSetting) (t : Setting) (count : ℕ)
+    → Stands names (held_at ns) settings → IsSameSetting names s t → IsUsed (held_after (held_at ns) s) count
+    → count ≡ used (settings ++ t ∷ [])
 
 abbrev pub RefusalLaw : Type 0
 RefusalLaw =
-    (names : Names) (held : Held) (settings : List Setting) (s : NumberSetting) (t : Setting) → Stands names held settings → IsSameSetting names s t → IsRefused held s ↔ (refuses 65536 settings t ≡ true)
+    (names : Names) (held : Held) (settings : List Setting) (s : NumberSetting) (t : Setting) → Stands names held settings
+    → IsSameSetting names s t → IsRefused held s ↔ (refuses 65536 settings t ≡ true)
 
 -- the runs by number are the runs by owner
 pub record RunsLaw : Type 0 where
-  pub over : (names : Names) (held : Held) (settings : List Setting) (r : NumberRun) → Stands names held settings → IsNumberRun held r → (t : Run) × IsSameRun names r t × Holds (runs settings) t
-  pub back : (names : Names) (held : Held) (settings : List Setting) (t : Run) → Stands names held settings → Holds (runs settings) t → (r : NumberRun) × IsSameRun names r t × IsNumberRun held r
+  pub over : (names : Names) (held : Held) (settings : List Setting) (r : NumberRun) → Stands names held settings → IsNumberRun held r
+      → (t : Run) × IsSameRun names r t × Holds (runs settings) t
+  pub back : (names : Names) (held : Held) (settings : List Setting) (t : Run) → Stands names held settings → Holds (runs settings) t
+      → (r : NumberRun) × IsSameRun names r t × IsNumberRun held r
 
 -- and the i-th by number, in the owners' order, is the i-th by owner
 abbrev pub RunOrderLaw : Type 0
 RunOrderLaw =
-    (names : Names) (held : Held) (settings : List Setting) (rs : List NumberRun) (i : ℕ) (r : NumberRun) → Stands names held settings → AreRuns (number_cmp names) held rs → slice_get rs i ≡ Some r → (t : Run) × (slice_get (runs settings) i ≡ Some t) × IsSameRun names r t
+    (names : Names) (held : Held) (settings : List Setting) (rs : List NumberRun) (i : ℕ) (r : NumberRun)
+    → Stands names held settings → AreRuns (number_cmp names) held rs → slice_get rs i ≡ Some r
+    → (t : Run) × (slice_get (runs settings) i ≡ Some t) × IsSameRun names r t
 
 -- the test before a release: no run of the number, and it holds nothing
 abbrev pub ReleaseTestLaw : Type 0

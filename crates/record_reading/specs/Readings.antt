@@ -41,7 +41,8 @@ IsArguments true c named xid arguments said = IsCallOf c named xid arguments sai
 
 -- the lock manager, versions 1, 3 and 4, or another
 abbrev pub IsNlmAsked : Option nlm.Version → ℕ → ℕ → List ℕ → Reading → Type 0
-IsNlmAsked (Some version) xid procedure arguments said = IsArguments (nlm_call.is_known_in version procedure) (nlm_call.call version procedure) (Nlm version) xid arguments said
+IsNlmAsked (Some version) xid procedure arguments said =
+    IsArguments (nlm_call.is_known_in version procedure) (nlm_call.call version procedure) (Nlm version) xid arguments said
 IsNlmAsked None xid procedure arguments said = said ≡ mismatch xid 1 4
 
 -- the status monitor, version 1

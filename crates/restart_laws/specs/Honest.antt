@@ -28,7 +28,8 @@ abbrev pub has_place : State → NlmCall → Bool
 has_place s (LockMsg a) = leb 1 (slots_free the_limits s.world)
 has_place s _ = true
 
--- in grace, a reclaim of a lock that is honest in the list and for which nothing is wanting: its reply isn't kept, its handle and range are in order, 2 runs are free, its host's quota admits it, its answer finds a place, and the store doesn't refuse the row
+-- in grace, a reclaim of a lock that is honest in the list and for which nothing is wanting: its reply isn't kept, its handle and
+-- range are in order, 2 runs are free, its host's quota admits it, its answer finds a place, and the store doesn't refuse the row
 pub record IsHonestReclaim (list : List Setting) (s : State) (peer : Peer) (asked : Bytes) (call : NlmCall) (a : LockArgs) (store : StoreAnswer) : Type 0 where
   pub lock : lock_of call ≡ Some a
   pub reclaim : a.reclaim ≡ true
@@ -47,7 +48,8 @@ letters_of s = map (λ (c : Outgoing). c.letter) s.world.calls
 
 -- the reply says GRANTED, or it is empty and the LOCK_RES behind it says so
 abbrev pub TellsGranted : Version → NlmCall → LockArgs → ℕ → State → Given → State → Type 0
-TellsGranted version (LockMsg b) a xid old given new = (given ≡ Replies xid (Success NoResult)) × (letters_of new ≡ letters_of old ++ lock_letter version a GRANTED ∷ [])
+TellsGranted version (LockMsg b) a xid old given new =
+    (given ≡ Replies xid (Success NoResult)) × (letters_of new ≡ letters_of old ++ lock_letter version a GRANTED ∷ [])
 TellsGranted version _ a xid old given new = given ≡ Replies xid (Success (ResResult (res version a.cookie GRANTED)))
 
 -- the lock is the newest setting, and its caller is told that it is granted

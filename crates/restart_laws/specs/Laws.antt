@@ -19,7 +19,8 @@ use Rattle.restart_laws.specs.Honest.{IsHonestReclaim, IsGranted}
 -- no step takes a row away
 abbrev pub RowsStay : Type 0
 RowsStay =
-    (old new : State) (event : Happening) (upshot : Upshot) → Steps old event upshot new → (name : Bytes) → has_row old.world.hosts name ≡ true → has_row new.world.hosts name ≡ true
+    (old new : State) (event : Happening) (upshot : Upshot) → Steps old event upshot new → (name : Bytes)
+    → has_row old.world.hosts name ≡ true → has_row new.world.hosts name ≡ true
 
 -- where kept replies are of hosts with rows they stay so
 abbrev pub KeptRowsStay : Type 0
@@ -28,26 +29,35 @@ KeptRowsStay = (old new : State) (event : Happening) (upshot : Upshot) → Steps
 -- and then a LOCK or LOCK_MSG that is done, or whose kept reply is given again, and is told that its lock is granted or waits, is of a host with a row
 abbrev pub StandingHasRow : Type 0
 StandingHasRow =
-    (old new : State) (event : Happening) (upshot : Upshot) (step : Steps old event upshot new) → KeptHaveRows old → (peer : Peer) (asked : Bytes) (xid : ℕ) (call : Call) (name : Bytes) → step.said ≡ Take peer asked (Asks xid call) → upshot.doing ≡ Applied
+    (old new : State) (event : Happening) (upshot : Upshot) (step : Steps old event upshot new) → KeptHaveRows old
+    → (peer : Peer) (asked : Bytes) (xid : ℕ) (call : Call) (name : Bytes) → step.said ≡ Take peer asked (Asks xid call)
+    → upshot.doing ≡ Applied
     → monitored_by call ≡ Some name → tells_lock (telling old peer call upshot.store (look old peer asked)) ≡ true → has_row new.world.hosts name ≡ true
 
 -- a restart, and SM_SIMU_CRASH, that the store agreed to
 abbrev pub BeginsAnew : Type 0
 BeginsAnew =
-    (old new : State) (event : Happening) (upshot : Upshot) (step : Steps old event upshot new) → upshot.doing ≡ Applied → is_beginning step.said upshot.store ≡ true → IsAnew old new
+    (old new : State) (event : Happening) (upshot : Upshot) (step : Steps old event upshot new) → upshot.doing ≡ Applied
+    → is_beginning step.said upshot.store ≡ true → IsAnew old new
 
 -- and then the world is under every list
 abbrev pub BeginsUnder : Type 0
 BeginsUnder =
-    (old new : State) (event : Happening) (upshot : Upshot) (step : Steps old event upshot new) → upshot.doing ≡ Applied → is_beginning step.said upshot.store ≡ true → (list : List Setting) → IsUnder list new.world
+    (old new : State) (event : Happening) (upshot : Upshot) (step : Steps old event upshot new) → upshot.doing ≡ Applied
+    → is_beginning step.said upshot.store ≡ true → (list : List Setting) → IsUnder list new.world
 
 -- in grace a step from a world under a list leads to one under it, unless its event is a reclaim that isn't honest in the list
 abbrev pub StaysUnder : Type 0
 StaysUnder =
-    (list : List Setting) (old new : State) (event : Happening) (upshot : Upshot) (step : Steps old event upshot new) → old.world.phase ≡ Grace → IsUnder list old.world → ((r : Request) → IsReclaim step.said r → IsHonest list r) → IsUnder list new.world
+    (list : List Setting) (old new : State) (event : Happening) (upshot : Upshot) (step : Steps old event upshot new)
+    → old.world.phase ≡ Grace → IsUnder list old.world → ((r : Request) → IsReclaim step.said r → IsHonest list r)
+    → IsUnder list new.world
 
 -- in a world under a list in which no exclusive mode stands beside another's, an honest reclaim that is done is granted
 abbrev pub ReclaimIsGranted : Type 0
 ReclaimIsGranted =
-    (list : List Setting) → AreCompatible list → (old new : State) (event : Happening) (upshot : Upshot) (step : Steps old event upshot new) → IsUnder list old.world → (peer : Peer) (asked : Bytes) (xid : ℕ) (version : Version) (call : NlmCall) (a : LockArgs) → step.said ≡ Take peer asked (Asks xid (Nlm version call)) → upshot.doing ≡ Applied
+    (list : List Setting) → AreCompatible list
+    → (old new : State) (event : Happening) (upshot : Upshot) (step : Steps old event upshot new) → IsUnder list old.world
+    → (peer : Peer) (asked : Bytes) (xid : ℕ) (version : Version) (call : NlmCall) (a : LockArgs)
+    → step.said ≡ Take peer asked (Asks xid (Nlm version call)) → upshot.doing ≡ Applied
     → IsHonestReclaim list old peer asked call a upshot.store → IsGranted version call a xid old upshot.given new

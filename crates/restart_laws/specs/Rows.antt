@@ -49,7 +49,8 @@ telling s peer call store None = telling_of (answer the_limits s.world peer.loca
 -- a kept reply that says so is of a host with a row
 abbrev pub PairHasRow : Hosts → KeptPair → Type 0
 PairHasRow hosts k =
-    (xid : ℕ) (call : Call) (name : Bytes) → IsReading k.asked (Asks xid call) → monitored_by call ≡ Some name → tells_lock (kept_telling k) ≡ true → has_row hosts name ≡ true
+    (xid : ℕ) (call : Call) (name : Bytes) → IsReading k.asked (Asks xid call) → monitored_by call ≡ Some name
+    → tells_lock (kept_telling k) ≡ true → has_row hosts name ≡ true
 
 abbrev pub KeptHaveRows : State → Type 0
 KeptHaveRows s = (k : KeptPair) → Holds s.kept k → PairHasRow s.world.hosts k

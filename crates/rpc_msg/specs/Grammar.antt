@@ -75,4 +75,5 @@ call_of xid = record { xid = xid; mtype = 0; rpcvers = 2 }
 
 -- the header of a call that the server sends
 abbrev pub written_call : ℕ → ℕ → ℕ → ℕ → List ℕ
-written_call xid prog vers proc = (call_start & call_body).written (call_of xid, record { prog = prog; vers = vers; proc = proc; cred = auth_none; verf = auth_none })
+written_call xid prog vers proc =
+    (call_start & call_body).written (call_of xid, record { prog = prog; vers = vers; proc = proc; cred = auth_none; verf = auth_none })

@@ -106,7 +106,9 @@ Cuts ending.WriteFault connection part bytes before after = Breaks connection pa
 
 -- some bytes were read. At the stream's end all their lines were answered
 abbrev pub Ends : Ending → ℕ → Bytes → Option Bytes → Option Bytes → Option Bytes → Option Bytes → Type 0
-Ends ending.Over connection part unread left before after = (bytes : Bytes) × Consumes unread left bytes × IsAtEnd left × ((rest : Bytes) × Serves connection part bytes rest before after)
+Ends ending.Over connection part unread left before after =
+    (bytes : Bytes) × Consumes unread left bytes × IsAtEnd left
+    × ((rest : Bytes) × Serves connection part bytes rest before after)
 Ends e connection part unread left before after = (bytes : Bytes) × Consumes unread left bytes × Cuts e connection part bytes before after
 
 -- or it goes on

@@ -36,7 +36,8 @@ asks_of t = Takes (view_of_peer t.peer) t.«record»
 -- the call has one receipt more, which is of its peer and record, and the reply of that receipt is what is handed over
 abbrev pub TakesCall : Taken → ℕ → List Receipt → List Receipt → List Sent → List Sent → Type 0
 TakesCall taken connection receipts receipts' sent sent' =
-    (receipt : Receipt) × (given : Given) × (receipt.event ≡ asks_of taken) × (record_of given ≡ receipt.reply) × (receipts' ≡ receipts ++ receipt ∷ []) × (sent' ≡ sent ++ posted connection given)
+    (receipt : Receipt) × (given : Given) × (receipt.event ≡ asks_of taken) × (record_of given ≡ receipt.reply)
+    × (receipts' ≡ receipts ++ receipt ∷ []) × (sent' ≡ sent ++ posted connection given)
 
 -- what a call gets that met want of memory before it began: SYSTEM_ERR, or nothing where its record is ignored
 abbrev pub StarvesAs : Task → Given → Type 0

@@ -65,7 +65,8 @@ Cuts old piece records (Some Closed) new = ⊥
 -- these were put, numbered on, and nothing else happened
 pub record HavePut (records : List Bytes) (o o' : Origin) (old new : Worker) : Type 0 where
   pub numbered : o' ≡ counted o (length records)
-  pub put : new ≡ record { seat = with_hand old.seat (record { put = old.seat.hand.put ++ jobs_of o records; taken = old.seat.hand.taken }); receipts = old.receipts }
+  pub put :
+      new ≡ record { seat = with_hand old.seat (record { put = old.seat.hand.put ++ jobs_of o records; taken = old.seat.hand.taken }); receipts = old.receipts }
 
 -- all were put, or those before one that came back
 abbrev pub Puts : Bool → List Bytes → Origin → Origin → Worker → Worker → Type 0
@@ -80,7 +81,8 @@ EndsBy TooLong records fault count lost after = (fault ≡ true) × (count ≡ l
 EndsBy Closed records fault count lost after = (count < length records) × (lost ≡ [])
 EndsBy Starved records fault count lost after = (fault ≡ false) × (count ≡ length records)
 
--- the jobs that were put are, numbered on, those of the first records of the bytes that were read; all of them, unless the channel took no more or there was no memory for the last bytes
+-- the jobs that were put are, numbered on, those of the first records of the bytes that were read; all of them, unless the
+-- channel took no more or there was no memory for the last bytes
 pub record IsRead (ending : Ending) (o o' : Origin) (before after : Option (List ℕ)) (old new : Worker) (sent sent' : List Sent) : Type 0 where
   pub bytes : List ℕ
   pub lost : List ℕ
