@@ -12,7 +12,7 @@ pub struct Job {
     connection: u64,
     peer: Peer,
     number: u64,
-    record: Bytes,
+    asked: Bytes,
 }
 
 impl Model for Job {
@@ -21,7 +21,7 @@ impl Model for Job {
 
     ghost Value = { Task };
 
-    ghost view = { λ j. record { connection = j.connection; peer = view_of_peer j.peer; number = j.number; asked = j.record } };
+    ghost view = { λ j. record { connection = j.connection; peer = view_of_peer j.peer; number = j.number; asked = j.asked } };
 }
 
 impl Job {
@@ -33,7 +33,7 @@ impl Job {
             connection,
             peer,
             number,
-            record: asked,
+            asked,
         }
     }
 
@@ -62,13 +62,13 @@ impl Job {
     pub fn record(&self) -> &Bytes
         ensures { result.now ≡ self.now.asked }
     {
-        &self.record
+        &self.asked
     }
 
     /// The record itself.
     pub fn into_record(self) -> Bytes
         ensures { result ≡ self.asked }
     {
-        self.record
+        self.asked
     }
 }

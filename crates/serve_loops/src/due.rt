@@ -35,8 +35,8 @@ fn send_next<R: RangeTable, S: HostStore, L: Ledger, C: Courier, W: Wait>(
     // The book's lock is free again behind this line.
     let next = shared.lock(rt).next_call();
     match next {
-        Next::Call { number, to, record } => {
-            courier.hand(number, to, record);
+        Next::Call { number, to, frame } => {
+            courier.hand(number, to, frame);
             None
         }
         Next::NothingDue => Some(Due::Nothing),

@@ -30,13 +30,15 @@ impl<'a, 'h, K: Drop, Q: Signals, R: Wait> SocketOutbox<'a, 'h, K, Q, R> {
         home: Option<&'h Arc<Connection, Global>>,
         signals: &'a Q,
     ) -> SocketOutbox<'a, 'h, K, Q, R> {
+        let record = Frame::new();
+        let parcel = Parcel {
+            connection: 0,
+            record,
+        };
         SocketOutbox {
             wire: Wire::new(alloc, rt, callers, home),
             signals,
-            parcel: Parcel {
-                connection: 0,
-                record: Frame::new(),
-            },
+            parcel,
             all: History::new(),
         }
     }

@@ -77,11 +77,7 @@ pub struct Entered<R: RangeTable, S: HostStore> {
 #[derive(Drop)]
 pub enum Next {
     /// The call of the server's own of this number, whom it is for, and its record. It has its entry.
-    Call {
-        number: u64,
-        to: Dest,
-        record: Frame,
-    },
+    Call { number: u64, to: Dest, frame: Frame },
     /// No call is due.
     NothingDue,
     /// A call is due, and there was no room for its entry. It is due still.
@@ -144,7 +140,8 @@ impl<R: RangeTable, S: HostStore, L: Ledger> Shared<R, S, L> {
             return Err(taken);
         }
         let peer = taken.peer;
-        let upshot = self.book.apply(BookEvent::Take { peer, record: same });
+        let record = same;
+        let upshot = self.book.apply(BookEvent::Take { peer, record });
         newest_entered();
         let receipt = self.book.receipt(taken, upshot.reply);
         self.total.add(share, 1);
@@ -181,7 +178,7 @@ impl<R: RangeTable, S: HostStore, L: Ledger> Shared<R, S, L> {
             return Next::NoRoom;
         }
         match self.book.next_call() {
-            Some((number, to, record)) => Next::Call { number, to, record },
+            Some((number, to, frame)) => Next::Call { number, to, frame },
             None => Next::NothingDue,
         }
     }

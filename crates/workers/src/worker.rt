@@ -209,10 +209,8 @@ impl<P: Place, L: Ledger> Worker<P, L> {
     {
         let connection = job.connection();
         let peer = job.peer();
-        let taken = Taken {
-            peer,
-            record: job.into_record(),
-        };
+        let record = job.into_record();
+        let taken = Taken { peer, record };
         match self.desk.take(rt, shared, outbox, connection, taken) {
             Ok(is_due) => is_due,
             Err(taken) => {

@@ -92,29 +92,29 @@ impl<'a, R: Net + Clock, D: Locals> Sender<'a, R, D> {
     }
 
     // The place of the host of this name, at the port of the record.
-    fn place_of(&mut self, name: &[u8], record: &[u8]) -> Option<usize>
+    fn place_of(&mut self, name: &[u8], bytes: &[u8]) -> Option<usize>
         ensures { self.new ≡ self.old }
     {
         let address = self.peers.address(name)?;
-        let port = self.settings.port_of(record);
+        let port = self.settings.port_of(bytes);
         self.office
             .place_of(SocketAddr::new(address, port), self.now)
     }
 
     // A host that has no address is silent at once.
-    fn call(&mut self, number: u64, name: &[u8], record: &[u8])
+    fn call(&mut self, number: u64, name: &[u8], bytes: &[u8])
         ensures { self.new ≡ self.old }
     {
-        let place = self.place_of(name, record);
+        let place = self.place_of(name, bytes);
         let later = self.now.checked_add(self.settings.silence);
         let until = match (place, later) {
             (Some(_), Some(later)) => later,
             _ => self.now,
         };
         self.awaited
-            .add(Waiting::new(number, record, place, self.now, until));
+            .add(Waiting::new(number, bytes, place, self.now, until));
         if let Some(place) = place {
-            self.office.send(self.rt, place, record, self.now);
+            self.office.send(self.rt, place, bytes, self.now);
         }
     }
 

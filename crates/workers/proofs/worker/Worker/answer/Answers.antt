@@ -10,8 +10,8 @@ use Rattle.workers.proofs.worker.Worker.answer.Goals.{in-Err, in-Ok}
 use Rattle.workers.proofs.worker.Worker.answer.Goals as goal
 
 -- what the desk was handed is the job's call
-the_call : (g : _) (c : goal.Joined-take g) → Takes (view_of_peer c.peer-peer.result) c.into_record.result ≡ asks c.args.job
-the_call g c = λ i. Takes (c.peer-peer.ensures i) (c.into_record.ensures i)
+the_call : (g : _) (c : goal.Joined-take g) → Takes (view_of_peer c.peer-peer.result) c.into_record-record.result ≡ asks c.args.job
+the_call g c = λ i. Takes (c.peer-peer.ensures i) (c.into_record-record.ensures i)
 
 pub returns-clause-answered : goal.returns-clause-answered
 returns-clause-answered g c = elim c.match-take.branch [
