@@ -13,7 +13,7 @@ use Rattle.definition_laws.proofs.AskingLaws.{not_asked, refused_is_no_yes, star
 use Rattle.call_plans.specs.declared.plans.Plan.{Plan}
 use Rattle.call_plans.specs.declared.plans.Plan.TheVariants as plan
 use Rattle.lock_service.specs.MayAsk.{may_ask}
-use Rattle.call_plans.specs.Planned.{planned, stored, asked_of, IsPlan, IsAnswerTo, IsWithin, AsksOnlyIf}
+use Rattle.call_plans.specs.Planned.{planned, stored, view_of_asked, IsPlan, IsAnswerTo, IsWithin, AsksOnlyIf}
 use Rattle.book.specs.Given.{comes_to}
 use Rattle.book.specs.Notes.{IsStep}
 
@@ -57,7 +57,7 @@ module _ (s : State) (peer : Peer) (bytes : Bytes) (xid : ℕ) (call : Call) (no
   }
   starved_late (plan.AfterStore q agreed refused) Yes allowed is only row kept answer within = record {
     gives = refl;
-    leaves = rw (asks_as (plan.AfterStore q agreed refused) is) (row_stored s call (asked_of q) (row only kept));
+    leaves = rw (asks_as (plan.AfterStore q agreed refused) is) (row_stored s call (view_of_asked q) (row only kept));
     fits = rw (row only kept, asks_as (plan.AfterStore q agreed refused) is, within refl) refl;
   }
 

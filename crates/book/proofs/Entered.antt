@@ -8,7 +8,7 @@ use Rattle.definitions.specs.Step.{State}
 use Rattle.book.specs.declared.entry.TheConstants.{SEGMENT}
 use Rattle.book.specs.declared.entry.Entry.{Entry}
 use Rattle.book.specs.Given.{Upshot}
-use Rattle.book.specs.Notes.{Happening, Note, note_of, Steps}
+use Rattle.book.specs.Notes.{Happening, Note, view_of_entry, Steps}
 use Rattle.book.specs.Journal.{IsLegal, next_of, noted}
 use Rattle.book.specs.Kept.{journal_of, IsKept}
 use Rattle.book.proofs.Journals.{legal_grows, same_journal}
@@ -17,21 +17,21 @@ module _ {Z : Type 0} (newest : ℕ) (base s new : State) (entries more : Vec En
   abbrev note : Note
   note = record { number = newest + 1; event = event; upshot = upshot }
 
-  pub noted_as : IsKept newest base entries s → more.items ≡ entries.items ++ e ∷ [] → note_of e ≡ note → journal_of (newest + 1) base more new ≡ noted (journal_of newest base entries s) (record note { number = next_of (journal_of newest base entries s) }) new
+  pub noted_as : IsKept newest base entries s → more.items ≡ entries.items ++ e ∷ [] → view_of_entry e ≡ note → journal_of (newest + 1) base more new ≡ noted (journal_of newest base entries s) (record note { number = next_of (journal_of newest base entries s) }) new
   noted_as kept items is =
       let before = journal_of newest base entries s in
       let k = kept.numbers in
-      let same = length-map entries.items note_of in
+      let same = length-map entries.items view_of_entry in
       let longer = ap (λ (es : List Entry). length es) items in
       let number : newest + 1 ≡ next_of before = grind (arith, common_steps, k, same) in
       let first : before.first ≡ (newest + 1) + 1 - vec_len more = grind (arith, common_steps, k, longer) in
-      let notes : before.notes ++ record note { number = next_of before } ∷ [] ≡ map note_of more.items = rw (items, map-append, is, ← number) refl in
-      sym (same_journal before.first ((newest + 1) + 1 - vec_len more) before.base new (before.notes ++ record note { number = next_of before } ∷ []) (map note_of more.items) first notes)
+      let notes : before.notes ++ record note { number = next_of before } ∷ [] ≡ map view_of_entry more.items = rw (items, map-append, is, ← number) refl in
+      sym (same_journal before.first ((newest + 1) + 1 - vec_len more) before.base new (before.notes ++ record note { number = next_of before } ∷ []) (map view_of_entry more.items) first notes)
 
-  legal : IsKept newest base entries s → more.items ≡ entries.items ++ e ∷ [] → note_of e ≡ note → Steps s event upshot new → IsLegal (journal_of (newest + 1) base more new)
+  legal : IsKept newest base entries s → more.items ≡ entries.items ++ e ∷ [] → view_of_entry e ≡ note → Steps s event upshot new → IsLegal (journal_of (newest + 1) base more new)
   legal kept items is steps = subst IsLegal (sym (noted_as kept items is)) (legal_grows (journal_of newest base entries s) event upshot new kept.legal steps)
 
-  pub kept_grows : IsKept newest base entries s → vec_len entries < SEGMENT → more.items ≡ entries.items ++ e ∷ [] → vec_capacity more ≡ vec_capacity entries → note_of e ≡ note → Steps s event upshot new → IsKept (newest + 1) base more new
+  pub kept_grows : IsKept newest base entries s → vec_len entries < SEGMENT → more.items ≡ entries.items ++ e ∷ [] → vec_capacity more ≡ vec_capacity entries → view_of_entry e ≡ note → Steps s event upshot new → IsKept (newest + 1) base more new
   kept_grows kept room items capacity is steps =
       let longer = ap (λ (es : List Entry). length es) items in
       let k = kept.numbers in

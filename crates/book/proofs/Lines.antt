@@ -6,13 +6,13 @@ use Rattle.definitions.specs.Hosts.{StoreAnswer, NotAsked}
 use Rattle.definitions.specs.Replay.{fits}
 use Rattle.definitions.specs.Rulings.{ruled, stays}
 use Rattle.call_plans.specs.Planned.{view_of_stored}
-use Rattle.call_plans.specs.declared.plans.StoreAnswer.{StoreAnswer as Said}
+use Rattle.call_plans.specs.declared.plans.StoreAnswer.{StoreAnswer as CodedAnswer}
 use Rattle.definitions.specs.Replies.{Line, LineReply, LineStarved}
 use Rattle.definitions.specs.Lines.{line_answer}
 use Rattle.definitions.specs.World.{World, the_limits, settled}
 use Rattle.definitions.specs.Step.{State, Local, Applied, Starved, Says, with_world}
 use Rattle.lock_service.specs.declared.local.SetLine as line
-use Rattle.lock_service.specs.Lined.{set_line_if, set_line_of}
+use Rattle.lock_service.specs.Lined.{set_line_if, view_of_set_line}
 use Rattle.local_ops.specs.declared.answer.LocalAnswer.{LocalAnswer}
 use Rattle.local_ops.specs.Answers.{view_of_local_answer}
 use Rattle.local_ops.specs.Grammar.{Reads as LineReads}
@@ -34,8 +34,8 @@ pub settled_so : (s : State) (l : ℕ) (line : Line) (reply said : LineReply) (w
 settled_so s l line reply said w is fit says leaves = rw (says, leaves) (record { gives = rw is refl; leaves = rw is refl; fits = fit })
 
 -- a line that sets
-pub set_so : (s : State) (x : line.SetLine) (said : LineReply) (w : World) → said ≡ (ruled NotAsked (line_answer the_limits s.world x.connection (set_line_of x))).says
-    → w ≡ settled the_limits (ruled NotAsked (line_answer the_limits s.world x.connection (set_line_of x))).world → IsStep s (Local x.connection (set_line_of x)) (comes_to Applied NotAsked (Says said)) (with_world s w)
+pub set_so : (s : State) (x : line.SetLine) (said : LineReply) (w : World) → said ≡ (ruled NotAsked (line_answer the_limits s.world x.connection (view_of_set_line x))).says
+    → w ≡ settled the_limits (ruled NotAsked (line_answer the_limits s.world x.connection (view_of_set_line x))).world → IsStep s (Local x.connection (view_of_set_line x)) (comes_to Applied NotAsked (Says said)) (with_world s w)
 set_so s x said w says leaves = record {
   gives = ap (λ (r : LineReply). Says r) (sym says);
   leaves = ap (with_world s) (sym leaves);
@@ -52,12 +52,12 @@ read_as s new l bytes whole upshot read step = record { said = Local l whole; re
 
 -- whether it was answered or starved
 module _ {E : Type 0} (s new : State) (l : ℕ) (bytes : Bytes) (whole : Line) (read : LineReads bytes whole) where
-  pub answered : (r : Result (LocalAnswer × Said) E) → IfOk r (λ told. IsStep s (Local l whole) (comes_to Applied (view_of_stored told.1) (Says (view_of_local_answer told.0))) new)
+  pub answered : (r : Result (LocalAnswer × CodedAnswer) E) → IfOk r (λ told. IsStep s (Local l whole) (comes_to Applied (view_of_stored told.1) (Says (view_of_local_answer told.0))) new)
       → IfOk r (λ told. Steps s (AsksLine l bytes) (comes_to Applied (view_of_stored told.1) (Says (view_of_local_answer told.0))) new)
   answered (Ok told) step = read_as s new l bytes whole _ read step
   answered (Err e) step = tt
 
-  pub unanswered : (r : Result (LocalAnswer × Said) E) → OnErr r (IsStep s (Local l whole) (comes_to Starved NotAsked (Says LineStarved)) new)
+  pub unanswered : (r : Result (LocalAnswer × CodedAnswer) E) → OnErr r (IsStep s (Local l whole) (comes_to Starved NotAsked (Says LineStarved)) new)
       → OnErr r (Steps s (AsksLine l bytes) (comes_to Starved NotAsked (Says LineStarved)) new)
   unanswered (Ok answer) step = tt
   unanswered (Err e) step = read_as s new l bytes whole _ read step

@@ -8,7 +8,7 @@ use Rattle.definitions.specs.Step.{State, Applied, Starved, Sends}
 use Rattle.definitions.specs.Replay.{Entry, IsLegal as IsLegalFrom}
 use Rattle.call_plans.specs.Planned.{counted}
 use Rattle.call_records.specs.declared.dest.Dest.{Dest}
-use Rattle.call_records.specs.Dests.{dest_of}
+use Rattle.call_records.specs.Dests.{view_of_dest}
 use Rattle.book.specs.Given.{Upshot, comes_to, record_of}
 use Rattle.book.specs.Notes.{Note, Happening, Takes, SendsNext, HearsAnswer, AsksLine, FallsSilent, GraceEnds, BeginsAnew, Reads, Steps}
 
@@ -82,5 +82,5 @@ pub record Enters (old : Book) (event : Happening) (upshot : Upshot) (new : Book
 abbrev pub IsNext : Book → Option (ℕ × Dest × Bytes) → Book → Type 0
 IsNext old None new = (next_due old.journal.end.world.calls ≡ None) × (new ≡ old)
 IsNext old (Some (number, to, bytes)) new =
-    (letter : Letter) × (dest_of to ≡ letter.to) × (bytes ≡ record_of (Sends number letter))
+    (letter : Letter) × (view_of_dest to ≡ letter.to) × (bytes ≡ record_of (Sends number letter))
     × Enters old SendsNext (comes_to Applied NotAsked (Sends number letter)) new

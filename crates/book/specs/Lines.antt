@@ -8,7 +8,7 @@ use Rattle.definitions.specs.Rulings.{stays}
 use Rattle.definitions.specs.Step.{State, Local, Applied, Says}
 use Rattle.definitions.specs.World.{the_limits}
 use Rattle.call_plans.specs.Planned.{view_of_stored}
-use Rattle.call_plans.specs.declared.plans.StoreAnswer.{StoreAnswer as Said}
+use Rattle.call_plans.specs.declared.plans.StoreAnswer.{StoreAnswer as CodedAnswer}
 use Rattle.local_ops.specs.declared.answer.LocalAnswer.{LocalAnswer}
 use Rattle.local_ops.specs.Answers.{view_of_local_answer}
 use Rattle.book.specs.Given.{comes_to}
@@ -21,5 +21,5 @@ IsToldOnly s l line reply =
     × (fits the_limits s (record { event = Local l line; doing = Applied; store = NotAsked }) ≡ true)
 
 -- what a line that was done was told, and what the store answered, are its step
-abbrev pub IsDone : State → ℕ → Line → State → LocalAnswer × Said → Type 0
+abbrev pub IsDone : State → ℕ → Line → State → LocalAnswer × CodedAnswer → Type 0
 IsDone old l line new told = IsStep old (Local l line) (comes_to Applied (view_of_stored told.1) (Says (view_of_local_answer told.0))) new

@@ -41,18 +41,18 @@ view_of_event (event.Silent number) = FallsSilent number
 view_of_event event.GraceOver = GraceEnds
 view_of_event event.Restart = BeginsAnew
 
-abbrev pub happened : Act → Happening
-happened (act.Event event reply) = view_of_event event
-happened (act.Line l line answer) = AsksLine l line.items
-happened (act.Sent number letter) = SendsNext
+abbrev pub view_of_act : Act → Happening
+view_of_act (act.Event event reply) = view_of_event event
+view_of_act (act.Line l line answer) = AsksLine l line.items
+view_of_act (act.Sent number letter) = SendsNext
 
-abbrev pub gave : Act → Given
-gave (act.Event event reply) = view_of_reply reply
-gave (act.Line l line answer) = Says (view_of_local_answer answer.value)
-gave (act.Sent number letter) = Sends number letter.value
+abbrev pub given_in : Act → Given
+given_in (act.Event event reply) = view_of_reply reply
+given_in (act.Line l line answer) = Says (view_of_local_answer answer.value)
+given_in (act.Sent number letter) = Sends number letter.value
 
-abbrev pub note_of : Entry → Note
-note_of e = record { number = e.number; event = happened e.act; upshot = comes_to (view_of_doing e.doing) (view_of_stored e.store) (gave e.act) }
+abbrev pub view_of_entry : Entry → Note
+view_of_entry e = record { number = e.number; event = view_of_act e.act; upshot = comes_to (view_of_doing e.doing) (view_of_stored e.store) (given_in e.act) }
 
 -- the event of the definitions, whose record, answer or line has its reading
 abbrev pub Reads : Happening → Event → Type 0

@@ -5,8 +5,8 @@ ghost use Rattle.definitions.specs.Replies.{Line, LineReply, LineStarved};
 ghost use Rattle.definitions.specs.Step.{Local, Applied, Starved as IsStarved, Says};
 ghost use Rattle.call_plans.specs.Planned.{view_of_stored, counted};
 ghost use Rattle.local_ops.specs.Answers.{view_of_local_answer};
-ghost use Rattle.local_ops.specs.Calls.{line_of};
-ghost use Rattle.lock_service.specs.Lined.{set_line_of};
+ghost use Rattle.local_ops.specs.Calls.{view_of_local_call};
+ghost use Rattle.lock_service.specs.Lined.{view_of_set_line};
 ghost use Rattle.book.specs.Given.{comes_to};
 ghost use Rattle.book.specs.Lines.{IsDone, IsToldOnly};
 ghost use Rattle.book.specs.Notes.{AsksLine, IsStep, Steps};
@@ -44,8 +44,8 @@ impl<R: RangeTable, S: HostStore> Shared<R, S> {
         connection: u64,
         call: &LocalCall,
     ) -> Result<(LocalAnswer, StoreAnswer), Starved>
-        ensures ok { IfOk result (λ told. IsStep self.old.state (Local connection (line_of call.now)) (comes_to Applied (view_of_stored told.1) (Says (view_of_local_answer told.0))) self.new.state) }
-        ensures err { OnErr result (IsStep self.old.state (Local connection (line_of call.now)) (comes_to IsStarved NotAsked (Says LineStarved)) self.new.state) }
+        ensures ok { IfOk result (λ told. IsStep self.old.state (Local connection (view_of_local_call call.now)) (comes_to Applied (view_of_stored told.1) (Says (view_of_local_answer told.0))) self.new.state) }
+        ensures err { OnErr result (IsStep self.old.state (Local connection (view_of_local_call call.now)) (comes_to IsStarved NotAsked (Says LineStarved)) self.new.state) }
         ensures counts { IfOk result (λ told. self.new.refusals ≡ counted (view_of_stored told.1) self.old.refusals) }
         ensures refusals { OnErr result (self.new.refusals ≡ self.old.refusals) }
     {
@@ -85,8 +85,8 @@ impl<R: RangeTable, S: HostStore> Shared<R, S> {
 
     // Of `setlk`, and of `setlkw`.
     fn set(&mut self, line: &SetLine<'_>) -> Result<(LocalAnswer, StoreAnswer), Starved>
-        ensures ok { IfOk result (λ told. IsStep self.old.state (Local line.now.connection (set_line_of line.now)) (comes_to Applied (view_of_stored told.1) (Says (view_of_local_answer told.0))) self.new.state) }
-        ensures err { OnErr result (IsStep self.old.state (Local line.now.connection (set_line_of line.now)) (comes_to IsStarved NotAsked (Says LineStarved)) self.new.state) }
+        ensures ok { IfOk result (λ told. IsStep self.old.state (Local line.now.connection (view_of_set_line line.now)) (comes_to Applied (view_of_stored told.1) (Says (view_of_local_answer told.0))) self.new.state) }
+        ensures err { OnErr result (IsStep self.old.state (Local line.now.connection (view_of_set_line line.now)) (comes_to IsStarved NotAsked (Says LineStarved)) self.new.state) }
         ensures counts { IfOk result (λ told. self.new.refusals ≡ counted (view_of_stored told.1) self.old.refusals) }
         ensures refusals { OnErr result (self.new.refusals ≡ self.old.refusals) }
     {

@@ -2,7 +2,7 @@
 ghost use Rattle.std.specs.Prelude.{◌≡◌};
 ghost use Rattle.kept_replies.specs.Pairs.{view_of_peer};
 ghost use Rattle.book.specs.Given.{view_of_reply, record_of};
-ghost use Rattle.book.specs.Notes.{Takes, note_of};
+ghost use Rattle.book.specs.Notes.{Takes, view_of_entry};
 ghost use Rattle.book.specs.Receipts.{receipt_of, same_receipt};
 
 use crate::entry::{Act, Entry};
@@ -84,7 +84,7 @@ impl Receipt {
 
     /// Whether it is this entry's.
     pub fn is_of(&self, entry: &Entry) -> bool
-        ensures { result ≡ same_receipt (receipt_of (note_of entry.now)) self.now }
+        ensures { result ≡ same_receipt (receipt_of (view_of_entry entry.now)) self.now }
     {
         if entry.number != self.number {
             return false;

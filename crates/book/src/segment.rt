@@ -1,6 +1,6 @@
 //! Segments of the journal.
 ghost use Rattle.std.specs.Prelude.{◌≡◌, ◌≤◌, ◌↔◌, [], map, vec_capacity, IfSome, IsNone};
-ghost use Rattle.book.specs.Notes.{note_of};
+ghost use Rattle.book.specs.Notes.{view_of_entry};
 ghost use Rattle.book.specs.declared.entry.TheConstants.{SEGMENT};
 
 use crate::entry::{Entry, SEGMENT};
@@ -75,7 +75,7 @@ impl<R: RangeTable, S: HostStore> Closed<R, S> {
 
     /// The entries, the oldest first.
     pub fn entries(&self) -> &[Entry]
-        ensures { map note_of result.now ≡ self.now.notes }
+        ensures { map view_of_entry result.now ≡ self.now.notes }
     {
         &self.entries
     }

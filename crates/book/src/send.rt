@@ -3,7 +3,7 @@ ghost use Rattle.std.specs.Prelude.{◌≡◌, None, IfSome, IfNone};
 ghost use Rattle.definitions.specs.Hosts.{NotAsked};
 ghost use Rattle.definitions.specs.Outgoing.{next_due};
 ghost use Rattle.definitions.specs.Step.{Applied, Send, Sends};
-ghost use Rattle.call_records.specs.Dests.{dest_of};
+ghost use Rattle.call_records.specs.Dests.{view_of_dest};
 ghost use Rattle.call_records.specs.Records.{call_record};
 ghost use Rattle.book.specs.Given.{comes_to};
 ghost use Rattle.book.specs.Notes.{IsStep};
@@ -23,7 +23,7 @@ pub(crate) struct Sending {
     pub(crate) to: Dest,
     pub(crate) frame: Frame,
     pub(crate) letter: Seen<Letter>,
-    pub(crate) ghost goes: { dest_of to ≡ letter.value.to },
+    pub(crate) ghost goes: { view_of_dest to ≡ letter.value.to },
     pub(crate) ghost says: { frame ≡ call_record number letter.value.message },
 }
 

@@ -4,7 +4,7 @@ ghost use Rattle.definitions.specs.Step.{opening_state, Silent, GraceOver, Resta
 ghost use Rattle.call_plans.specs.Planned.{view_of_stored, counted};
 ghost use Rattle.book.specs.Given.{comes_to, view_of_doing, view_of_reply, unbegun};
 ghost use Rattle.book.specs.Journal.{TakesMemory};
-ghost use Rattle.book.specs.Notes.{gave, happened, view_of_event, AsksLine, HearsAnswer, IsStep, Steps};
+ghost use Rattle.book.specs.Notes.{given_in, view_of_act, view_of_event, AsksLine, HearsAnswer, IsStep, Steps};
 
 use crate::entry::Act;
 use crate::event::BookEvent;
@@ -66,8 +66,8 @@ impl<R: RangeTable, S: HostStore> Shared<R, S> {
     /// One event: what it comes to, and what the journal notes of it.
     pub(crate) fn apply(&mut self, event: BookEvent) -> (Upshot, Act)
         ensures step { Steps self.old.state (view_of_event event) result.0 self.new.state }
-        ensures event { happened result.1 ≡ view_of_event event }
-        ensures noted { gave result.1 ≡ result.0.given }
+        ensures event { view_of_act result.1 ≡ view_of_event event }
+        ensures noted { given_in result.1 ≡ result.0.given }
         ensures counts { self.new.refusals ≡ counted result.0.store self.old.refusals }
         ensures fed { result.0.doing ≡ HasStarved → TakesMemory (view_of_event event) }
     {
@@ -86,8 +86,8 @@ impl<R: RangeTable, S: HostStore> Shared<R, S> {
 
     fn local(&mut self, connection: u64, line: Vec<u8>) -> (Upshot, Act)
         ensures step { Steps self.old.state (AsksLine connection line.items) result.0 self.new.state }
-        ensures event { happened result.1 ≡ AsksLine connection line.items }
-        ensures noted { gave result.1 ≡ result.0.given }
+        ensures event { view_of_act result.1 ≡ AsksLine connection line.items }
+        ensures noted { given_in result.1 ≡ result.0.given }
         ensures counts { self.new.refusals ≡ counted result.0.store self.old.refusals }
     {
         let (doing, answer, store) = match self.line(connection, &line) {

@@ -1,7 +1,7 @@
 -- Outcomes as the definitions have them.
 use Rattle.definitions.specs.Nlm as nlm
 use Rattle.definitions.specs.Replies as def
-use Rattle.callbacks.specs.Meanings.{res_of, test_res_of}
+use Rattle.callbacks.specs.Meanings.{view_of_told_res, view_of_told_test_res}
 use Rattle.nlm4_types.specs.Stat.{view_of_stat}
 use Rattle.nlm4_types.specs.Version.{view_of_version}
 use Rattle.nsm_types.specs.Results.{view_of_monitor_res}
@@ -12,14 +12,14 @@ use Rattle.call_outcome.specs.declared.result.CallResult.TheVariants as told
 use Rattle.call_outcome.specs.declared.outcome.Outcome.{Outcome}
 use Rattle.call_outcome.specs.declared.outcome.Outcome.TheVariants as outcome
 
-abbrev pub share_res_of : share_declared.ShareRes → nlm.ShareRes
-share_res_of r = record { cookie = r.cookie; stat = view_of_stat r.stat; sequence = r.sequence }
+abbrev pub view_of_told_share_res : share_declared.ShareRes → nlm.ShareRes
+view_of_told_share_res r = record { cookie = r.cookie; stat = view_of_stat r.stat; sequence = r.sequence }
 
 abbrev pub view_of_result : CallResult → def.Result
 view_of_result told.Nothing = def.NoResult
-view_of_result (told.Res r) = def.ResResult (res_of r)
-view_of_result (told.TestRes version r) = def.TestResResult (view_of_version version) (test_res_of r)
-view_of_result (told.ShareRes r) = def.ShareResult (share_res_of r)
+view_of_result (told.Res r) = def.ResResult (view_of_told_res r)
+view_of_result (told.TestRes version r) = def.TestResResult (view_of_version version) (view_of_told_test_res r)
+view_of_result (told.ShareRes r) = def.ShareResult (view_of_told_share_res r)
 view_of_result (told.Monitor r) = def.MonitorResult (view_of_monitor_res r.res) r.state
 view_of_result (told.State r) = def.StateResult r.state
 

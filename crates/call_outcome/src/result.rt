@@ -1,7 +1,7 @@
 //! The results of procedures.
 ghost use Rattle.std.specs.Prelude.{◌≡◌, ◌+◌, ◌≤◌, ◌++◌, ◌↔◌, length, IsOk, OnOk, OnErr};
 ghost use Rattle.nlm4_types.specs.Share.{view_of_shareres};
-ghost use Rattle.call_outcome.specs.Values.{view_of_result, share_res_of};
+ghost use Rattle.call_outcome.specs.Values.{view_of_result, view_of_told_share_res};
 ghost use Rattle.call_outcome.specs.Replies.{result_bytes};
 
 use callbacks::{Res, ShortBytes, TestRes};
@@ -55,7 +55,7 @@ impl CallResult {
 }
 
 fn lent_share_res(res: &ShareRes) -> nlm4_types::ShareRes<'_>
-    ensures { view_of_shareres result ≡ share_res_of res.now }
+    ensures { view_of_shareres result ≡ view_of_told_share_res res.now }
 {
     nlm4_types::ShareRes {
         cookie: res.cookie.lent(),

@@ -13,7 +13,7 @@ use Rattle.definitions.specs.Grants.{granted_res_rules}
 use Rattle.definitions.specs.Replies.{Outcome}
 use Rattle.definitions.specs.Rulings.{Ruling, decided, ruled}
 use Rattle.definitions.specs.Answer.{Answered}
-use Rattle.callbacks.specs.Meanings.{my_id_of}
+use Rattle.callbacks.specs.Meanings.{view_of_told_my_id}
 use Rattle.nlm4_types.specs.Stat.{view_of_stat}
 use Rattle.owner_ids.specs.Views.{view_of_owner}
 use Rattle.range_table.specs.Modes.{view_of_mode, view_of_held_mode}
@@ -29,20 +29,20 @@ use Rattle.call_plans.specs.declared.plans.Change.TheVariants as change
 use Rattle.call_plans.specs.declared.plans.Answer as answer
 use Rattle.call_plans.specs.declared.plans.Plan.{Plan}
 use Rattle.call_plans.specs.declared.plans.Plan.TheVariants as plan
-use Rattle.call_plans.specs.declared.plans.StoreAnswer.{StoreAnswer as Said}
+use Rattle.call_plans.specs.declared.plans.StoreAnswer.{StoreAnswer as CodedAnswer}
 use Rattle.call_plans.specs.declared.plans.StoreAnswer.TheVariants as store
 
-abbrev pub setting_of : range.Range → Setting
-setting_of r = record { file = r.file; owner = view_of_owner r.owner; first = r.first; last = r.last; mode = view_of_held_mode r.mode }
+abbrev pub view_of_range : range.Range → Setting
+view_of_range r = record { file = r.file; owner = view_of_owner r.owner; first = r.first; last = r.last; mode = view_of_held_mode r.mode }
 
-abbrev pub request_wanted : wanted.Wanted → Request
-request_wanted x = record { file = x.file; owner = view_of_owner x.owner; first = x.first; last = x.last; mode = view_of_mode x.mode }
+abbrev pub view_of_wanted : wanted.Wanted → Request
+view_of_wanted x = record { file = x.file; owner = view_of_owner x.owner; first = x.first; last = x.last; mode = view_of_mode x.mode }
 
 abbrev pub changed : Change → World → World
 changed change.Nothing w = w
-changed (change.Set r) w = with_setting w (setting_of r)
-changed (change.Wait x letter) w = with_waiter w (record { request = request_wanted x; letter = letter })
-changed (change.Cancel x) w = record w { waiters = without_waiter (request_wanted x) w.waiters }
+changed (change.Set r) w = with_setting w (view_of_range r)
+changed (change.Wait x letter) w = with_waiter w (record { request = view_of_wanted x; letter = letter })
+changed (change.Cancel x) w = record w { waiters = without_waiter (view_of_wanted x) w.waiters }
 changed (change.Share s) w = record w { shares = with_share s w.shares }
 changed (change.Unshare s) w = record w { shares = without_share s w.shares }
 changed (change.DropHost name) w = without_host_of w name.items
@@ -56,27 +56,27 @@ told_in t w = record { outcome = view_of_outcome t.outcome.told.value; due = t.d
 abbrev pub answered : answer.Answer → World → Answered
 answered a w = told_in a.told (changed a.change w)
 
-abbrev pub asked_of : Asked → StoreCall
-asked_of (asks.Monitor name state) = hosts.Monitor name state
-asked_of (asks.Seen name state) = hosts.Seen name state
-asked_of (asks.Watched mon_name my_id bytes) = hosts.Watched mon_name (my_id_of my_id) bytes
-asked_of (asks.Unwatched mon_name my_id) = hosts.Unwatched mon_name (my_id_of my_id)
-asked_of asks.Begin = hosts.Begin
+abbrev pub view_of_asked : Asked → StoreCall
+view_of_asked (asks.Monitor name state) = hosts.Monitor name state
+view_of_asked (asks.Seen name state) = hosts.Seen name state
+view_of_asked (asks.Watched mon_name my_id bytes) = hosts.Watched mon_name (view_of_told_my_id my_id) bytes
+view_of_asked (asks.Unwatched mon_name my_id) = hosts.Unwatched mon_name (view_of_told_my_id my_id)
+view_of_asked asks.Begin = hosts.Begin
 
-abbrev pub view_of_stored : Said → StoreAnswer
+abbrev pub view_of_stored : CodedAnswer → StoreAnswer
 view_of_stored store.NotAsked = NotAsked
 view_of_stored store.Yes = Yes
 view_of_stored store.Refused = Refused
 
 -- the world once the store has made the change that it was asked for
 abbrev pub after_asked : Asked → World → World
-after_asked call w = with_hosts w (after_store w.hosts (asked_of call))
+after_asked call w = with_hosts w (after_store w.hosts (view_of_asked call))
 
 -- what the plan comes to in a world
 abbrev pub planned : Plan → World → Ruling Answered
 planned (plan.Decided a) w = decided (answered a w)
 planned (plan.AfterStore call agreed refused) w = record {
-  asks = Some (asked_of call);
+  asks = Some (view_of_asked call);
   agreed = answered agreed (after_asked call w);
   refused = told_in refused w;
 }
@@ -103,7 +103,7 @@ IsAnswerTo (plan.AfterStore call agreed refused) store = store ≢ NotAsked
 -- the store says yes to nothing that is past a limit
 abbrev pub IsWithin : Plan → StoreAnswer → World → Type 0
 IsWithin (plan.Decided a) store w = Unit {0}
-IsWithin (plan.AfterStore call agreed refused) store w = store ≡ Yes → is_past_limit 4096 1024 w.hosts (asked_of call) ≡ false
+IsWithin (plan.AfterStore call agreed refused) store w = store ≡ Yes → is_past_limit 4096 1024 w.hosts (view_of_asked call) ≡ false
 
 -- a plan that was done under this answer gave, with this outcome, what it comes to in each world that the answer leads from
 abbrev pub IsCommitted : StoreAnswer → Plan → Outcome → World → World → Type 0
@@ -125,9 +125,9 @@ counted Refused refusals = refusals + 1
 -- the change is refused by no table
 abbrev pub FitsChange : Change → World → Type 0
 FitsChange change.Nothing w = Unit {0}
-FitsChange (change.Set r) w = refuses 65536 w.settings (setting_of r) ≡ false
+FitsChange (change.Set r) w = refuses 65536 w.settings (view_of_range r) ≡ false
 FitsChange (change.Wait x letter) w = 0 < slots_free the_limits w
-FitsChange (change.Cancel x) w = is_waiting (request_wanted x) w.waiters ≡ true
+FitsChange (change.Cancel x) w = is_waiting (view_of_wanted x) w.waiters ≡ true
 FitsChange (change.Share s) w = (is_denied w.shares s ≡ false) × (has_no_room 16384 w.shares s ≡ false)
 FitsChange (change.Unshare s) w = Unit {0}
 FitsChange (change.DropHost name) w = Unit {0}

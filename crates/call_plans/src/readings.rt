@@ -3,16 +3,16 @@ ghost use Rattle.std.specs.Prelude.{◌≡◌};
 ghost use Rattle.definitions.specs.World.{World as SaidWorld};
 ghost use Rattle.definitions.specs.Rulings.{ruled};
 ghost use Rattle.call_outcome.specs.Values.{view_of_outcome};
-ghost use Rattle.definitions.specs.Settings.{setting_of as setting_said};
-ghost use Rattle.held_locks.specs.Asked.{asked, view_of_new_setting};
-ghost use Rattle.call_plans.specs.Planned.{view_of_stored, planned, request_wanted, setting_of};
+ghost use Rattle.definitions.specs.Settings.{setting_of};
+ghost use Rattle.held_locks.specs.Asked.{view_of_request, view_of_new_setting};
+ghost use Rattle.call_plans.specs.Planned.{view_of_stored, planned, view_of_wanted, view_of_range};
 
 use crate::plans::{Plan, Range, StoreAnswer, Told, Wanted};
 
 impl Range {
     /// The same, as the locks are told.
     pub fn setting(&self) -> held_locks::NewSetting<'_>
-        ensures { view_of_new_setting result ≡ setting_of self.now }
+        ensures { view_of_new_setting result ≡ view_of_range self.now }
     {
         held_locks::NewSetting {
             file: self.file,
@@ -27,7 +27,7 @@ impl Range {
 impl Wanted {
     /// The same, as the locks are asked.
     pub fn request(&self) -> held_locks::Request<'_>
-        ensures { asked result ≡ request_wanted self.now }
+        ensures { view_of_request result ≡ view_of_wanted self.now }
     {
         held_locks::Request {
             file: self.file,
@@ -40,7 +40,7 @@ impl Wanted {
 
     /// What its owner holds once it has the lock.
     pub fn into_range(self) -> Range
-        ensures { setting_of result ≡ setting_said (request_wanted self) }
+        ensures { view_of_range result ≡ setting_of (view_of_wanted self) }
     {
         Range {
             file: self.file,

@@ -5,12 +5,12 @@ ghost use Rattle.definitions.specs.World.{with_hosts, with_setting};
 ghost use Rattle.hosts_db.specs.Calls.{Counts, Makes, IsPastLimit};
 ghost use Rattle.definitions.specs.Starts.{refuses};
 ghost use Rattle.call_outcome.specs.Values.{view_of_outcome};
-ghost use Rattle.callbacks.specs.Meanings.{my_id_of};
+ghost use Rattle.callbacks.specs.Meanings.{view_of_told_my_id};
 ghost use Rattle.std.specs.Option.{option_copied};
 ghost use Rattle.lock_state.specs.Seen.{KeepsKnown};
-ghost use Rattle.call_plans.specs.Planned.{view_of_stored, answered, asked_of, told_in, stored, counted};
+ghost use Rattle.call_plans.specs.Planned.{view_of_stored, answered, view_of_asked, told_in, stored, counted};
 ghost use Rattle.call_plans.specs.Planned.{IsAnswerTo, IsCommitted, IsWithin, Fits, FitsChange, FitsAnswer, FitsDue, FitsUnder, CanAsk, CanAskFor, IsReady, IsReadyFor, MayHold};
-ghost use Rattle.call_plans.specs.Planned.{IsForgotten, IsForgottenFor, IsForgottenBy, IsForgottenUnder, KeepsOthers, KeepsOthersFor, changed, setting_of};
+ghost use Rattle.call_plans.specs.Planned.{IsForgotten, IsForgottenFor, IsForgottenBy, IsForgottenUnder, KeepsOthers, KeepsOthersFor, changed, view_of_range};
 
 use crate::answers::granted_res;
 use crate::plans::{Answer, Asked, Change, Plan, Range, Shared, StoreAnswer, Told};
@@ -134,9 +134,9 @@ fn ask_for<R: RangeTable, S: HostStore>(
 ) -> Result<(), StoreError>
     requires { CanAskFor asked.now world.old.world }
     ensures world { world.new.world ≡ with_hosts world.old.world world.new.world.hosts }
-    ensures makes { Makes result world.old.world.hosts world.new.world.hosts (after_store world.old.world.hosts (asked_of asked.now)) }
+    ensures makes { Makes result world.old.world.hosts world.new.world.hosts (after_store world.old.world.hosts (view_of_asked asked.now)) }
     ensures counts { Counts result world.old.refusals world.new.refusals }
-    ensures limit { IsPastLimit result (is_past_limit 4096 1024 world.old.world.hosts (asked_of asked.now)) }
+    ensures limit { IsPastLimit result (is_past_limit 4096 1024 world.old.world.hosts (view_of_asked asked.now)) }
     ensures names { world.new.names ≡ world.old.names }
 {
     match asked {
@@ -154,7 +154,7 @@ fn ask_for<R: RangeTable, S: HostStore>(
 
 // A watcher as the store takes it.
 fn lent(my_id: &MyId) -> hosts_db::MyId<'_>
-    ensures { result ≡ my_id_of my_id.now }
+    ensures { result ≡ view_of_told_my_id my_id.now }
 {
     hosts_db::MyId::new(my_id.my_name.as_slice(), my_id.prog, my_id.vers, my_id.proc)
 }
@@ -245,8 +245,8 @@ fn tell<R: RangeTable, S: HostStore>(world: &mut World<R, S>, told: Told) -> Sha
 
 fn set<R: RangeTable, S: HostStore>(world: &mut World<R, S>, range: &Range) -> Result<(), NoRuns>
     requires { MayHold range.now world.old }
-    ensures refused { IsErr result ↔ IsTrue (refuses 65536 world.old.world.settings (setting_of range.now)) }
-    ensures ok { OnOk result (world.new.world ≡ with_setting world.old.world (setting_of range.now)) }
+    ensures refused { IsErr result ↔ IsTrue (refuses 65536 world.old.world.settings (view_of_range range.now)) }
+    ensures ok { OnOk result (world.new.world ≡ with_setting world.old.world (view_of_range range.now)) }
     ensures err { OnErr result (world.new.world ≡ world.old.world) }
     ensures refusals { world.new.refusals ≡ world.old.refusals }
 {

@@ -1,7 +1,7 @@
 //! What is called, and with what.
 ghost use Rattle.std.specs.Prelude.{◌≡◌, ◌+◌, ◌≤◌, ◌++◌, ◌↔◌, length, IsOk, OnOk, OnErr};
 ghost use Rattle.nlm4_types.specs.Version.{view_of_version};
-ghost use Rattle.callbacks.specs.Meanings.{my_id_of};
+ghost use Rattle.callbacks.specs.Meanings.{view_of_told_my_id};
 ghost use Rattle.call_records.specs.Records.{lock_manager, record_to, status_monitor, watcher};
 ghost use Rattle.call_records.specs.Parts.{arguments_bytes};
 
@@ -54,7 +54,7 @@ impl Callee {
 
     /// What a watcher named, each number as the word of its two's complement.
     pub(crate) fn watcher(named: &MyId) -> Callee
-        ensures { result ≡ watcher (my_id_of named.now) }
+        ensures { result ≡ watcher (view_of_told_my_id named.now) }
     {
         Callee {
             program: named.prog.cast_unsigned(),

@@ -1,7 +1,7 @@
 //! Whom a record is for.
 ghost use Rattle.std.specs.Prelude.{◌≡◌};
 ghost use Rattle.callbacks.specs.Meanings.{view_of_destination};
-ghost use Rattle.call_records.specs.Dests.{dest_of};
+ghost use Rattle.call_records.specs.Dests.{view_of_dest};
 
 use callbacks::Destination;
 use local_ops::HostName;
@@ -18,7 +18,7 @@ pub enum Dest {
 impl Dest {
     /// The same as a letter says.
     pub fn of(to: &Destination) -> Dest
-        ensures { dest_of result ≡ view_of_destination to.now }
+        ensures { view_of_dest result ≡ view_of_destination to.now }
     {
         match to {
             Destination::Host(name) => Dest::Host(HostName::new(name.as_slice())),

@@ -30,34 +30,34 @@ view_of_told_lock l = record {
   l_len = l.l_len;
 }
 
-abbrev pub found_lock : Option (Bor lock_declared.Lock) → Option nlm.Lock
-found_lock None = None
-found_lock (Some l) = Some (view_of_told_lock l.now)
+abbrev pub view_of_found_lock : Option (Bor lock_declared.Lock) → Option nlm.Lock
+view_of_found_lock None = None
+view_of_found_lock (Some l) = Some (view_of_told_lock l.now)
 
-abbrev pub local_lock_of : local_declared.LocalLock → outgoing.LocalLock
-local_lock_of l = record { owner = view_of_owner l.owner; file = l.file; offset = l.offset; len = l.len }
+abbrev pub view_of_local_lock : local_declared.LocalLock → outgoing.LocalLock
+view_of_local_lock l = record { owner = view_of_owner l.owner; file = l.file; offset = l.offset; len = l.len }
 
-abbrev pub res_of : res_declared.Res → nlm.Res
-res_of r = record { cookie = r.cookie; stat = view_of_stat r.stat }
+abbrev pub view_of_told_res : res_declared.Res → nlm.Res
+view_of_told_res r = record { cookie = r.cookie; stat = view_of_stat r.stat }
 
-abbrev pub holder_of : holder_declared.Holder → nlm.Holder
-holder_of h = record { exclusive = h.exclusive; svid = h.svid; oh = h.oh; l_offset = h.l_offset; l_len = h.l_len }
+abbrev pub view_of_told_holder : holder_declared.Holder → nlm.Holder
+view_of_told_holder h = record { exclusive = h.exclusive; svid = h.svid; oh = h.oh; l_offset = h.l_offset; l_len = h.l_len }
 
-abbrev pub test_res_of : test_declared.TestRes → nlm.TestRes
-test_res_of r = record { cookie = r.cookie; stat = view_of_stat r.stat; holder = option_map holder_of r.holder }
+abbrev pub view_of_told_test_res : test_declared.TestRes → nlm.TestRes
+view_of_told_test_res r = record { cookie = r.cookie; stat = view_of_stat r.stat; holder = option_map view_of_told_holder r.holder }
 
-abbrev pub my_id_of : my_id_declared.MyId → nsm.MyId
-my_id_of m = record { my_name = m.my_name; prog = m.prog; vers = m.vers; proc = m.proc }
+abbrev pub view_of_told_my_id : my_id_declared.MyId → nsm.MyId
+view_of_told_my_id m = record { my_name = m.my_name; prog = m.prog; vers = m.vers; proc = m.proc }
 
 abbrev pub view_of_message : Message → outgoing.Message
 view_of_message (message.Granted version exclusive lock) = outgoing.Granted (view_of_version version) exclusive (view_of_told_lock lock)
 view_of_message (message.GrantedMsg version exclusive lock) = outgoing.GrantedMsg (view_of_version version) exclusive (view_of_told_lock lock)
-view_of_message (message.GrantedLine mode lock) = outgoing.GrantedLine (view_of_mode mode) (local_lock_of lock)
-view_of_message (message.TestResult version res) = outgoing.TestResult (view_of_version version) (test_res_of res)
-view_of_message (message.LockResult version res) = outgoing.LockResult (view_of_version version) (res_of res)
-view_of_message (message.CancelResult version res) = outgoing.CancelResult (view_of_version version) (res_of res)
-view_of_message (message.UnlockResult version res) = outgoing.UnlockResult (view_of_version version) (res_of res)
-view_of_message (message.Status my_id mon_name state bytes) = outgoing.Status (my_id_of my_id) mon_name state bytes
+view_of_message (message.GrantedLine mode lock) = outgoing.GrantedLine (view_of_mode mode) (view_of_local_lock lock)
+view_of_message (message.TestResult version res) = outgoing.TestResult (view_of_version version) (view_of_told_test_res res)
+view_of_message (message.LockResult version res) = outgoing.LockResult (view_of_version version) (view_of_told_res res)
+view_of_message (message.CancelResult version res) = outgoing.CancelResult (view_of_version version) (view_of_told_res res)
+view_of_message (message.UnlockResult version res) = outgoing.UnlockResult (view_of_version version) (view_of_told_res res)
+view_of_message (message.Status my_id mon_name state bytes) = outgoing.Status (view_of_told_my_id my_id) mon_name state bytes
 view_of_message (message.Notify name state) = outgoing.Notify name state
 
 abbrev pub view_of_destination : Destination → outgoing.Destination

@@ -1,6 +1,6 @@
 //! Copies of what is sent, for a reply that is kept with the calls that went with it.
 ghost use Rattle.std.specs.Prelude.{◌≡◌, IfOk};
-ghost use Rattle.callbacks.specs.Meanings.{view_of_told_lock, local_lock_of, res_of, holder_of, test_res_of, my_id_of, view_of_message, view_of_destination};
+ghost use Rattle.callbacks.specs.Meanings.{view_of_told_lock, view_of_local_lock, view_of_told_res, view_of_told_holder, view_of_told_test_res, view_of_told_my_id, view_of_message, view_of_destination};
 
 use crate::caller::Caller;
 use crate::letter::{Destination, Letter};
@@ -117,7 +117,7 @@ impl Caller {
 
 impl LocalLock {
     fn copy(&self) -> Result<LocalLock, AllocError>
-        ensures { IfOk result (λ copy. local_lock_of copy ≡ local_lock_of self.now) }
+        ensures { IfOk result (λ copy. view_of_local_lock copy ≡ view_of_local_lock self.now) }
     {
         Ok(LocalLock {
             owner: self.owner.clone()?,
@@ -130,7 +130,7 @@ impl LocalLock {
 
 impl MyId {
     fn copy(&self, alloc: Global) -> Result<MyId, AllocError>
-        ensures { IfOk result (λ copy. my_id_of copy ≡ my_id_of self.now) }
+        ensures { IfOk result (λ copy. view_of_told_my_id copy ≡ view_of_told_my_id self.now) }
     {
         Ok(MyId {
             my_name: self.my_name.copy(alloc)?,
@@ -143,7 +143,7 @@ impl MyId {
 
 impl Res {
     fn copy(&self, alloc: Global) -> Result<Res, AllocError>
-        ensures { IfOk result (λ copy. res_of copy ≡ res_of self.now) }
+        ensures { IfOk result (λ copy. view_of_told_res copy ≡ view_of_told_res self.now) }
     {
         Ok(Res {
             cookie: self.cookie.copy(alloc)?,
@@ -154,7 +154,7 @@ impl Res {
 
 impl TestRes {
     fn copy(&self, alloc: Global) -> Result<TestRes, AllocError>
-        ensures { IfOk result (λ copy. test_res_of copy ≡ test_res_of self.now) }
+        ensures { IfOk result (λ copy. view_of_told_test_res copy ≡ view_of_told_test_res self.now) }
     {
         let cookie = self.cookie.copy(alloc)?;
         let holder = match &self.holder {
@@ -171,7 +171,7 @@ impl TestRes {
 
 impl Holder {
     fn copy(&self, alloc: Global) -> Result<Holder, AllocError>
-        ensures { IfOk result (λ copy. holder_of copy ≡ holder_of self.now) }
+        ensures { IfOk result (λ copy. view_of_told_holder copy ≡ view_of_told_holder self.now) }
     {
         Ok(Holder {
             exclusive: self.exclusive,

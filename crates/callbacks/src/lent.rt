@@ -2,7 +2,7 @@
 ghost use Rattle.std.specs.Prelude.{◌≡◌};
 ghost use Rattle.nlm4_types.specs.Lock.{view_of_lock};
 ghost use Rattle.nlm4_types.specs.Results.{view_of_res, view_of_holder, view_of_testres};
-ghost use Rattle.callbacks.specs.Meanings.{view_of_told_lock, res_of, holder_of, test_res_of};
+ghost use Rattle.callbacks.specs.Meanings.{view_of_told_lock, view_of_told_res, view_of_told_holder, view_of_told_test_res};
 
 use crate::lock::Lock;
 use crate::results::{Holder, Res, TestRes};
@@ -41,7 +41,7 @@ impl Lock {
 
 impl Res {
     pub fn lent(&self) -> nlm4_types::Res<'_>
-        ensures { view_of_res result ≡ res_of self.now }
+        ensures { view_of_res result ≡ view_of_told_res self.now }
     {
         nlm4_types::Res {
             cookie: self.cookie.lent(),
@@ -52,7 +52,7 @@ impl Res {
 
 impl Holder {
     pub fn lent(&self) -> nlm4_types::Holder<'_, WIDE>
-        ensures { view_of_holder result ≡ holder_of self.now }
+        ensures { view_of_holder result ≡ view_of_told_holder self.now }
     {
         nlm4_types::Holder {
             exclusive: self.exclusive,
@@ -66,7 +66,7 @@ impl Holder {
 
 impl TestRes {
     pub fn lent(&self) -> nlm4_types::TestRes<'_, WIDE>
-        ensures { view_of_testres result ≡ test_res_of self.now }
+        ensures { view_of_testres result ≡ view_of_told_test_res self.now }
     {
         let holder = match &self.holder {
             Some(holder) => Some(holder.lent()),

@@ -2,7 +2,7 @@
 ghost use Rattle.std.specs.Prelude.{◌≡◌};
 ghost use Rattle.definitions.specs.Outgoing.{ends_when_sent, is_grant, is_granted_msg};
 ghost use Rattle.callbacks.specs.Grants.{granted_lock};
-ghost use Rattle.callbacks.specs.Meanings.{view_of_message, found_lock};
+ghost use Rattle.callbacks.specs.Meanings.{view_of_message, view_of_found_lock};
 
 use crate::lock::{LocalLock, Lock};
 use crate::results::{Res, TestRes};
@@ -127,7 +127,7 @@ impl Message {
 
     /// The lock that it grants: of GRANTED or GRANTED_MSG.
     pub fn granted_lock(&self) -> Option<&Lock>
-        ensures { found_lock result ≡ granted_lock (view_of_message self.now) }
+        ensures { view_of_found_lock result ≡ granted_lock (view_of_message self.now) }
     {
         match self {
             Message::Granted { lock, .. } | Message::GrantedMsg { lock, .. } => Some(lock),

@@ -1,7 +1,7 @@
 //! A call of the server's own, as it is sent.
 
 ghost use Rattle.std.specs.Prelude.{◌≡◌, [], Some};
-ghost use Rattle.call_records.specs.Dests.{dest_of};
+ghost use Rattle.call_records.specs.Dests.{view_of_dest};
 ghost use Rattle.daemon_core.specs.Addressed.{view_of_addressee};
 ghost use Rattle.daemon_core.specs.Outputs.{bytes_sent};
 ghost use Rattle.daemon_core.specs.Sending.{ToLocal, addressee};
@@ -24,12 +24,12 @@ pub struct Posting {
 }
 
 impl Model for Posting {
-    ghost use Rattle.call_records.specs.Dests.{dest_of};
+    ghost use Rattle.call_records.specs.Dests.{view_of_dest};
     ghost use Rattle.daemon_core.specs.Sending.{Sending, addressee};
 
     ghost Value = { Sending };
 
-    ghost view = { λ p. record { to = addressee (dest_of p.to); bytes = p.frame } };
+    ghost view = { λ p. record { to = addressee (view_of_dest p.to); bytes = p.frame } };
 }
 
 impl Posting {
@@ -44,7 +44,7 @@ impl Posting {
     }
 
     pub(crate) fn fill(&mut self, to: Dest, frame: Frame)
-        ensures { self.new ≡ record { to = addressee (dest_of to); bytes = frame } }
+        ensures { self.new ≡ record { to = addressee (view_of_dest to); bytes = frame } }
     {
         self.to = to;
         self.frame = frame;

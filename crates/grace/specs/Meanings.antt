@@ -5,16 +5,16 @@ use Rattle.grace.specs.declared.Phase.TheVariants.{Grace as CodedGrace, Normal a
 use Rattle.grace.specs.declared.CallKind.{CallKind as CodedKind}
 use Rattle.grace.specs.declared.CallKind.TheVariants.{Testing as CodedTesting, Locking as CodedLocking, Sharing as CodedSharing, Cancelling as CodedCancelling, Unlocking as CodedUnlocking, Unsharing as CodedUnsharing, LocalLocking as CodedLocalLocking, Always as CodedAlways}
 
-abbrev pub phase_of : CodedPhase → Phase
-phase_of CodedGrace = Grace
-phase_of CodedNormal = Normal
+abbrev pub view_of_phase : CodedPhase → Phase
+view_of_phase CodedGrace = Grace
+view_of_phase CodedNormal = Normal
 
-abbrev pub kind_of : CodedKind → CallKind
-kind_of CodedTesting = Testing
-kind_of (CodedLocking reclaim) = Locking reclaim
-kind_of (CodedSharing reclaim) = Sharing reclaim
-kind_of CodedCancelling = Cancelling
-kind_of CodedUnlocking = Unlocking
-kind_of CodedUnsharing = Unsharing
-kind_of CodedLocalLocking = LocalLocking
-kind_of CodedAlways = Always
+abbrev pub view_of_kind : CodedKind → CallKind
+view_of_kind CodedTesting = Testing
+view_of_kind (CodedLocking reclaim) = Locking reclaim
+view_of_kind (CodedSharing reclaim) = Sharing reclaim
+view_of_kind CodedCancelling = Cancelling
+view_of_kind CodedUnlocking = Unlocking
+view_of_kind CodedUnsharing = Unsharing
+view_of_kind CodedLocalLocking = LocalLocking
+view_of_kind CodedAlways = Always

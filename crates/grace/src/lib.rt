@@ -3,7 +3,7 @@
 
 ghost use Rattle.std.specs.Prelude.{◌≡◌};
 ghost use Rattle.definitions.specs.Phases.{admits as is_admitted};
-ghost use Rattle.grace.specs.Meanings.{phase_of, kind_of};
+ghost use Rattle.grace.specs.Meanings.{view_of_phase, view_of_kind};
 
 /// Where the daemon is after a restart.
 #[derive(Clone, Copy, PartialEq, Eq)]
@@ -37,7 +37,7 @@ pub enum CallKind {
 
 /// Whether a call of this kind acts in the phase, or is answered DENIED_GRACE_PERIOD (XNFS, "Grace period").
 pub fn admits(phase: Phase, kind: &CallKind) -> bool
-    ensures { result ≡ is_admitted (phase_of phase) (kind_of kind.now) }
+    ensures { result ≡ is_admitted (view_of_phase phase) (view_of_kind kind.now) }
 {
     match kind {
         CallKind::Always => true,

@@ -21,7 +21,7 @@ use Rattle.range_owners.proofs.Keeping.{interned}
 use Rattle.range_owners.proofs.FirstConflicts.{first_over}
 use Rattle.range_owners.proofs.InWay.{conflicts_over}
 use Rattle.held_locks.specs.declared.asked.Request.{Request as HeldRequest}
-use Rattle.held_locks.specs.Asked.{asked, run_by_number}
+use Rattle.held_locks.specs.Asked.{view_of_request, run_by_number}
 use Rattle.held_locks.specs.Stranger.{IsAsker}
 
 -- the names with one more
@@ -83,19 +83,19 @@ module _ (names : Names) (held : Held) (settings : List Setting) (h : Stands nam
     mode = s.mode;
   }
 
-  pub first_found : (found : Option NumberRun) → IsAsker names n x → IsFirstConflict (number_cmp names) held wanted found → IsSameFound names found (first_conflict settings (asked r))
+  pub first_found : (found : Option NumberRun) → IsAsker names n x → IsFirstConflict (number_cmp names) held wanted found → IsSameFound names found (first_conflict settings (view_of_request r))
   first_found found (inl e) f =
-      first_over names held settings (number_cmp names) wanted (asked r) found h (record { agrees = number_agrees names h.distinct }) (record { file = refl; owner = e; first = refl; last = refl; mode = refl }) ordered f
+      first_over names held settings (number_cmp names) wanted (view_of_request r) found h (record { agrees = number_agrees names h.distinct }) (record { file = refl; owner = e; first = refl; last = refl; mode = refl }) ordered f
   first_found found (inr e) f =
       let stands = interned names too held settings n x h e.0 e.1 (renames_too names n x) in
-      found_too found (first_conflict settings (asked r)) f
-      (first_over too held settings (number_cmp too) wanted (asked r) found stands (record { agrees = number_agrees too stands.distinct }) (record { file = refl; owner = (renames_too names n x).there; first = refl; last = refl; mode = refl }) ordered (first_too found f))
+      found_too found (first_conflict settings (view_of_request r)) f
+      (first_over too held settings (number_cmp too) wanted (view_of_request r) found stands (record { agrees = number_agrees too stands.distinct }) (record { file = refl; owner = (renames_too names n x).there; first = refl; last = refl; mode = refl }) ordered (first_too found f))
 
-  pub conflicts_found : (found : Bool) → IsAsker names n x → Decides found (IsConflict held wanted) → found ≡ conflicts_said settings (asked r)
-  conflicts_found found (inl e) d = conflicts_over names held settings wanted (asked r) found h (record { file = refl; owner = e; first = refl; last = refl; mode = refl }) ordered d
+  pub conflicts_found : (found : Bool) → IsAsker names n x → Decides found (IsConflict held wanted) → found ≡ conflicts_said settings (view_of_request r)
+  conflicts_found found (inl e) d = conflicts_over names held settings wanted (view_of_request r) found h (record { file = refl; owner = e; first = refl; last = refl; mode = refl }) ordered d
   conflicts_found found (inr e) d =
       let stands = interned names too held settings n x h e.0 e.1 (renames_too names n x) in
-      conflicts_over too held settings wanted (asked r) found stands (record { file = refl; owner = (renames_too names n x).there; first = refl; last = refl; mode = refl }) ordered d
+      conflicts_over too held settings wanted (view_of_request r) found stands (record { file = refl; owner = (renames_too names n x).there; first = refl; last = refl; mode = refl }) ordered d
 
 -- what is shown of a run is the run of its owner
 pub same_shown : (names : Names) (a : NumberRun) (x : Owner) (t : Run) → names a.owner ≡ Some x → IsSameRun names a t → record { file = a.file; owner = x; first = a.first; last = a.last; mode = view_of_mode a.mode } ≡ t

@@ -11,8 +11,8 @@ use Rattle.held_locks.specs.declared.asked.Request.{Request as HeldRequest}
 use Rattle.held_locks.specs.declared.asked.NewSetting.{NewSetting}
 use Rattle.held_locks.specs.declared.asked.Holder.{Holder}
 
-abbrev pub asked : HeldRequest → Request
-asked r = record { file = r.file; owner = view_of_owner r.owner.now; first = r.first; last = r.last; mode = view_of_mode r.mode }
+abbrev pub view_of_request : HeldRequest → Request
+view_of_request r = record { file = r.file; owner = view_of_owner r.owner.now; first = r.first; last = r.last; mode = view_of_mode r.mode }
 
 abbrev pub view_of_new_setting : NewSetting → Setting
 view_of_new_setting c = record { file = c.file; owner = view_of_owner c.owner.now; first = c.first; last = c.last; mode = view_of_held_mode c.mode }
@@ -21,16 +21,16 @@ view_of_new_setting c = record { file = c.file; owner = view_of_owner c.owner.no
 abbrev pub setting_by : Owner → NumberRun → Setting
 setting_by x r = record { file = r.file; owner = x; first = r.first; last = r.last; mode = Some (view_of_mode r.mode) }
 
-abbrev pub shown : Holder → Run
-shown h = record { file = h.file; owner = view_of_owner h.owner.now; first = h.first; last = h.last; mode = view_of_mode h.mode }
+abbrev pub view_of_lock_holder : Holder → Run
+view_of_lock_holder h = record { file = h.file; owner = view_of_owner h.owner.now; first = h.first; last = h.last; mode = view_of_mode h.mode }
 
 -- the same of a run by number
 abbrev pub shown_by : Owner → NumberRun → Run
 shown_by x r = record { file = r.file; owner = x; first = r.first; last = r.last; mode = view_of_mode r.mode }
 
-abbrev pub shown_found : Option Holder → Option Run
-shown_found None = None
-shown_found (Some h) = Some (shown h)
+abbrev pub view_of_found_holder : Option Holder → Option Run
+view_of_found_holder None = None
+view_of_found_holder (Some h) = Some (view_of_lock_holder h)
 
 abbrev pub run_by_number : ℕ → HeldRequest → NumberRun
 run_by_number n r = record { file = r.file; owner = n; first = r.first; last = r.last; mode = r.mode }

@@ -40,11 +40,11 @@ pub struct Holder<'a> {
 
 impl<'a> Request<'a> {
     ghost use Rattle.definitions.specs.Settings.{setting_of};
-    ghost use Rattle.held_locks.specs.Asked.{asked, view_of_new_setting};
+    ghost use Rattle.held_locks.specs.Asked.{view_of_request, view_of_new_setting};
 
     /// What its owner is to hold once it has the lock.
     pub fn setting(&self) -> NewSetting<'a>
-        ensures { view_of_new_setting result ≡ setting_of (asked self.now) }
+        ensures { view_of_new_setting result ≡ setting_of (view_of_request self.now) }
     {
         NewSetting {
             file: self.file,
@@ -57,12 +57,12 @@ impl<'a> Request<'a> {
 }
 
 impl<'a> Holder<'a> {
-    ghost use Rattle.held_locks.specs.Asked.{shown, shown_by};
+    ghost use Rattle.held_locks.specs.Asked.{view_of_lock_holder, shown_by};
     ghost use Rattle.owner_ids.specs.Views.{view_of_owner};
 
     /// Of a run, and the owner of its number.
     pub(crate) fn of(run: &Run, owner: &'a Owner) -> Holder<'a>
-        ensures { shown result ≡ shown_by (view_of_owner owner.now) run.now }
+        ensures { view_of_lock_holder result ≡ shown_by (view_of_owner owner.now) run.now }
     {
         Holder {
             file: run.file,

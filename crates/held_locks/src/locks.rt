@@ -8,7 +8,7 @@ ghost use Rattle.owner_ids.specs.Views.{view_of_owner};
 ghost use Rattle.owner_ids.specs.Names.{named};
 ghost use Rattle.range_owners.specs.Stands.{Stands};
 ghost use Rattle.range_table.specs.Settings.{mode_at};
-ghost use Rattle.held_locks.specs.Asked.{asked, view_of_new_setting, setting_by, shown, shown_found};
+ghost use Rattle.held_locks.specs.Asked.{view_of_request, view_of_new_setting, setting_by, view_of_lock_holder, view_of_found_holder};
 ghost use Rattle.held_locks.specs.Held.{IsKnown, KeepsKnown, KeepsNames, SameNames, HoldsNothing};
 ghost use Rattle.held_locks.specs.Listing.{IsListing};
 ghost use Rattle.held_locks.specs.Stranger.{IsAsker};
@@ -133,7 +133,7 @@ impl<R: RangeTable> Locks<R> {
 
     /// The lock of another owner that is first in the way: of the least first byte, then of the least owner.
     pub fn first_conflict(&self, wanted: &Request<'_>) -> Option<Holder<'_>>
-        ensures { shown_found result ≡ first_conflict self.now.settings (asked wanted.now) }
+        ensures { view_of_found_holder result ≡ first_conflict self.now.settings (view_of_request wanted.now) }
     {
         let asker = self.asker(wanted.owner);
         match self
@@ -147,7 +147,7 @@ impl<R: RangeTable> Locks<R> {
 
     /// Whether another owner's lock is in the way.
     pub fn conflicts(&self, wanted: &Request<'_>) -> bool
-        ensures { result ≡ conflicts self.now.settings (asked wanted.now) }
+        ensures { result ≡ conflicts self.now.settings (view_of_request wanted.now) }
     {
         let asker = self.asker(wanted.owner);
         self.table.is_blocked(&wanted.by_number(asker))
@@ -321,7 +321,7 @@ impl<R: RangeTable> Locks<R> {
     /// The i-th of all locks, in order of file, first byte and owner.
     pub fn holder(&self, i: u32) -> Holder<'_>
         requires { i < used self.now.settings }
-        ensures { slice_get (runs self.now.settings) i ≡ Some (shown result) }
+        ensures { slice_get (runs self.now.settings) i ≡ Some (view_of_lock_holder result) }
     {
         let run = self.table.runs(&self.owners, i);
         Holder::of(&run, self.owners.get(run.owner))
@@ -339,7 +339,7 @@ impl<R: RangeTable> Locks<R> {
     pub fn listed(&self, all: &Listing, i: u32) -> Holder<'_>
         requires listing { IsListing self.now all.now }
         requires within { i < used self.now.settings }
-        ensures { slice_get (runs self.now.settings) i ≡ Some (shown result) }
+        ensures { slice_get (runs self.now.settings) i ≡ Some (view_of_lock_holder result) }
     {
         let run = all.get(i);
         Holder::of(run, self.owners.get(run.owner))

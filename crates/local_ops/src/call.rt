@@ -2,7 +2,7 @@
 
 ghost use Rattle.local_ops.specs.Reading.{Gives, GivesRest};
 ghost use Rattle.local_ops.specs.Words.{line_by, read_line};
-ghost use Rattle.local_ops.specs.Calls.{line_of, line_read};
+ghost use Rattle.local_ops.specs.Calls.{view_of_local_call, line_read};
 ghost use Rattle.local_ops.specs.Grammar.{Reads};
 
 use crate::fields::{BadLine, Fields, Word};
@@ -47,7 +47,7 @@ impl LocalCall {
 
 #[tactic(auto, unfolding(crate::specs::Words::read_line, crate::specs::Words::line_in))]
 fn read_fields(line: &[u8]) -> Result<LocalCall, BadLine>
-    ensures { Gives line_of result (read_line line.now) }
+    ensures { Gives view_of_local_call result (read_line line.now) }
 {
     if line.len() > MAX_LINE {
         return Err(BadLine);
@@ -61,7 +61,7 @@ fn read_fields(line: &[u8]) -> Result<LocalCall, BadLine>
 
 /// Reads what follows the first word.
 fn read_call(word: Word, fields: &mut Fields<'_>) -> Result<LocalCall, BadLine>
-    ensures { GivesRest line_of result fields.new (line_by word fields.old) }
+    ensures { GivesRest view_of_local_call result fields.new (line_by word fields.old) }
 {
     match word {
         Word::GetLock => {

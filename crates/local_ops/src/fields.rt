@@ -7,7 +7,7 @@ ghost use Rattle.callbacks.specs.Locals.{is_local};
 ghost use Rattle.owner_ids.specs.Views.{view_of_owner};
 ghost use Rattle.range_table.specs.Modes.{view_of_held_mode};
 ghost use Rattle.local_ops.specs.Reading.{Gives, GivesRest, is_space, fields_of, fields_left, first_field, number_in, owner_in, hex_in, change_in, process_of, runs_of, runs_in, owned_in, quota_in, lock_in};
-ghost use Rattle.callbacks.specs.Meanings.{local_lock_of};
+ghost use Rattle.callbacks.specs.Meanings.{view_of_local_lock};
 ghost use Rattle.local_ops.specs.Words.{word_in};
 
 use crate::host_name::HostName;
@@ -299,7 +299,7 @@ impl<'a> Fields<'a> {
     /// OWNER FH MODE FIRST LEN.
     #[tactic(auto, unfolding(crate::specs::Reading::lock_in))]
     pub(crate) fn lock(&mut self) -> Result<(Option<Mode>, LocalLock), BadLine>
-        ensures { GivesRest (λ read. (view_of_held_mode read.0, local_lock_of read.1)) result self.new (lock_in self.old) }
+        ensures { GivesRest (λ read. (view_of_held_mode read.0, view_of_local_lock read.1)) result self.new (lock_in self.old) }
     {
         let (owner, file) = self.owned()?;
         let mode = self.mode_or_none()?;

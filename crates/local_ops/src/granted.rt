@@ -1,7 +1,7 @@
 //! The line that tells a waiter that its lock was granted.
 
 ghost use Rattle.std.specs.Prelude.{◌≡◌, ◌+◌, ◌≤◌, ◌++◌, ◌↔◌, length, IsOk, OnOk, OnErr};
-ghost use Rattle.callbacks.specs.Meanings.{local_lock_of};
+ghost use Rattle.callbacks.specs.Meanings.{view_of_local_lock};
 ghost use Rattle.range_table.specs.Modes.{view_of_mode};
 ghost use Rattle.local_ops.specs.Texts.{granted_line};
 
@@ -16,8 +16,8 @@ use xdr_core::{Frame, FrameFull};
 /// frame is unchanged then. It fits behind 40 bytes, so it does in an empty frame.
 pub fn put_granted(mode: Mode, lock: &LocalLock, f: &mut Frame) -> Result<(), FrameFull>
     ensures fits { length f.old ≤ 40 → IsOk result }
-    ensures room { IsOk result ↔ (length f.old + length (granted_line (view_of_mode mode) (local_lock_of lock.now)) ≤ 4096) }
-    ensures ok { OnOk result (f.new ≡ f.old ++ granted_line (view_of_mode mode) (local_lock_of lock.now)) }
+    ensures room { IsOk result ↔ (length f.old + length (granted_line (view_of_mode mode) (view_of_local_lock lock.now)) ≤ 4096) }
+    ensures ok { OnOk result (f.new ≡ f.old ++ granted_line (view_of_mode mode) (view_of_local_lock lock.now)) }
     ensures err { OnErr result (f.new ≡ f.old) }
 {
     let (kind, owner) = local_text_of(&lock.owner);

@@ -25,7 +25,7 @@ use Rattle.call_plans.specs.declared.plans.Change.{Change}
 use Rattle.call_plans.specs.declared.plans.Plan.{Plan}
 use Rattle.nlm4_types.specs.declared.stat.Stat.{Stat as NumberedStat}
 use Rattle.nlm4_types.specs.Stat.{view_of_stat}
-use Rattle.call_plans.specs.Planned.{asked_of, changed, CanAskFor, FitsChange, IsPlan}
+use Rattle.call_plans.specs.Planned.{view_of_asked, changed, CanAskFor, FitsChange, IsPlan}
 use Rattle.lock_service.specs.declared.lock.LockCall.{LockCall}
 use Rattle.lock_service.specs.declared.lock.LockCall.TheVariants as call
 use Rattle.lock_service.specs.declared.verdict.Verdict.{Verdict}
@@ -72,7 +72,7 @@ pub row_first : (w : World) (h : NewHost) (stat : Stat) (f : World → World) (c
     → ◌≡◌ {A = Ruling (Told Stat)} (record { asks = Some call; agreed = record { says = stat; world = f (with_hosts w (after_store w.hosts call)) }; refused = record { says = nlm.DENIED_NOLOCKS; world = w } }) (after_row w (row_asked w (Some h)) stat f)
 row_first w h stat f call none is = rw (none, is) refl
 
-can_ask : (asked : Asked) (w : World) (h : NewHost) → asked_of asked ≡ Monitor h.name h.state → has_row w.hosts h.name ≡ false → CanAskFor asked w
+can_ask : (asked : Asked) (w : World) (h : NewHost) → view_of_asked asked ≡ Monitor h.name h.state → has_row w.hosts h.name ≡ false → CanAskFor asked w
 can_ask (asks.Monitor name state) w h is none = rw (monitored_name is) none
   where
     named : StoreCall → Bytes
@@ -91,9 +91,9 @@ pub after_the_row : {E : Type 0} (r : Result Verdict E) (w : World) (h : NewHost
 after_the_row (Err e) w h stat change none fits is = tt
 after_the_row (Ok (verdict.Decided s c)) w h stat change none fits is = absurd is
 after_the_row (Ok (verdict.AfterStore asked s c)) w h stat change none fits (call, says, does) = λ n here after. record {
-  ruled = rw (says, does) (row_first w h (view_of_stat stat) (changed change) (asked_of asked) none call);
-  fits = rw does (fits (after_store w.hosts (asked_of asked)), can_ask asked w h call none);
-  room = rw does (after (after_store w.hosts (asked_of asked)));
+  ruled = rw (says, does) (row_first w h (view_of_stat stat) (changed change) (view_of_asked asked) none call);
+  fits = rw does (fits (after_store w.hosts (view_of_asked asked)), can_ask asked w h call none);
+  room = rw does (after (after_store w.hosts (view_of_asked asked)));
 }
 
 -- CANCEL

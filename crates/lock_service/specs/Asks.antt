@@ -6,21 +6,21 @@ use Rattle.definitions.specs.Outgoing.{Letter, Message, ToHost, ToConnection, Gr
 use Rattle.definitions.specs.World.{World}
 use Rattle.definitions.specs.Rulings.{Told, Ruling, stays}
 use Rattle.definitions.specs.LockRules.{NewHost, LockAsk, blocked_lock}
-use Rattle.callbacks.specs.Meanings.{local_lock_of}
+use Rattle.callbacks.specs.Meanings.{view_of_local_lock}
 use Rattle.callbacks.specs.declared.lock.LocalLock as local
 use Rattle.nlm4_types.specs.Lock.{view_of_lock}
 use Rattle.nlm4_types.specs.Version.{view_of_version}
 use Rattle.range_table.specs.Modes.{view_of_mode}
 use Rattle.range_table.specs.declared.run.Mode.{Mode}
-use Rattle.call_plans.specs.Planned.{request_wanted}
+use Rattle.call_plans.specs.Planned.{view_of_wanted}
 use Rattle.lock_service.specs.declared.lock_ask.NewHost as host
 use Rattle.lock_service.specs.declared.lock_ask.Grant.{Grant}
 use Rattle.lock_service.specs.declared.lock_ask.Grant.TheVariants as grant
 use Rattle.lock_service.specs.declared.lock_ask.GrantCall as call
 use Rattle.lock_service.specs.declared.lock_ask.LockAsk as ask
 
-abbrev pub new_host : host.NewHost → NewHost
-new_host h = record { name = h.name.now; state = h.state }
+abbrev pub view_of_new_host : host.NewHost → NewHost
+view_of_new_host h = record { name = h.name.now; state = h.state }
 
 abbrev pub granted_by : call.GrantCall → Message
 granted_by c =
@@ -30,7 +30,7 @@ abbrev pub call_letter_of : call.GrantCall → Letter
 call_letter_of c = record { to = ToHost c.lock.caller_name.bytes.now; message = granted_by c }
 
 abbrev pub line_letter_of : ℕ → Mode → local.LocalLock → Letter
-line_letter_of l mode lock = record { to = ToConnection l; message = GrantedLine (view_of_mode mode) (local_lock_of lock) }
+line_letter_of l mode lock = record { to = ToConnection l; message = GrantedLine (view_of_mode mode) (view_of_local_lock lock) }
 
 abbrev pub letter_of : Grant → Letter
 letter_of (grant.Call c) = call_letter_of c
@@ -39,10 +39,10 @@ letter_of (grant.Line l mode lock) = line_letter_of l mode lock.now
 -- where so many places are free, those that the telling takes are none for a waiter
 abbrev pub ask_of : ask.LockAsk → ℕ → LockAsk
 ask_of a free = record {
-  request = request_wanted a.wanted;
+  request = view_of_wanted a.wanted;
   block = a.block;
   reclaim = a.reclaim;
-  row = option_map new_host a.row;
+  row = option_map view_of_new_host a.row;
   letter = letter_of a.grant;
   slots = free - a.reserved;
 }

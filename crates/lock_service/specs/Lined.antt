@@ -5,7 +5,7 @@ use Rattle.definitions.specs.LockRules.{LockAsk}
 use Rattle.definitions.specs.World.{World}
 use Rattle.definitions.specs.Rulings.{Told}
 use Rattle.definitions.specs.Replies.{Line, LineReply, SetLock, SetLockWait}
-use Rattle.callbacks.specs.Meanings.{local_lock_of}
+use Rattle.callbacks.specs.Meanings.{view_of_local_lock}
 use Rattle.local_ops.specs.Answers.{view_of_local_answer}
 use Rattle.range_table.specs.Modes.{view_of_mode, view_of_held_mode}
 use Rattle.range_table.specs.declared.run.Mode.{Mode}
@@ -18,12 +18,12 @@ line_planned p w = record { says = view_of_local_answer p.answer; world = change
 
 -- `setlk`, or `setlkw`, which waits
 abbrev pub set_line_if : Bool → line.SetLine → Line
-set_line_if true s = SetLockWait (view_of_held_mode s.mode) (local_lock_of s.lock.now)
-set_line_if false s = SetLock (view_of_held_mode s.mode) (local_lock_of s.lock.now)
+set_line_if true s = SetLockWait (view_of_held_mode s.mode) (view_of_local_lock s.lock.now)
+set_line_if false s = SetLock (view_of_held_mode s.mode) (view_of_local_lock s.lock.now)
 
 -- what the lock rules are asked by a line with a mode, where so many places are free
 abbrev pub lock_asked : line.SetLine → Mode → ℕ → LockAsk
-lock_asked s mode free = line_ask s.connection free s.waits (view_of_mode mode) (local_lock_of s.lock.now)
+lock_asked s mode free = line_ask s.connection free s.waits (view_of_mode mode) (view_of_local_lock s.lock.now)
 
-abbrev pub set_line_of : line.SetLine → Line
-set_line_of s = set_line_if s.waits s
+abbrev pub view_of_set_line : line.SetLine → Line
+view_of_set_line s = set_line_if s.waits s

@@ -7,14 +7,14 @@ use Rattle.definitions.specs.Rulings.{Told, Ruling, decided}
 use Rattle.nlm4_types.specs.declared.stat.Stat.{Stat}
 use Rattle.nlm4_types.specs.Stat.{view_of_stat}
 use Rattle.call_plans.specs.declared.plans.Change.{Change}
-use Rattle.call_plans.specs.Planned.{changed, asked_of, after_asked, FitsChange, CanAskFor}
+use Rattle.call_plans.specs.Planned.{changed, view_of_asked, after_asked, FitsChange, CanAskFor}
 use Rattle.lock_service.specs.declared.verdict.Verdict.{Verdict}
 use Rattle.lock_service.specs.declared.verdict.Verdict.TheVariants as verdict
 
 abbrev pub verdict_in : Verdict → World → Ruling (Told nlm.Stat)
 verdict_in (verdict.Decided stat change) w = decided (record { says = view_of_stat stat; world = changed change w })
 verdict_in (verdict.AfterStore asked stat change) w = record {
-  asks = Some (asked_of asked);
+  asks = Some (view_of_asked asked);
   agreed = record { says = view_of_stat stat; world = changed change (after_asked asked w) };
   refused = record { says = nlm.DENIED_NOLOCKS; world = w };
 }
@@ -38,7 +38,7 @@ LeavesRoom reserved (verdict.AfterStore asked stat change) w = LeavesRoomBy rese
 -- the store is asked this first
 abbrev pub IsAfterRow : StoreCall → Stat → Change → Verdict → Type 0
 IsAfterRow call stat change (verdict.Decided s c) = ⊥
-IsAfterRow call stat change (verdict.AfterStore asked s c) = (asked_of asked ≡ call) × (s ≡ stat) × (c ≡ change)
+IsAfterRow call stat change (verdict.AfterStore asked s c) = (view_of_asked asked ≡ call) × (s ≡ stat) × (c ≡ change)
 
 -- the verdict is what the rules say of a call in this world
 pub record IsVerdict (ruling : Ruling (Told nlm.Stat)) (reserved : ℕ) (w : World) (v : Verdict) : Type 0 where

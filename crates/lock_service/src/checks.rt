@@ -1,7 +1,7 @@
 //! What a call is refused for before the rules of its procedure: its file handle, its range, the phase.
 ghost use Rattle.std.specs.Prelude.{◌≡◌, ◌≤◌, ◌<◌, ◌^◌, true, false, Some, None, IfSome, IfNone, IfOk, IfErr};
 ghost use Rattle.definitions.specs.Ranges.{is_stale, is_too_far, last_of as last_byte, range_refusal, file_refusal};
-ghost use Rattle.grace.specs.Meanings.{kind_of};
+ghost use Rattle.grace.specs.Meanings.{view_of_kind};
 ghost use Rattle.nlm4_types.specs.Lock.{view_of_lock};
 ghost use Rattle.nlm4_types.specs.Stat.{view_of_stat};
 ghost use Rattle.definitions.specs.Nlm.{is_denial};
@@ -29,8 +29,8 @@ pub(crate) fn place_of<R: RangeTable, S: HostStore>(
     kind: CallKind,
     alock: &Lock<'_, WIDE>,
 ) -> Result<Place, Stat>
-    ensures ok { IfOk result (λ p. IsPlaceOf world.now.world (kind_of kind) (view_of_lock alock.now) p.file p.first p.last) }
-    ensures err { IfErr result (λ stat. range_refusal world.now.world (kind_of kind) (view_of_lock alock.now) ≡ Some (view_of_stat stat)) }
+    ensures ok { IfOk result (λ p. IsPlaceOf world.now.world (view_of_kind kind) (view_of_lock alock.now) p.file p.first p.last) }
+    ensures err { IfErr result (λ stat. range_refusal world.now.world (view_of_kind kind) (view_of_lock alock.now) ≡ Some (view_of_stat stat)) }
     ensures other { IfErr result (λ stat. is_denial (view_of_stat stat) ≡ false) }
 {
     let Some(file) = file_of(alock.fh.bytes) else {
@@ -55,8 +55,8 @@ pub(crate) fn check_file<R: RangeTable, S: HostStore>(
     kind: CallKind,
     fh: &[u8],
 ) -> Result<(), Stat>
-    ensures ok { IfOk result (λ checked. file_refusal world.now.world (kind_of kind) fh.now ≡ None) }
-    ensures err { IfErr result (λ stat. file_refusal world.now.world (kind_of kind) fh.now ≡ Some (view_of_stat stat)) }
+    ensures ok { IfOk result (λ checked. file_refusal world.now.world (view_of_kind kind) fh.now ≡ None) }
+    ensures err { IfErr result (λ stat. file_refusal world.now.world (view_of_kind kind) fh.now ≡ Some (view_of_stat stat)) }
 {
     if file_of(fh).is_none() {
         return Err(Stat::StaleFh);

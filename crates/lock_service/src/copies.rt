@@ -3,9 +3,9 @@ ghost use Rattle.std.specs.Prelude.{◌≡◌, IfOk};
 ghost use Rattle.definitions.specs.Ranges.{owner_of as owner_said, mode_of as mode_said, last_of, request_of};
 ghost use Rattle.nlm4_types.specs.Lock.{view_of_lock};
 ghost use Rattle.owner_ids.specs.Views.{view_of_owner};
-ghost use Rattle.range_table.specs.Modes.{view_of_mode as held_mode_of};
+ghost use Rattle.range_table.specs.Modes.{view_of_mode};
 ghost use Rattle.lock_state.specs.Whole.{IsShown};
-ghost use Rattle.call_plans.specs.Planned.{request_wanted};
+ghost use Rattle.call_plans.specs.Planned.{view_of_wanted};
 
 use crate::checks::Place;
 use call_plans::Wanted;
@@ -28,7 +28,7 @@ pub(crate) fn owner_of(alloc: Global, alock: &Lock<'_, WIDE>) -> Result<Owner, S
 }
 
 pub(crate) fn mode_of(exclusive: bool) -> Mode
-    ensures { held_mode_of result ≡ mode_said exclusive }
+    ensures { view_of_mode result ≡ mode_said exclusive }
 {
     if exclusive {
         Mode::Exclusive
@@ -48,7 +48,7 @@ pub(crate) fn wanted_of(
     requires file { place.now.file ≡ alock.now.fh.bytes.now }
     requires first { place.now.first ≡ alock.now.l_offset }
     requires last { place.now.last ≡ last_of alock.now.l_offset alock.now.l_len }
-    ensures { IfOk result (λ wanted. request_wanted wanted ≡ request_of exclusive (view_of_lock alock.now)) }
+    ensures { IfOk result (λ wanted. view_of_wanted wanted ≡ request_of exclusive (view_of_lock alock.now)) }
 {
     Ok(Wanted {
         file: place.file,

@@ -9,13 +9,13 @@ ghost use Rattle.definitions.specs.Rulings.{ruled};
 ghost use Rattle.definitions.specs.Lines.{line_refusal, line_answer, line_told, line_word, get_unless, shown_run};
 ghost use Rattle.owner_ids.specs.Views.{view_of_owner};
 ghost use Rattle.range_table.specs.Modes.{view_of_mode};
-ghost use Rattle.callbacks.specs.Meanings.{local_lock_of};
-ghost use Rattle.held_locks.specs.Asked.{shown};
+ghost use Rattle.callbacks.specs.Meanings.{view_of_local_lock};
+ghost use Rattle.held_locks.specs.Asked.{view_of_lock_holder};
 ghost use Rattle.local_ops.specs.Answers.{view_of_local_answer};
 ghost use Rattle.nlm4_types.specs.Stat.{view_of_stat};
-ghost use Rattle.call_plans.specs.Planned.{setting_of, FitsChange, IsForgottenIfIdle};
+ghost use Rattle.call_plans.specs.Planned.{view_of_range, FitsChange, IsForgottenIfIdle};
 ghost use Rattle.call_plans.specs.declared.plans.Change.TheVariants.{Nothing};
-ghost use Rattle.lock_service.specs.Lined.{line_planned, lock_asked, set_line_of};
+ghost use Rattle.lock_service.specs.Lined.{line_planned, lock_asked, view_of_set_line};
 ghost use Rattle.lock_service.specs.Verdicts.{verdict_in, FitsIn, IsVerdict, OnlyAsksIf};
 
 use crate::checks::{Place, last_of};
@@ -55,8 +55,8 @@ fn place_of<R: RangeTable, S: HostStore>(
     world: &World<R, S>,
     lock: &LocalLock,
 ) -> Result<Place, LocalAnswer>
-    ensures ok { IfOk result (λ p. (line_refusal world.now.world (local_lock_of lock.now) ≡ None) × (p.file ≡ lock.now.file) × (p.first ≡ lock.now.offset) × (p.last ≡ last_byte lock.now.offset lock.now.len)) }
-    ensures err { IfErr result (λ answer. line_refusal world.now.world (local_lock_of lock.now) ≡ Some (view_of_local_answer answer)) }
+    ensures ok { IfOk result (λ p. (line_refusal world.now.world (view_of_local_lock lock.now) ≡ None) × (p.file ≡ lock.now.file) × (p.first ≡ lock.now.offset) × (p.last ≡ last_byte lock.now.offset lock.now.len)) }
+    ensures err { IfErr result (λ answer. line_refusal world.now.world (view_of_local_lock lock.now) ≡ Some (view_of_local_answer answer)) }
 {
     let Some(last) = last_of(lock.offset, lock.len) else {
         return Err(LocalAnswer::TooFar);
@@ -77,7 +77,7 @@ pub fn get_lock<R: RangeTable, S: HostStore>(
     mode: Mode,
     lock: &LocalLock,
 ) -> Result<LocalAnswer, Starved>
-    ensures { IfOk result (λ answer. view_of_local_answer answer ≡ get_unless world.now.world (view_of_mode mode) (local_lock_of lock.now) (line_refusal world.now.world (local_lock_of lock.now))) }
+    ensures { IfOk result (λ answer. view_of_local_answer answer ≡ get_unless world.now.world (view_of_mode mode) (view_of_local_lock lock.now) (line_refusal world.now.world (view_of_local_lock lock.now))) }
 {
     let place = match place_of(world, lock) {
         Ok(place) => place,
@@ -99,7 +99,7 @@ pub fn get_lock<R: RangeTable, S: HostStore>(
 // A lock that is in the way, as a line shows it.
 fn held_by(found: &held_locks::Holder<'_>) -> Result<LocalAnswer, Starved>
     requires { found.now.last < 2 ^ 63 }
-    ensures { IfOk result (λ answer. view_of_local_answer answer ≡ shown_run (Some (shown found.now))) }
+    ensures { IfOk result (λ answer. view_of_local_answer answer ≡ shown_run (Some (view_of_lock_holder found.now))) }
 {
     Ok(LocalAnswer::Held {
         mode: found.mode,
@@ -114,7 +114,7 @@ pub fn plan_set<R: RangeTable, S: HostStore>(
     world: &World<R, S>,
     line: &SetLine<'_>,
 ) -> Result<LinePlan, Starved>
-    ensures plan { IfOk result (λ made. line_planned made world.now.world ≡ ruled NotAsked (line_answer the_limits world.now.world line.now.connection (set_line_of line.now))) }
+    ensures plan { IfOk result (λ made. line_planned made world.now.world ≡ ruled NotAsked (line_answer the_limits world.now.world line.now.connection (view_of_set_line line.now))) }
     ensures fits { IfOk result (λ made. FitsChange made.change world.now.world) }
 {
     let place = match place_of(world, line.lock) {
@@ -211,7 +211,7 @@ fn unlock_verdict<R: RangeTable, S: HostStore>(
     requires file { place.now.file ≡ lock.now.file }
     requires first { place.now.first ≡ lock.now.offset }
     requires last { place.now.last ≡ last_byte lock.now.offset lock.now.len }
-    ensures verdict { IfOk result (λ made. IsVerdict (unlock_rules_said the_limits world.now.world (line_unlock (local_lock_of lock.now))) 0 world.now.world made) }
+    ensures verdict { IfOk result (λ made. IsVerdict (unlock_rules_said the_limits world.now.world (line_unlock (view_of_local_lock lock.now))) 0 world.now.world made) }
     ensures asks { IfOk result (OnlyAsksIf false) }
 {
     let range = unlocked_range(place, lock)?;
@@ -223,7 +223,7 @@ fn unlocked_range(place: &Place, lock: &LocalLock) -> Result<Range, Starved>
     requires file { place.now.file ≡ lock.now.file }
     requires first { place.now.first ≡ lock.now.offset }
     requires last { place.now.last ≡ last_byte lock.now.offset lock.now.len }
-    ensures setting { IfOk result (λ range. setting_of range ≡ line_unlock (local_lock_of lock.now)) }
+    ensures setting { IfOk result (λ range. view_of_range range ≡ line_unlock (view_of_local_lock lock.now)) }
     ensures mode { IfOk result (λ range. range.mode ≡ None) }
 {
     Ok(Range {
@@ -241,8 +241,8 @@ pub fn set_lock<R: RangeTable, S: HostStore>(
     world: &mut World<R, S>,
     line: &SetLine<'_>,
 ) -> Result<LocalAnswer, Starved>
-    ensures reply { IfOk result (λ answer. view_of_local_answer answer ≡ (ruled NotAsked (line_answer the_limits world.old.world line.now.connection (set_line_of line.now))).says) }
-    ensures world { IfOk result (λ answer. world.new.world ≡ settled the_limits (ruled NotAsked (line_answer the_limits world.old.world line.now.connection (set_line_of line.now))).world) }
+    ensures reply { IfOk result (λ answer. view_of_local_answer answer ≡ (ruled NotAsked (line_answer the_limits world.old.world line.now.connection (view_of_set_line line.now))).says) }
+    ensures world { IfOk result (λ answer. world.new.world ≡ settled the_limits (ruled NotAsked (line_answer the_limits world.old.world line.now.connection (view_of_set_line line.now))).world) }
     ensures err { OnErr result (world.new.world ≡ world.old.world) }
     ensures refusals { world.new.refusals ≡ world.old.refusals }
     ensures forgotten { IfOk result (λ _. IsForgottenIfIdle (view_of_owner line.now.lock.now.owner) world.new.world world.new) }

@@ -7,7 +7,7 @@ ghost use Rattle.lock_service.specs.Locking.{answer_by, form_by, is_message, is_
 ghost use Rattle.lock_service.specs.Procedures.{lock_told};
 ghost use Rattle.lock_service.specs.Tellings.{places};
 ghost use Rattle.call_plans.specs.Planned.{IsPlan, AsksOnlyIf};
-ghost use Rattle.lock_service.specs.Asks.{new_host};
+ghost use Rattle.lock_service.specs.Asks.{view_of_new_host};
 ghost use Rattle.lock_service.specs.Verdicts.{IsVerdict, OnlyAsksIf};
 
 use crate::checks::place_of;
@@ -109,7 +109,7 @@ impl LockCall {
     }
 
     fn row<'r>(self, args: &LockArgs<'r, WIDE>) -> Option<NewHost<'r>>
-        ensures { option_map new_host result ≡ row_by self (view_of_lockargs args.now) }
+        ensures { option_map view_of_new_host result ≡ row_by self (view_of_lockargs args.now) }
     {
         match self {
             LockCall::NmLock => None,

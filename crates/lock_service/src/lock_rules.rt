@@ -9,7 +9,7 @@ ghost use Rattle.callbacks.specs.Meanings.{view_of_told_lock, view_of_message};
 ghost use Rattle.nlm4_types.specs.Lock.{view_of_lock};
 ghost use Rattle.nlm4_types.specs.Stat.{view_of_stat};
 ghost use Rattle.call_plans.specs.Planned.{changed, FitsChange};
-ghost use Rattle.lock_service.specs.Asks.{ask_of, call_letter_of, granted_by, kept_out as kept_out_said, letter_of, line_letter_of, new_host};
+ghost use Rattle.lock_service.specs.Asks.{ask_of, call_letter_of, granted_by, kept_out as kept_out_said, letter_of, line_letter_of, view_of_new_host};
 ghost use Rattle.lock_service.specs.Verdicts.{IsAfterRow, IsVerdict, IsVerdictWith, OnlyAsksIf};
 
 use crate::lock_ask::{Grant, GrantCall, LockAsk, NewHost};
@@ -90,7 +90,7 @@ fn behind_row<R: RangeTable, S: HostStore>(
 ) -> Result<Verdict, Starved>
     requires fits { FitsChange change world.now.world }
     requires fits_after { (hosts : Hosts) → FitsChange change (with_hosts world.now.world hosts) }
-    ensures verdict { IfOk result (λ made. IsVerdictWith change (after_row_said world.now.world (row_asked world.now.world (option_map new_host row.entry)) (view_of_stat stat) (changed change)) world.now.world made) }
+    ensures verdict { IfOk result (λ made. IsVerdictWith change (after_row_said world.now.world (row_asked world.now.world (option_map view_of_new_host row.entry)) (view_of_stat stat) (changed change)) world.now.world made) }
     ensures asks { IfOk result (OnlyAsksIf (is_some row.entry)) }
 {
     let Some(host) = row else {

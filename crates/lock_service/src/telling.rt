@@ -5,7 +5,7 @@ ghost use Rattle.definitions.specs.Answer.{gives};
 ghost use Rattle.definitions.specs.Replies.{SystemErr};
 ghost use Rattle.definitions.specs.Rulings.{decided};
 ghost use Rattle.definitions.specs.World.{World as SaidWorld, the_limits, slots_free};
-ghost use Rattle.callbacks.specs.Meanings.{view_of_message, res_of};
+ghost use Rattle.callbacks.specs.Meanings.{view_of_message, view_of_told_res};
 ghost use Rattle.nlm4_types.specs.Stat.{view_of_stat};
 ghost use Rattle.nlm4_types.specs.Version.{view_of_version};
 ghost use Rattle.call_plans.specs.Planned.{told_in, AsksOnlyIf, FitsDue, IsPlan};
@@ -52,7 +52,7 @@ pub(crate) enum ResultCall {
 
 impl ResultCall {
     fn message(self, version: Version, res: Res) -> Message
-        ensures { view_of_message result ≡ result_message self (view_of_version version) (res_of res) }
+        ensures { view_of_message result ≡ result_message self (view_of_version version) (view_of_told_res res) }
     {
         match self {
             ResultCall::Lock => Message::LockResult { version, res },

@@ -9,8 +9,8 @@ ghost use Rattle.nlm4_types.specs.Version.{view_of_version};
 ghost use Rattle.nlm4_types.specs.Arguments.{view_of_testargs};
 ghost use Rattle.nlm4_types.specs.Stat.{view_of_stat};
 ghost use Rattle.owner_ids.specs.Views.{view_of_owner};
-ghost use Rattle.callbacks.specs.Meanings.{test_res_of, holder_of as holder_told};
-ghost use Rattle.held_locks.specs.Asked.{shown};
+ghost use Rattle.callbacks.specs.Meanings.{view_of_told_test_res, view_of_told_holder};
+ghost use Rattle.held_locks.specs.Asked.{view_of_lock_holder};
 ghost use Rattle.lock_state.specs.Whole.{IsShown};
 ghost use Rattle.call_plans.specs.Planned.{IsPlan, AsksOnlyIf};
 
@@ -78,7 +78,7 @@ fn test_res<R: RangeTable, S: HostStore>(
     version: Version,
     args: &TestArgs<'_, WIDE>,
 ) -> Result<TestRes, Starved>
-    ensures { IfOk result (λ res. test_res_of res ≡ test_answer world.now.world (view_of_version version) (view_of_testargs args.now)) }
+    ensures { IfOk result (λ res. view_of_told_test_res res ≡ test_answer world.now.world (view_of_version version) (view_of_testargs args.now)) }
 {
     let alloc = world.alloc();
     let cookie = cookie_of(alloc, &args.cookie)?;
@@ -114,7 +114,7 @@ fn unheld(
     cookie: ShortBytes,
     stat: Stat,
 ) -> Result<TestRes, Starved>
-    ensures { IfOk result (λ res. test_res_of res ≡ free_test (view_of_version version) cookie (view_of_stat stat)) }
+    ensures { IfOk result (λ res. view_of_told_test_res res ≡ free_test (view_of_version version) cookie (view_of_stat stat)) }
 {
     let stat = stat.shown_in(version);
     let holder = match stat {
@@ -129,7 +129,7 @@ fn unheld(
 }
 
 fn nobody(alloc: Global) -> Result<Holder, Starved>
-    ensures { IfOk result (λ holder. holder_told holder ≡ nobody_said) }
+    ensures { IfOk result (λ holder. view_of_told_holder holder ≡ nobody_said) }
 {
     Ok(Holder {
         exclusive: false,
@@ -147,7 +147,7 @@ fn holder_of(
     found: &held_locks::Holder<'_>,
 ) -> Result<Holder, Starved>
     requires { IsShown (view_of_owner found.now.owner.now) × (found.now.last < 2 ^ 63) }
-    ensures { IfOk result (λ holder. holder_told holder ≡ holder_said (view_of_version version) (shown found.now)) }
+    ensures { IfOk result (λ holder. view_of_told_holder holder ≡ holder_said (view_of_version version) (view_of_lock_holder found.now)) }
 {
     Ok(Holder {
         exclusive: found.mode.is_same(Mode::Exclusive),

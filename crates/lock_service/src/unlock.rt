@@ -4,7 +4,7 @@ ghost use Rattle.definitions.specs.LockRules.{unlock_rules as rules_said};
 ghost use Rattle.definitions.specs.World.{the_limits};
 ghost use Rattle.definitions.specs.Answer.{unlock_answer};
 ghost use Rattle.nlm4_types.specs.Arguments.{view_of_unlockargs};
-ghost use Rattle.call_plans.specs.Planned.{setting_of, IsPlan, AsksOnlyIf};
+ghost use Rattle.call_plans.specs.Planned.{view_of_range, IsPlan, AsksOnlyIf};
 ghost use Rattle.lock_service.specs.Procedures.{unlock_telling};
 ghost use Rattle.lock_service.specs.Tellings.{telling_of};
 ghost use Rattle.lock_service.specs.Verdicts.{IsVerdict, OnlyAsksIf};
@@ -68,7 +68,7 @@ pub(crate) fn unlock_rules<R: RangeTable, S: HostStore>(
     range: Range,
 ) -> Verdict
     requires { range.mode ≡ None }
-    ensures verdict { (reserved : ℕ) → IsVerdict (rules_said the_limits world.now.world (setting_of range)) reserved world.now.world result }
+    ensures verdict { (reserved : ℕ) → IsVerdict (rules_said the_limits world.now.world (view_of_range range)) reserved world.now.world result }
     ensures asks { OnlyAsksIf false result }
 {
     if world.is_refused(&range.setting()) {

@@ -10,7 +10,7 @@ use Rattle.definitions.specs.Settings.{Setting, Request, mode_at}
 use Rattle.definitions.specs.Starts.{Start, Run, start_cmp, is_start, ends, starts, run_at, changes_behind, least, least_or, same_mode, stands_against, first_conflict}
 use Rattle.owner_ids.specs.Views.{view_of_owner}
 use Rattle.held_locks.specs.declared.asked.Holder.{Holder}
-use Rattle.held_locks.specs.Asked.{shown, shown_found}
+use Rattle.held_locks.specs.Asked.{view_of_lock_holder, view_of_found_holder}
 use Rattle.lock_state.specs.Whole.{IsShown, AreShown}
 
 abbrev AreStarts : List Start → Type 0
@@ -83,9 +83,9 @@ run_shown settings test (t ∷ ts) run w a e = go (test (run_at settings t)) e (
     go true f more = subst IsRunShown (same_Some (run_at settings t) run f) (run_at_shown settings t w a.0.0)
     go false f more = more f
 
-pub found_shown : (settings : List Setting) (r : Request) (found : Option Holder) → AreShown settings → shown_found found ≡ first_conflict settings r → IfSome found (λ h. IsShown (view_of_owner h.owner.now) × (h.last < 2 ^ 63))
+pub found_shown : (settings : List Setting) (r : Request) (found : Option Holder) → AreShown settings → view_of_found_holder found ≡ first_conflict settings r → IfSome found (λ h. IsShown (view_of_owner h.owner.now) × (h.last < 2 ^ 63))
 found_shown settings r None a e = tt
 found_shown settings r (Some h) a e =
     let whole = ends_shown settings a in
     let held = filter_shown (is_start settings) (in_order start_cmp (ends settings)) (in_order_shown (ends settings) whole) in
-    run_shown settings (stands_against r) (starts settings) (shown h) whole held (sym e)
+    run_shown settings (stands_against r) (starts settings) (view_of_lock_holder h) whole held (sym e)

@@ -11,7 +11,7 @@ use Rattle.owner_ids.specs.Views.{view_of_owner}
 use Rattle.owner_ids.specs.Names.{Names, named}
 use Rattle.range_table.specs.declared.run.Run.{Run}
 use Rattle.held_locks.specs.declared.asked.Request.{Request as HeldRequest}
-use Rattle.held_locks.specs.Asked.{asked, run_by_number}
+use Rattle.held_locks.specs.Asked.{view_of_request, run_by_number}
 use Rattle.blocked_list.specs.Waiting.{Taken, AreNamed, AreKnown, request_by, waiter_by, waiters_by}
 use Rattle.definitions.specs.Moves.{AreRanges}
 use Rattle.definitions.proofs.MoveLaws.{ranges_behind, ranges_without_first}
@@ -22,7 +22,7 @@ use Rattle.lock_state.proofs.ReadyAt.{ready_waiting, ready_without_first}
 use Rattle.lock_state.proofs.Shown.{waiters_without_first}
 
 -- a lock by its owner's number, and by its owner
-pub request_is : (names : Names) (n : ℕ) (r : HeldRequest) (run : Run) → run ≡ run_by_number n r → names n ≡ Some (view_of_owner r.owner.now) → request_by names run ≡ asked r
+pub request_is : (names : Names) (n : ℕ) (r : HeldRequest) (run : Run) → run ≡ run_by_number n r → names n ≡ Some (view_of_owner r.owner.now) → request_by names run ≡ view_of_request r
 request_is names n r run is found = ap (request_by names) is ∙ rw found refl
 
 pub is_known : (names : Names) (n : ℕ) (r : HeldRequest) (run : Run) → run ≡ run_by_number n r → names n ≡ Some (view_of_owner r.owner.now) → IsSome (names run.owner)

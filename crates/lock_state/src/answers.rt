@@ -7,7 +7,7 @@ ghost use Rattle.definitions.specs.Moves.{AreRanges};
 ghost use Rattle.definitions.specs.Quotas.{quotas_of};
 ghost use Rattle.definitions.specs.Waits.{Waiter as SaidWaiter};
 ghost use Rattle.definitions.specs.World.{with_calls};
-ghost use Rattle.callbacks.specs.Meanings.{found_lock, view_of_told_lock};
+ghost use Rattle.callbacks.specs.Meanings.{view_of_found_lock, view_of_told_lock};
 ghost use Rattle.out_calls.specs.Found.{found};
 ghost use Rattle.lock_state.specs.ReadyAt.{IsReadyAt};
 ghost use Rattle.lock_state.specs.Whole.{AreShown};
@@ -99,7 +99,7 @@ fn host_of(calls: &OutCalls, xid: u32) -> Option<&[u8]>
 
 // The lock that the grant of an answer is for.
 fn lock_of<'a>(calls: &'a OutCalls, key: AnswerKey<'_>) -> Option<&'a Lock>
-    ensures { found_lock result ≡ lock_at (call_at key.entry calls.now) }
+    ensures { view_of_found_lock result ≡ lock_at (call_at key.entry calls.now) }
 {
     match find(calls, key) {
         Some(call) => call.letter().message().granted_lock(),

@@ -4,7 +4,7 @@ ghost use Rattle.definitions.specs.Quotas.{quotas_of, exceeds, is_refused, lacks
 ghost use Rattle.definitions.specs.Starts.{is_short, refuses};
 ghost use Rattle.owner_ids.specs.Views.{view_of_owner};
 ghost use Rattle.blocked_list.specs.Quotas.{is_limited};
-ghost use Rattle.held_locks.specs.Asked.{asked, view_of_new_setting};
+ghost use Rattle.held_locks.specs.Asked.{view_of_request, view_of_new_setting};
 
 use blocked_list::laws::unlimited_exceeds_nothing;
 use blocked_list::{Quotas, limit_of};
@@ -81,7 +81,7 @@ pub(crate) fn lacks_room<R: RangeTable, Q: Quotas>(
     quotas: &Q,
     wanted: &Request<'_>,
 ) -> bool
-    ensures { result ≡ lacks_room 65536 (Q.by_host quotas.now) locks.now.settings (asked wanted.now) }
+    ensures { result ≡ lacks_room 65536 (Q.by_host quotas.now) locks.now.settings (view_of_request wanted.now) }
 {
     locks.is_short() || is_held_back(locks, quotas, &wanted.setting())
 }

@@ -4,7 +4,7 @@ ghost use Rattle.definitions.specs.Quotas.{quotas_of, lacks_room, is_refused};
 ghost use Rattle.definitions.specs.Starts.{first_conflict};
 ghost use Rattle.definitions.specs.Conflict.{conflicts};
 ghost use Rattle.owner_ids.specs.Views.{view_of_owner};
-ghost use Rattle.held_locks.specs.Asked.{asked, view_of_new_setting, shown_found};
+ghost use Rattle.held_locks.specs.Asked.{view_of_request, view_of_new_setting, view_of_found_holder};
 ghost use Rattle.lock_state.specs.Whole.{IsShown};
 
 use crate::quotas::{Stored, is_refused, lacks_room};
@@ -16,7 +16,7 @@ use range_table::RangeTable;
 impl<R: RangeTable, S: HostStore> World<R, S> {
     /// The lock of another owner that is first in the way: of the least first byte, then of the least owner.
     pub fn first_conflict(&self, wanted: &Request<'_>) -> Option<Holder<'_>>
-        ensures found { shown_found result ≡ first_conflict self.now.world.settings (asked wanted.now) }
+        ensures found { view_of_found_holder result ≡ first_conflict self.now.world.settings (view_of_request wanted.now) }
         ensures shown { IfSome result (λ found. IsShown (view_of_owner found.owner.now) × (found.last < 2 ^ 63)) }
     {
         self.locks.first_conflict(wanted)
@@ -24,7 +24,7 @@ impl<R: RangeTable, S: HostStore> World<R, S> {
 
     /// Whether another owner's lock is in the way.
     pub fn conflicts(&self, wanted: &Request<'_>) -> bool
-        ensures { result ≡ conflicts self.now.world.settings (asked wanted.now) }
+        ensures { result ≡ conflicts self.now.world.settings (view_of_request wanted.now) }
     {
         self.locks.conflicts(wanted)
     }
@@ -32,7 +32,7 @@ impl<R: RangeTable, S: HostStore> World<R, S> {
     /// Whether there is no room for the lock: fewer than 2 of 65,536 runs are free, or after it the owner's host would have
     /// more runs than its quota, and more than before.
     pub fn lacks_room(&self, wanted: &Request<'_>) -> bool
-        ensures { result ≡ lacks_room 65536 (quotas_of self.now.world.hosts) self.now.world.settings (asked wanted.now) }
+        ensures { result ≡ lacks_room 65536 (quotas_of self.now.world.hosts) self.now.world.settings (view_of_request wanted.now) }
     {
         lacks_room(&self.locks, &Stored { store: &self.store }, wanted)
     }

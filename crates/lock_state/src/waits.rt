@@ -3,7 +3,7 @@ ghost use Rattle.std.specs.Prelude.{◌≡◌, ◌↔◌, ◌<◌, false, IsErr,
 ghost use Rattle.definitions.specs.Waits.{is_waiting, without_waiter, closes_cycle};
 ghost use Rattle.definitions.specs.World.{with_waiter, slots_free, the_limits};
 ghost use Rattle.owner_ids.specs.Views.{view_of_owner};
-ghost use Rattle.held_locks.specs.Asked.{asked};
+ghost use Rattle.held_locks.specs.Asked.{view_of_request};
 ghost use Rattle.lock_state.specs.Seen.{Knows};
 ghost use Rattle.lock_state.specs.Whole.{IsShown};
 
@@ -17,7 +17,7 @@ use range_table::RangeTable;
 impl<R: RangeTable, S: HostStore> World<R, S> {
     /// Whether its owner waits for just this lock.
     pub fn is_waiting(&self, wanted: &Request<'_>) -> bool
-        ensures { result ≡ is_waiting (asked wanted.now) self.now.world.waiters }
+        ensures { result ≡ is_waiting (view_of_request wanted.now) self.now.world.waiters }
     {
         let (_, owners) = self.locks.parts();
         match owners.number(wanted.owner) {
@@ -29,7 +29,7 @@ impl<R: RangeTable, S: HostStore> World<R, S> {
     /// Whether the owner, if it waited for this lock, would wait for itself, directly or through others (POSIX fcntl,
     /// EDEADLK).
     pub fn closes_cycle(&self, wanted: &Request<'_>) -> bool
-        ensures { result ≡ closes_cycle self.now.world.settings self.now.world.waiters (asked wanted.now) }
+        ensures { result ≡ closes_cycle self.now.world.settings self.now.world.waiters (view_of_request wanted.now) }
     {
         let (table, owners) = self.locks.parts();
         match owners.number(wanted.owner) {
@@ -46,7 +46,7 @@ impl<R: RangeTable, S: HostStore> World<R, S> {
         requires room { 0 < slots_free the_limits self.old.world }
         requires known { Knows self.old (view_of_owner wanted.now.owner.now) }
         requires shown { IsShown (view_of_owner wanted.now.owner.now) }
-        ensures { self.new ≡ record self.old { world = with_waiter self.old.world (record { request = asked wanted.now; letter = letter }) } }
+        ensures { self.new ≡ record self.old { world = with_waiter self.old.world (record { request = view_of_request wanted.now; letter = letter }) } }
     {
         let (_, owners) = self.locks.parts();
         let Some(number) = owners.number(wanted.owner) else {
@@ -60,8 +60,8 @@ impl<R: RangeTable, S: HostStore> World<R, S> {
     /// The owner waits for just this lock no longer (XNFS, NLM_CANCEL). `NotWaiting` where it didn't; then nothing has
     /// changed.
     pub fn cancel(&mut self, wanted: &Request<'_>) -> Result<(), NotWaiting>
-        ensures refused { IsErr result ↔ (is_waiting (asked wanted.now) self.old.world.waiters ≡ false) }
-        ensures ok { OnOk result (self.new ≡ record self.old { world = record self.old.world { waiters = without_waiter (asked wanted.now) self.old.world.waiters } }) }
+        ensures refused { IsErr result ↔ (is_waiting (view_of_request wanted.now) self.old.world.waiters ≡ false) }
+        ensures ok { OnOk result (self.new ≡ record self.old { world = record self.old.world { waiters = without_waiter (view_of_request wanted.now) self.old.world.waiters } }) }
         ensures err { OnErr result (self.new ≡ self.old) }
     {
         let (_, owners) = self.locks.parts();

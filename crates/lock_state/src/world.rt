@@ -1,7 +1,7 @@
 //! The state, and what is read of it.
 ghost use Rattle.std.specs.Prelude.{◌≡◌, [], IfOk};
 ghost use Rattle.definitions.specs.World.{opening, first_number};
-ghost use Rattle.grace.specs.Meanings.{phase_of};
+ghost use Rattle.grace.specs.Meanings.{view_of_phase};
 
 use crate::unsettled::Unsettled;
 use blocked_list::Slots;
@@ -36,7 +36,7 @@ impl<R: RangeTable, S: HostStore> Model for World<R, S> {
     ghost use Rattle.owner_ids.specs.Names.{named};
     ghost use Rattle.definitions.specs.Quotas.{quotas_of};
     ghost use Rattle.blocked_list.specs.Waiting.{waiters_by};
-    ghost use Rattle.grace.specs.Meanings.{phase_of};
+    ghost use Rattle.grace.specs.Meanings.{view_of_phase};
     ghost use Rattle.lock_state.specs.Seen.{Seen};
     ghost use Rattle.lock_state.specs.Whole.{IsWhole};
 
@@ -48,7 +48,7 @@ impl<R: RangeTable, S: HostStore> Model for World<R, S> {
         settings = w.locks.settings;
         waiters = waiters_by (named w.locks.names) w.slots.waiters;
         shares = w.shares;
-        phase = phase_of w.phase;
+        phase = view_of_phase w.phase;
         hosts = S.rows w.store;
         calls = w.calls;
         next = w.next;
@@ -111,7 +111,7 @@ impl<R: RangeTable, S: HostStore> World<R, S> {
     }
 
     pub fn phase(&self) -> Phase
-        ensures { phase_of result ≡ self.now.world.phase }
+        ensures { view_of_phase result ≡ self.now.world.phase }
     {
         self.phase
     }

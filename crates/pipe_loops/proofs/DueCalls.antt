@@ -36,8 +36,8 @@ fewer (d ∷ calls) c e = go d.is_due refl (ends_when_sent d.letter.message) e (
 -- ---- a step of the definitions
 
 -- it starved; or nothing is due; or the call that is due first was sent
-abbrev Gave : State → Doing → StoreAnswer → Given → State → Type 0
-Gave s doing store given new =
+abbrev SendEnds : State → Doing → StoreAnswer → Given → State → Type 0
+SendEnds s doing store given new =
     ((given ≡ IsStarved) × (doing ≡ Starved))
     ⊎ (((given ≡ Nothing) × (next_due s.world.calls ≡ None) × (new ≡ s) × (store ≡ NotAsked))
     ⊎ ((c : Outgoing) × (given ≡ Gives c.number c.letter) × (suc (due_count new.world.calls) ≡ due_count s.world.calls)))
@@ -47,9 +47,9 @@ not_asked s NotAsked given new h = refl
 not_asked s Yes given new h = let f = h.fits in cc
 not_asked s Refused given new h = let f = h.fits in cc
 
-gave : (s : State) (doing : Doing) (store : StoreAnswer) (given : Given) (new : State) → IsStep s Send (comes_to doing store given) new → Gave s doing store given new
-gave s Starved store given new h = inl (sym h.gives, refl)
-gave s Applied store given new h = inr (go (next_due s.world.calls) refl h.gives h.leaves)
+send_ends : (s : State) (doing : Doing) (store : StoreAnswer) (given : Given) (new : State) → IsStep s Send (comes_to doing store given) new → SendEnds s doing store given new
+send_ends s Starved store given new h = inl (sym h.gives, refl)
+send_ends s Applied store given new h = inr (go (next_due s.world.calls) refl h.gives h.leaves)
   where
     go : (o : Option Outgoing) → next_due s.world.calls ≡ o → (sent s o).given ≡ given → (sent s o).state ≡ new
         → ((given ≡ Nothing) × (next_due s.world.calls ≡ None) × (new ≡ s) × (store ≡ NotAsked))
@@ -70,10 +70,10 @@ asked-none : (store : Answered) (refusals : ℕ) → view_of_stored store ≡ No
 asked-none store refusals e = ap (λ (a : StoreAnswer). counted a refusals) e
 
 module _ (old new : Hub) (out : Outputs) (step : SendStep old out new) where
-  gave_here : Gave old.state (view_of_outcome out.outcome) (view_of_stored out.store) step.given new.state
-  gave_here =
+  ended_here : SendEnds old.state (view_of_outcome out.outcome) (view_of_stored out.store) step.given new.state
+  ended_here =
       let P : Event → Type 0 = λ e. IsStep old.state e (comes_to (view_of_outcome out.outcome) (view_of_stored out.store) step.given) new.state in
-      gave old.state (view_of_outcome out.outcome) (view_of_stored out.store) step.given new.state (subst P step.step.reads step.step.step)
+      send_ends old.state (view_of_outcome out.outcome) (view_of_stored out.store) step.given new.state (subst P step.step.reads step.step.step)
 
   sent_is : out.sent ≡ sent_on step.given
   sent_is = ap (λ (o : Outputs). o.sent) step.outputs
@@ -83,24 +83,24 @@ module _ (old new : Hub) (out : Outputs) (step : SendStep old out new) where
 
   -- a call that is sent is no longer due
   pub lowers : IsSome out.sent → due_count new.state.world.calls < due_count old.state.world.calls
-  lowers some = go gave_here
+  lowers some = go ended_here
     where
       nothing_sent : out.sent ≡ None → ⊥
       nothing_sent e = let P : Option Sent → Type 0 = λ o. IsSome o in let n = subst P e some in cc
 
-      go : Gave old.state (view_of_outcome out.outcome) (view_of_stored out.store) step.given new.state → due_count new.state.world.calls < due_count old.state.world.calls
+      go : SendEnds old.state (view_of_outcome out.outcome) (view_of_stored out.store) step.given new.state → due_count new.state.world.calls < due_count old.state.world.calls
       go (inl h) = absurd (nothing_sent (sent_is ∙ ap sent_on h.0))
       go (inr (inl h)) = absurd (nothing_sent (sent_is ∙ ap sent_on h.0))
       go (inr (inr h)) = let n = h.2 in omega (arith, n)
 
   -- a sending that gives nothing and is not refused finds nothing due
   pub finds_none : out.sent ≡ None → out.refusal ≡ None → (new ≡ old) × NothingDue new
-  finds_none none agreed = go gave_here
+  finds_none none agreed = go ended_here
     where
       same : (a b : Hub) → a.state ≡ b.state → a.refusals ≡ b.refusals → a.links ≡ b.links → a ≡ b
       same a b s r l = ap (λ x. record { state = x; refusals = a.refusals; links = a.links }) s ∙ ap (λ x. record { state = b.state; refusals = x; links = a.links }) r ∙ ap (λ x. record { state = b.state; refusals = b.refusals; links = x }) l
 
-      go : Gave old.state (view_of_outcome out.outcome) (view_of_stored out.store) step.given new.state → (new ≡ old) × NothingDue new
+      go : SendEnds old.state (view_of_outcome out.outcome) (view_of_stored out.store) step.given new.state → (new ≡ old) × NothingDue new
       go (inl h) = let r : None ≡ refusal_of IsStarved = sym agreed ∙ refusal_is ∙ ap refusal_of h.0 in cc
       go (inr (inl h)) = (
         same new old h.2 (step.refusals ∙ asked-none out.store old.refusals h.3) step.links,
@@ -110,9 +110,9 @@ module _ (old new : Hub) (out : Outputs) (step : SendStep old out new) where
 
   -- it is refused where there is no segment for its entry alone
   pub starves : (r : Refusal) → out.refusal ≡ Some r → (r ≡ Refusal.Starved) × SendStarves old new
-  starves r met = go gave_here
+  starves r met = go ended_here
     where
-      go : Gave old.state (view_of_outcome out.outcome) (view_of_stored out.store) step.given new.state → (r ≡ Refusal.Starved) × SendStarves old new
+      go : SendEnds old.state (view_of_outcome out.outcome) (view_of_stored out.store) step.given new.state → (r ≡ Refusal.Starved) × SendStarves old new
       go (inl h) =
           let is : Some r ≡ Some Refusal.Starved = sym met ∙ refusal_is ∙ ap refusal_of h.0 in
           (cc, record { out = out; step = step; met = unsegmented out.outcome h.1 step.fed })

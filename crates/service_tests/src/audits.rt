@@ -8,7 +8,7 @@ use workers::audit;
 
 /// The segments of a book, and the receipts of what it took.
 #[derive(Drop)]
-struct Noted {
+struct Evidence {
     segments: Vec<MemSegment>,
     receipts: Vec<Receipt>,
 }
@@ -22,9 +22,9 @@ fn are_noted(alloc: Global, book: &mut MemBook, xids: &[u32], receipts: &mut Vec
     true
 }
 
-impl Noted {
-    fn new(alloc: Global) -> Noted {
-        Noted {
+impl Evidence {
+    fn new(alloc: Global) -> Evidence {
+        Evidence {
             segments: Vec::new(alloc),
             receipts: Vec::new(alloc),
         }
@@ -49,17 +49,17 @@ fn agrees(segments: &[MemSegment], receipts: &mut [Receipt]) -> bool {
 
 // Whether the audit takes all three receipts, and misses the one that is taken away.
 fn is_missed(alloc: Global) -> bool {
-    let mut noted = Noted::new(alloc);
-    let are_noted = noted.fill(alloc, &[1, 2, 3]);
-    let are_three = noted.receipts.len() == 3;
-    let agreed = agrees(&noted.segments, &mut noted.receipts);
-    noted.receipts.truncate(2);
-    let agrees = agrees(&noted.segments, &mut noted.receipts);
+    let mut evidence = Evidence::new(alloc);
+    let are_noted = evidence.fill(alloc, &[1, 2, 3]);
+    let are_three = evidence.receipts.len() == 3;
+    let agreed = agrees(&evidence.segments, &mut evidence.receipts);
+    evidence.receipts.truncate(2);
+    let agrees = agrees(&evidence.segments, &mut evidence.receipts);
     are_noted && are_three && agreed && !agrees
 }
 
 // Whether it takes neither the receipts of another book nor those of both.
-fn are_apart(one: &mut Noted, two: &mut Noted) -> bool {
+fn are_apart(one: &mut Evidence, two: &mut Evidence) -> bool {
     let takes_other = agrees(&one.segments, &mut two.receipts);
     let is_taken_by_other = agrees(&two.segments, &mut one.receipts);
     let takes_own = agrees(&one.segments, &mut one.receipts);
@@ -69,8 +69,8 @@ fn are_apart(one: &mut Noted, two: &mut Noted) -> bool {
 }
 
 fn are_told_apart(alloc: Global) -> bool {
-    let mut one = Noted::new(alloc);
-    let mut two = Noted::new(alloc);
+    let mut one = Evidence::new(alloc);
+    let mut two = Evidence::new(alloc);
     one.fill(alloc, &[1, 2]) && two.fill(alloc, &[1, 9]) && are_apart(&mut one, &mut two)
 }
 

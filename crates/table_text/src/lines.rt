@@ -5,7 +5,7 @@ ghost use Rattle.std.specs.Fmt.{decimal, signed_decimal};
 ghost use Rattle.owner_ids.specs.Views.{view_of_owner};
 ghost use Rattle.range_table.specs.Modes.{view_of_mode};
 ghost use Rattle.definitions.specs.Owners.{Remote};
-ghost use Rattle.held_locks.specs.Asked.{shown};
+ghost use Rattle.held_locks.specs.Asked.{view_of_lock_holder};
 ghost use Rattle.local_ops.specs.Texts.{run_line, host_line, owner_text, mode_text, line, spaced};
 ghost use Rattle.table_text.specs.Blocks.{Passed};
 
@@ -25,7 +25,7 @@ pub(crate) fn put_run<W: Write>(
     writer: &mut W,
     run: &Holder<'_>,
 ) -> Result<(), WriteFault>
-    ensures { Passed (W.contents writer.old) (W.contents writer.new) result block.new (block.old ++ run_line (shown run.now)) }
+    ensures { Passed (W.contents writer.old) (W.contents writer.new) result block.new (block.old ++ run_line (view_of_lock_holder run.now)) }
 {
     put_hex(block, writer, run.file.as_bytes())?;
     put_range(block, writer, run.mode, run.first, run.last)?;

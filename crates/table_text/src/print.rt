@@ -2,7 +2,7 @@
 
 ghost use Rattle.std.specs.Prelude.{◌≡◌, ◌<◌, [], ◌∷◌, codes, IfSome, Some, slice_get};
 ghost use Rattle.definitions.specs.Starts.{runs, used};
-ghost use Rattle.held_locks.specs.Asked.{shown};
+ghost use Rattle.held_locks.specs.Asked.{view_of_lock_holder};
 ghost use Rattle.held_locks.specs.Listing.{IsListing};
 ghost use Rattle.local_ops.specs.Texts.{line};
 ghost use Rattle.table_text.specs.Texts.{runs_text, rows_text};
@@ -54,7 +54,7 @@ fn print_row<R: RangeTable, W: Write>(
 fn holder<'a, R: RangeTable>(locks: &'a Locks<R>, all: &Option<Listing>, i: u32) -> Holder<'a>
     requires row { IfSome all.now (IsListing locks.now) }
     requires within { i < used locks.now.settings }
-    ensures { slice_get (runs locks.now.settings) i ≡ Some (shown result) }
+    ensures { slice_get (runs locks.now.settings) i ≡ Some (view_of_lock_holder result) }
 {
     match all {
         Some(all) => locks.listed(all, i),

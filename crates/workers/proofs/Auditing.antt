@@ -9,7 +9,7 @@ use Rattle.definition_laws.proofs.KeptLaws.{local_same, local_is}
 use Rattle.definitions.specs.Bytes.{Bytes, same_bytes}
 use Rattle.definitions.specs.Step.{Peer}
 use Rattle.book.specs.declared.entry.Entry.{Entry}
-use Rattle.book.specs.Notes.{note_of, Happening, Takes, SendsNext, HearsAnswer, AsksLine, FallsSilent, GraceEnds, BeginsAnew, Note}
+use Rattle.book.specs.Notes.{view_of_entry, Happening, Takes, SendsNext, HearsAnswer, AsksLine, FallsSilent, GraceEnds, BeginsAnew, Note}
 use Rattle.book.specs.Given.{record_of}
 use Rattle.book.specs.Journal.{Journal}
 use Rattle.book.specs.Receipts.{Receipt, receipt_of, same_receipt, same_event, same_peer}
@@ -164,20 +164,20 @@ met_none left segments e agrees =
 
 -- ---- the loops
 
-module _ (entries : List Entry) (at : ℕ) (item : Entry) (within : at < length entries) (is : item ≡ get_or entries at item) (from : ℕ) (receipts : List Receipt) (last : ℕ) (left : List Receipt) (before : meet_all from receipts (map note_of (take at entries)) ≡ Some (last, left)) where
-  pub entry_met : (o : Option At) → meet last left (note_of item) ≡ o → meet_all from receipts (map note_of (take (at + 1) entries)) ≡ o
+module _ (entries : List Entry) (at : ℕ) (item : Entry) (within : at < length entries) (is : item ≡ get_or entries at item) (from : ℕ) (receipts : List Receipt) (last : ℕ) (left : List Receipt) (before : meet_all from receipts (map view_of_entry (take at entries)) ≡ Some (last, left)) where
+  pub entry_met : (o : Option At) → meet last left (view_of_entry item) ≡ o → meet_all from receipts (map view_of_entry (take (at + 1) entries)) ≡ o
   entry_met o met =
-      ap (λ l. meet_all from receipts (map note_of l)) (take_more entries at item within ∙ ap (λ x. take at entries ++ x ∷ []) (sym is))
-      ∙ ap (meet_all from receipts) (map-append note_of (take at entries) (item ∷ []))
-      ∙ step_on from receipts (map note_of (take at entries)) (note_of item) last left o before met
+      ap (λ l. meet_all from receipts (map view_of_entry l)) (take_more entries at item within ∙ ap (λ x. take at entries ++ x ∷ []) (sym is))
+      ∙ ap (meet_all from receipts) (map-append view_of_entry (take at entries) (item ∷ []))
+      ∙ step_on from receipts (map view_of_entry (take at entries)) (view_of_entry item) last left o before met
 
-  pub entry_missed : meet last left (note_of item) ≡ None → meet_all from receipts (map note_of entries) ≡ None
+  pub entry_missed : meet last left (view_of_entry item) ≡ None → meet_all from receipts (map view_of_entry entries) ≡ None
   entry_missed missed =
       let rest : drop at entries ≡ item ∷ drop (suc at) entries = drop-cons entries at item within ∙ ap (λ x. x ∷ drop (suc at) entries) (sym is) in
-      ap (λ l. meet_all from receipts (map note_of l)) (sym (take-append-drop at entries))
-      ∙ ap (meet_all from receipts) (map-append note_of (take at entries) (drop at entries))
-      ∙ stop_on from receipts (map note_of (take at entries)) (map note_of (drop at entries)) last left before
-      (ap (λ l. meet_all last left (map note_of l)) rest ∙ as_onwards (meet last left (note_of item)) (map note_of (drop (suc at) entries)) ∙ ap (λ o. onwards o (map note_of (drop (suc at) entries))) missed)
+      ap (λ l. meet_all from receipts (map view_of_entry l)) (sym (take-append-drop at entries))
+      ∙ ap (meet_all from receipts) (map-append view_of_entry (take at entries) (drop at entries))
+      ∙ stop_on from receipts (map view_of_entry (take at entries)) (map view_of_entry (drop at entries)) last left before
+      (ap (λ l. meet_all last left (map view_of_entry l)) rest ∙ as_onwards (meet last left (view_of_entry item)) (map view_of_entry (drop (suc at) entries)) ∙ ap (λ o. onwards o (map view_of_entry (drop (suc at) entries))) missed)
 
 module _ (segments : List Journal) (at : ℕ) (item : Journal) (within : at < length segments) (is : item ≡ get_or segments at item) (receipts : List Receipt) (last : ℕ) (left : List Receipt) (before : meet_all 0 receipts (notes_of (take at segments)) ≡ Some (last, left)) where
   pub segment_met : (o : Option At) → meet_all last left item.notes ≡ o → meet_all 0 receipts (notes_of (take (at + 1) segments)) ≡ o

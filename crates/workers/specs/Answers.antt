@@ -30,13 +30,13 @@ posted connection IsRefused = []
 abbrev pub asks : Task → Happening
 asks job = Takes job.peer job.asked
 
-abbrev pub asks_of : Taken → Happening
-asks_of t = Takes (view_of_peer t.peer) t.«record»
+abbrev pub view_of_taken : Taken → Happening
+view_of_taken t = Takes (view_of_peer t.peer) t.«record»
 
 -- the call has one receipt more, which is of its peer and record, and the reply of that receipt is what is handed over
 abbrev pub TakesCall : Taken → ℕ → List Receipt → List Receipt → List Sent → List Sent → Type 0
 TakesCall taken connection receipts receipts' sent sent' =
-    (receipt : Receipt) × (given : Given) × (receipt.event ≡ asks_of taken) × (record_of given ≡ receipt.reply)
+    (receipt : Receipt) × (given : Given) × (receipt.event ≡ view_of_taken taken) × (record_of given ≡ receipt.reply)
     × (receipts' ≡ receipts ++ receipt ∷ []) × (sent' ≡ sent ++ posted connection given)
 
 -- what a call gets that met want of memory before it began: SYSTEM_ERR, or nothing where its record is ignored

@@ -1,7 +1,7 @@
 //! Whether receipts and segments agree.
 ghost use Rattle.std.specs.Prelude.{◌≡◌, Some, None, map, IfSome, IfNone, MatchResult, IsPermutation};
 ghost use Rattle.std.specs.List.Sorted.{IsNonDecreasingBy};
-ghost use Rattle.book.specs.Notes.{note_of};
+ghost use Rattle.book.specs.Notes.{view_of_entry};
 ghost use Rattle.workers.specs.Audits.{Agrees, meet, meet_all, notes_of};
 ghost use Rattle.workers.specs.Holds.{is_take};
 
@@ -67,8 +67,8 @@ fn met_all<'a>(
     receipts: &'a [Receipt],
     entries: &[Entry],
 ) -> Option<(u64, &'a [Receipt])>
-    ensures some { IfSome result (λ r. meet_all from receipts.now (map note_of entries.now) ≡ Some (r.0, r.1.now)) }
-    ensures none { IfNone result (meet_all from receipts.now (map note_of entries.now) ≡ None) }
+    ensures some { IfSome result (λ r. meet_all from receipts.now (map view_of_entry entries.now) ≡ Some (r.0, r.1.now)) }
+    ensures none { IfNone result (meet_all from receipts.now (map view_of_entry entries.now) ≡ None) }
 {
     let mut last = from;
     let mut left = receipts;
@@ -80,8 +80,8 @@ fn met_all<'a>(
 
 // Meets the entry that follows the last number: where it took a record, the first receipt that is left is its own.
 fn met<'a>(last: u64, left: &'a [Receipt], entry: &Entry) -> Option<(u64, &'a [Receipt])>
-    ensures some { IfSome result (λ r. meet last left.now (note_of entry.now) ≡ Some (r.0, r.1.now)) }
-    ensures none { IfNone result (meet last left.now (note_of entry.now) ≡ None) }
+    ensures some { IfSome result (λ r. meet last left.now (view_of_entry entry.now) ≡ Some (r.0, r.1.now)) }
+    ensures none { IfNone result (meet last left.now (view_of_entry entry.now) ≡ None) }
 {
     if entry.number == 0 || entry.number - 1 != last {
         return None;
@@ -97,7 +97,7 @@ fn met<'a>(last: u64, left: &'a [Receipt], entry: &Entry) -> Option<(u64, &'a [R
 
 // Whether the entry took a record.
 fn took(entry: &Entry) -> bool
-    ensures { result ≡ is_take (note_of entry.now).event }
+    ensures { result ≡ is_take (view_of_entry entry.now).event }
 {
     match &entry.act {
         Act::Event { event, .. } => matches!(event, BookEvent::Take { .. }),

@@ -7,7 +7,7 @@ ghost use Rattle.book.specs.Notes.{view_of_event};
 ghost use Rattle.book.specs.Receipts.{newest_receipt};
 ghost use Rattle.workers.specs.Holds.{is_take, takes_of, IsOneHistory, Rests, Notes};
 ghost use Rattle.workers.specs.Sending.{IsNextOf};
-ghost use Rattle.workers.specs.Answers.{asks_of};
+ghost use Rattle.workers.specs.Answers.{view_of_taken};
 
 use crate::archive::Archive;
 use book::{Book, BookEvent, Closed, Receipt, Segment, Starved, Taken, Upshot, newest_entered};
@@ -130,8 +130,8 @@ impl<R: RangeTable, S: HostStore, L: Ledger> Shared<R, S, L> {
     ) -> Result<Entered<R, S>, Taken>
         requires same { same ≡ taken.«record» }
         requires part { 0 < share.old.parts }
-        ensures noted { IfOk result (λ entered. (upshot : Became) × Notes self.old (asks_of taken) upshot self.new × (newest_receipt self.new.book.journal.notes ≡ Some entered.receipt)) }
-        ensures told { IfOk result (λ entered. (entered.receipt.event ≡ asks_of taken) × (share.new.amount ≡ share.old.amount + 1)) }
+        ensures noted { IfOk result (λ entered. (upshot : Became) × Notes self.old (view_of_taken taken) upshot self.new × (newest_receipt self.new.book.journal.notes ≡ Some entered.receipt)) }
+        ensures told { IfOk result (λ entered. (entered.receipt.event ≡ view_of_taken taken) × (share.new.amount ≡ share.old.amount + 1)) }
         ensures due { IfOk result (λ entered. entered.is_due ≡ is_some (next_due self.new.book.journal.end.world.calls)) }
         ensures none { IfErr result (λ back. (back ≡ taken) × Rests self.old self.new × (share.new.amount ≡ share.old.amount)) }
         ensures parts { share.new.parts ≡ share.old.parts }

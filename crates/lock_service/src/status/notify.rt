@@ -3,7 +3,7 @@ ghost use Rattle.std.specs.Prelude.{◌≡◌, IfOk};
 ghost use Rattle.definitions.specs.Hosts.{Seen};
 ghost use Rattle.definitions.specs.World.{World as SaidWorld, the_limits};
 ghost use Rattle.definitions.specs.Answer.{notify_answer};
-ghost use Rattle.call_plans.specs.Planned.{asked_of, CanAskFor, IsPlan};
+ghost use Rattle.call_plans.specs.Planned.{view_of_asked, CanAskFor, IsPlan};
 ghost use Rattle.lock_service.specs.Dropping.{dropped_if_room};
 
 use super::stat;
@@ -57,7 +57,7 @@ fn dropped<R: RangeTable, S: HostStore>(
 }
 
 fn seen(alloc: Global, name: &Name<'_>, state: i32) -> Result<Asked, Starved>
-    ensures asked { IfOk result (λ asked. asked_of asked ≡ Seen name.now.bytes.now state) }
+    ensures asked { IfOk result (λ asked. view_of_asked asked ≡ Seen name.now.bytes.now state) }
     ensures asks { IfOk result (λ asked. (w : SaidWorld) → CanAskFor asked w) }
 {
     Ok(Asked::Seen {

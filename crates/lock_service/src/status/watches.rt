@@ -5,9 +5,9 @@ ghost use Rattle.definitions.specs.Nsm.{SmMon, SmUnmon, SmUnmonAll};
 ghost use Rattle.definitions.specs.Replies.{SystemErr};
 ghost use Rattle.definitions.specs.World.{World as SaidWorld, the_limits};
 ghost use Rattle.definitions.specs.Answer.{gives, gives_state, nsm_answer, stored};
-ghost use Rattle.callbacks.specs.Meanings.{my_id_of};
+ghost use Rattle.callbacks.specs.Meanings.{view_of_told_my_id};
 ghost use Rattle.nsm_types.specs.Arguments.{view_of_my_id};
-ghost use Rattle.call_plans.specs.Planned.{asked_of, CanAskFor, IsPlan};
+ghost use Rattle.call_plans.specs.Planned.{view_of_asked, CanAskFor, IsPlan};
 
 use super::stat;
 use call_outcome::Outcome;
@@ -45,7 +45,7 @@ pub(crate) fn mon<R: RangeTable, S: HostStore>(
 
 // What the store is asked to keep.
 fn watched(alloc: Global, args: &Mon<'_>) -> Result<Asked, Starved>
-    ensures asked { IfOk result (λ asked. asked_of asked ≡ Watched args.now.mon_name.bytes.now (view_of_my_id args.now.my_id) args.now.private_bytes.bytes.now) }
+    ensures asked { IfOk result (λ asked. view_of_asked asked ≡ Watched args.now.mon_name.bytes.now (view_of_my_id args.now.my_id) args.now.private_bytes.bytes.now) }
     ensures asks { IfOk result (λ asked. (w : SaidWorld) → CanAskFor asked w) }
 {
     let mut private_bytes = [0; 16];
@@ -110,7 +110,7 @@ fn unwatched<R: RangeTable, S: HostStore>(
 }
 
 fn copy_of(alloc: Global, my_id: &MyId<'_>) -> Result<callbacks::MyId, Starved>
-    ensures { IfOk result (λ copy. my_id_of copy ≡ view_of_my_id my_id.now) }
+    ensures { IfOk result (λ copy. view_of_told_my_id copy ≡ view_of_my_id my_id.now) }
 {
     Ok(callbacks::MyId {
         my_name: ShortBytes::copy_of(alloc, my_id.my_name.bytes)?,

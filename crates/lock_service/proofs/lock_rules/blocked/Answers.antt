@@ -6,7 +6,7 @@ use Rattle.definitions.specs.Nlm.{BLOCKED}
 use Rattle.definitions.specs.Outgoing.{Letter}
 use Rattle.definitions.specs.World.{the_limits, slots_free, with_waiter}
 use Rattle.call_plans.specs.declared.plans.Change.TheVariants.{Wait}
-use Rattle.call_plans.specs.Planned.{request_wanted}
+use Rattle.call_plans.specs.Planned.{view_of_wanted}
 use Rattle.lock_service.specs.Asks.{ask_of}
 use Rattle.lock_service.specs.Verdicts.{IsVerdict}
 use Rattle.lock_service.proofs.Rules.{would_wait_for_itself, no_place, waits_now, no_slot, some_slot, room_behind, made_so}
@@ -42,5 +42,5 @@ returns-clause-verdict g c =
     let some = some_slot c.free_slots.result free reserved c.free_slots.ensures c.if-free_slots-ask.false in
     let letter = c.in_ok-letter.letter in
     made_so c.behind_row-2.result w (Wait c.args.ask.wanted letter) reserved _ _ (waits_now w a waits_not no_cycle some ∙ ap (λ (l : Letter). after_row w (row_asked w a.row) BLOCKED (λ v. with_waiter v (record { request = a.request; letter = l }))) (sym c.in_ok-letter.ensures))
-    (λ room. room_behind w (record { request = request_wanted c.args.ask.wanted; letter = letter }) c.free_slots.result reserved c.free_slots.ensures c.if-free_slots-ask.false)
-    (λ hosts room. room_behind w (record { request = request_wanted c.args.ask.wanted; letter = letter }) c.free_slots.result reserved c.free_slots.ensures c.if-free_slots-ask.false) c.behind_row-2.ensures.verdict
+    (λ room. room_behind w (record { request = view_of_wanted c.args.ask.wanted; letter = letter }) c.free_slots.result reserved c.free_slots.ensures c.if-free_slots-ask.false)
+    (λ hosts room. room_behind w (record { request = view_of_wanted c.args.ask.wanted; letter = letter }) c.free_slots.result reserved c.free_slots.ensures c.if-free_slots-ask.false) c.behind_row-2.ensures.verdict

@@ -3,7 +3,7 @@ use Rattle.std.specs.Fmt.{decimal}
 use Rattle.hex.specs.Hex.{encode_lower}
 use Rattle.owner_ids.specs.Views.{view_of_owner}
 use Rattle.range_table.specs.Modes.{view_of_mode}
-use Rattle.held_locks.specs.Asked.{shown}
+use Rattle.held_locks.specs.Asked.{view_of_lock_holder}
 use Rattle.held_locks.specs.declared.asked.Holder.{Holder}
 use Rattle.local_ops.specs.Texts.{spaced, owner_text, mode_text, run_line}
 use Rattle.written.specs.Written.{WroteFront}
@@ -22,7 +22,7 @@ range run = spaced ([] ∷ mode_text (view_of_mode run.mode) ∷ decimal run.fir
 abbrev owner : Holder → List ℕ
 owner run = owner_text (view_of_owner run.owner.now)
 
-run_is : (run : Holder) → file run ++ (range run ++ (owner run ++ 10 ∷ [])) ≡ run_line (shown run)
+run_is : (run : Holder) → file run ++ (range run ++ (owner run ++ 10 ∷ [])) ≡ run_line (view_of_lock_holder run)
 run_is run = run_pieces (file run) (mode_text (view_of_mode run.mode)) (decimal run.first) (decimal run.last) (owner run)
 
 pub returns-in_err-put_hex : goal.returns-in_err-put_hex

@@ -4,13 +4,13 @@ use Rattle.std.proofs.lemmas.Grind.{common_steps}
 use Rattle.call_plans.specs.Planned.{view_of_stored}
 use Rattle.book.specs.declared.entry.TheConstants.{SEGMENT}
 use Rattle.book.specs.Given.{Upshot, comes_to, view_of_doing}
-use Rattle.book.specs.Notes.{Note, gave, view_of_event}
+use Rattle.book.specs.Notes.{Note, given_in, view_of_event}
 use Rattle.book.specs.Kept.{IsKept}
 use Rattle.book.proofs.Entered.{kept_grows}
 use Rattle.book.proofs.book.Book.apply.Goals as goal
 
 -- the entry notes what the event came to
-noted : (g : _) (c : goal.After-enter g) → comes_to (view_of_doing c.upshot.inside.doing) (view_of_stored c.upshot.inside.store) (gave c.apply-upshot.result.1) ≡ c.apply-upshot.result.0
+noted : (g : _) (c : goal.After-enter g) → comes_to (view_of_doing c.upshot.inside.doing) (view_of_stored c.upshot.inside.store) (given_in c.apply-upshot.result.1) ≡ c.apply-upshot.result.0
 noted g c =
     let i = c.upshot.inside in
     let same = ap (λ (u : Upshot). comes_to (view_of_doing i.doing) (view_of_stored i.store) u.given) (sym c.upshot.view_is) in

@@ -1,6 +1,6 @@
 use Rattle.std.proofs.Common.{refl}
 use Rattle.definitions.specs.Hosts.{NotAsked}
-use Rattle.callbacks.specs.Meanings.{local_lock_of}
+use Rattle.callbacks.specs.Meanings.{view_of_local_lock}
 use Rattle.definitions.specs.Lines.{get_unless, line_refusal}
 use Rattle.definitions.specs.Replies.{GetLock, Close, Table, HostList, SetQuota, Stop, LineOk, LineTable, LineHosts}
 use Rattle.definitions.specs.Starts.{runs}
@@ -28,7 +28,7 @@ pub returns-in-GetLock-clause-ok : goal.returns-in-GetLock-clause-ok
 returns-in-GetLock-clause-ok g c =
     let w = c.self.inside.world.world in
     let mode = view_of_mode c.in-GetLock.mode in
-    let lock = local_lock_of c.in-GetLock.lock in
+    let lock = view_of_local_lock c.in-GetLock.lock in
     let ok = rw (← c.self.view_is) at c.settled.ensures.ok in
     rw (← c.self.view_is, c.in-GetLock.is) (ok c.args.connection (GetLock mode lock) (get_unless w mode lock (line_refusal w lock)) (refl, refl) c.get_lock-told.ensures)
 

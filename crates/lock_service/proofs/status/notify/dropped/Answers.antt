@@ -3,7 +3,7 @@ use Rattle.std.proofs.lemmas.Int.{to_z-of_z}
 use Rattle.definitions.specs.Hosts.{watches_of}
 use Rattle.definitions.specs.World.{the_limits, slots_free}
 use Rattle.call_outcome.specs.Values.{view_of_outcome}
-use Rattle.call_plans.specs.Planned.{asked_of, told_in}
+use Rattle.call_plans.specs.Planned.{view_of_asked, told_in}
 use Rattle.lock_service.proofs.Dropping.{same, with_room, fits}
 use Rattle.lock_service.proofs.status.notify.dropped.Goals as goal
 
@@ -15,7 +15,7 @@ returns g c =
     let count = c.watch_count.ensures in
     let free = c.free_slots.ensures in
     let room : length (watches_of w.hosts name) ≤ slots_free the_limits w = omega arith in
-    let call = asked_of c.in_ok-asked.asked in
+    let call = view_of_asked c.in_ok-asked.asked in
     let letters = c.in_ok-due.due.items in
     let dropped = c.in_ok-gone.gone.items in
     let asked = rw (to_z-of_z w32 state c.ranges.state) at c.in_ok-asked.ensures.asked in

@@ -3,7 +3,7 @@ use Rattle.definitions.specs.Quotas.{quotas_of}
 use Rattle.std.proofs.lemmas.Option.{none-some}
 use Rattle.owner_ids.specs.Names.{named, AreDistinct}
 use Rattle.owner_ids.specs.Views.{view_of_owner}
-use Rattle.held_locks.specs.Asked.{asked}
+use Rattle.held_locks.specs.Asked.{view_of_request}
 use Rattle.blocked_list.specs.Waiting.{AreKnown}
 use Rattle.lock_state.proofs.Strangers.{stranger_waits}
 use Rattle.lock_state.proofs.Waiting.{is_known, whole_cancelled}
@@ -26,4 +26,4 @@ returns-in-None-clause-refused g c =
     let names = c.self.inside.locks.names in
     let x = view_of_owner c.args.wanted.now.owner.now in
     let nobody : (n : ℕ) → named names n ≢ Some x = λ n e. none-some n (c.in-None.ensures.known n (subst (λ ns. named ns n ≡ Some x) (sym c.parts.ensures.names) e)) in
-    rw (← c.self.view_is) ((λ e. stranger_waits names (asked c.args.wanted.now) nobody c.self.inside.slots.waiters c.self.invariant.in_use), λ e. refl)
+    rw (← c.self.view_is) ((λ e. stranger_waits names (view_of_request c.args.wanted.now) nobody c.self.inside.slots.waiters c.self.invariant.in_use), λ e. refl)

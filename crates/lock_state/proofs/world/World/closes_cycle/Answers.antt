@@ -5,7 +5,7 @@ use Rattle.definitions.specs.Waits.{closes_cycle}
 use Rattle.range_table.specs.Settings.{mode_at}
 use Rattle.owner_ids.specs.Names.{named}
 use Rattle.owner_ids.specs.Views.{view_of_owner}
-use Rattle.held_locks.specs.Asked.{asked}
+use Rattle.held_locks.specs.Asked.{view_of_request}
 use Rattle.blocked_list.specs.Waiting.{AreNamed, AreKnown, waiters_by}
 use Rattle.lock_state.specs.Seen.{Seen}
 use Rattle.lock_state.proofs.Strangers.{stranger_closes}
@@ -24,10 +24,10 @@ returns-in-Some g c =
     let found = c.in-Some.ensures.found in
     let one = is_known (named owners) n r c.by_number.result c.by_number.ensures found in
     let is = request_is (named owners) n r c.by_number.result c.by_number.ensures found in
-    subst (λ (s : Seen). c.closes_cycle.result ≡ closes_cycle s.world.settings s.world.waiters (asked r)) c.self.view_is
+    subst (λ (s : Seen). c.closes_cycle.result ≡ closes_cycle s.world.settings s.world.waiters (view_of_request r)) c.self.view_is
     (c.closes_cycle.ensures settings c.parts.ensures.stands known one
     ∙ ap (λ (q : Request). closes_cycle settings (waiters_by (named owners) ws) q) is
-    ∙ ap (λ ns. closes_cycle settings (waiters_by (named ns) ws) (asked r)) c.parts.ensures.names)
+    ∙ ap (λ ns. closes_cycle settings (waiters_by (named ns) ws) (view_of_request r)) c.parts.ensures.names)
 
 pub returns-in-None : goal.returns-in-None
 returns-in-None g c =
@@ -36,5 +36,5 @@ returns-in-None g c =
     let settings = c.self.inside.locks.settings in
     let ws = c.self.inside.slots.waiters in
     let nobody : (n : ℕ) → named owners n ≢ Some (view_of_owner c.args.wanted.now.owner.now) = λ n e. none-some n (c.in-None.ensures.known n e) in
-    subst (λ (s : Seen). false ≡ closes_cycle s.world.settings s.world.waiters (asked c.args.wanted.now)) c.self.view_is
-    (sym (stranger_closes (named owners) held settings c.parts.ensures.stands (asked c.args.wanted.now) nobody (waiters_by (named c.self.inside.locks.names) ws)))
+    subst (λ (s : Seen). false ≡ closes_cycle s.world.settings s.world.waiters (view_of_request c.args.wanted.now)) c.self.view_is
+    (sym (stranger_closes (named owners) held settings c.parts.ensures.stands (view_of_request c.args.wanted.now) nobody (waiters_by (named c.self.inside.locks.names) ws)))

@@ -7,7 +7,7 @@ use Rattle.blocked_list.specs.Quotas.{is_limited}
 use Rattle.definitions.specs.Starts.{refuses}
 use Rattle.definitions.specs.Bytes.{is_any}
 use Rattle.definitions.specs.World.{World, the_limits, is_ready, is_ready_in, settled}
-use Rattle.grace.specs.Meanings.{phase_of}
+use Rattle.grace.specs.Meanings.{view_of_phase}
 use Rattle.held_locks.specs.Asked.{setting_by}
 use Rattle.owner_ids.specs.Names.{named}
 use Rattle.definitions.specs.First.{IsFirstAt}
@@ -89,7 +89,7 @@ world g c = record {
   settings = c.self.inside.locks.settings;
   waiters = waiters_by (named c.self.inside.locks.names) c.self.inside.slots.waiters;
   shares = c.self.inside.shares;
-  phase = phase_of c.self.inside.phase;
+  phase = view_of_phase c.self.inside.phase;
   hosts = g.S.HostStore.rows c.self.inside.store;
   calls = c.self.inside.calls;
   next = c.self.inside.next;

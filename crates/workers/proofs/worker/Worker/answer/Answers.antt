@@ -5,7 +5,7 @@ use Rattle.definitions.specs.Hosts.{NotAsked}
 use Rattle.definitions.specs.Step.{Starved}
 use Rattle.book.specs.Given.{comes_to, view_of_reply}
 use Rattle.book.specs.Notes.{Happening, Takes, Steps}
-use Rattle.workers.specs.Answers.{Worker, asks, asks_of, posted}
+use Rattle.workers.specs.Answers.{Worker, asks, view_of_taken, posted}
 use Rattle.workers.proofs.worker.Worker.answer.Goals.{in-Err, in-Ok}
 use Rattle.workers.proofs.worker.Worker.answer.Goals as goal
 
@@ -20,7 +20,7 @@ returns-clause-answered g c = elim c.match-take.branch [
       let given = view_of_reply w.starved.result in (
         record { job = c.args.job; receipt = None; given = given },
         refl,
-        λ s. subst (λ (e : Happening). Steps s e (comes_to Starved NotAsked given) s) (ap asks_of none.0 ∙ the_call g c) (w.starved.ensures s),
+        λ s. subst (λ (e : Happening). Steps s e (comes_to Starved NotAsked given) s) (ap view_of_taken none.0 ∙ the_call g c) (w.starved.ensures s),
         ap g.O.Outbox.handed w.outbox-is ∙ w.post_last.ensures ∙ (λ i. none.2 i ++ posted (c.connection-connection.ensures i) given),
         none.1 ∙ ap (λ (x : Worker). x.receipts) c.self.view_is ∙ sym (append-nil _),
       )
