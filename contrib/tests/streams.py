@@ -36,7 +36,7 @@ def runs_stand_first(kind):
     equal(procedures("--runs", "3", "--as", kind, "test", "1"), [LOCK, LOCK, LOCK, TEST])
 
 
-@cases(each=("each", 4), one=("one", 3))
+@cases(each=("each", 4), one=("one", 3), asked=("asked", 3))
 def waiters_stand_behind_who_holds(on, count):
     equal(procedures("--waiters", "2", "--on", on, "null", "1"), [LOCK] * count + [NULL])
 
