@@ -7,7 +7,7 @@ use Rattle.definitions.specs.Outgoing.{Outgoing, Message, Notify, Granted, is_gr
 use Rattle.definitions.specs.Ranges.{owner_of}
 use Rattle.definitions.specs.World.{World, the_limits}
 use Rattle.definitions.specs.Rulings.{Told, Ruling, ruled}
-use Rattle.definitions.specs.Grants.{Change, TableStays, TableChanges, became, grant_answered}
+use Rattle.definitions.specs.Grants.{TableChange, TableStays, TableChanges, became, grant_answered}
 use Rattle.definitions.specs.Step.{settled_after}
 use Rattle.hosts_db.specs.declared.error.StoreError.{StoreError}
 use Rattle.callbacks.specs.Grants.{granted_lock}
@@ -25,7 +25,7 @@ IsAsked (Some (Acked name epoch)) store = store ≢ NotAsked
 IsAsked (Some _) store = ⊥
 
 -- the world is that of the rules under the store's answer, and a refusal is counted
-pub record IsDone (ruling : Ruling (Told Change)) (store : StoreAnswer) (old new : Seen) : Type 0 where
+pub record IsDone (ruling : Ruling (Told TableChange)) (store : StoreAnswer) (old new : Seen) : Type 0 where
   pub world : new.world ≡ settled_after the_limits (ruled store ruling)
   pub asked : IsAsked ruling.asks store
   pub refusals : new.refusals ≡ counted store old.refusals
@@ -63,15 +63,15 @@ IsTurnedForgotten (reading.AcceptedSuccess xid stat) w s = stat ≡ Some Denied 
 IsTurnedForgotten (reading.OtherAnswer xid) w s = Unit {0}
 
 -- what a status says of the grant that was found
-abbrev pub grant_told_of : World → Option Stat → Outgoing → Option Lock → Told Change
+abbrev pub grant_told_of : World → Option Stat → Outgoing → Option Lock → Told TableChange
 grant_told_of w stat c None = became TableStays w
 grant_told_of w stat c (Some alock) = grant_answered the_limits w c alock stat
 
-abbrev pub grant_told : World → Option Stat → Option Outgoing → Told Change
+abbrev pub grant_told : World → Option Stat → Option Outgoing → Told TableChange
 grant_told w stat None = became TableStays w
 grant_told w stat (Some c) = grant_told_of w stat c (granted_lock c.letter.message)
 
-abbrev pub change_by : Bool → Change
+abbrev pub change_by : Bool → TableChange
 change_by true = TableChanges
 change_by false = TableStays
 

@@ -20,7 +20,7 @@ use Rattle.definitions.specs.Waits.{Waiter}
 use Rattle.definitions.specs.World.{World, Limits, with_setting, with_hosts, with_due, with_all_due, without_host_of, restarted, restart_letter, opening, slots_free, closed_by}
 use Rattle.definitions.specs.Rulings.{Told, Ruling, decided, ruled, stays}
 use Rattle.definitions.specs.LockRules.{NewHost}
-use Rattle.definitions.specs.Grants.{Change, TableStays, TableChanges, ended, became, grant_answered, granted_res_rules, granted_res_at, granted_res_of, notice_answered, succeeded, answered_success, answered_otherwise, answer_rules}
+use Rattle.definitions.specs.Grants.{TableChange, TableStays, TableChanges, ended, became, grant_answered, granted_res_rules, granted_res_at, granted_res_of, notice_answered, succeeded, answered_success, answered_otherwise, answer_rules}
 use Rattle.definitions.specs.Answer.{Answered, gives, lock_ask, caller_row, lock_unless, lock_verdict, lock_msg_answer, cancel_unless, cancel_answer, unlock_unless, unlock_answer, if_slots, by_call, by_message, lock_letter, cancel_letter, unlock_letter, share_unless, share_of, unshare_unless, nlm_answer, stored, notified, notify_rules, status_letter, nsm_answer, ruling}
 use Rattle.definitions.specs.Lines.{line_refusal, line_answer, set_unless, line_sets, line_ask, quota_stored}
 use Rattle.definitions.specs.Moves.{TableMove, Stays, DropsHost, DropsOwner, Unlocks, Empties, AreRanges, Moves, ReclaimedBy, IsReclaimOf}
@@ -137,18 +137,18 @@ module _ (Reclaimed : Request → Type 0) where
 
   -- ---- answers to the server's own calls
 
-  abbrev pub ToldMoves : Change → World → World → Type 0
+  abbrev pub ToldMoves : TableChange → World → World → Type 0
   ToldMoves TableStays w v = (v.settings ≡ w.settings) × (v.waiters ≡ w.waiters) × AreKept (quotas_of w.hosts) (quotas_of v.hosts)
   ToldMoves TableChanges w v = Moves Reclaimed w v
 
-  pub told_moves : (change : Change) (w v : World) → ToldMoves change w v → Moves Reclaimed w v
+  pub told_moves : (change : TableChange) (w v : World) → ToldMoves change w v → Moves Reclaimed w v
   told_moves TableStays w v m = same_moves w v m.0 m.1
   told_moves TableChanges w v m = m
 
   put : (w : World) → (w.settings ≡ w.settings) × (w.waiters ≡ w.waiters) × AreKept (quotas_of w.hosts) (quotas_of w.hosts)
   put w = (refl, refl, all_kept (quotas_of w.hosts))
 
-  abbrev pub ChangeMoves : World → Told Change → Type 0
+  abbrev pub ChangeMoves : World → Told TableChange → Type 0
   ChangeMoves w t = ToldMoves t.says w t.world
 
   grant_moves : (limits : Limits) (w : World) (c : Outgoing) (alock : Lock) (stat : Option Stat) → ChangeMoves w (grant_answered limits w c alock stat)
@@ -168,7 +168,7 @@ module _ (Reclaimed : Request → Type 0) where
       go None = put w
       go (Some c) = by_message_of c c.letter.message
 
-  abbrev pub BothChange : World → Ruling (Told Change) → Type 0
+  abbrev pub BothChange : World → Ruling (Told TableChange) → Type 0
   BothChange w r = ChangeMoves w r.agreed × ChangeMoves w r.refused
 
   notice_moves : (w : World) (c : Outgoing) (to : Destination) → BothChange w (notice_answered w c to)

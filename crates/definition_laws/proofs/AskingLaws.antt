@@ -18,7 +18,7 @@ use Rattle.definitions.specs.Waits.{is_waiting, closes_cycle}
 use Rattle.definitions.specs.World.{World, Limits, with_setting, with_waiter, with_hosts, slots_free}
 use Rattle.definitions.specs.Rulings.{Told, Ruling, decided, stays, each}
 use Rattle.definitions.specs.LockRules.{LockAsk, row_asked, after_row, free_lock, blocked_lock, lock_rules, unlock_rules, cancel_rules}
-use Rattle.definitions.specs.Grants.{Change, notice_answered, succeeded, answered_success, answered_otherwise, answer_rules}
+use Rattle.definitions.specs.Grants.{TableChange, notice_answered, succeeded, answered_success, answered_otherwise, answer_rules}
 use Rattle.definitions.specs.Answer.{Answered, gives, lock_ask, caller_row, lock_unless, lock_verdict, cancel_unless, cancel_answer, unlock_unless, unlock_answer, if_slots, by_reply, replied, by_call, by_message, sent_back, test_letter, lock_letter, cancel_letter, unlock_letter, stored, notified, notify_rules, nlm_answer, nsm_answer, ruling}
 use Rattle.definitions.specs.Step.{State, Event, Take, Local, Starved, step, with_world, with_row_stored, store_call}
 use Rattle.definition_laws.specs.Asking.{IsUnasked, UnaskedLaw, StarvedLaw}
@@ -137,7 +137,7 @@ call_unasked : (limits : Limits) (w : World) (local : Bool) (call : Call) → An
 call_unasked limits w local (Nlm version call) = nlm_unasked limits w version call
 call_unasked limits w local (Nsm call) = nsm_unasked limits w local call
 
-abbrev Change_unasked : Ruling (Told Change) → Type 0
+abbrev Change_unasked : Ruling (Told TableChange) → Type 0
 Change_unasked r = IsUnasked r
 
 notice_unasked : (w : World) (c : Outgoing) (to : Destination) → Change_unasked (notice_answered w c to)

@@ -9,7 +9,7 @@ use Rattle.definitions.specs.Outgoing.{Outgoing, next_due}
 use Rattle.definitions.specs.Replies.{Call, Nlm, Ignored, Turned, Asks, AnswerReading}
 use Rattle.definitions.specs.World.{World, Limits, settled, with_all_due, slots_free, restarted}
 use Rattle.definitions.specs.Rulings.{Told, ruled}
-use Rattle.definitions.specs.Grants.{Change, TableStays, TableChanges, answer_rules}
+use Rattle.definitions.specs.Grants.{TableChange, TableStays, TableChanges, answer_rules}
 use Rattle.definitions.specs.Lines.{line_answer}
 use Rattle.definitions.specs.Answer.{ruling}
 use Rattle.definitions.specs.Step.{Peer, KeptPair, State, Event, Take, Send, Answer, Silent, Local, GraceOver, Restart, Applied, Starved, Stepped, applied, starved, taken, look, sent, restart, settled_after, with_row_stored, store_call}
@@ -47,10 +47,10 @@ module _ (limits : Limits) (s : State) (g : s.world.phase ≡ Grace) (none : s.w
   sent_moved R None = same R s.world refl refl
   sent_moved R (Some c) = same R s.world refl refl
 
-  changed_moved : (R : Request → Type 0) (t : Told Change) → ToldMoves R t.says s.world t.world → Moved R (settled_after limits t)
+  changed_moved : (R : Request → Type 0) (t : Told TableChange) → ToldMoves R t.says s.world t.world → Moved R (settled_after limits t)
   changed_moved R t m = go t.says (moved R t.world (told_moves R t.says s.world t.world m))
     where
-      go : (c : Change) → Moved R t.world → Moved R (elim c [ TableStays ↦ t.world | TableChanges ↦ settled limits t.world ])
+      go : (c : TableChange) → Moved R t.world → Moved R (elim c [ TableStays ↦ t.world | TableChanges ↦ settled limits t.world ])
       go TableStays u = u
       go TableChanges u = at_rest R t.world u
 

@@ -11,7 +11,7 @@ use Rattle.definitions.specs.Outgoing.{Letter, Outgoing, is_grant, is_numbered, 
 use Rattle.definitions.specs.Replies.{Call, Nlm, Ignored, Turned, Asks, AnswerReading}
 use Rattle.definitions.specs.World.{World, Limits, settled, with_all_due, with_calls, slots_free, restarted, first_number}
 use Rattle.definitions.specs.Rulings.{Told, ruled}
-use Rattle.definitions.specs.Grants.{Change, TableStays, TableChanges, answer_rules}
+use Rattle.definitions.specs.Grants.{TableChange, TableStays, TableChanges, answer_rules}
 use Rattle.definitions.specs.Lines.{line_answer}
 use Rattle.definitions.specs.Answer.{Answered, ruling}
 use Rattle.definitions.specs.Step.{Peer, KeptPair, State, Event, Doing, Take, Send, Answer, Silent, Local, GraceOver, Restart, Applied, Starved, Stepped, applied, starved, step, taken, look, sent, restart, settled_after, is_same_key, is_restart, is_kept_kind, is_success, moved_to_front, with_row_stored, store_call, opening_state}
@@ -161,14 +161,14 @@ module _ (limits : Limits) (s : State) (quiet : IsQuiet s) where
       let v = with_calls s.world (after_sending s.world.calls) in
       record { world = going_quiet s.world v refl (goes_left s.world v (after_sending s.world.calls) (left_sending s.world.calls) refl refl refl) quiet.world; kept = quiet.kept }
 
-  changed_quiet : (t : Told Change) → Quiet t.world → Quiet (settled_after limits t)
+  changed_quiet : (t : Told TableChange) → Quiet t.world → Quiet (settled_after limits t)
   changed_quiet t q = go t.says
     where
-      go : (c : Change) → Quiet (elim c [ TableStays ↦ t.world | TableChanges ↦ settled limits t.world ])
+      go : (c : TableChange) → Quiet (elim c [ TableStays ↦ t.world | TableChanges ↦ settled limits t.world ])
       go TableStays = q
       go TableChanges = settled_quiet limits t.world q
 
-  answered_quiet : (t : Told Change) → SideMoves NoShare false s.world t.world → Moves Anything s.world t.world → IsQuiet (record s { world = settled_after limits t })
+  answered_quiet : (t : Told TableChange) → SideMoves NoShare false s.world t.world → Moves Anything s.world t.world → IsQuiet (record s { world = settled_after limits t })
   answered_quiet t m k = record { world = changed_quiet t (rules_quiet NoShare false s.world t.world m k quiet.world); kept = quiet.kept }
 
   answer_quiet : (reading : AnswerReading) (store : StoreAnswer) → IsQuiet (applied limits s (Answer reading) store).state

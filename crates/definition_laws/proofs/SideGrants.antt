@@ -9,7 +9,7 @@ use Rattle.definitions.specs.Ranges.{unlock_of}
 use Rattle.definitions.specs.Replies.{AnswerReading, Unreadable, AcceptedSuccess, OtherAnswer}
 use Rattle.definitions.specs.World.{World, Limits, with_setting, with_calls}
 use Rattle.definitions.specs.Rulings.{Told, Ruling}
-use Rattle.definitions.specs.Grants.{Change, ended, grant_answered, granted_res_rules, granted_res_at, granted_res_of, notice_answered, succeeded, answered_success, answered_otherwise, answer_rules, became, TableStays, TableChanges}
+use Rattle.definitions.specs.Grants.{TableChange, ended, grant_answered, granted_res_rules, granted_res_at, granted_res_of, notice_answered, succeeded, answered_success, answered_otherwise, answer_rules, became, TableStays, TableChanges}
 use Rattle.definitions.proofs.MoveLaws.{by_cond}
 use Rattle.definition_laws.proofs.CallLaws.{left_without_first}
 use Rattle.definition_laws.proofs.SideMoves.{SharesStay, SideMoves, unmoved_sides, goes_left, goes_silent}
@@ -36,7 +36,7 @@ module _ (R : Share → Type 0) where
   grant_sides : (limits : Limits) (w : World) (c : Outgoing) (alock : Lock) (stat : Option Stat) → SideMoves R false w (grant_answered limits w c alock stat).world
   grant_sides limits w c alock (Some DENIED) =
       let e = ended_sides w c in
-      by_cond (λ (t : Told Change). SideMoves R false w t.world) (is_refused limits.runs (quotas_of w.hosts) w.settings (unlock_of alock)) (became TableStays (ended w c)) (became TableChanges (with_setting (ended w c) (unlock_of alock)))
+      by_cond (λ (t : Told TableChange). SideMoves R false w t.world) (is_refused limits.runs (quotas_of w.hosts) w.settings (unlock_of alock)) (became TableStays (ended w c)) (became TableChanges (with_setting (ended w c) (unlock_of alock)))
       (λ _. e)
       (λ _. record {
         name = refl;
@@ -57,7 +57,7 @@ module _ (R : Share → Type 0) where
       go None = unmoved_sides R false w
       go (Some c) = by_message_of c c.letter.message
 
-  abbrev pub BothSides : World → Ruling (Told Change) → Type 0
+  abbrev pub BothSides : World → Ruling (Told TableChange) → Type 0
   BothSides w r = SideMoves R false w r.agreed.world × SideMoves R false w r.refused.world
 
   notice_sides : (w : World) (c : Outgoing) (to : Destination) → BothSides w (notice_answered w c to)

@@ -11,7 +11,7 @@ use Rattle.definitions.specs.Shares.{Share}
 use Rattle.definitions.specs.Waits.{Waiter}
 use Rattle.definitions.specs.World.{World, Limits, first_ready, granted, settled, settled_within, with_all_due, with_due, with_calls, slots_free, first_number}
 use Rattle.definitions.specs.Rulings.{Told, ruled}
-use Rattle.definitions.specs.Grants.{Change, TableStays, TableChanges, answer_rules}
+use Rattle.definitions.specs.Grants.{TableChange, TableStays, TableChanges, answer_rules}
 use Rattle.definitions.specs.Lines.{line_answer}
 use Rattle.definitions.specs.Answer.{ruling}
 use Rattle.definitions.specs.Step.{Peer, KeptPair, State, Event, Take, Send, Answer, Silent, Local, GraceOver, Restart, Doing, Applied, Starved, Stepped, applied, starved, step, taken, look, sent, restart, settled_after, with_row_stored, store_call, is_restart}
@@ -160,10 +160,10 @@ module _ (limits : Limits) (s : State) where
       let v = with_calls s.world (after_sending s.world.calls) in
       going_step R begin s.world v refl refl (plainly R s.world v (goes_left s.world v (after_sending s.world.calls) (left_sending s.world.calls) refl refl refl))
 
-  changed_sides : (R : Share → Type 0) (begin : Bool) (t : Told Change) → StepSides R begin s.world t.world → StepSides R begin s.world (settled_after limits t)
+  changed_sides : (R : Share → Type 0) (begin : Bool) (t : Told TableChange) → StepSides R begin s.world t.world → StepSides R begin s.world (settled_after limits t)
   changed_sides R begin t m = go t.says
     where
-      go : (c : Change) → StepSides R begin s.world (elim c [ TableStays ↦ t.world | TableChanges ↦ settled limits t.world ])
+      go : (c : TableChange) → StepSides R begin s.world (elim c [ TableStays ↦ t.world | TableChanges ↦ settled limits t.world ])
       go TableStays = m
       go TableChanges = settled_step R limits begin s.world t.world m
 

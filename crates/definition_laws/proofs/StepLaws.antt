@@ -15,7 +15,7 @@ use Rattle.definitions.specs.Replies.{Call, Nlm, Ignored, Turned, Asks, AnswerRe
 use Rattle.definitions.specs.Waits.{Waiter}
 use Rattle.definitions.specs.World.{World, Limits, is_ready, settled, settled_within, with_all_due, slots_free, opening, restart_letter, restarted, Settles, AtRest, Grants}
 use Rattle.definitions.specs.Rulings.{Told, ruled}
-use Rattle.definitions.specs.Grants.{Change, TableStays, TableChanges, answer_rules}
+use Rattle.definitions.specs.Grants.{TableChange, TableStays, TableChanges, answer_rules}
 use Rattle.definitions.specs.Lines.{line_answer}
 use Rattle.definitions.specs.Answer.{ruling}
 use Rattle.definitions.specs.Step.{Peer, KeptPair, State, Event, Take, Send, Answer, Silent, Local, GraceOver, Restart, Applied, Starved, Stepped, applied, starved, taken, look, sent, restart, settled_after, with_row_stored, store_call}
@@ -91,10 +91,10 @@ module _ (limits : Limits) (s : State) (sound : IsSound limits s.world) where
   sent_sound None = sound
   sent_sound (Some c) = sound_same limits s.world _ refl refl (all_kept (quotas_of s.world.hosts)) sound
 
-  changed_sound : (t : Told Change) → ToldMoves Anything t.says s.world t.world → IsSound limits (settled_after limits t)
+  changed_sound : (t : Told TableChange) → ToldMoves Anything t.says s.world t.world → IsSound limits (settled_after limits t)
   changed_sound t m = go t.says m
     where
-      go : (c : Change) → ToldMoves Anything c s.world t.world → IsSound limits (elim c [ TableStays ↦ t.world | TableChanges ↦ settled limits t.world ])
+      go : (c : TableChange) → ToldMoves Anything c s.world t.world → IsSound limits (elim c [ TableStays ↦ t.world | TableChanges ↦ settled limits t.world ])
       go TableStays k = sound_same limits s.world t.world k.0 k.1 k.2 sound
       go TableChanges k = settled_sound limits Anything s.world t.world k sound
 
@@ -198,10 +198,10 @@ module _ (limits : Limits) (old : List Setting) (s : State) (g : s.world.phase �
   sent_under None = under
   sent_under (Some c) = under_same old s.world _ refl refl under
 
-  changed_under : (t : Told Change) → ToldMoves Nothing_reclaimed t.says s.world t.world → IsUnder old (settled_after limits t)
+  changed_under : (t : Told TableChange) → ToldMoves Nothing_reclaimed t.says s.world t.world → IsUnder old (settled_after limits t)
   changed_under t m = go t.says (moved t.world (told_moves Nothing_reclaimed t.says s.world t.world m))
     where
-      go : (c : Change) → IsUnder old t.world → IsUnder old (elim c [ TableStays ↦ t.world | TableChanges ↦ settled limits t.world ])
+      go : (c : TableChange) → IsUnder old t.world → IsUnder old (elim c [ TableStays ↦ t.world | TableChanges ↦ settled limits t.world ])
       go TableStays u = u
       go TableChanges u = settled_under limits old t.world u
 

@@ -9,7 +9,7 @@ use Rattle.definitions.specs.Replies.{Call, Nlm, Ignored, Turned, Asks, AnswerRe
 use Rattle.definitions.specs.World.{Limits, slots_free, restart_letter, opening}
 use Rattle.definitions.specs.Rulings.{Told, Ruling, ruled}
 use Rattle.definitions.specs.Lines.{line_answer}
-use Rattle.definitions.specs.Grants.{Change, TableStays, TableChanges, answer_rules}
+use Rattle.definitions.specs.Grants.{TableChange, TableStays, TableChanges, answer_rules}
 use Rattle.definitions.specs.Answer.{Answered, ruling}
 use Rattle.definitions.specs.Step.{Peer, KeptPair, State, Event, Applied, Starved, Stepped, Take, Send, Answer, Silent, Local, GraceOver, Restart, taken, applied, starved, look, sent, restart, settled_after, with_row_stored, store_call, asked_unless_kept, opening_state}
 use Rattle.definitions.specs.Replay.{Done, after, state_after, may_leave_row, fits, all_fit}
@@ -51,10 +51,10 @@ module _ (limits : Limits) (s : State) where
       let r = ruling limits s.world peer.local call in
       (settle_keeps limits (ruled store r).world).hosts ∙ ruled_follows store r (call_follows limits s.world peer.local call)
 
-  changed_hosts : (t : Told Change) → (settled_after limits t).hosts ≡ t.world.hosts
+  changed_hosts : (t : Told TableChange) → (settled_after limits t).hosts ≡ t.world.hosts
   changed_hosts t = go t.says
     where
-      go : (c : Change) → (settled_after limits (record t { says = c })).hosts ≡ t.world.hosts
+      go : (c : TableChange) → (settled_after limits (record t { says = c })).hosts ≡ t.world.hosts
       go TableStays = refl
       go TableChanges = (settle_keeps limits t.world).hosts
 

@@ -18,7 +18,7 @@ use Rattle.definitions.specs.World.{World, Limits, with_setting, with_waiter, wi
 use Rattle.definitions.specs.Rulings.{Told, Ruling, decided, stays}
 use Rattle.definitions.specs.LockRules.{LockAsk, row_asked, after_row, free_lock, blocked_lock, lock_rules, unlock_rules, cancel_rules}
 use Rattle.definitions.specs.Lines.{line_refusal, line_answer, quota_stored, set_unless, line_sets, line_ask}
-use Rattle.definitions.specs.Grants.{Change, TableStays, TableChanges, ended, became, grant_answered, granted_res_rules, granted_res_at, granted_res_of, notice_answered, succeeded, answered_success, answered_otherwise, answer_rules}
+use Rattle.definitions.specs.Grants.{TableChange, TableStays, TableChanges, ended, became, grant_answered, granted_res_rules, granted_res_at, granted_res_of, notice_answered, succeeded, answered_success, answered_otherwise, answer_rules}
 use Rattle.definitions.specs.Answer.{Answered, gives, lock_ask, caller_row, lock_unless, lock_verdict, lock_msg_answer, cancel_unless, cancel_answer, unlock_unless, unlock_answer, if_slots, by_call, by_message, sent_back, test_letter, lock_letter, cancel_letter, unlock_letter, share_unless, share_of, unshare_unless, stored, notified, notify_rules, status_letter, nlm_answer, nsm_answer, ruling}
 use Rattle.definition_laws.specs.Asking.{hosts_after}
 use Rattle.definitions.proofs.MoveLaws.{by_cond}
@@ -33,7 +33,7 @@ Told_follows w r = Follows w r.asks r.agreed.world r.refused.world
 abbrev pub Answer_follows : World → Ruling Answered → Type 0
 Answer_follows w r = Follows w r.asks r.agreed.world r.refused.world
 
-abbrev pub Change_follows : World → Ruling (Told Change) → Type 0
+abbrev pub Change_follows : World → Ruling (Told TableChange) → Type 0
 Change_follows w r = Follows w r.asks r.agreed.world r.refused.world
 
 pub due_hosts : (w : World) (letters : List Letter) → (with_all_due w letters).hosts ≡ w.hosts
@@ -90,7 +90,7 @@ unlock_answer_follows limits w a = go (range_refusal w Unlocking a.alock)
 
 grant_follows : (limits : Limits) (w : World) (c : Outgoing) (alock : Lock) (stat : Option Stat) → (grant_answered limits w c alock stat).world.hosts ≡ w.hosts
 grant_follows limits w c alock (Some DENIED) =
-    by_cond (λ (t : Told Change). t.world.hosts ≡ w.hosts) (is_refused limits.runs (quotas_of w.hosts) w.settings (unlock_of alock)) (became TableStays (ended w c)) (became TableChanges (with_setting (ended w c) (unlock_of alock))) (λ _. refl) (λ _. refl)
+    by_cond (λ (t : Told TableChange). t.world.hosts ≡ w.hosts) (is_refused limits.runs (quotas_of w.hosts) w.settings (unlock_of alock)) (became TableStays (ended w c)) (became TableChanges (with_setting (ended w c) (unlock_of alock))) (λ _. refl) (λ _. refl)
 grant_follows limits w c alock (Some DENIED_GRACE_PERIOD) = refl
 grant_follows limits w c alock _ = refl
 

@@ -11,7 +11,7 @@ use Rattle.definitions.specs.World.{World, Limits, opening, slots_free, with_hos
 use Rattle.definitions.specs.Rulings.{Told, ruled}
 use Rattle.definitions.specs.Answer.{Answered, ruling}
 use Rattle.definitions.specs.Lines.{line_answer}
-use Rattle.definitions.specs.Grants.{Change, TableStays, TableChanges, answer_rules}
+use Rattle.definitions.specs.Grants.{TableChange, TableStays, TableChanges, answer_rules}
 
 -- an address without port, and whether it is local
 pub record Peer : Type 0 where
@@ -140,7 +140,7 @@ abbrev pub sent : State → Option Outgoing → Stepped
 sent s None = nothing s
 sent s (Some c) = record { given = Sends c.number c.letter; state = with_world s (with_calls s.world (after_sending s.world.calls)) }
 
-abbrev pub settled_after : Limits → Told Change → World
+abbrev pub settled_after : Limits → Told TableChange → World
 settled_after limits t = elim t.says [ TableStays ↦ t.world | TableChanges ↦ settled limits t.world ]
 
 abbrev pub told_line : Limits → State → Told LineReply → Stepped
