@@ -19,7 +19,8 @@ use Rattle.range_table.proofs.Tests.{by_test}
 use Rattle.range_table.proofs.Orderings.{lt_is, le_not, not_le}
 use Rattle.range_owners.proofs.Words.{file_same}
 use Rattle.blocked_list.specs.ByFile.{below, places_of, AreByFile, IsIndex, IsPoint, moved_up, without_place}
-use Rattle.blocked_list.proofs.Places.{all_by, all_both, all_first, all_between, all_filter, all_kept, all_map, all_at, take_each, drop_each, kept_same, kept_all, kept_none, kept_twice, kept_within, kept_map, all_below, one_below, without_below}
+use Rattle.blocked_list.proofs.Places.{all_both, all_first, all_between, all_kept, all_map, take_each, drop_each, kept_same, kept_all, kept_none, kept_twice, kept_within, kept_map, all_below, one_below, without_below}
+use Rattle.range_table.proofs.Lists.{all_by, all_filter, all_at, Falls, partitioned}
 
 -- ---- files
 
@@ -51,17 +52,6 @@ not_back a b h = go (file_cmp a b) refl h (file_cmp_total.antisymm b a)
     go Greater e k r = ap is_gt (r ∙ ap ordering_reverse e)
 
 -- ---- tests that hold in front
-
-abbrev pub Falls : (ℕ → Bool) → List ℕ → Type 0
-Falls test [] = Unit {0}
-Falls test (p ∷ ps) = AllByRecursion (λ q. test q ≡ true → test p ≡ true) ps × Falls test ps
-
-partitioned : (test : ℕ → Bool) (ps : List ℕ) → Falls test ps → IsPartitionedBy test ps
-partitioned test [] h i j d l u e = absurd (omega (arith, u))
-partitioned test (p ∷ ps) h zero zero d l u e = e
-partitioned test (p ∷ ps) h zero (suc j) d l u e = all_at (λ q. test q ≡ true → test p ≡ true) ps j d h.0 (omega (arith, u)) e
-partitioned test (p ∷ ps) h (suc i) zero d l u e = absurd (omega (arith, l))
-partitioned test (p ∷ ps) h (suc i) (suc j) d l u e = partitioned test ps h.1 i j d (omega (arith, l)) (omega (arith, u)) e
 
 module _ (file : ℕ → Bytes) where
   abbrev pub is_before : Bytes → ℕ → Bool

@@ -11,10 +11,6 @@ use Rattle.blocked_list.specs.ByFile.{below, moved_up, without_place}
 -- ---- what holds of each
 
 module _ {X : Type 0} where
-  pub all_by : (P Q : X → Type 0) (xs : List X) → ((x : X) → P x → Q x) → AllByRecursion P xs → AllByRecursion Q xs
-  all_by P Q [] f h = tt
-  all_by P Q (x ∷ xs) f h = (f x h.0, all_by P Q xs f h.1)
-
   pub all_both : (P Q R : X → Type 0) (xs : List X) → ((x : X) → P x → Q x → R x) → AllByRecursion P xs → AllByRecursion Q xs → AllByRecursion R xs
   all_both P Q R [] f h k = tt
   all_both P Q R (x ∷ xs) f h k = (f x h.0 k.0, all_both P Q R xs f h.1 k.1)
@@ -35,14 +31,6 @@ module _ {X : Type 0} where
   all_between P [] ys x h k = (k, h)
   all_between P (y ∷ xs) ys x h k = (h.0, all_between P xs ys x h.1 k)
 
-  pub all_filter : (P : X → Type 0) (t : X → Bool) (xs : List X) → AllByRecursion P xs → AllByRecursion P (filter t xs)
-  all_filter P t [] h = tt
-  all_filter P t (x ∷ xs) h = go (t x) (all_filter P t xs h.1)
-    where
-      go : (b : Bool) → AllByRecursion P (filter t xs) → AllByRecursion P (cond b (x ∷ filter t xs) (filter t xs))
-      go true k = (h.0, k)
-      go false k = k
-
   pub all_kept : (t : X → Bool) (xs : List X) → AllByRecursion (λ x. t x ≡ true) (filter t xs)
   all_kept t [] = tt
   all_kept t (x ∷ xs) = by_test (t x)
@@ -52,11 +40,6 @@ module _ {X : Type 0} where
   pub all_map : {Y : Type 0} (P : Y → Type 0) (f : X → Y) (xs : List X) → AllByRecursion (λ x. P (f x)) xs → AllByRecursion P (map f xs)
   all_map P f [] h = tt
   all_map P f (x ∷ xs) h = (h.0, all_map P f xs h.1)
-
-  pub all_at : (P : X → Type 0) (xs : List X) (k : ℕ) (d : X) → AllByRecursion P xs → k < length xs → P (get_or xs k d)
-  all_at P [] k d h l = absurd (omega (arith, l))
-  all_at P (x ∷ xs) zero d h l = h.0
-  all_at P (x ∷ xs) (suc k) d h l = all_at P xs k d h.1 (omega (arith, l))
 
   pub take_each : (P : X → Type 0) (xs : List X) (n : ℕ) → ((k : ℕ) (d : X) → 0 ≤ k → k < n → P (get_or xs k d)) → AllByRecursion P (take n xs)
   take_each P xs zero h = tt

@@ -9,15 +9,15 @@ use Rattle.definitions.specs.World.{World, with_all_due}
 use Rattle.owner_ids.specs.Names.{named}
 use Rattle.owner_ids.specs.Views.{view_of_owner}
 use Rattle.lock_state.specs.Seen.{Seen, Knows, IsIdle}
-use Rattle.lock_state.proofs.Notices.{due_settings, due_waiters}
+use Rattle.definitions.proofs.WorldLaws.{due_keeps}
 use Rattle.call_plans.specs.declared.plans.Change.{Change}
 use Rattle.call_plans.specs.declared.plans.Change.TheVariants as change
 use Rattle.call_plans.specs.Planned.{IsForgottenIfIdle, IsForgottenBy, IsForgottenFor}
 
 pub idle_before : (w : World) (letters : List Letter) (x : Owner) → IsIdle (with_all_due w letters) x → IsIdle w x
 idle_before w letters x idle = record {
-  holds_nothing = λ file byte. subst (λ (settings : List Setting). mode_at settings file x byte ≡ None) (due_settings w letters) (idle.holds_nothing file byte);
-  waits_not = subst (λ (waiters : List Waiter). is_any (λ (y : Waiter). same_owner y.request.owner x) waiters ≡ false) (due_waiters w letters) idle.waits_not;
+  holds_nothing = λ file byte. subst (λ (settings : List Setting). mode_at settings file x byte ≡ None) (due_keeps w letters).settings (idle.holds_nothing file byte);
+  waits_not = subst (λ (waiters : List Waiter). is_any (λ (y : Waiter). same_owner y.request.owner x) waiters ≡ false) (due_keeps w letters).waiters idle.waits_not;
 }
 
 module _ (letters : List Letter) (s v : Seen) (world : v.world ≡ with_all_due s.world letters) (names : v.names ≡ s.names) where

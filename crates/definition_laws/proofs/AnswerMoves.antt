@@ -68,9 +68,9 @@ module _ (Reclaimed : Request → Type 0) where
   due_moves w v letters m =
       let kept = due_keeps v letters in
       record {
-        table = subst (TableMove Reclaimed w.phase w.settings) (sym kept.0) m.table;
-        ranges = λ h. subst AreRanges (sym kept.1) (m.ranges h);
-        nobody = λ g h. kept.1 ∙ m.nobody g h;
+        table = subst (TableMove Reclaimed w.phase w.settings) (sym kept.settings) m.table;
+        ranges = λ h. subst AreRanges (sym kept.waiters) (m.ranges h);
+        nobody = λ g h. kept.waiters ∙ m.nobody g h;
       }
 
   drop_moves : (w : World) (name : Bytes) → Moves Reclaimed w (without_host_of w name)
@@ -84,9 +84,9 @@ module _ (Reclaimed : Request → Type 0) where
   restart_moves w v hosts =
       let kept = due_keeps (opening v.own_name hosts) (map (restart_letter v.own_name hosts.own) hosts.rows) in
       record {
-        table = subst (TableMove Reclaimed w.phase w.settings) (sym kept.0) Empties;
-        ranges = λ h. subst AreRanges (sym kept.1) tt;
-        nobody = λ g h. kept.1;
+        table = subst (TableMove Reclaimed w.phase w.settings) (sym kept.settings) Empties;
+        ranges = λ h. subst AreRanges (sym kept.waiters) tt;
+        nobody = λ g h. kept.waiters;
       }
 
   -- ---- locks

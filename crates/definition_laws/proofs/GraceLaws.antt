@@ -37,7 +37,7 @@ module _ (limits : Limits) (s : State) (g : s.world.phase ≡ Grace) (none : s.w
   taken_moved peer asked xid call store (Some k) =
       let kept = due_keeps s.world k.letters in
       by_cond (λ (t : Stepped). Moved (IsReclaimOf call) t.state.world) (leb (length k.letters) (slots_free limits s.world)) _ _
-      (λ _. same (IsReclaimOf call) (with_all_due s.world k.letters) kept.0 kept.1)
+      (λ _. same (IsReclaimOf call) (with_all_due s.world k.letters) kept.settings kept.waiters)
       (λ _. same (IsReclaimOf call) s.world refl refl)
   taken_moved peer asked xid call store None =
       let v = (ruled store (ruling limits s.world peer.local call)).world in

@@ -133,7 +133,7 @@ module _ (limits : Limits) (s : State) (quiet : IsQuiet s) where
       let plain = kept_one s.kept k (holds_first (is_same_key peer asked) s.kept k e) quiet.kept in
       let still = goes_left s.world s.world s.world.calls (left_same s.world.calls) refl refl refl in
       record {
-        world = going_quiet s.world (with_all_due s.world k.letters) (due_keeps s.world k.letters).1 (goes_due s.world s.world k.letters plain still) quiet.world;
+        world = going_quiet s.world (with_all_due s.world k.letters) (due_keeps s.world k.letters).waiters (goes_due s.world s.world k.letters plain still) quiet.world;
         kept = (plain, kept_fewer (is_same_key k.peer k.asked) s.kept quiet.kept);
       }
 

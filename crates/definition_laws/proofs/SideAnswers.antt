@@ -18,6 +18,7 @@ use Rattle.definitions.specs.Rulings.{Told, Ruling, decided, ruled, stays}
 use Rattle.definitions.specs.Answer.{Answered, gives, lock_ask, caller_row, lock_msg_answer, cancel_answer, unlock_answer, if_slots, by_reply, by_call, by_message, sent_back, lock_letter, cancel_letter, unlock_letter, share_unless, share_of, unshare_unless, nlm_answer, stored, notified, notify_rules, status_letter, nsm_answer, ruling}
 use Rattle.definitions.specs.Lines.{line_refusal, line_answer, set_unless, line_sets, line_ask, quota_stored}
 use Rattle.definitions.specs.Step.{Peer, is_restart}
+use Rattle.definitions.proofs.WorldLaws.{due_keeps}
 use Rattle.definition_laws.specs.Standing.{IsShareReclaimOf}
 use Rattle.definitions.proofs.MoveLaws.{by_cond, by_store}
 use Rattle.definition_laws.proofs.CallLaws.{left_same, left_without, AllOf, ContinuesBy, begins, all_due}
@@ -48,18 +49,10 @@ module _ (R : Share → Type 0) where
 
   due_sides : (w v : World) (letters : List Letter) → AllOf IsPlain letters → SideMoves R false w v → SideMoves R false w (with_all_due v letters)
   due_sides w v letters h m = record {
-    name = (due_name v letters) ∙ m.name;
-    shares = subst (ShareMove R w.phase w.shares) (sym (due_shares v letters)) m.shares;
+    name = (due_keeps v letters).own_name ∙ m.name;
+    shares = subst (ShareMove R w.phase w.shares) (sym (due_keeps v letters).shares) m.shares;
     calls = elim m.calls [ inl g ↦ inl (goes_due w v letters h g) | inr k ↦ absurd (true≢false (sym k.0)) ];
   }
-    where
-      due_name : (v : World) (letters : List Letter) → (with_all_due v letters).own_name ≡ v.own_name
-      due_name v [] = refl
-      due_name v (l ∷ letters) = due_name (with_due v l) letters
-
-      due_shares : (v : World) (letters : List Letter) → (with_all_due v letters).shares ≡ v.shares
-      due_shares v [] = refl
-      due_shares v (l ∷ letters) = due_shares (with_due v l) letters
 
   sent_sides : (w v : World) (letter : Letter) → is_grant letter.message ≡ false → IsSame w v → SideMoves R false w (sent_back letter v).world
   sent_sides w v letter h m = due_sides w v (letter ∷ []) (h, tt) (same_sides R false w v m)
@@ -160,22 +153,18 @@ module _ (R : Share → Type 0) where
   restart_sides w v hosts e =
       let letters = map (restart_letter v.own_name hosts.own) hosts.rows in
       let start = opening v.own_name hosts in
-      let kept = due_kept start letters in
+      let kept = due_keeps start letters in
       record {
-        name = kept.0 ∙ e;
-        shares = subst (ShareMove R w.phase w.shares) (sym kept.1) AllGo;
+        name = kept.own_name ∙ e;
+        shares = subst (ShareMove R w.phase w.shares) (sym kept.shares) AllGo;
         calls = inr (
           refl,
           record {
-            behind = subst (λ (h : Hosts). ContinuesBy IsPlain [] (first_number h.own) (restarted v hosts)) (sym kept.2) (all_due IsPlain [] (first_number hosts.own) start letters (notices_plain v.own_name hosts.own hosts.rows) (begins IsPlain [] start refl));
-            waiters = kept.3;
+            behind = subst (λ (h : Hosts). ContinuesBy IsPlain [] (first_number h.own) (restarted v hosts)) (sym kept.hosts) (all_due IsPlain [] (first_number hosts.own) start letters (notices_plain v.own_name hosts.own hosts.rows) (begins IsPlain [] start refl));
+            waiters = kept.waiters;
           },
         );
       }
-    where
-      due_kept : (v : World) (letters : List Letter) → ((with_all_due v letters).own_name ≡ v.own_name) × ((with_all_due v letters).shares ≡ v.shares) × ((with_all_due v letters).hosts ≡ v.hosts) × ((with_all_due v letters).waiters ≡ v.waiters)
-      due_kept v [] = (refl, refl, refl, refl)
-      due_kept v (l ∷ letters) = due_kept (with_due v l) letters
 
   stored_sides : (w : World) (hosts : Hosts) (a b : Answered) → a.world ≡ with_hosts w hosts → b.world ≡ w → SideMoves R false w a.world × SideMoves R false w b.world
   stored_sides w hosts a b e f = (subst (SideMoves R false w) (sym e) (same_sides R false w (with_hosts w hosts) (hosts_same w hosts)), subst (SideMoves R false w) (sym f) (unmoved_sides R false w))

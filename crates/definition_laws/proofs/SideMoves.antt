@@ -17,6 +17,7 @@ use Rattle.definitions.specs.World.{World, Limits, with_setting, with_waiter, wi
 use Rattle.definitions.specs.Rulings.{Told, Ruling, decided, stays}
 use Rattle.definitions.specs.LockRules.{LockAsk, row_asked, after_row, free_lock, blocked_lock, lock_rules, unlock_rules, cancel_rules}
 use Rattle.definitions.specs.Answer.{lock_unless, lock_verdict, cancel_unless, cancel_answer, unlock_unless, unlock_answer}
+use Rattle.definitions.proofs.WorldLaws.{due_keeps}
 use Rattle.definition_laws.specs.Numbers.{AreLeft, IsDueAgain, AreRenewed}
 use Rattle.definitions.proofs.MoveLaws.{by_cond}
 use Rattle.definition_laws.proofs.CallLaws.{left_same, left_without_first, AllOf, ContinuesBy, begins, all_due}
@@ -145,12 +146,8 @@ goes_due w v letters h g = record {
   again = g.again;
   in_order = g.in_order;
   behind = all_due IsPlain (g.left ++ g.again) w.next v letters h g.behind;
-  phase = (due_phase v letters) ∙ g.phase;
+  phase = (due_keeps v letters).phase ∙ g.phase;
 }
-  where
-    due_phase : (v : World) (letters : List Letter) → (with_all_due v letters).phase ≡ v.phase
-    due_phase v [] = refl
-    due_phase v (l ∷ letters) = due_phase (with_due v l) letters
 
 -- a silence of a call that is there
 pub goes_silent : (w : World) (number : ℕ) (c : Outgoing) → first_that (is_numbered number) w.calls ≡ Some c → (v : World) → v.calls ≡ after_silence_of c w.calls → v.next ≡ w.next → v.phase ≡ w.phase → GoesPlainlyOn w v

@@ -15,6 +15,7 @@ use Rattle.definitions.specs.Grants.{TableChange, TableStays, TableChanges, answ
 use Rattle.definitions.specs.Lines.{line_answer}
 use Rattle.definitions.specs.Answer.{ruling}
 use Rattle.definitions.specs.Step.{Peer, KeptPair, State, Event, Take, Send, Answer, Silent, Local, GraceOver, Restart, Doing, Applied, Starved, Stepped, applied, starved, step, taken, look, sent, restart, settled_after, with_row_stored, store_call, is_restart}
+use Rattle.definitions.proofs.WorldLaws.{due_keeps}
 use Rattle.definition_laws.specs.Numbers.{Continues, GoesOn, BeginsAnew, is_beginning, NumbersLaw}
 use Rattle.definition_laws.specs.Standing.{IsShareReclaim, IsShareReclaimOf, OwnNameLaw}
 use Rattle.definitions.proofs.MoveLaws.{by_cond}
@@ -121,16 +122,12 @@ module _ (R : Share → Type 0) where
   repeat_step : (begin : Bool) (w : World) (letters : List Letter) → StepSides R begin w (with_all_due w letters)
   repeat_step begin w letters =
       let g = goes_still w w refl refl in
-      going_step begin w (with_all_due w letters) (kept w letters).0 (kept w letters).1 (record {
+      going_step begin w (with_all_due w letters) (due_keeps w letters).own_name (due_keeps w letters).shares (record {
         left = g.left;
         again = g.again;
         in_order = g.in_order;
         behind = due_continues (g.left ++ g.again) w.next w letters g.behind;
       })
-    where
-      kept : (w : World) (letters : List Letter) → ((with_all_due w letters).own_name ≡ w.own_name) × ((with_all_due w letters).shares ≡ w.shares)
-      kept w [] = (refl, refl)
-      kept w (l ∷ letters) = kept (with_due w l) letters
 
   silent_step : (begin : Bool) (w : World) (number : ℕ) → StepSides R begin w (with_calls w (after_silence number w.calls))
   silent_step begin w number = go (first_that (is_numbered number) w.calls) refl

@@ -25,7 +25,6 @@ use Rattle.definitions.proofs.SettingLaws.{newest_wins, drop_host, drop_owner}
 use Rattle.definitions.proofs.WorldLaws.{due_keeps, settle_law}
 use Rattle.definitions.proofs.QuotaLaws.{AreKept, all_kept, none_readied, store_keeps}
 use Rattle.definition_laws.proofs.RowAsks.{IsOfRow, asks_row}
-use Rattle.definition_laws.proofs.StoreRules.{due_hosts}
 use Rattle.definitions.proofs.ReclaimLaws.{exclusion_kept, exclusion_kept_by_unlock, exclusion_kept_by_drops, honest_stays_within, none_is_least}
 use Rattle.definitions.proofs.MoveLaws.{by_cond, ranges_behind}
 use Rattle.definition_laws.proofs.AnswerMoves.{restart_moves, call_moves, ruled_moves, answer_moves, told_moves, ToldMoves, line_moves}
@@ -80,7 +79,7 @@ module _ (limits : Limits) (s : State) (sound : IsSound limits s.world) where
   taken_sound peer asked xid call store (Some k) =
       let kept = due_keeps s.world k.letters in
       by_cond (λ (t : Stepped). IsSound limits t.state.world) (leb (length k.letters) (slots_free limits s.world)) _ _
-      (λ _. sound_same limits s.world (with_all_due s.world k.letters) kept.0 kept.1 (hosts_stay s.world (with_all_due s.world k.letters) (due_hosts s.world k.letters)) sound)
+      (λ _. sound_same limits s.world (with_all_due s.world k.letters) kept.settings kept.waiters (hosts_stay s.world (with_all_due s.world k.letters) kept.hosts) sound)
       (λ _. sound)
   taken_sound peer asked xid call store None =
       settled_sound limits Anything s.world (ruled store (ruling limits s.world peer.local call)).world
@@ -106,7 +105,7 @@ module _ (limits : Limits) (s : State) (sound : IsSound limits s.world) where
   restarted_sound : (w : World) (hosts : Hosts) → IsSound limits (restarted w hosts)
   restarted_sound w hosts =
       let kept = due_keeps (opening w.own_name hosts) (map (restart_letter w.own_name hosts.own) hosts.rows) in
-      sound_same limits (opening w.own_name hosts) (restarted w hosts) kept.0 kept.1 (hosts_stay (opening w.own_name hosts) (restarted w hosts) (due_hosts (opening w.own_name hosts) (map (restart_letter w.own_name hosts.own) hosts.rows))) (record { compatible = nothing_set; ranges = tt; at_rest = refl })
+      sound_same limits (opening w.own_name hosts) (restarted w hosts) kept.settings kept.waiters (hosts_stay (opening w.own_name hosts) (restarted w hosts) kept.hosts) (record { compatible = nothing_set; ranges = tt; at_rest = refl })
 
   restart_sound : (store : StoreAnswer) → IsSound limits (restart s store).state.world
   restart_sound Yes = restarted_sound s.world (after_store s.world.hosts Begin)
@@ -181,7 +180,7 @@ module _ (limits : Limits) (old : List Setting) (s : State) (g : s.world.phase �
   taken_under peer asked xid call store (Some k) honest =
       let kept = due_keeps s.world k.letters in
       by_cond (λ (t : Stepped). IsUnder old t.state.world) (leb (length k.letters) (slots_free limits s.world)) _ _
-      (λ _. under_same old s.world (with_all_due s.world k.letters) kept.0 kept.1 under)
+      (λ _. under_same old s.world (with_all_due s.world k.letters) kept.settings kept.waiters under)
       (λ _. under)
   taken_under peer asked xid call store None honest =
       let moved = ruled_moves (IsReclaimOf call) s.world store (ruling limits s.world peer.local call) (call_moves (IsReclaimOf call) limits s.world peer.local call (λ r h. h)) in

@@ -16,7 +16,8 @@ use Rattle.definitions.specs.Replay.{Done, after, state_after, may_leave_row, fi
 use Rattle.definition_laws.specs.Asking.{hosts_after, StoreLaw, HostRunLaw}
 use Rattle.definitions.proofs.MoveLaws.{by_cond}
 use Rattle.definition_laws.proofs.AskingLaws.{not_asked, refused_is_no_yes, starved_law}
-use Rattle.definition_laws.proofs.StoreRules.{Answer_follows, due_hosts, answer_follows, call_follows, line_follows, Line_follows}
+use Rattle.definitions.proofs.WorldLaws.{due_keeps}
+use Rattle.definition_laws.proofs.StoreRules.{Answer_follows, answer_follows, call_follows, line_follows, Line_follows}
 use Rattle.definitions.proofs.HostLaws.{hosts_law}
 use Rattle.definition_laws.proofs.SideSteps.{settle_keeps}
 
@@ -45,7 +46,7 @@ module _ (limits : Limits) (s : State) where
 
   taken_follows : (peer : Peer) (asked : Bytes) (xid : ℕ) (call : Call) (store : StoreAnswer) (o : Option KeptPair) → (taken limits s peer asked xid call store o).state.world.hosts ≡ hosts_after s.world.hosts (asked_unless_kept limits s peer call o) store
   taken_follows peer asked xid call store (Some k) =
-      by_cond (λ (t : Stepped). t.state.world.hosts ≡ s.world.hosts) (leb (length k.letters) (slots_free limits s.world)) _ _ (λ _. due_hosts s.world k.letters) (λ _. refl)
+      by_cond (λ (t : Stepped). t.state.world.hosts ≡ s.world.hosts) (leb (length k.letters) (slots_free limits s.world)) _ _ (λ _. (due_keeps s.world k.letters).hosts) (λ _. refl)
       ∙ sym (unasked s.world.hosts store)
   taken_follows peer asked xid call store None =
       let r = ruling limits s.world peer.local call in
@@ -68,7 +69,7 @@ module _ (limits : Limits) (s : State) where
   sent_follows (Some c) = refl
 
   restart_follows : (store : StoreAnswer) → (restart s store).state.world.hosts ≡ hosts_after s.world.hosts (Some Begin) store
-  restart_follows Yes = let hosts = after_store s.world.hosts Begin in due_hosts (opening s.world.own_name hosts) (map (restart_letter s.world.own_name hosts.own) hosts.rows)
+  restart_follows Yes = let hosts = after_store s.world.hosts Begin in (due_keeps (opening s.world.own_name hosts) (map (restart_letter s.world.own_name hosts.own) hosts.rows)).hosts
   restart_follows NotAsked = refl
   restart_follows Refused = refl
 

@@ -20,6 +20,7 @@ use Rattle.definitions.specs.LockRules.{LockAsk, row_asked, after_row, free_lock
 use Rattle.definitions.specs.Lines.{line_refusal, line_answer, quota_stored, set_unless, line_sets, line_ask}
 use Rattle.definitions.specs.Grants.{TableChange, TableStays, TableChanges, ended, became, grant_answered, granted_res_rules, granted_res_at, granted_res_of, notice_answered, succeeded, answered_success, answered_otherwise, answer_rules}
 use Rattle.definitions.specs.Answer.{Answered, gives, lock_ask, caller_row, lock_unless, lock_verdict, lock_msg_answer, cancel_unless, cancel_answer, unlock_unless, unlock_answer, if_slots, by_call, by_message, sent_back, test_letter, lock_letter, cancel_letter, unlock_letter, share_unless, share_of, unshare_unless, stored, notified, notify_rules, status_letter, nlm_answer, nsm_answer, ruling}
+use Rattle.definitions.proofs.WorldLaws.{due_keeps}
 use Rattle.definition_laws.specs.Asking.{hosts_after}
 use Rattle.definitions.proofs.MoveLaws.{by_cond}
 
@@ -35,10 +36,6 @@ Answer_follows w r = Follows w r.asks r.agreed.world r.refused.world
 
 abbrev pub Change_follows : World → Ruling (Told TableChange) → Type 0
 Change_follows w r = Follows w r.asks r.agreed.world r.refused.world
-
-pub due_hosts : (w : World) (letters : List Letter) → (with_all_due w letters).hosts ≡ w.hosts
-due_hosts w [] = refl
-due_hosts w (l ∷ letters) = due_hosts (with_due w l) letters
 
 -- ---- locks
 
@@ -173,7 +170,7 @@ nsm_follows limits w true (SmUnmonAll my) = (refl, refl)
 nsm_follows limits w false (SmUnmonAll my) = (refl, refl)
 nsm_follows limits w true SmSimuCrash =
     let hosts = after_store w.hosts Begin in
-    (due_hosts (opening w.own_name hosts) (map (restart_letter w.own_name hosts.own) hosts.rows), refl)
+    ((due_keeps (opening w.own_name hosts) (map (restart_letter w.own_name hosts.own) hosts.rows)).hosts, refl)
 nsm_follows limits w false SmSimuCrash = (refl, refl)
 nsm_follows limits w local (SmNotify name state) = go (row_of w.hosts name)
   where
@@ -181,7 +178,7 @@ nsm_follows limits w local (SmNotify name state) = go (row_of w.hosts name)
     go None = (refl, refl)
     go (Some row) =
         by_cond (Answer_follows w) (int_eq row.seen state) _ _ (λ _. (refl, refl))
-        (λ _. slots_follow (length (watches_of w.hosts name)) limits w (stored w (Seen name state) (notified name state) (gives w SystemErr)) (due_hosts _ (map (status_letter state) (watches_of (after_store w.hosts (Seen name state)) name)), refl))
+        (λ _. slots_follow (length (watches_of w.hosts name)) limits w (stored w (Seen name state) (notified name state) (gives w SystemErr)) ((due_keeps _ (map (status_letter state) (watches_of (after_store w.hosts (Seen name state)) name))).hosts, refl))
 
 pub call_follows : (limits : Limits) (w : World) (local : Bool) (call : Call) → Answer_follows w (ruling limits w local call)
 call_follows limits w local (Nlm version call) = nlm_follows limits w version call

@@ -11,7 +11,9 @@ use Rattle.definitions.specs.Starts.{used}
 use Rattle.definitions.specs.Step.{Event, Send, Silent, Local, Given, Nothing, Sends, Says, Replies}
 use Rattle.definitions.specs.Replay.{left_by}
 use Rattle.definitions.specs.World.{Limits, the_limits}
-use Rattle.definition_laws.specs.ShortForms.{begun, A, B, C, D, w, r, LOCK, LOCK+block, NM_LOCK, LOCK_MSG+block, UNLOCK, TEST, TEST_MSG, CANCEL, SHARE, FREE_ALL, SM_NOTIFY, LOCK_MSG, nlm, lock_args, lock_at, stat, share_stat, held_by, told, grants, number, no_access, reading, cookie_of, call_from, the_peer, test_stat}
+use Rattle.definition_laws.specs.RowsOfRepeats.{lock_res}
+use Rattle.definition_laws.specs.ShortForms.{begun, A, B, C, D, w, r, LOCK, LOCK+block, NM_LOCK, LOCK_MSG+block, UNLOCK, TEST, TEST_MSG, CANCEL, SHARE, FREE_ALL, SM_NOTIFY, LOCK_MSG, nlm, lock_args, lock_at, stat, share_stat, held_by, told, grants, number, cookie_of, call_from, the_peer, test_stat}
+use Rattle.definitions.specs.Shares.{no_access, read_only}
 
 -- ---- runs
 
@@ -103,7 +105,7 @@ two_shares = record the_limits { shares = 2 }
 
 abbrev pub shares_full : List Event
 shares_full =
-    SHARE 1 A no_access reading ∷ SHARE 2 B no_access reading ∷ SHARE 3 C no_access reading ∷ SHARE 4 C reading reading ∷ SHARE 5 A no_access reading ∷ []
+    SHARE 1 A no_access read_only ∷ SHARE 2 B no_access read_only ∷ SHARE 3 C no_access read_only ∷ SHARE 4 C read_only read_only ∷ SHARE 5 A no_access read_only ∷ []
 
 abbrev pub shares_full_gives : List Given
 shares_full_gives = share_stat 1 GRANTED ∷ share_stat 2 GRANTED ∷ share_stat 3 DENIED_NOLOCKS ∷ share_stat 4 DENIED ∷ share_stat 5 GRANTED ∷ []
@@ -163,9 +165,6 @@ abbrev pub repeat_without_slot : List Event
 repeat_without_slot =
     LOCK_MSG 7 A w 0 10 ∷ LOCK+block 8 B w 0 10 ∷ LOCK_MSG 7 A w 0 10 ∷ LOCK+block 8 B w 0 10 ∷ CANCEL 9 B w 0 10
     ∷ LOCK_MSG 7 A w 0 10 ∷ Send ∷ Send ∷ []
-
-abbrev pub lock_res : ℕ → Given
-lock_res n = Sends (number 1 n) (record { to = ToHost A.name; message = LockResult V4 (record { cookie = cookie_of 7; stat = GRANTED }) })
 
 abbrev pub repeat_without_slot_gives : List Given
 repeat_without_slot_gives =

@@ -8,9 +8,10 @@ use Rattle.definitions.specs.Replay.{left_by}
 use Rattle.definitions.specs.Replies.{NoResult, GetLock, SetLock, Close, LineOk, LineGrace, LineFbig}
 use Rattle.definition_laws.specs.RowsOfHosts.{notify_call}
 use Rattle.definitions.specs.Settings.{Mode}
-use Rattle.definition_laws.specs.ShortForms.{A, w, p, the_file, no_access, reading, nlm, lock_args, share_args, reclaiming, cookie_of, LOCK, LOCK+reclaim, NM_LOCK, LOCK_MSG, TEST, UNLOCK, CANCEL, SHARE, UNSHARE, FREE_ALL, stat, share_stat, test_stat, told, number, lock_line, fresh_daemon}
+use Rattle.definition_laws.specs.ShortForms.{A, w, p, the_file, nlm, lock_args, share_args, reclaiming, cookie_of, LOCK, LOCK+reclaim, NM_LOCK, LOCK_MSG, TEST, UNLOCK, CANCEL, SHARE, UNSHARE, FREE_ALL, stat, share_stat, test_stat, told, number, lock_line, fresh_daemon}
 use Rattle.definitions.specs.Step.{Event, Send, Local, Restart, GraceOver, Given, Nothing, Says, Sends}
 use Rattle.definitions.specs.World.{the_limits}
+use Rattle.definitions.specs.Shares.{no_access, read_only}
 
 abbrev pub NM_LOCK+reclaim : ℕ → Caller → Mode → ℕ → ℕ → Event
 NM_LOCK+reclaim xid o mode offset len = nlm xid (NmLock (reclaiming (lock_args xid o mode offset len)))
@@ -19,10 +20,10 @@ abbrev pub LOCK_MSG+reclaim : ℕ → Caller → Mode → ℕ → ℕ → Event
 LOCK_MSG+reclaim xid o mode offset len = nlm xid (LockMsg (reclaiming (lock_args xid o mode offset len)))
 
 abbrev pub SHARE+reclaim : ℕ → Caller → Event
-SHARE+reclaim xid o = nlm xid (ShareCall (record (share_args xid o no_access reading) { reclaim = true }))
+SHARE+reclaim xid o = nlm xid (ShareCall (record (share_args xid o no_access read_only) { reclaim = true }))
 
 abbrev pub UNSHARE+reclaim : ℕ → Caller → Event
-UNSHARE+reclaim xid o = nlm xid (Unshare (record (share_args xid o no_access reading) { reclaim = true }))
+UNSHARE+reclaim xid o = nlm xid (Unshare (record (share_args xid o no_access read_only) { reclaim = true }))
 
 abbrev pub lock_res : ℕ → ℕ → Given
 lock_res own xid = Sends (number own 1) (record { to = ToHost A.name; message = LockResult V4 (record { cookie = cookie_of xid; stat = DENIED_GRACE_PERIOD }) })
@@ -34,7 +35,7 @@ in_grace =
     ∷ TEST 1 A w 0 1
     ∷ LOCK 2 A w 0 1
     ∷ NM_LOCK 3 A w 0 1
-    ∷ SHARE 4 A no_access reading
+    ∷ SHARE 4 A no_access read_only
     ∷ CANCEL 5 A w 0 1
     ∷ UNLOCK 6 A 0 1
     ∷ UNSHARE 7 A

@@ -2,12 +2,13 @@
 use Rattle.std.specs.Prelude.{◌≡◌, ℕ, true, List, [], ◌∷◌, ◌++◌, pos, negsuc, Some, None}
 use Rattle.definitions.specs.Nlm.{GRANTED, DENIED, DENIED_NOLOCKS, STALE_FH, FBIG}
 use Rattle.definitions.specs.Step.{Event, Local, Given, Nothing, Says, Replies}
-use Rattle.definition_laws.specs.ShortForms.{A, B, w, r, p, d, the_file, LOCK, NM_LOCK, UNLOCK, TEST, SHARE, UNSHARE, FREE_ALL, stat, share_stat, test_stat, held_by, held, told, no_access, reading, writing, both, lock_line, nlm, lock_at, lock_args, the_peer}
+use Rattle.definition_laws.specs.ShortForms.{A, B, w, r, p, d, the_file, LOCK, NM_LOCK, UNLOCK, TEST, SHARE, UNSHARE, FREE_ALL, stat, share_stat, test_stat, held_by, held, told, lock_line, nlm, lock_at, lock_args, the_peer}
 use Rattle.definitions.specs.Nlm.{Null, Locks}
 use Rattle.definitions.specs.Owners.{Caller, Remote}
 use Rattle.definitions.specs.Replies.{NoResult, GetLock, SetLock, Close, Table, BadLine, LineOk, LineAgain, LineFree, LineFbig, LineBad, LineHeld, LineTable, RpcMismatch, BadCredential, ProgUnavail, ProgMismatch, ProcUnavail, GarbageArgs, Ignored, Turned, Refuses}
 use Rattle.definitions.specs.Step.{Take}
 use Rattle.definition_laws.specs.ShortForms.{then_given, then_left, refused, left, C, LOCK+block}
+use Rattle.definitions.specs.Shares.{no_access, read_only, write_only, read_and_write}
 
 abbrev pub null : List Event
 null = nlm 1 Null ∷ []
@@ -62,7 +63,7 @@ abbrev pub ends_of_file_gives : List Given
 ends_of_file_gives = stat 6 GRANTED ∷ stat 7 FBIG ∷ stat 8 GRANTED ∷ held_by 9 A w 9223372036854775807 0 ∷ stat 99 STALE_FH ∷ []
 
 abbrev pub share_conflict : List Event
-share_conflict = SHARE 46 A writing reading ∷ SHARE 47 B no_access writing ∷ []
+share_conflict = SHARE 46 A write_only read_only ∷ SHARE 47 B no_access write_only ∷ []
 
 abbrev pub share_conflict_gives : List Given
 share_conflict_gives = share_stat 46 GRANTED ∷ share_stat 47 DENIED ∷ []
@@ -118,7 +119,7 @@ local_lines_gives =
     ∷ Says LineFree ∷ []
 
 abbrev pub free_all : List Event
-free_all = LOCK 100 A w 0 10 ∷ SHARE 101 A reading reading ∷ FREE_ALL 102 A.name ∷ TEST 103 B w 0 0 ∷ SHARE 104 B both both ∷ []
+free_all = LOCK 100 A w 0 10 ∷ SHARE 101 A read_only read_only ∷ FREE_ALL 102 A.name ∷ TEST 103 B w 0 0 ∷ SHARE 104 B read_and_write read_and_write ∷ []
 
 abbrev pub free_all_gives : List Given
 free_all_gives = stat 100 GRANTED ∷ share_stat 101 GRANTED ∷ told 102 NoResult ∷ test_stat 103 GRANTED ∷ share_stat 104 GRANTED ∷ []
@@ -130,7 +131,7 @@ abbrev pub absent_unlock_gives : List Given
 absent_unlock_gives = share_stat 105 GRANTED ∷ stat 106 GRANTED ∷ []
 
 abbrev pub share_replaced : List Event
-share_replaced = SHARE 107 A no_access reading ∷ SHARE 108 A writing reading ∷ SHARE 109 B no_access writing ∷ []
+share_replaced = SHARE 107 A no_access read_only ∷ SHARE 108 A write_only read_only ∷ SHARE 109 B no_access write_only ∷ []
 
 abbrev pub share_replaced_gives : List Given
 share_replaced_gives = share_stat 107 GRANTED ∷ share_stat 108 GRANTED ∷ share_stat 109 DENIED ∷ []

@@ -6,9 +6,10 @@ use Rattle.definitions.specs.Owners.{Caller}
 use Rattle.definitions.specs.Replies.{NoResult, TestResResult}
 use Rattle.definition_laws.specs.RowsOfLocks.{long_handle}
 use Rattle.definitions.specs.Settings.{Mode}
-use Rattle.definition_laws.specs.ShortForms.{A, B, C, w, the_file, nlm_in, lock_at, cookie_of, lock_args, blocking, test_args, share_args, no_access, LOCK, LOCK+block, UNLOCK, TEST, told, stat, share_stat, test_stat, held_in, held_by, number, grants_in}
+use Rattle.definition_laws.specs.ShortForms.{A, B, C, w, the_file, nlm_in, lock_at, cookie_of, lock_args, blocking, test_args, share_args, LOCK, LOCK+block, UNLOCK, TEST, told, stat, share_stat, test_stat, held_in, held_by, number, grants_in}
 use Rattle.definitions.specs.Shown.{nobody}
 use Rattle.definitions.specs.Step.{Event, Send, Given, Nothing, Sends}
+use Rattle.definitions.specs.Shares.{no_access}
 
 abbrev pub lock_in : Version → ℕ → Caller → Mode → ℕ → ℕ → Event
 lock_in version xid o mode offset len = nlm_in version xid (Locks (lock_args xid o mode offset len))

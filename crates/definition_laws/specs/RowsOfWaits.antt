@@ -2,11 +2,12 @@
 use Rattle.std.specs.Prelude.{◌≡◌, true, List, [], ◌∷◌, pos, Some, None}
 use Rattle.definitions.specs.Nlm.{V4, GRANTED, DENIED, BLOCKED, DEADLCK}
 use Rattle.definitions.specs.Step.{Event, Send, Silent, Answer, Local, Given, Nothing, Says, Sends}
-use Rattle.definition_laws.specs.ShortForms.{left, A, B, C, D, w, r, p, d, the_file, LOCK, LOCK+block, LOCK_MSG, UNLOCK, TEST, CANCEL, SHARE, TEST_MSG, stat, share_stat, test_stat, held_by, told, grants, number, no_access, reading, lock_line, cookie_of, nlm, lock_at}
+use Rattle.definition_laws.specs.ShortForms.{left, A, B, C, D, w, r, p, d, the_file, LOCK, LOCK+block, LOCK_MSG, UNLOCK, TEST, CANCEL, SHARE, TEST_MSG, stat, share_stat, test_stat, held_by, told, grants, number, lock_line, cookie_of, nlm, lock_at}
 use Rattle.definitions.specs.Nlm.{GrantedRes, Holder, TestRes}
 use Rattle.definitions.specs.Outgoing.{ToHost, ToConnection, LockResult, TestResult, GrantedLine, GrantedMsg}
 use Rattle.definitions.specs.Replies.{NoResult, AcceptedSuccess, Unreadable, SetLock, SetLockWait, LineOk, LineWait}
 use Rattle.definition_laws.specs.ShortForms.{LOCK_MSG+block}
+use Rattle.definitions.specs.Shares.{no_access, read_only}
 
 abbrev pub settle_twice : List Event
 settle_twice = LOCK 10 A w 0 10 ∷ LOCK 11 D w 20 1 ∷ LOCK+block 12 B r 0 1 ∷ LOCK+block 13 A r 0 21 ∷ UNLOCK 14 D 20 1 ∷ Send ∷ Send ∷ []
@@ -126,7 +127,7 @@ abbrev pub script_h : List Event
 script_h =
     LOCK 2 A w 0 10
     ∷ LOCK+block 60 B w 0 10
-    ∷ SHARE 61 C no_access reading
+    ∷ SHARE 61 C no_access read_only
     ∷ Local 1 (SetLock (Some w) (record { owner = p 42; file = 10 ∷ []; offset = 0; len = 1 }))
     ∷ LOCK_MSG 62 D w 50 1
     ∷ UNLOCK 63 A 0 10

@@ -3,7 +3,7 @@ use Rattle.std.specs.Prelude.{ℕ, ◌+◌, ◌*◌, Bool, true, false, List, []
 use Rattle.definitions.specs.Bytes.{Bytes, big_endian}
 use Rattle.definitions.specs.Owners.{Owner, Caller, Process, Description}
 use Rattle.definitions.specs.Settings.{Mode, Shared, Exclusive}
-use Rattle.definitions.specs.Shares.{Access}
+use Rattle.definitions.specs.Shares.{Access, no_access}
 use Rattle.definitions.specs.Nlm.{Version, V4, Stat, DENIED, NlmCall, Test, Locks, Cancel, Unlock, TestMsg, LockMsg, ShareCall, Unshare, NmLock, FreeAll, Lock, LockArgs, TestArgs, ShareArgs}
 use Rattle.definitions.specs.Nsm.{SmNotify}
 use Rattle.definitions.specs.Hosts.{Hosts, NotAsked, Yes, Refused}
@@ -140,18 +140,6 @@ UNLOCK xid o offset len = nlm xid (Unlock (record { cookie = cookie_of xid; aloc
 abbrev pub CANCEL : ℕ → Caller → Mode → ℕ → ℕ → Event
 CANCEL xid o mode offset len =
     nlm xid (Cancel (record { cookie = cookie_of xid; block = true; exclusive = is_exclusive mode; alock = lock_at the_file o offset len }))
-
-abbrev pub no_access : Access
-no_access = record { read = false; write = false }
-
-abbrev pub reading : Access
-reading = record { read = true; write = false }
-
-abbrev pub writing : Access
-writing = record { read = false; write = true }
-
-abbrev pub both : Access
-both = record { read = true; write = true }
 
 abbrev pub share_args : ℕ → Caller → Access → Access → ShareArgs
 share_args xid o deny access = record {

@@ -10,13 +10,13 @@ use Rattle.definitions.specs.Hosts.{HostRow, Hosts, row_cmp, my_id_cmp, watch_cm
 use Rattle.definitions.specs.Shares.{Share, is_same_place, AreSingle, SharesLaw}
 use Rattle.definitions.proofs.Orders.{put_ascends}
 
-row_total : IsTotalOrder row_cmp
+pub row_total : IsTotalOrder row_cmp
 row_total = on_total (λ r. r.name) nat_list_cmp_total
 
 my_id_total : IsTotalOrder my_id_cmp
 my_id_total = then_total (on_total (λ m. m.my_name) nat_list_cmp_total) (then_total (on_total (λ m. m.prog) int_cmp_total) (then_total (on_total (λ m. m.vers) int_cmp_total) (on_total (λ m. m.proc) int_cmp_total)))
 
-watch_total : IsTotalOrder watch_cmp
+pub watch_total : IsTotalOrder watch_cmp
 watch_total = then_total (on_total (λ w. w.mon_name) nat_list_cmp_total) (on_total (λ w. w.my_id) my_id_total)
 
 module _ {X : Type 0} (cmp : X → X → Ordering) (p : X → Bool) where

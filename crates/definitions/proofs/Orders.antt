@@ -43,7 +43,7 @@ module _ {X : Type 0} (cmp : X → X → Ordering) (exact : CmpEqualImpliesEq cm
   )
 
 module _ {X : Type 0} (cmp : X → X → Ordering) (total : IsTotalOrder cmp) where
-  above : (x y : X) → cmp x y ≡ Greater → cmp y x ≡ Less
+  pub above : (x y : X) → cmp x y ≡ Greater → cmp y x ≡ Less
   above x y e = total.antisymm y x ∙ ap ordering_reverse e
 
   below_more : (x y : X) → cmp x y ≡ Less → (ys : List X) → IsBelowAll cmp y ys → IsBelowAll cmp x ys

@@ -10,9 +10,20 @@ use Rattle.definitions.specs.World.{World, Limits, opening, with_due, with_all_d
 
 -- ---- calls that become due
 
-pub due_keeps : (w : World) (letters : List Letter) → ((with_all_due w letters).settings ≡ w.settings) × ((with_all_due w letters).waiters ≡ w.waiters)
-due_keeps w [] = (refl, refl)
-due_keeps w (letter ∷ letters) = due_keeps (with_due w letter) letters
+-- all but the calls and their numbers are as they were
+pub record LeavesRest (w v : World) : Type 0 where
+  pub settings : v.settings ≡ w.settings
+  pub waiters : v.waiters ≡ w.waiters
+  pub shares : v.shares ≡ w.shares
+  pub phase : v.phase ≡ w.phase
+  pub hosts : v.hosts ≡ w.hosts
+  pub own_name : v.own_name ≡ w.own_name
+
+pub due_keeps : (w : World) (letters : List Letter) → LeavesRest w (with_all_due w letters)
+due_keeps w [] = record { settings = refl; waiters = refl; shares = refl; phase = refl; hosts = refl; own_name = refl }
+due_keeps w (letter ∷ letters) =
+    let more = due_keeps (with_due w letter) letters in
+    record { settings = more.settings; waiters = more.waiters; shares = more.shares; phase = more.phase; hosts = more.hosts; own_name = more.own_name }
 
 letters_of : List Outgoing → List Letter
 letters_of calls = map (λ (c : Outgoing). c.letter) calls

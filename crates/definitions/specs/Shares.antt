@@ -8,6 +8,18 @@ pub record Access : Type 0 where
   pub read : Bool
   pub write : Bool
 
+abbrev pub no_access : Access
+no_access = record { read = false; write = false }
+
+abbrev pub read_only : Access
+read_only = record { read = true; write = false }
+
+abbrev pub write_only : Access
+write_only = record { read = false; write = true }
+
+abbrev pub read_and_write : Access
+read_and_write = record { read = true; write = true }
+
 abbrev pub meets : Access → Access → Bool
 meets a b = (a.read && b.read) || (a.write && b.write)
 

@@ -8,7 +8,7 @@ use Rattle.definitions.specs.Settings.{Setting}
 use Rattle.definitions.specs.Conflict.{conflicts as conflicts_said}
 use Rattle.definitions.specs.Starts.{Run, first_conflict}
 use Rattle.owner_ids.specs.Views.{view_of_owner}
-use Rattle.owner_ids.specs.Names.{Names, Renames, number_cmp}
+use Rattle.owner_ids.specs.Names.{Names, Renames, number_cmp, IsNumberFor}
 use Rattle.owner_ids.proofs.Orders.{number_agrees}
 use Rattle.range_table.specs.Settings.{Held, IsConflict, IsFirstConflict, IsUpTo, conflicts, excludes}
 use Rattle.range_table.specs.File.{same_file}
@@ -22,7 +22,6 @@ use Rattle.range_owners.proofs.FirstConflicts.{first_over}
 use Rattle.range_owners.proofs.InWay.{conflicts_over}
 use Rattle.held_locks.specs.declared.asked.Request.{Request as HeldRequest}
 use Rattle.held_locks.specs.Asked.{view_of_request, run_by_number}
-use Rattle.held_locks.specs.Stranger.{IsAsker}
 
 -- the names with one more
 abbrev pub named_too : Names → ℕ → Owner → Names
@@ -83,7 +82,7 @@ module _ (names : Names) (held : Held) (settings : List Setting) (h : Stands nam
     mode = s.mode;
   }
 
-  pub first_found : (found : Option NumberRun) → IsAsker names n x → IsFirstConflict (number_cmp names) held wanted found → IsSameFound names found (first_conflict settings (view_of_request r))
+  pub first_found : (found : Option NumberRun) → IsNumberFor names n x → IsFirstConflict (number_cmp names) held wanted found → IsSameFound names found (first_conflict settings (view_of_request r))
   first_found found (inl e) f =
       first_over names held settings (number_cmp names) wanted (view_of_request r) found h (record { agrees = number_agrees names h.distinct }) (record { file = refl; owner = e; first = refl; last = refl; mode = refl }) ordered f
   first_found found (inr e) f =
@@ -91,7 +90,7 @@ module _ (names : Names) (held : Held) (settings : List Setting) (h : Stands nam
       found_too found (first_conflict settings (view_of_request r)) f
       (first_over too held settings (number_cmp too) wanted (view_of_request r) found stands (record { agrees = number_agrees too stands.distinct }) (record { file = refl; owner = (renames_too names n x).there; first = refl; last = refl; mode = refl }) ordered (first_too found f))
 
-  pub conflicts_found : (found : Bool) → IsAsker names n x → Decides found (IsConflict held wanted) → found ≡ conflicts_said settings (view_of_request r)
+  pub conflicts_found : (found : Bool) → IsNumberFor names n x → Decides found (IsConflict held wanted) → found ≡ conflicts_said settings (view_of_request r)
   conflicts_found found (inl e) d = conflicts_over names held settings wanted (view_of_request r) found h (record { file = refl; owner = e; first = refl; last = refl; mode = refl }) ordered d
   conflicts_found found (inr e) d =
       let stands = interned names too held settings n x h e.0 e.1 (renames_too names n x) in

@@ -10,7 +10,7 @@ use Rattle.definitions.specs.Starts.{used, is_short, refuses}
 use Rattle.definitions.proofs.SettingLaws.{newest_wins, drop_owner}
 use Rattle.definitions.proofs.OwnerLaws.{same_owner-Decides}
 use Rattle.definitions.proofs.ReclaimLaws.{covered}
-use Rattle.owner_ids.specs.Names.{Names, Renames, WasFor, named, is_owned_by}
+use Rattle.owner_ids.specs.Names.{Names, Renames, IsNumberFor, named, is_owned_by}
 use Rattle.range_table.specs.File.{File, same_file}
 use Rattle.range_table.specs.Settings.{Held, mode_at, held_by, IsUsed, covers as covers_number, is_by}
 use Rattle.range_table.specs.declared.run.Setting.{Setting as NumberSetting}
@@ -245,7 +245,7 @@ tied_counts ns counts more names settings h same longer few = record {
   few = few;
 }
 
-module _ (ns : List NumberSetting) (counts : List ℕ) (names mid : List (Option Owner)) (settings : List Setting) (n : ℕ) (x : Owner) (h : IsTied ns counts names settings) (was : WasFor (named names) n x) (r : Renames (named names) (named mid) n (Some x)) where
+module _ (ns : List NumberSetting) (counts : List ℕ) (names mid : List (Option Owner)) (settings : List Setting) (n : ℕ) (x : Owner) (h : IsTied ns counts names settings) (was : IsNumberFor (named names) n x) (r : Renames (named names) (named mid) n (Some x)) where
   pub tied_admitted : n < length counts → IsTied ns counts mid settings
   tied_admitted place = record {
     stands = had_or_interned (named names) (named mid) (mode_at ns) settings n x h.stands was r;
@@ -256,7 +256,7 @@ module _ (ns : List NumberSetting) (counts : List ℕ) (names mid : List (Option
 
   -- a number without a place was new, so giving it back leaves each name as it was
   module _ (after : List (Option Owner)) (back : Renames (named mid) (named after) n None) (past : length counts ≤ n) where
-    was_free : WasFor (named names) n x → named names n ≡ None
+    was_free : IsNumberFor (named names) n x → named names n ≡ None
     was_free (inl e) = let w = h.within n x e in absurd (omega (arith, w, past))
     was_free (inr e) = e.0
 

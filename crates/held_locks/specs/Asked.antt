@@ -24,10 +24,6 @@ setting_by x r = record { file = r.file; owner = x; first = r.first; last = r.la
 abbrev pub view_of_lock_holder : Holder → Run
 view_of_lock_holder h = record { file = h.file; owner = view_of_owner h.owner.now; first = h.first; last = h.last; mode = view_of_mode h.mode }
 
--- the same of a run by number
-abbrev pub shown_by : Owner → NumberRun → Run
-shown_by x r = record { file = r.file; owner = x; first = r.first; last = r.last; mode = view_of_mode r.mode }
-
 abbrev pub view_of_found_holder : Option Holder → Option Run
 view_of_found_holder None = None
 view_of_found_holder (Some h) = Some (view_of_lock_holder h)

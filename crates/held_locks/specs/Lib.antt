@@ -1,5 +1,4 @@
 pub mod Asked
 pub mod Held
 pub mod Tied
-pub mod Stranger
 pub mod Listing

@@ -57,12 +57,13 @@ impl<'a> Request<'a> {
 }
 
 impl<'a> Holder<'a> {
-    ghost use Rattle.held_locks.specs.Asked.{view_of_lock_holder, shown_by};
+    ghost use Rattle.held_locks.specs.Asked.{view_of_lock_holder};
+    ghost use Rattle.range_owners.specs.Same.{view_of_run};
     ghost use Rattle.owner_ids.specs.Views.{view_of_owner};
 
     /// Of a run, and the owner of its number.
     pub(crate) fn of(run: &Run, owner: &'a Owner) -> Holder<'a>
-        ensures { view_of_lock_holder result ≡ shown_by (view_of_owner owner.now) run.now }
+        ensures { view_of_lock_holder result ≡ view_of_run (view_of_owner owner.now) run.now }
     {
         Holder {
             file: run.file,

@@ -11,7 +11,7 @@ ghost use Rattle.range_table.specs.Settings.{mode_at};
 ghost use Rattle.held_locks.specs.Asked.{view_of_request, view_of_new_setting, setting_by, view_of_lock_holder, view_of_found_holder};
 ghost use Rattle.held_locks.specs.Held.{IsKnown, KeepsKnown, KeepsNames, SameNames, HoldsNothing};
 ghost use Rattle.held_locks.specs.Listing.{IsListing};
-ghost use Rattle.held_locks.specs.Stranger.{IsAsker};
+ghost use Rattle.owner_ids.specs.Names.{IsNumberFor};
 
 use crate::asked::{Holder, NewSetting, Request};
 use crate::counts::{self, make_place};
@@ -123,7 +123,7 @@ impl<R: RangeTable> Locks<R> {
 
     // The asker's number, or nobody's.
     pub(crate) fn asker(&self, owner: &Owner) -> OwnerId
-        ensures { IsAsker (named self.now.names) result (view_of_owner owner.now) }
+        ensures { IsNumberFor (named self.now.names) result (view_of_owner owner.now) }
     {
         match self.owners.number(owner) {
             Some(number) => number,

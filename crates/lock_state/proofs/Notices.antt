@@ -20,14 +20,6 @@ pub due_calls : (w : World) (letters : List Letter) → length (with_all_due w l
 due_calls w [] = omega arith
 due_calls w (l ∷ letters) = due_calls (with_due w l) letters ∙ (let e = length-append w.calls (due_now w.next l ∷ []) in omega arith)
 
-pub due_waiters : (w : World) (letters : List Letter) → (with_all_due w letters).waiters ≡ w.waiters
-due_waiters w [] = refl
-due_waiters w (l ∷ letters) = due_waiters (with_due w l) letters
-
-pub due_settings : (w : World) (letters : List Letter) → (with_all_due w letters).settings ≡ w.settings
-due_settings w [] = refl
-due_settings w (l ∷ letters) = due_settings (with_due w l) letters
-
 -- of the items that pass, fewer stand before one that passes than in all
 pub fewer_before : {X : Type 0} (p : X → Bool) (xs : List X) (i : ℕ) (x : X) → i < length xs → x ≡ get_or xs i x → p x ≡ true → length (filter p (take i xs)) < length (filter p xs)
 fewer_before p xs i x l is e =

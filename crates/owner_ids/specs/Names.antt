@@ -27,9 +27,9 @@ number_cmp names n k = ordering_then (option_cmp owner_cmp (names n) (names k)) 
 abbrev pub named : List (Option Owner) → Names
 named owners n = slice_index_or owners n None
 
--- n was the owner's number, or it was not in use and the owner had none
-abbrev pub WasFor : Names → ℕ → Owner → Type 0
-WasFor names n x = (names n ≡ Some x) ⊎ ((names n ≡ None) × ((k : ℕ) → names k ≢ Some x))
+-- n is the owner's number, or it is not in use and the owner has none
+abbrev pub IsNumberFor : Names → ℕ → Owner → Type 0
+IsNumberFor names n x = (names n ≡ Some x) ⊎ ((names n ≡ None) × ((k : ℕ) → names k ≢ Some x))
 
 abbrev pub is_some_of_host : Bytes → Option Owner → Bool
 is_some_of_host name None = false

@@ -2,7 +2,7 @@
 ghost use Rattle.std.specs.Prelude.{◌≡◌, ◌≢◌, ◌<◌, ◌^◌, ℕ, [], Some, None, Ok, IfOk, OnErr, IfSome, IfNone, IsSome, true};
 ghost use Rattle.definitions.specs.Owners.{owner_cmp};
 ghost use Rattle.owner_ids.specs.Views.{view_of_owner, view_of_slot, view_of_found};
-ghost use Rattle.owner_ids.specs.Names.{named, number_cmp, Renames, WasFor};
+ghost use Rattle.owner_ids.specs.Names.{named, number_cmp, Renames, IsNumberFor};
 ghost use Rattle.owner_ids.specs.Orders.{number_total, number_exact};
 
 use crate::order::OwnerOrder;
@@ -73,7 +73,7 @@ impl Owners {
     pub fn intern(&mut self, owner: &Owner) -> Result<OwnerId, Starved>
         ensures known { (n : ℕ) → named self.old n ≡ Some (view_of_owner owner.now) → result ≡ Ok n }
         ensures named { IfOk result (λ n. Renames (named self.old) (named self.new) n (Some (view_of_owner owner.now))) }
-        ensures was { IfOk result (λ n. WasFor (named self.old) n (view_of_owner owner.now)) }
+        ensures was { IfOk result (λ n. IsNumberFor (named self.old) n (view_of_owner owner.now)) }
         ensures err { OnErr result (self.new ≡ self.old) }
     {
         if let Some(number) = self.number(owner) {

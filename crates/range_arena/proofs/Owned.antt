@@ -11,22 +11,20 @@ use Rattle.std.proofs.lemmas.List.{take_all}
 use Rattle.std.proofs.lemmas.Map.Lookups.{exact_unsigned}
 use Rattle.range_table.specs.File.{File, same_file, file_cmp}
 use Rattle.range_table.specs.Settings.{IsIn}
-use Rattle.range_table.specs.Runs.{is_of, run_before, Follows, IsRunList, IsPlace, insert_run}
+use Rattle.range_table.specs.Runs.{is_of, run_before, Follows, IsRunList, IsPlace, insert_run, first_cmp}
 use Rattle.range_table.specs.Parts.{starts_before, last_started}
-use Rattle.range_arena.specs.Indexed.{first_cmp, owned_cmp, owned_upto, owned_by, IsSortedBy, AreSame}
+use Rattle.range_arena.specs.Indexed.{owned_cmp, owned_upto, owned_by, IsSortedBy, AreSame}
 use Rattle.range_table.specs.declared.run.Run.{Run}
 use Rattle.range_table.specs.declared.run.Setting.{Setting}
 use Rattle.range_table.proofs.Tests.{by_test}
 use Rattle.range_table.proofs.Files.{file_tests, file_cmp_total, file_cmp_exact, file_same_cmp}
 use Rattle.range_table.proofs.RunFacts.{of_in}
-use Rattle.range_table.proofs.Inserting.{before_not_itself, before_first}
-use Rattle.range_table.proofs.Searches.{partitioned, part}
+use Rattle.range_table.proofs.Inserting.{before_not_itself, before_first, first_total}
+use Rattle.range_table.proofs.Searches.{part}
 use Rattle.range_table.proofs.Edits.{nat_lt_is}
 use Rattle.range_table.proofs.Orderings.{lt_is, lt_not, le_not, not_le, then_both, then_upto}
 use Rattle.range_arena.proofs.Sorts.{in_at}
-
-pub first_total : IsTotalOrder first_cmp
-first_total = then_total (on_total (λ r. r.file) file_cmp_total) (then_total (on_total (λ r. r.first) nat_cmp_total) (on_total (λ r. r.owner) nat_cmp_total))
+use Rattle.range_table.proofs.Lists.{partitioned, Falls}
 
 pub owned_total : IsTotalOrder owned_cmp
 owned_total = then_total (on_total (λ r. r.file) file_cmp_total) (then_total (on_total (λ r. r.owner) nat_cmp_total) (on_total (λ r. r.first) nat_cmp_total))
@@ -39,10 +37,6 @@ sorted_list (r ∷ rs) h = (orders rs h.1.0, sorted_list rs h.1.1) where
   orders (s ∷ ss) h = (h.0.order, orders ss h.1)
 
 -- ---- binary searches
-
-abbrev Falls : (Run → Bool) → List Run → Type 0
-Falls test [] = Unit {0}
-Falls test (r ∷ rs) = AllByRecursion (λ s. test s ≡ true → test r ≡ true) rs × Falls test rs
 
 falls_by : (cmp : Run → Run → Ordering) (test : Run → Bool) → ((r s : Run) → is_lt (cmp r s) ≡ true → test s ≡ true → test r ≡ true) → (rs : List Run) → IsSortedBy cmp rs → IsPartitionedBy test rs
 falls_by cmp test f rs h = partitioned test rs (falls rs h) where

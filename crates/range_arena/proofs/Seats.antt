@@ -2,13 +2,14 @@
 use Rattle.std.proofs.Common.{◌≡◌, ℕ, ◌<◌, Bool, List, length, get_or, set, refl, sym, ap, subst, ◌∙◌}
 use Rattle.std.specs.List.{filter, remove}
 use Rattle.range_table.specs.Settings.{IsIn}
-use Rattle.range_table.specs.Runs.{IsRunList, IsPlace, run_before}
-use Rattle.range_arena.specs.Indexed.{first_cmp, owned_cmp, owned_before, IsSortedBy, AreSame, IsIndexed}
+use Rattle.range_table.specs.Runs.{IsRunList, IsPlace, run_before, first_cmp}
+use Rattle.range_arena.specs.Indexed.{owned_cmp, owned_before, IsSortedBy, AreSame, IsIndexed}
 use Rattle.range_arena.specs.Reaches.{AreVouched}
 use Rattle.range_table.specs.declared.run.Run.{Run}
 use Rattle.range_arena.specs.declared.indexed.Indexed.TheInside.{Inside}
 use Rattle.range_arena.proofs.Sorts.{seat_of, sorted_remove, same_remove, long_remove, sorted_set, same_set, long_set, sorted_filter, same_filter, same_long}
-use Rattle.range_arena.proofs.Owned.{first_total, owned_total, sorted_list}
+use Rattle.range_table.proofs.Inserting.{first_total}
+use Rattle.range_arena.proofs.Owned.{owned_total, sorted_list}
 
 -- the runs that a clause sees are those in the order of owners
 pub same_seen : (t : Inside) (list : List Run) → t.list ≡ list → IsIndexed t → AreSame list t.owned

@@ -13,6 +13,7 @@ use Rattle.range_arena.specs.Indexed.{IsSortedBy, AreSame}
 use Rattle.range_table.specs.declared.run.Run.{Run}
 use Rattle.range_table.proofs.RunFacts.{of_in}
 use Rattle.range_table.proofs.Tests.{by_test}
+use Rattle.range_table.proofs.Lists.{all_filter}
 
 -- ---- what stands in a list after an edit
 
@@ -227,10 +228,6 @@ same_filter p xs ys h = record {
   into = λ r i. let m = in_filter p xs r i in filter_in p ys r (h.into r m.0) m.1;
   back = λ r i. let m = in_filter p ys r i in filter_in p xs r (h.back r m.0) m.1;
 }
-
-all_filter : (P : Run → Type 0) (p : Run → Bool) (xs : List Run) → AllByRecursion P xs → AllByRecursion P (filter p xs)
-all_filter P p [] h = tt
-all_filter P p (x ∷ xs) h = by_test (p x) (λ t. rw t (h.0, all_filter P p xs h.1)) (λ t. rw t (all_filter P p xs h.1))
 
 pub sorted_filter : (cmp : Run → Run → Ordering) (p : Run → Bool) (xs : List Run) → IsSortedBy cmp xs → IsSortedBy cmp (filter p xs)
 sorted_filter cmp p [] h = tt

@@ -7,15 +7,16 @@ use Rattle.std.specs.declared.cmp.Ordering.TheVariants.{Less, Equal, Greater}
 use Rattle.std.proofs.lemmas.List.Elements.{filter_agree}
 use Rattle.std.proofs.lemmas.Map.Lookups.{exact_unsigned}
 use Rattle.range_table.specs.File.{file_cmp}
-use Rattle.range_table.specs.Runs.{is_of, starts_in, run_of, IsRunList, IsPlace}
+use Rattle.range_table.specs.Runs.{is_of, starts_in, run_of, IsRunList, IsPlace, first_cmp}
 use Rattle.range_table.specs.declared.run.Mode.{Mode}
 use Rattle.range_table.specs.declared.run.Run.{Run}
 use Rattle.range_table.specs.declared.run.Setting.{Setting}
 use Rattle.range_table.proofs.Tests.{by_test}
 use Rattle.range_table.proofs.Files.{file_tests, file_cmp_exact, file_same_cmp}
-use Rattle.range_arena.specs.Indexed.{first_cmp, owned_cmp, owned_before, owned_upto, IsSortedBy, AreSame}
+use Rattle.range_arena.specs.Indexed.{owned_cmp, owned_before, owned_upto, IsSortedBy, AreSame}
 use Rattle.range_arena.proofs.Sorts.{same_filter, sorted_filter, same_long}
-use Rattle.range_arena.proofs.Owned.{first_total, owned_total, sorted_list, number_cmp, of_parts}
+use Rattle.range_table.proofs.Inserting.{first_total}
+use Rattle.range_arena.proofs.Owned.{owned_total, sorted_list, number_cmp, of_parts}
 
 -- from the place of one test to that of another lie the runs that fail the one and pass the other
 module _ (p q : Run → Bool) where

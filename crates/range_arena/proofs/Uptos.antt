@@ -10,9 +10,10 @@ use Rattle.range_table.specs.Runs.{IsRunList, IsPlace, upto_place}
 use Rattle.range_table.specs.Parts.{before_file}
 use Rattle.range_table.specs.declared.run.Run.{Run}
 use Rattle.range_table.proofs.Files.{file_tests, file_cmp_exact}
-use Rattle.range_table.proofs.FileParts.{all_by, before_file_parted}
+use Rattle.range_table.proofs.FileParts.{before_file_parted}
 use Rattle.range_table.proofs.Searches.{at_take, upto_parted, upto_itself}
 use Rattle.range_arena.proofs.Firsts.{all_front}
+use Rattle.range_table.proofs.Lists.{all_by}
 
 -- a run up to the place that is of another file is of one before it
 earlier : (file : File) (byte : ℕ) (r : Run) → upto_place file byte r ≡ true → same_file r.file file ≡ false → before_file file r ≡ true

@@ -10,10 +10,6 @@ use Rattle.range_table.specs.declared.run.Run.{Run}
 use Rattle.range_table.specs.declared.run.Setting.{Setting}
 use Rattle.range_arena.specs.declared.indexed.Indexed.TheInside.{Inside}
 
--- by file, first byte and owner
-abbrev pub first_cmp : Run → Run → Ordering
-first_cmp r s = ordering_then (file_cmp r.file s.file) (ordering_then (nat_cmp r.first s.first) (nat_cmp r.owner s.owner))
-
 -- by file, owner and first byte
 abbrev pub owned_cmp : Run → Run → Ordering
 owned_cmp r s = ordering_then (file_cmp r.file s.file) (ordering_then (nat_cmp r.owner s.owner) (nat_cmp r.first s.first))

@@ -17,7 +17,7 @@ use Rattle.definitions.specs.Starts.{Start, start_cmp, same_mode, is_start, star
 use Rattle.definitions.specs.Starts.{ends}
 use Rattle.definitions.specs.Bytes.{in_order}
 use Rattle.definitions.proofs.Orders.{filter_holds, holds_filter, filter_ascends}
-use Rattle.definitions.proofs.StartLaws.{start_total, start_fact, starts_law}
+use Rattle.definitions.proofs.StartLaws.{start_total, start_fact, starts_law, end_at}
 use Rattle.range_table.specs.Settings.{Held, mode_at as held_at, held_by, held_after, same_held, same_start, IsUsed, IsRefused, Start as NumberStart, is_start as is_number_start}
 use Rattle.range_table.specs.declared.run.Mode.{Mode as NumberMode}
 use Rattle.range_table.specs.declared.run.Mode.TheVariants.{Shared as NumberShared, Exclusive as NumberExclusive}
@@ -78,9 +78,6 @@ starts_hold settings t = (
 
 -- ---- a list of starts by owner, by number
 
-abbrev of_parts : Bytes → Owner → ℕ → Start
-of_parts file owner byte = record { file = file; owner = owner; byte = byte }
-
 not_less_itself : (t u : Start) → start_cmp t u ≡ Less → u ≡ t → ⊥
 not_less_itself t u l e = let k = subst (λ (w : Start). start_cmp t w ≡ Less) e l in true≢false (sym (ap is_lt k) ∙ ap is_lt (tied_itself start_total t))
 
@@ -103,7 +100,7 @@ module _ (names : Names) (d : AreDistinct names) where
         let b : s.owner ≡ n = grind (arith, file_tests) in
         let c : s.byte ≡ t.byte = grind (arith, file_tests) in
         let o : t.owner ≡ x = same_Some t.owner x (sym f ∙ ap names (sym b) ∙ e) in
-        ap (λ y. of_parts y t.owner t.byte) (sym a) ∙ ap (λ y. of_parts s.file y t.byte) o ∙ ap (λ y. of_parts s.file x y) (sym c),
+        ap (λ y. end_at y t.owner t.byte) (sym a) ∙ ap (λ y. end_at s.file y t.byte) o ∙ ap (λ y. end_at s.file x y) (sym c),
     λ k.
         let a : t.file ≡ s.file = ap (λ u. u.file) k in
         let o : t.owner ≡ x = ap (λ u. u.owner) k in

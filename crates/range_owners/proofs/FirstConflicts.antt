@@ -26,14 +26,14 @@ use Rattle.range_table.proofs.Tests.{by_test}
 use Rattle.range_table.proofs.Counts.{same_mode-refl}
 use Rattle.range_table.proofs.RunFacts.{run_once}
 use Rattle.owner_ids.specs.Names.{Names}
-use Rattle.range_owners.specs.Same.{IsSameRun, IsSameRequest, IsSameFound}
+use Rattle.range_owners.specs.Same.{IsSameRun, IsSameRequest, IsSameFound, view_of_run}
 use Rattle.range_table.specs.Modes.{view_of_mode, view_of_held_mode}
 use Rattle.range_owners.specs.Stands.{Stands, OrdersNames, RunsLaw, FirstConflictLaw}
 use Rattle.range_owners.proofs.Words.{some_none, file_same, owner_test}
 use Rattle.range_owners.proofs.Counting.{held_once, starts_same}
 
-abbrev pub run_by : Owner → NumberRun → Run
-run_by x r = record { file = r.file; owner = x; first = r.first; last = r.last; mode = view_of_mode r.mode }
+abbrev pub of_fields : Bytes → Owner → ℕ → ℕ → Mode → Run
+of_fields file owner first last mode = record { file = file; owner = owner; first = first; last = last; mode = mode }
 
 abbrev pub number_mode : Mode → NumberMode
 number_mode Shared = NumberShared
@@ -64,9 +64,9 @@ excludes_same (Some NumberShared) NumberExclusive = refl
 -- ---- runs
 
 module _ (names : Names) (held : Held) (settings : List Setting) (h : Stands names held settings) where
-  pub run_over : (r : NumberRun) (x : Owner) → names r.owner ≡ Some x → IsNumberRun held r → IsRun settings (run_by x r)
+  pub run_over : (r : NumberRun) (x : Owner) → names r.owner ≡ Some x → IsNumberRun held r → IsRun settings (view_of_run x r)
   run_over r x e k = record {
-    begins = start_fact settings (start_of (run_by x r)) (sym (starts_same names held settings h (record { file = r.file; owner = r.owner; byte = r.first }) x e) ∙ k.starts);
+    begins = start_fact settings (start_of (view_of_run x r)) (sym (starts_same names held settings h (record { file = r.file; owner = r.owner; byte = r.first }) x e) ∙ k.starts);
     range = k.ordered;
     throughout = λ byte low high. sym (h.used r.owner x e r.file byte) ∙ ap view_of_held_mode (k.one_mode byte low high);
     ends = λ f.
@@ -93,9 +93,6 @@ module _ (names : Names) (held : Held) (settings : List Setting) (h : Stands nam
     go : (o : Option Owner) → names r.owner ≡ o → (x : Owner) × (names r.owner ≡ Some x)
     go (Some x) e = (x, e)
     go None e = absurd (some_none r.mode (sym (k.one_mode r.first (let l = k.ordered in omega arith) k.ordered) ∙ h.unused r.owner e r.file r.first))
-
-  abbrev of_fields : Bytes → Owner → ℕ → ℕ → Mode → Run
-  of_fields file owner first last mode = record { file = file; owner = owner; first = first; last = last; mode = mode }
 
   -- a start has one run
   one_run : (t u : Run) → IsRun settings t → IsRun settings u → t.file ≡ u.file → t.owner ≡ u.owner → t.first ≡ u.first → t ≡ u
@@ -135,7 +132,7 @@ then_greater : (a b : Ordering) → a ≡ Equal → ordering_then a b ≢ Greate
 then_greater a b e f g = f (rw e g)
 
 module _ (names : Names) (held : Held) (settings : List Setting) (wanted : NumberRun) (r : Request) (h : Stands names held settings) (e : IsSameRequest names wanted r) where
-  against_same : (q : NumberRun) (x : Owner) → names q.owner ≡ Some x → conflicts_number wanted q ≡ stands_against r (run_by x q)
+  against_same : (q : NumberRun) (x : Owner) → names q.owner ≡ Some x → conflicts_number wanted q ≡ stands_against r (view_of_run x q)
   against_same q x f = rw (file_same q.file wanted.file, owner_test names q.owner wanted.owner x r.owner h.distinct f e.owner, excludes_same (Some q.mode) wanted.mode, e.file, e.first, e.last, e.mode) refl
 
   against_back : (t : Run) (n : ℕ) → names n ≡ Some t.owner → stands_against r t ≡ true → conflicts_number wanted (number_run n t) ≡ true
@@ -173,7 +170,7 @@ module _ (names : Names) (held : Held) (settings : List Setting) (wanted : Numbe
         absurd (f (conflict_back ((conflicts_law settings r (ordered_request range)).0 (sym (first_conflict_law.there settings r (ordered_request range)) ∙ ap is_some k))))
 
     module _ (q : NumberRun) (f : IsFirst order held wanted q) (d : Run) (k : first_conflict settings r ≡ Some d) where
-      same_place : (x : Owner) (n : ℕ) → names q.owner ≡ Some x → names n ≡ Some d.owner → (r.file ≡ d.file) → r.file ≡ q.file → IsUpTo order q (number_run n d) → start_cmp (start_of d) (start_of (run_by x q)) ≢ Greater → (q.first ≡ d.first) × (x ≡ d.owner)
+      same_place : (x : Owner) (n : ℕ) → names q.owner ≡ Some x → names n ≡ Some d.owner → (r.file ≡ d.file) → r.file ≡ q.file → IsUpTo order q (number_run n d) → start_cmp (start_of d) (start_of (view_of_run x q)) ≢ Greater → (q.first ≡ d.first) × (x ≡ d.owner)
       same_place x n a b i j up low =
           let tied : bytes_cmp d.file q.file ≡ Equal = ap (λ z. bytes_cmp z q.file) (sym i ∙ j) ∙ tied_itself nat_list_cmp_total q.file in
           let left : ordering_then (nat_cmp d.first q.first) (owner_cmp d.owner x) ≢ Greater = then_greater (bytes_cmp d.file q.file) (ordering_then (nat_cmp d.first q.first) (owner_cmp d.owner x)) tied low in
@@ -200,7 +197,7 @@ module _ (names : Names) (held : Held) (settings : List Setting) (wanted : Numbe
           let p : NumberRun = number_run n.0 d in
           let back = run_back names held settings h d n.0 n.1 is in
           let c = against_back d n.0 n.1 i.1 in
-          let t : Run = run_by x.0 q in
+          let t : Run = view_of_run x.0 q in
           let listed = run_listed names held settings h t (run_over names held settings h q x.0 x.1 f.run) in
           let low = first_conflict_law.first settings r d t k listed (sym (against_same q x.0 x.1) ∙ f.in_way) in
           let qf : q.file ≡ wanted.file = file_of q f.in_way in
@@ -213,7 +210,7 @@ module _ (names : Names) (held : Held) (settings : List Setting) (wanted : Numbe
     some_over q f (Some d) k = found_over q f d k
     some_over q f None k =
         let x = owner_of names held settings h q f.run in
-        let t : Run = run_by x.0 q in
+        let t : Run = view_of_run x.0 q in
         let listed = run_listed names held settings h t (run_over names held settings h q x.0 x.1 f.run) in
         absurd (true≢false (sym (found_held (stands_against r) (runs settings) t listed (sym (against_same q x.0 x.1) ∙ f.in_way)) ∙ ap is_some k))
 
@@ -228,7 +225,7 @@ pub runs_over : RunsLaw
 runs_over = record {
   over = λ names held settings r h k.
       let x = owner_of names held settings h r k in
-      (run_by x.0 r, record { file = refl; owner = x.1; first = refl; last = refl; mode = refl }, run_listed names held settings h (run_by x.0 r) (run_over names held settings h r x.0 x.1 k));
+      (view_of_run x.0 r, record { file = refl; owner = x.1; first = refl; last = refl; mode = refl }, run_listed names held settings h (view_of_run x.0 r) (run_over names held settings h r x.0 x.1 k));
   back = λ names held settings t h k.
       let is = runs_law settings t k in
       let n = number_of names held settings h t is in

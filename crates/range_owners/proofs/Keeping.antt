@@ -12,7 +12,7 @@ use Rattle.range_table.specs.Settings.{Held, held_after, is_by, mode_at as held_
 use Rattle.range_table.specs.declared.run.Setting.{Setting as NumberSetting}
 use Rattle.range_table.proofs.Tests.{by_test}
 use Rattle.range_table.proofs.Tables.{mode_at-append, mode_at-filter}
-use Rattle.owner_ids.specs.Names.{Names, Renames, WasFor}
+use Rattle.owner_ids.specs.Names.{Names, Renames, IsNumberFor}
 use Rattle.range_owners.specs.Same.{IsSameSetting}
 use Rattle.range_table.specs.Modes.{view_of_held_mode}
 use Rattle.range_owners.specs.Stands.{Stands, SettingLaw, DropHostLaw, DropOwnerLaw, InternLaw, ReleaseLaw, ClearLaw}
@@ -160,6 +160,6 @@ number_kept names after n x e r k =
     (λ t. let i = number_is k n t in ap names i ∙ e ∙ sym r.there ∙ ap after (sym i))
     (λ t. sym (r.others k (number_other k n t)))
 
-pub had_or_interned : (names after : Names) (held : Held) (settings : List Setting) (n : ℕ) (x : Owner) → Stands names held settings → WasFor names n x → Renames names after n (Some x) → Stands after held settings
+pub had_or_interned : (names after : Names) (held : Held) (settings : List Setting) (n : ℕ) (x : Owner) → Stands names held settings → IsNumberFor names n x → Renames names after n (Some x) → Stands after held settings
 had_or_interned names after held settings n x h (inl e) r = subst (λ m. Stands m held settings) (λ i k. number_kept names after n x e r k i) h
 had_or_interned names after held settings n x h (inr e) r = interned names after held settings n x h e.0 e.1 r

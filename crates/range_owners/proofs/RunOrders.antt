@@ -19,10 +19,10 @@ use Rattle.range_table.specs.Settings.{Held, IsIn, IsOrdered, AreRuns, comes_bef
 use Rattle.range_table.specs.declared.run.Run.{Run as NumberRun}
 use Rattle.owner_ids.specs.Names.{Names, number_cmp}
 use Rattle.owner_ids.proofs.Orders.{number_agrees}
-use Rattle.range_owners.specs.Same.{IsSameRun}
+use Rattle.range_owners.specs.Same.{IsSameRun, view_of_run}
 use Rattle.range_owners.specs.Stands.{Stands, RunOrderLaw}
 use Rattle.range_owners.proofs.Words.{some_none}
-use Rattle.range_owners.proofs.FirstConflicts.{run_by, run_over, run_listed, owner_of, runs_over}
+use Rattle.range_owners.proofs.FirstConflicts.{of_fields, run_over, run_listed, owner_of, runs_over}
 
 -- ---- ascending lists with the same members are one
 
@@ -67,9 +67,6 @@ runs_ascend settings (t ∷ ts) h = (below_map settings t ts h.0, runs_ascend se
 
 -- ---- runs by number beside runs by owner
 
-abbrev fields : Bytes → Owner → ℕ → ℕ → Mode → Run
-fields file owner first last mode = record { file = file; owner = owner; first = first; last = last; mode = mode }
-
 abbrev Paired : Names → List NumberRun → List Run → Type 0
 Paired names [] [] = Unit {0}
 Paired names (r ∷ rs) (t ∷ ts) = IsSameRun names r t × Paired names rs ts
@@ -86,7 +83,7 @@ module _ (names : Names) (held : Held) (settings : List Setting) (h : Stands nam
   pair_of : (r : NumberRun) → IsNumberRun held r → (t : Run) × IsSameRun names r t × IsRun settings t
   pair_of r k =
       let x = owner_of names held settings h r k in
-      (run_by x.0 r, record { file = refl; owner = x.1; first = refl; last = refl; mode = refl }, run_over names held settings h r x.0 x.1 k)
+      (view_of_run x.0 r, record { file = refl; owner = x.1; first = refl; last = refl; mode = refl }, run_over names held settings h r x.0 x.1 k)
 
   pairs_of : (rs : List NumberRun) → ((r : NumberRun) → IsIn r rs → IsNumberRun held r) → (ts : List Run) × Paired names rs ts × ((t : Run) → Holds ts t → IsRun settings t)
   pairs_of [] k = ([], tt, λ t i. absurd i)
@@ -133,11 +130,11 @@ module _ (names : Names) (held : Held) (settings : List Setting) (h : Stands nam
 
   same_back : (r : NumberRun) (t u : Run) → IsSameRun names r t → IsSameRun names r u → t ≡ u
   same_back r t u a b =
-      ap (λ z. fields z t.owner t.first t.last t.mode) (sym a.file ∙ b.file)
-      ∙ ap (λ z. fields u.file z t.first t.last t.mode) (same_Some t.owner u.owner (sym a.owner ∙ b.owner))
-      ∙ ap (λ z. fields u.file u.owner z t.last t.mode) (sym a.first ∙ b.first)
-      ∙ ap (λ z. fields u.file u.owner u.first z t.mode) (sym a.last ∙ b.last)
-      ∙ ap (λ z. fields u.file u.owner u.first u.last z) (sym a.mode ∙ b.mode)
+      ap (λ z. of_fields z t.owner t.first t.last t.mode) (sym a.file ∙ b.file)
+      ∙ ap (λ z. of_fields u.file z t.first t.last t.mode) (same_Some t.owner u.owner (sym a.owner ∙ b.owner))
+      ∙ ap (λ z. of_fields u.file u.owner z t.last t.mode) (sym a.first ∙ b.first)
+      ∙ ap (λ z. of_fields u.file u.owner u.first z t.mode) (sym a.last ∙ b.last)
+      ∙ ap (λ z. of_fields u.file u.owner u.first u.last z) (sym a.mode ∙ b.mode)
 
   -- the runs by number are those by owner, one by one
   list_over : (rs : List NumberRun) → AreRuns (number_cmp names) held rs → (ts : List Run) × Paired names rs ts × (ts ≡ runs settings)

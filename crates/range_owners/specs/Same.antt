@@ -9,6 +9,9 @@ use Rattle.range_table.specs.Modes.{view_of_mode, view_of_held_mode}
 use Rattle.range_table.specs.declared.run.Run.{Run as NumberRun}
 use Rattle.range_table.specs.declared.run.Setting.{Setting as NumberSetting}
 
+abbrev pub view_of_run : Owner → NumberRun → Run
+view_of_run owner r = record { file = r.file; owner = owner; first = r.first; last = r.last; mode = view_of_mode r.mode }
+
 -- one setting, by number and by owner
 pub record IsSameSetting (names : Names) (s : NumberSetting) (t : Setting) : Type 0 where
   pub file : s.file ≡ t.file

@@ -1,4 +1,5 @@
 pub mod Tests
+pub mod Lists
 pub mod Orderings
 pub mod Files
 pub mod Cutting

@@ -16,21 +16,8 @@ use Rattle.definitions.specs.Replay.{fits}
 use Rattle.definitions.specs.Reclaims.{IsUnder}
 use Rattle.definitions.proofs.WorldLaws.{due_keeps, restart_notices, next_own_law}
 use Rattle.definition_laws.proofs.StepLaws.{settled_nobody}
-use Rattle.definition_laws.proofs.StoreRules.{due_hosts}
 use Rattle.definitions.proofs.ReclaimLaws.{restart_is_under}
 use Rattle.restart_laws.specs.Anew.{IsAnew}
-
-due_name : (w : World) (letters : List Letter) → (with_all_due w letters).own_name ≡ w.own_name
-due_name w [] = refl
-due_name w (l ∷ letters) = due_name (with_due w l) letters
-
-due_phase : (w : World) (letters : List Letter) → (with_all_due w letters).phase ≡ w.phase
-due_phase w [] = refl
-due_phase w (l ∷ letters) = due_phase (with_due w l) letters
-
-due_shares : (w : World) (letters : List Letter) → (with_all_due w letters).shares ≡ w.shares
-due_shares w [] = refl
-due_shares w (l ∷ letters) = due_shares (with_due w l) letters
 
 module _ (s : State) where
   abbrev anew_world : World
@@ -43,7 +30,7 @@ module _ (s : State) where
   LeadsAnew t = t ≡ anew
 
   nobody : anew_world.waiters ≡ []
-  nobody = let hosts = after_store s.world.hosts Begin in (due_keeps (opening s.world.own_name hosts) (map (restart_letter s.world.own_name hosts.own) hosts.rows)).1
+  nobody = let hosts = after_store s.world.hosts Begin in (due_keeps (opening s.world.own_name hosts) (map (restart_letter s.world.own_name hosts.own) hosts.rows)).waiters
 
   crash_leads : (peer : Peer) (asked : Bytes) (xid : ℕ) → peer.local ≡ true → LeadsAnew (fresh the_limits s peer asked xid (Nsm SmSimuCrash) Yes).state
   crash_leads peer asked xid local =
@@ -103,18 +90,18 @@ module _ (s : State) where
       let w = opening s.world.own_name hosts in
       let told = restart_notices s.world hosts in
       let kept = due_keeps w letters in
-      let same = due_hosts w letters in
+      let same = kept.hosts in
       record {
-        name = due_name w letters;
+        name = kept.own_name;
         rows = ap (λ (h : Hosts). h.rows) same;
         watches = ap (λ (h : Hosts). h.watches) same;
         own = ap (λ (h : Hosts). h.own) same;
         odd = ap (λ (h : Hosts). h.own % 2) same ∙ next_own_law.odd s.world.hosts.own;
         another = λ e. next_own_law.another s.world.hosts.own (sym (ap (λ (h : Hosts). h.own) same) ∙ e);
-        phase = due_phase w letters;
-        settings = kept.0;
-        waiters = kept.1;
-        shares = due_shares w letters;
+        phase = kept.phase;
+        settings = kept.settings;
+        waiters = kept.waiters;
+        shares = kept.shares;
         kept = refl;
         letters = told.0 ∙ ap (λ (h : Hosts). map (restart_letter s.world.own_name h.own) s.world.hosts.rows) (sym same);
         due = told.1;

@@ -1,9 +1,9 @@
 use Rattle.std.proofs.Common.{Bool, rules}
-use Rattle.range_arena.specs.Indexed.{first_cmp}
-use Rattle.range_table.specs.Runs.{run_before}
+use Rattle.range_table.specs.Runs.{run_before, first_cmp}
 use Rattle.range_table.specs.declared.run.Run.{Run}
 use Rattle.range_table.proofs.Halves.{place_whole}
-use Rattle.range_arena.proofs.Owned.{before_parted, first_total, parted_whole, sorted_list}
+use Rattle.range_table.proofs.Inserting.{first_total}
+use Rattle.range_arena.proofs.Owned.{before_parted, parted_whole, sorted_list}
 use Rattle.range_arena.proofs.indexed.seat.Goals as goal
 
 pub returns : goal.returns

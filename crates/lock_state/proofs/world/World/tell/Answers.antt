@@ -2,7 +2,8 @@ use Rattle.std.proofs.Common.{◌≡◌, ◌++◌, ◌∷◌, [], ◌+◌, arith
 use Rattle.std.proofs.lemmas.List.{length-append}
 use Rattle.std.specs.Vec.Iter.{into_iter_items}
 use Rattle.definitions.specs.World.{World as SaidWorld, with_due}
-use Rattle.lock_state.proofs.Notices.{all_due_more, due_calls, due_waiters}
+use Rattle.definitions.proofs.WorldLaws.{due_keeps}
+use Rattle.lock_state.proofs.Notices.{all_due_more, due_calls}
 use Rattle.lock_state.proofs.world.World.tell.Goals as goal
 
 pub loop-letter-preserved : goal.loop-letter-preserved
@@ -26,6 +27,6 @@ make_due-requires g c =
     let parts = length-append c.loop-letter.yielded (into_iter_items c.loop-letter.letter-iterator) in
     let rest : length (into_iter_items c.loop-letter.letter-iterator) ≡ length (into_iter_items c.next.new.self) + 1 = ap length next.0 ∙ (omega arith) in
     let calls = ap (λ (v : SaidWorld). length v.calls) before.2 ∙ due_calls w c.loop-letter.yielded in
-    let waiters = ap (λ (v : SaidWorld). length v.waiters) before.2 ∙ ap length (due_waiters w c.loop-letter.yielded) in
+    let waiters = ap (λ (v : SaidWorld). length v.waiters) before.2 ∙ ap length (due_keeps w c.loop-letter.yielded).waiters in
     let room = c.requires in
     omega arith
