@@ -5,13 +5,13 @@ use Rattle.std.proofs.lemmas.Option.{none-some}
 use Rattle.std.proofs.lemmas.Slice.Eq.{bytes_eq-Decides}
 use Rattle.std.specs.declared.cmp.Ordering.{Ordering}
 use Rattle.std.specs.declared.cmp.Ordering.TheVariants.{Less, Equal, Greater}
-use Rattle.definitions.specs.Bytes.{Bytes, same_bytes, is_any, put, placed}
+use Rattle.definitions.specs.Bytes.{Bytes, is_any, put, placed}
 use Rattle.definitions.specs.Settings.{setting_of}
 use Rattle.definitions.specs.Conflict.{conflicts}
 use Rattle.definitions.specs.Quotas.{quotas_of, lacks_room}
 use Rattle.definitions.specs.Phases.{Locking, admits}
 use Rattle.definitions.specs.Nlm.{Stat, GRANTED, DENIED, DENIED_NOLOCKS, BLOCKED, DEADLCK, STALE_FH, FBIG, DENIED_GRACE_PERIOD, LockArgs}
-use Rattle.definitions.specs.Hosts.{Hosts, HostRow, StoreCall, StoreAnswer, NotAsked, Yes, Refused, Monitor, has_row, full_quota, row_cmp, with_row, after_store}
+use Rattle.definitions.specs.Hosts.{Hosts, StoreCall, StoreAnswer, NotAsked, Yes, Refused, Monitor, has_row, full_quota, row_cmp, with_row, after_store, is_named}
 use Rattle.definitions.specs.Outgoing.{Message, Granted, GrantedMsg}
 use Rattle.definitions.specs.Ranges.{is_stale, is_too_far, range_refusal}
 use Rattle.definitions.specs.Waits.{is_waiting, closes_cycle}
@@ -33,8 +33,8 @@ put_any cmp p x (y ∷ ys) e = go (cmp x y) (put_any cmp p x ys e)
 
 row_stored : (hosts : Hosts) (name : Bytes) (state : ℤ) → has_row hosts name ≡ false → has_row (after_store hosts (Monitor name state)) name ≡ true
 row_stored hosts name state e =
-    ap (λ b. is_any (λ (r : HostRow). same_bytes r.name name) (cond b hosts.rows (with_row name hosts.own state hosts.rows))) e
-    ∙ put_any row_cmp (λ (r : HostRow). same_bytes r.name name) (record { name = name; epoch = hosts.own; seen = state; quota = full_quota }) hosts.rows ((bytes_eq-Decides name name).1 refl)
+    ap (λ b. is_any (is_named name) (cond b hosts.rows (with_row name hosts.own state hosts.rows))) e
+    ∙ put_any row_cmp (is_named name) (record { name = name; epoch = hosts.own; seen = state; quota = full_quota }) hosts.rows ((bytes_eq-Decides name name).1 refl)
 
 module _ (limits : Limits) (w : World) (a : LockArgs) where
   abbrev BothHave : Ruling (Told Stat) → Type 0

@@ -1,12 +1,12 @@
 -- Rows and watches stay in order, and shares stay single.
-use Rattle.std.proofs.Common.{◌≡◌, Bool, true, false, cond, ◌&&◌, ◌||◌, List, [], ◌∷◌, ◌++◌, refl, sym, ap, ◌∙◌, ℕ, ℤ, pos}
+use Rattle.std.proofs.Common.{◌≡◌, Bool, true, false, cond, ◌&&◌, ◌||◌, List, [], ◌∷◌, ◌++◌, refl, sym, ap, ◌∙◌, ℤ, pos}
 use Rattle.std.proofs.lemmas.Bool.{true≢false}
 use Rattle.std.proofs.lemmas.Cmp.{then_total, on_total, nat_list_cmp_total, int_cmp_total}
 use Rattle.std.proofs.lemmas.Slice.Eq.{bytes_eq-Decides}
 use Rattle.std.specs.Cmp.{IsTotalOrder, both_ways}
 use Rattle.std.specs.declared.cmp.Ordering.{Ordering}
-use Rattle.definitions.specs.Bytes.{Bytes, same_bytes, is_any, without, IsBelowAll, IsAscending}
-use Rattle.definitions.specs.Hosts.{HostRow, Hosts, row_cmp, my_id_cmp, watch_cmp, has_row, full_quota, with_row, with_new_row, with_seen, with_epoch, with_quota, is_watch, Begin, Monitor, Seen, Acked, Quota, Watched, Unwatched, AreInOrder, HostsLaw}
+use Rattle.definitions.specs.Bytes.{Bytes, same_bytes, is_any, change_first, without, IsBelowAll, IsAscending}
+use Rattle.definitions.specs.Hosts.{HostRow, Hosts, row_cmp, my_id_cmp, watch_cmp, is_named, has_row, full_quota, with_row, with_new_row, is_watch, Begin, Monitor, Seen, Acked, Quota, Watched, Unwatched, AreInOrder, HostsLaw}
 use Rattle.definitions.specs.Shares.{Share, is_same_place, AreSingle, SharesLaw}
 use Rattle.definitions.proofs.Orders.{put_ascends}
 
@@ -38,57 +38,27 @@ module _ {X : Type 0} (cmp : X → X → Ordering) (p : X → Bool) where
 
 -- ---- rows
 
-seen_below : (x : HostRow) (name : Bytes) (seen : ℤ) (rows : List HostRow) → IsBelowAll row_cmp x rows → IsBelowAll row_cmp x (with_seen name seen rows)
-seen_below x name seen [] h = tt
-seen_below x name seen (r ∷ rows) h = go (same_bytes r.name name) (seen_below x name seen rows h.1)
-  where
-    go : (b : Bool) → IsBelowAll row_cmp x (with_seen name seen rows) → IsBelowAll row_cmp x (cond b (record r { seen = seen } ∷ rows) (r ∷ with_seen name seen rows))
-    go true k = h
-    go false k = (h.0, k)
-
 below_same : (x y : HostRow) (rows : List HostRow) → x.name ≡ y.name → IsBelowAll row_cmp x rows → IsBelowAll row_cmp y rows
 below_same x y [] e h = tt
 below_same x y (r ∷ rows) e h = (ap (λ n. row_cmp (record y { name = n }) r) (sym e) ∙ h.0, below_same x y rows e h.1)
 
-seen_ascends : (name : Bytes) (seen : ℤ) (rows : List HostRow) → IsAscending row_cmp rows → IsAscending row_cmp (with_seen name seen rows)
-seen_ascends name seen [] h = tt
-seen_ascends name seen (r ∷ rows) h = go (same_bytes r.name name) (seen_ascends name seen rows h.1)
-  where
-    go : (b : Bool) → IsAscending row_cmp (with_seen name seen rows) → IsAscending row_cmp (cond b (record r { seen = seen } ∷ rows) (r ∷ with_seen name seen rows))
-    go true k = (below_same r (record r { seen = seen }) rows refl h.0, h.1)
-    go false k = (seen_below r name seen rows h.0, k)
+-- a row that is changed keeps its name, and so its place
+module _ (name : Bytes) (change : HostRow → HostRow) (same_name : (r : HostRow) → (change r).name ≡ r.name) where
+  below_changed : (x : HostRow) (rows : List HostRow) → IsBelowAll row_cmp x rows → IsBelowAll row_cmp x (change_first (is_named name) change rows)
+  below_changed x [] h = tt
+  below_changed x (r ∷ rows) h = go (same_bytes r.name name) (below_changed x rows h.1)
+    where
+      go : (b : Bool) → IsBelowAll row_cmp x (change_first (is_named name) change rows) → IsBelowAll row_cmp x (cond b (change r ∷ rows) (r ∷ change_first (is_named name) change rows))
+      go true k = (ap (λ n. row_cmp x (record r { name = n })) (same_name r) ∙ h.0, h.1)
+      go false k = (h.0, k)
 
-epoch_below : (x : HostRow) (name : Bytes) (epoch : ℕ) (rows : List HostRow) → IsBelowAll row_cmp x rows → IsBelowAll row_cmp x (with_epoch name epoch rows)
-epoch_below x name epoch [] h = tt
-epoch_below x name epoch (r ∷ rows) h = go (same_bytes r.name name) (epoch_below x name epoch rows h.1)
-  where
-    go : (b : Bool) → IsBelowAll row_cmp x (with_epoch name epoch rows) → IsBelowAll row_cmp x (cond b (record r { epoch = epoch } ∷ rows) (r ∷ with_epoch name epoch rows))
-    go true k = h
-    go false k = (h.0, k)
-
-epoch_ascends : (name : Bytes) (epoch : ℕ) (rows : List HostRow) → IsAscending row_cmp rows → IsAscending row_cmp (with_epoch name epoch rows)
-epoch_ascends name epoch [] h = tt
-epoch_ascends name epoch (r ∷ rows) h = go (same_bytes r.name name) (epoch_ascends name epoch rows h.1)
-  where
-    go : (b : Bool) → IsAscending row_cmp (with_epoch name epoch rows) → IsAscending row_cmp (cond b (record r { epoch = epoch } ∷ rows) (r ∷ with_epoch name epoch rows))
-    go true k = (below_same r (record r { epoch = epoch }) rows refl h.0, h.1)
-    go false k = (epoch_below r name epoch rows h.0, k)
-
-quota_below : (x : HostRow) (name : Bytes) (runs : ℕ) (rows : List HostRow) → IsBelowAll row_cmp x rows → IsBelowAll row_cmp x (with_quota name runs rows)
-quota_below x name runs [] h = tt
-quota_below x name runs (r ∷ rows) h = go (same_bytes r.name name) (quota_below x name runs rows h.1)
-  where
-    go : (b : Bool) → IsBelowAll row_cmp x (with_quota name runs rows) → IsBelowAll row_cmp x (cond b (record r { quota = runs } ∷ rows) (r ∷ with_quota name runs rows))
-    go true k = h
-    go false k = (h.0, k)
-
-quota_ascends : (name : Bytes) (runs : ℕ) (rows : List HostRow) → IsAscending row_cmp rows → IsAscending row_cmp (with_quota name runs rows)
-quota_ascends name runs [] h = tt
-quota_ascends name runs (r ∷ rows) h = go (same_bytes r.name name) (quota_ascends name runs rows h.1)
-  where
-    go : (b : Bool) → IsAscending row_cmp (with_quota name runs rows) → IsAscending row_cmp (cond b (record r { quota = runs } ∷ rows) (r ∷ with_quota name runs rows))
-    go true k = (below_same r (record r { quota = runs }) rows refl h.0, h.1)
-    go false k = (quota_below r name runs rows h.0, k)
+  pub changed_ascends : (rows : List HostRow) → IsAscending row_cmp rows → IsAscending row_cmp (change_first (is_named name) change rows)
+  changed_ascends [] h = tt
+  changed_ascends (r ∷ rows) h = go (same_bytes r.name name) (changed_ascends rows h.1)
+    where
+      go : (b : Bool) → IsAscending row_cmp (change_first (is_named name) change rows) → IsAscending row_cmp (cond b (change r ∷ rows) (r ∷ change_first (is_named name) change rows))
+      go true k = (below_same r (change r) rows (sym (same_name r)) h.0, h.1)
+      go false k = (below_changed r rows h.0, k)
 
 new_ascends : (hosts : Hosts) (name : Bytes) (state : ℤ) → AreInOrder hosts → IsAscending row_cmp (with_new_row name state hosts)
 new_ascends hosts name state h = go (has_row hosts name)
@@ -100,9 +70,9 @@ new_ascends hosts name state h = go (has_row hosts name)
 pub hosts_law : HostsLaw
 hosts_law hosts Begin h = record { rows = h.rows; watches = h.watches }
 hosts_law hosts (Monitor name state) h = record { rows = new_ascends hosts name state h; watches = h.watches }
-hosts_law hosts (Seen name state) h = record { rows = seen_ascends name state hosts.rows h.rows; watches = h.watches }
-hosts_law hosts (Acked name epoch) h = record { rows = epoch_ascends name epoch hosts.rows h.rows; watches = h.watches }
-hosts_law hosts (Quota name runs) h = record { rows = quota_ascends name runs hosts.rows h.rows; watches = h.watches }
+hosts_law hosts (Seen name state) h = record { rows = changed_ascends name (λ r. record r { seen = state }) (λ r. refl) hosts.rows h.rows; watches = h.watches }
+hosts_law hosts (Acked name epoch) h = record { rows = changed_ascends name (λ r. record r { epoch = epoch }) (λ r. refl) hosts.rows h.rows; watches = h.watches }
+hosts_law hosts (Quota name runs) h = record { rows = changed_ascends name (λ r. record r { quota = runs }) (λ r. refl) hosts.rows h.rows; watches = h.watches }
 hosts_law hosts (Watched name my bytes) h = record {
   rows = new_ascends hosts name (pos 0) h;
   watches = put_ascends watch_cmp watch_total (record { mon_name = name; my_id = my; private_bytes = bytes }) hosts.watches h.watches;

@@ -6,12 +6,12 @@ use Rattle.std.proofs.lemmas.Option.{none-some, same_Some}
 use Rattle.std.proofs.lemmas.Slice.Eq.{bytes_eq-Decides}
 use Rattle.std.specs.declared.cmp.Ordering.{Ordering}
 use Rattle.std.specs.declared.cmp.Ordering.TheVariants.{Less, Equal, Greater}
-use Rattle.definitions.specs.Bytes.{Bytes, same_bytes, is_any, first_that, put, placed}
+use Rattle.definitions.specs.Bytes.{Bytes, same_bytes, is_any, first_that, change_first, put, placed}
 use Rattle.definitions.specs.Owners.{Owner, Remote, Process, Description, host_of, is_of_host}
 use Rattle.definitions.specs.Settings.{Setting, setting_of, covers, mode_at}
 use Rattle.definitions.specs.Conflict.{conflicts}
 use Rattle.definitions.specs.Starts.{is_short, used, used_of}
-use Rattle.definitions.specs.Hosts.{HostRow, Hosts, StoreCall, Begin, Monitor, Seen, Acked, Quota, Watched, Unwatched, row_cmp, has_row, full_quota, with_row, with_new_row, with_seen, with_epoch, after_store}
+use Rattle.definitions.specs.Hosts.{HostRow, Hosts, StoreCall, Begin, Monitor, Seen, Acked, Quota, Watched, Unwatched, row_cmp, has_row, full_quota, with_row, with_new_row, is_named, after_store}
 use Rattle.definitions.specs.Quotas.{Quotas, quota_in, quotas_of, is_past, is_past_own, exceeds_of, exceeds, lacks_room, FullQuotaLaw}
 use Rattle.definitions.specs.Waits.{Waiter}
 use Rattle.definitions.specs.World.{Limits, is_ready}
@@ -118,70 +118,64 @@ abbrev pub is_quota : StoreCall → Bool
 is_quota (Quota name runs) = true
 is_quota _ = false
 
-abbrev named : Bytes → HostRow → Bool
-named name r = same_bytes r.name name
-
 -- a row that is changed keeps its name and its quota
-module _ (name other : Bytes) (change : HostRow → HostRow) (changed : List HostRow → List HostRow) (none : changed [] ≡ []) (by_row : (r : HostRow) (rows : List HostRow) → changed (r ∷ rows) ≡ cond (same_bytes r.name name) (change r ∷ rows) (r ∷ changed rows)) (same_name : (r : HostRow) → (change r).name ≡ r.name) (same_quota : (r : HostRow) → (change r).quota ≡ r.quota) where
-  row_keeps : (rows : List HostRow) → quota_in (first_that (named other) (changed rows)) ≡ quota_in (first_that (named other) rows)
-  row_keeps [] = ap (λ rows. quota_in (first_that (named other) rows)) none
-  row_keeps (r ∷ rows) = ap (λ rows. quota_in (first_that (named other) rows)) (by_row r rows) ∙ go (same_bytes r.name name) (row_keeps rows)
+module _ (name other : Bytes) (change : HostRow → HostRow) (same_name : (r : HostRow) → (change r).name ≡ r.name) (same_quota : (r : HostRow) → (change r).quota ≡ r.quota) where
+  abbrev changed : List HostRow → List HostRow
+  changed rows = change_first (is_named name) change rows
+
+  row_keeps : (rows : List HostRow) → quota_in (first_that (is_named other) (changed rows)) ≡ quota_in (first_that (is_named other) rows)
+  row_keeps [] = refl
+  row_keeps (r ∷ rows) = go (same_bytes r.name name) (row_keeps rows)
     where
-      hit : (b : Bool) → quota_in (cond b (Some (change r)) (first_that (named other) rows)) ≡ quota_in (cond b (Some r) (first_that (named other) rows))
+      hit : (b : Bool) → quota_in (cond b (Some (change r)) (first_that (is_named other) rows)) ≡ quota_in (cond b (Some r) (first_that (is_named other) rows))
       hit true = ap Some (same_quota r)
       hit false = refl
 
-      miss : (b : Bool) → quota_in (first_that (named other) (changed rows)) ≡ quota_in (first_that (named other) rows) → quota_in (cond b (Some r) (first_that (named other) (changed rows))) ≡ quota_in (cond b (Some r) (first_that (named other) rows))
+      miss : (b : Bool) → quota_in (first_that (is_named other) (changed rows)) ≡ quota_in (first_that (is_named other) rows) → quota_in (cond b (Some r) (first_that (is_named other) (changed rows))) ≡ quota_in (cond b (Some r) (first_that (is_named other) rows))
       miss true more = refl
       miss false more = more
 
-      go : (b : Bool) → quota_in (first_that (named other) (changed rows)) ≡ quota_in (first_that (named other) rows) → quota_in (first_that (named other) (cond b (change r ∷ rows) (r ∷ changed rows))) ≡ quota_in (first_that (named other) (r ∷ rows))
+      go : (b : Bool) → quota_in (first_that (is_named other) (changed rows)) ≡ quota_in (first_that (is_named other) rows) → quota_in (first_that (is_named other) (cond b (change r ∷ rows) (r ∷ changed rows))) ≡ quota_in (first_that (is_named other) (r ∷ rows))
       go true more =
-          ap (λ n. quota_in (cond (same_bytes n other) (Some (change r)) (first_that (named other) rows))) (same_name r)
+          ap (λ n. quota_in (cond (same_bytes n other) (Some (change r)) (first_that (is_named other) rows))) (same_name r)
           ∙ hit (same_bytes r.name other)
       go false more = miss (same_bytes r.name other) more
 
-seen_keeps : (name other : Bytes) (seen : ℤ) (rows : List HostRow) → quota_in (first_that (named other) (with_seen name seen rows)) ≡ quota_in (first_that (named other) rows)
-seen_keeps name other seen = row_keeps name other (λ (r : HostRow). record r { seen = seen }) (with_seen name seen) refl (λ r rows. refl) (λ r. refl) (λ r. refl)
-
-epoch_keeps : (name other : Bytes) (epoch : ℕ) (rows : List HostRow) → quota_in (first_that (named other) (with_epoch name epoch rows)) ≡ quota_in (first_that (named other) rows)
-epoch_keeps name other epoch = row_keeps name other (λ (r : HostRow). record r { epoch = epoch }) (with_epoch name epoch) refl (λ r rows. refl) (λ r. refl) (λ r. refl)
-
 -- a row in its place leaves the rows of other names
-put_beside : (new : HostRow) (other : Bytes) (rows : List HostRow) → same_bytes new.name other ≡ false → first_that (named other) (put row_cmp new rows) ≡ first_that (named other) rows
+put_beside : (new : HostRow) (other : Bytes) (rows : List HostRow) → same_bytes new.name other ≡ false → first_that (is_named other) (put row_cmp new rows) ≡ first_that (is_named other) rows
 put_beside new other [] e = ap (λ b. cond b (Some new) None) e
 put_beside new other (r ∷ rows) e = go (row_cmp new r) refl (put_beside new other rows e)
   where
-    go : (o : Ordering) → row_cmp new r ≡ o → first_that (named other) (put row_cmp new rows) ≡ first_that (named other) rows → first_that (named other) (placed o new r rows (put row_cmp new rows)) ≡ first_that (named other) (r ∷ rows)
-    go Less k more = ap (λ b. cond b (Some new) (first_that (named other) (r ∷ rows))) e
+    go : (o : Ordering) → row_cmp new r ≡ o → first_that (is_named other) (put row_cmp new rows) ≡ first_that (is_named other) rows → first_that (is_named other) (placed o new r rows (put row_cmp new rows)) ≡ first_that (is_named other) (r ∷ rows)
+    go Less k more = ap (λ b. cond b (Some new) (first_that (is_named other) (r ∷ rows))) e
     go Equal k more =
-        ap (λ b. cond b (Some new) (first_that (named other) rows)) e
-        ∙ sym (ap (λ b. cond b (Some r) (first_that (named other) rows)) (ap (λ n. same_bytes n other) (sym (exact_bytes new.name r.name k)) ∙ e))
+        ap (λ b. cond b (Some new) (first_that (is_named other) rows)) e
+        ∙ sym (ap (λ b. cond b (Some r) (first_that (is_named other) rows)) (ap (λ n. same_bytes n other) (sym (exact_bytes new.name r.name k)) ∙ e))
     go Greater k more = ap (λ rest. cond (same_bytes r.name other) (Some r) rest) more
 
-no_row : (rows : List HostRow) (name : Bytes) → is_any (named name) rows ≡ false → first_that (named name) rows ≡ None
+no_row : (rows : List HostRow) (name : Bytes) → is_any (is_named name) rows ≡ false → first_that (is_named name) rows ≡ None
 no_row [] name e = refl
 no_row (r ∷ rows) name e = go (same_bytes r.name name) e (no_row rows name)
   where
-    go : (b : Bool) → (b || is_any (named name) rows) ≡ false → (is_any (named name) rows ≡ false → first_that (named name) rows ≡ None) → cond b (Some r) (first_that (named name) rows) ≡ None
+    go : (b : Bool) → (b || is_any (is_named name) rows) ≡ false → (is_any (is_named name) rows ≡ false → first_that (is_named name) rows ≡ None) → cond b (Some r) (first_that (is_named name) rows) ≡ None
     go true e more = absurd (true≢false e)
     go false e more = more e
 
-new_keeps : (hosts : Hosts) (name : Bytes) (state : ℤ) (other : Bytes) → (quotas_of hosts other ≡ None) ⊎ (quota_in (first_that (named other) (with_new_row name state hosts)) ≡ quotas_of hosts other)
+new_keeps : (hosts : Hosts) (name : Bytes) (state : ℤ) (other : Bytes) → (quotas_of hosts other ≡ None) ⊎ (quota_in (first_that (is_named other) (with_new_row name state hosts)) ≡ quotas_of hosts other)
 new_keeps hosts name state other = go (has_row hosts name) refl (same_bytes name other) refl
   where
-    go : (b : Bool) → has_row hosts name ≡ b → (c : Bool) → same_bytes name other ≡ c → (quotas_of hosts other ≡ None) ⊎ (quota_in (first_that (named other) (cond b hosts.rows (with_row name hosts.own state hosts.rows))) ≡ quotas_of hosts other)
+    go : (b : Bool) → has_row hosts name ≡ b → (c : Bool) → same_bytes name other ≡ c → (quotas_of hosts other ≡ None) ⊎ (quota_in (first_that (is_named other) (cond b hosts.rows (with_row name hosts.own state hosts.rows))) ≡ quotas_of hosts other)
     go true e c f = inr refl
     go false e true f =
         let same : name ≡ other = (bytes_eq-Decides name other).0 f in
-        inl (ap quota_in (no_row hosts.rows other (ap (λ n. is_any (named n) hosts.rows) (sym same) ∙ e)))
+        inl (ap quota_in (no_row hosts.rows other (ap (λ n. is_any (is_named n) hosts.rows) (sym same) ∙ e)))
     go false e false f = inr (ap quota_in (put_beside (record { name = name; epoch = hosts.own; seen = state; quota = full_quota }) other hosts.rows f))
 
 pub store_keeps : (hosts : Hosts) (call : StoreCall) → is_quota call ≡ false → AreKept (quotas_of hosts) (quotas_of (after_store hosts call))
 store_keeps hosts Begin e name = inr refl
 store_keeps hosts (Monitor new state) e name = new_keeps hosts new state name
-store_keeps hosts (Seen told seen) e name = inr (seen_keeps told name seen hosts.rows)
-store_keeps hosts (Acked told epoch) e name = inr (epoch_keeps told name epoch hosts.rows)
+store_keeps hosts (Seen told seen) e name = inr (row_keeps told name (λ r. record r { seen = seen }) (λ r. refl) (λ r. refl) hosts.rows)
+store_keeps hosts (Acked told epoch) e name = inr (row_keeps told name (λ r. record r { epoch = epoch }) (λ r. refl) (λ r. refl) hosts.rows)
 store_keeps hosts (Quota set runs) e name = absurd (true≢false e)
 store_keeps hosts (Watched new my bytes) e name = new_keeps hosts new (pos 0) name
 store_keeps hosts (Unwatched told my) e name = inr refl

@@ -1,8 +1,8 @@
 -- What is kept over a restart: the own state, a row for each host, and the watches (XNFS, NSM).
-use Rattle.std.specs.Prelude.{◌≡◌, ◌≢◌, ◌<◌, ◌≤◌, ℕ, ◌+◌, ◌%◌, Bool, false, cond, not, ◌&&◌, ◌||◌, leb, List, [], ◌∷◌, length, filter, ℤ, pos, Option, Some, None}
+use Rattle.std.specs.Prelude.{◌≡◌, ◌≢◌, ◌<◌, ◌≤◌, ℕ, ◌+◌, ◌%◌, Bool, false, cond, not, ◌&&◌, ◌||◌, leb, List, length, filter, ℤ, pos, Option, Some, None}
 use Rattle.std.specs.declared.cmp.Ordering.{Ordering}
 use Rattle.std.specs.Ordering.{int_cmp, ordering_then, is_eq}
-use Rattle.definitions.specs.Bytes.{IsAscending, Bytes, same_bytes, bytes_cmp, is_any, first_that, without, put}
+use Rattle.definitions.specs.Bytes.{IsAscending, Bytes, same_bytes, bytes_cmp, is_any, first_that, change_first, without, put}
 use Rattle.definitions.specs.Nsm.{MyId}
 
 -- a host's name; the own state that was current when the row was made or that the host last acknowledged; the host's state as it
@@ -40,11 +40,14 @@ my_id_cmp a b =
 abbrev pub watch_cmp : Watch → Watch → Ordering
 watch_cmp a b = ordering_then (bytes_cmp a.mon_name b.mon_name) (my_id_cmp a.my_id b.my_id)
 
+abbrev pub is_named : Bytes → HostRow → Bool
+is_named name = λ (r : HostRow). same_bytes r.name name
+
 abbrev pub row_of : Hosts → Bytes → Option HostRow
-row_of hosts name = first_that (λ (r : HostRow). same_bytes r.name name) hosts.rows
+row_of hosts name = first_that (is_named name) hosts.rows
 
 abbrev pub has_row : Hosts → Bytes → Bool
-has_row hosts name = is_any (λ (r : HostRow). same_bytes r.name name) hosts.rows
+has_row hosts name = is_any (is_named name) hosts.rows
 
 abbrev pub watches_of : Hosts → Bytes → List Watch
 watches_of hosts name = filter (λ (w : Watch). same_bytes w.mon_name name) hosts.watches
@@ -73,18 +76,6 @@ with_row name epoch seen rows = put row_cmp (record { name = name; epoch = epoch
 abbrev pub with_new_row : Bytes → ℤ → Hosts → List HostRow
 with_new_row name seen hosts = cond (has_row hosts name) hosts.rows (with_row name hosts.own seen hosts.rows)
 
-abbrev pub with_seen : Bytes → ℤ → List HostRow → List HostRow
-with_seen name seen [] = []
-with_seen name seen (r ∷ rows) = cond (same_bytes r.name name) (record r { seen = seen } ∷ rows) (r ∷ with_seen name seen rows)
-
-abbrev pub with_epoch : Bytes → ℕ → List HostRow → List HostRow
-with_epoch name epoch [] = []
-with_epoch name epoch (r ∷ rows) = cond (same_bytes r.name name) (record r { epoch = epoch } ∷ rows) (r ∷ with_epoch name epoch rows)
-
-abbrev pub with_quota : Bytes → ℕ → List HostRow → List HostRow
-with_quota name runs [] = []
-with_quota name runs (r ∷ rows) = cond (same_bytes r.name name) (record r { quota = runs } ∷ rows) (r ∷ with_quota name runs rows)
-
 abbrev pub is_watch : Option Bytes → MyId → Watch → Bool
 is_watch None my w = is_eq (my_id_cmp w.my_id my)
 is_watch (Some name) my w = same_bytes w.mon_name name && is_eq (my_id_cmp w.my_id my)
@@ -93,9 +84,9 @@ is_watch (Some name) my w = same_bytes w.mon_name name && is_eq (my_id_cmp w.my_
 abbrev pub after_store : Hosts → StoreCall → Hosts
 after_store hosts Begin = record hosts { own = next_own hosts.own }
 after_store hosts (Monitor name state) = record hosts { rows = with_new_row name state hosts }
-after_store hosts (Seen name state) = record hosts { rows = with_seen name state hosts.rows }
-after_store hosts (Acked name epoch) = record hosts { rows = with_epoch name epoch hosts.rows }
-after_store hosts (Quota name runs) = record hosts { rows = with_quota name runs hosts.rows }
+after_store hosts (Seen name state) = record hosts { rows = change_first (is_named name) (λ (r : HostRow). record r { seen = state }) hosts.rows }
+after_store hosts (Acked name epoch) = record hosts { rows = change_first (is_named name) (λ (r : HostRow). record r { epoch = epoch }) hosts.rows }
+after_store hosts (Quota name runs) = record hosts { rows = change_first (is_named name) (λ (r : HostRow). record r { quota = runs }) hosts.rows }
 after_store hosts (Watched name my bytes) = record hosts {
   rows = with_new_row name (pos 0) hosts;
   watches = put watch_cmp (record { mon_name = name; my_id = my; private_bytes = bytes }) hosts.watches;

@@ -12,15 +12,6 @@ use Rattle.definitions.specs.Nsm.{MyId}
 use Rattle.definitions.specs.Hosts.{HostRow, Watch, row_cmp, my_id_cmp, watch_cmp, is_watch}
 use Rattle.hosts_db.specs.Places.{row_named, watch_keyed}
 
-pub row_total : IsTotalOrder row_cmp
-row_total = on_total (λ r. r.name) nat_list_cmp_total
-
-my_id_total : IsTotalOrder my_id_cmp
-my_id_total = then_total (on_total (λ m. m.my_name) nat_list_cmp_total) (then_total (on_total (λ m. m.prog) int_cmp_total) (then_total (on_total (λ m. m.vers) int_cmp_total) (on_total (λ m. m.proc) int_cmp_total)))
-
-pub watch_total : IsTotalOrder watch_cmp
-watch_total = then_total (on_total (λ w. w.mon_name) nat_list_cmp_total) (on_total (λ w. w.my_id) my_id_total)
-
 pub row_agrees : (name : Bytes) (r : HostRow) → same_bytes r.name name ≡ is_eq (row_cmp r (row_named name))
 row_agrees name r = sym (is_eq-slice_cmp r.name name)
 

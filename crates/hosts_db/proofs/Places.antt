@@ -8,8 +8,8 @@ use Rattle.std.specs.List.Sorted.{IsBinarySearchResult, IsSearchInRange}
 use Rattle.std.specs.Ordering.{is_eq, is_lt, ordering_reverse}
 use Rattle.std.specs.declared.cmp.Ordering.{Ordering}
 use Rattle.std.specs.declared.cmp.Ordering.TheVariants.{Less, Equal, Greater}
-use Rattle.definitions.specs.Bytes.{is_any, first_that, put, placed, IsBelowAll, IsAscending}
-use Rattle.hosts_db.specs.Changes.{change}
+use Rattle.definitions.specs.Bytes.{is_any, first_that, change_first, put, placed, IsBelowAll, IsAscending}
+use Rattle.definitions.proofs.Orders.{above}
 use Rattle.hosts_db.specs.Places.{IsPlace}
 
 module _ {X : Type 0} (cmp : X → X → Ordering) (total : IsTotalOrder cmp) where
@@ -21,15 +21,12 @@ module _ {X : Type 0} (cmp : X → X → Ordering) (total : IsTotalOrder cmp) wh
   less_back : (x y : X) → cmp x y ≡ Less → cmp y x ≡ Greater
   less_back x y e = total.antisymm y x ∙ ap ordering_reverse e
 
-  greater_back : (x y : X) → cmp x y ≡ Greater → cmp y x ≡ Less
-  greater_back x y e = total.antisymm y x ∙ ap ordering_reverse e
-
   equal_back : (x y : X) → cmp x y ≡ Equal → cmp y x ≡ Equal
   equal_back x y e = total.antisymm y x ∙ ap ordering_reverse e
 
   -- what is below an element that ties with x is below x
   below_tied : (y z x : X) → cmp y z ≡ Less → cmp z x ≡ Equal → cmp y x ≡ Less
-  below_tied y z x e t = greater_back x y (sym (total.congr z x y t) ∙ less_back y z e)
+  below_tied y z x e t = above cmp total x y (sym (total.congr z x y t) ∙ less_back y z e)
 
   sorted_from : (xs : List X) → IsAscending cmp xs → (k : ℕ) (d : X) → k + 1 < length xs → is_lt (cmp (get_or xs (k + 1) d) (get_or xs k d)) ≡ false
   sorted_from [] h k d l = absurd (omega arith)
@@ -65,11 +62,11 @@ module _ {X : Type 0} (cmp : X → X → Ordering) (total : IsTotalOrder cmp) wh
     first_at (y ∷ ys) (suc at) d h l ties =
         ap (λ b. cond b (Some y) (first_that p ys)) (fails y (fails_before y ys at h.0 (omega arith) ties)) ∙ first_at ys at d h.1 (omega arith) ties
 
-    pub change_at : (g : X → X) (xs : List X) (at : ℕ) (d : X) → IsAscending cmp xs → at < length xs → HoldsAt (λ z. cmp z x ≡ Equal) xs at → change p g xs ≡ set xs at (g (get_or xs at d))
+    pub change_at : (g : X → X) (xs : List X) (at : ℕ) (d : X) → IsAscending cmp xs → at < length xs → HoldsAt (λ z. cmp z x ≡ Equal) xs at → change_first p g xs ≡ set xs at (g (get_or xs at d))
     change_at g [] at d h l ties = absurd (omega arith)
-    change_at g (y ∷ ys) zero d h l ties = ap (λ b. cond b (g y ∷ ys) (y ∷ change p g ys)) (agrees y ∙ ap is_eq (ties y))
+    change_at g (y ∷ ys) zero d h l ties = ap (λ b. cond b (g y ∷ ys) (y ∷ change_first p g ys)) (agrees y ∙ ap is_eq (ties y))
     change_at g (y ∷ ys) (suc at) d h l ties =
-        ap (λ b. cond b (g y ∷ ys) (y ∷ change p g ys)) (fails y (fails_before y ys at h.0 (omega arith) ties)) ∙ ap (λ zs. y ∷ zs) (change_at g ys at d h.1 (omega arith) ties)
+        ap (λ b. cond b (g y ∷ ys) (y ∷ change_first p g ys)) (fails y (fails_before y ys at h.0 (omega arith) ties)) ∙ ap (λ zs. y ∷ zs) (change_at g ys at d h.1 (omega arith) ties)
 
     pub put_at : (xs : List X) (at : ℕ) → IsAscending cmp xs → at < length xs → HoldsAt (λ z. cmp z x ≡ Equal) xs at → put cmp x xs ≡ set xs at x
     put_at [] at h l ties = absurd (omega arith)
@@ -104,40 +101,18 @@ module _ {X : Type 0} (cmp : X → X → Ordering) (total : IsTotalOrder cmp) wh
         go true h more = absurd (true≢false h)
         go false h more = more h
 
-    pub change_none : (g : X → X) (xs : List X) → is_any p xs ≡ false → change p g xs ≡ xs
+    pub change_none : (g : X → X) (xs : List X) → is_any p xs ≡ false → change_first p g xs ≡ xs
     change_none g [] e = refl
     change_none g (y ∷ ys) e = go (p y) e (change_none g ys)
       where
-        go : (b : Bool) → (b || is_any p ys) ≡ false → (is_any p ys ≡ false → change p g ys ≡ ys) → cond b (g y ∷ ys) (y ∷ change p g ys) ≡ y ∷ ys
+        go : (b : Bool) → (b || is_any p ys) ≡ false → (is_any p ys ≡ false → change_first p g ys ≡ ys) → cond b (g y ∷ ys) (y ∷ change_first p g ys) ≡ y ∷ ys
         go true h more = absurd (true≢false h)
         go false h more = ap (λ zs. y ∷ zs) (more h)
 
     pub put_gap : (xs : List X) (at : ℕ) → at ≤ length xs → AllWithin (λ y. cmp y x ≡ Less) xs 0 at → AllWithin (λ y. cmp y x ≡ Greater) xs at (length xs) → put cmp x xs ≡ insert xs at x
     put_gap [] zero l b a = refl
-    put_gap (y ∷ ys) zero l b a = ap (λ o. placed o x y ys (put cmp x ys)) (greater_back y x (a 0 y (omega arith) (omega arith)))
+    put_gap (y ∷ ys) zero l b a = ap (λ o. placed o x y ys (put cmp x ys)) (above cmp total y x (a 0 y (omega arith) (omega arith)))
     put_gap [] (suc at) l b a = absurd (omega arith)
     put_gap (y ∷ ys) (suc at) l b a =
         ap (λ o. placed o x y ys (put cmp x ys)) (less_back y x (b 0 y (omega arith) (omega arith)))
         ∙ ap (λ zs. y ∷ zs) (put_gap ys at (omega arith) (λ k d u v. b (suc k) d (omega arith) (omega arith)) (λ k d u v. a (suc k) d (omega arith) (omega arith)))
-
--- a change that compares as before keeps the order
-module _ {X : Type 0} (cmp : X → X → Ordering) (p : X → Bool) (g : X → X) (left : (y z : X) → cmp (g y) z ≡ cmp y z) (right : (y z : X) → cmp z (g y) ≡ cmp z y) where
-  change_below : (x : X) (ys : List X) → IsBelowAll cmp x ys → IsBelowAll cmp x (change p g ys)
-  change_below x [] h = tt
-  change_below x (y ∷ ys) h = go (p y) (change_below x ys h.1)
-    where
-      go : (b : Bool) → IsBelowAll cmp x (change p g ys) → IsBelowAll cmp x (cond b (g y ∷ ys) (y ∷ change p g ys))
-      go true more = (right y x ∙ h.0, h.1)
-      go false more = (h.0, more)
-
-  changed_below : (y : X) (ys : List X) → IsBelowAll cmp y ys → IsBelowAll cmp (g y) ys
-  changed_below y [] h = tt
-  changed_below y (z ∷ zs) h = (left y z ∙ h.0, changed_below y zs h.1)
-
-  pub change_ascends : (ys : List X) → IsAscending cmp ys → IsAscending cmp (change p g ys)
-  change_ascends [] h = tt
-  change_ascends (y ∷ ys) h = go (p y) (change_ascends ys h.1)
-    where
-      go : (b : Bool) → IsAscending cmp (change p g ys) → IsAscending cmp (cond b (g y ∷ ys) (y ∷ change p g ys))
-      go true more = (changed_below y ys h.0, h.1)
-      go false more = (change_below y ys h.0, more)

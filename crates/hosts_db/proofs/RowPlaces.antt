@@ -1,17 +1,18 @@
 -- What the places of rows and watches say in the words of the definitions.
-use Rattle.std.proofs.Common.{◌≡◌, ◌<◌, ◌≤◌, ℕ, ℤ, true, false, cond, not, ◌&&◌, ◌⊎◌, inl, inr, leb, List, [], ◌∷◌, length, get_or, set, refl, sym, ap, ◌∙◌, subst, arith, Some, None, Result, Ok, Err, is_ok}
+use Rattle.std.proofs.Common.{◌≡◌, ◌<◌, ◌≤◌, ℕ, true, false, not, ◌&&◌, ◌⊎◌, inl, inr, leb, List, length, get_or, set, refl, sym, ap, ◌∙◌, subst, arith, Some, None, Result, Ok, Err, is_ok}
 use Rattle.std.proofs.lemmas.Bool.{true≢false}
 use Rattle.std.proofs.lemmas.Bool.Decides.{nat_tests}
 use Rattle.std.specs.List.{insert}
-use Rattle.definitions.specs.Bytes.{Bytes, same_bytes, is_any, first_that, put, IsAscending}
+use Rattle.definitions.specs.Bytes.{Bytes, is_any, first_that, change_first, put, IsAscending}
 use Rattle.definitions.specs.Nsm.{MyId}
-use Rattle.definitions.specs.Hosts.{HostRow, Watch, row_cmp, watch_cmp, is_watch, with_seen, with_epoch, with_quota}
-use Rattle.hosts_db.specs.Changes.{is_named, change, changed}
-use Rattle.hosts_db.specs.declared.rows.RowChange.{RowChange}
-use Rattle.hosts_db.specs.declared.rows.RowChange.TheVariants as to
+use Rattle.definitions.specs.Hosts.{HostRow, Hosts, Watch, row_cmp, watch_cmp, is_named, is_watch, after_store}
+use Rattle.hosts_db.specs.Notes.{view_of_note, noted}
+use Rattle.hosts_db.specs.declared.rows.Note.{Note}
+use Rattle.hosts_db.specs.declared.rows.Note.TheVariants as to
 use Rattle.hosts_db.specs.Places.{IsAt, IsGap, IsPlace, IsInside, put_at_place, len_after, row_named, watch_keyed}
-use Rattle.hosts_db.proofs.Orders.{row_total, watch_total, row_agrees, watch_agrees}
-use Rattle.hosts_db.proofs.Places.{any_at, first_at, change_at, put_at, none_gap, first_none, change_none, put_gap, change_ascends}
+use Rattle.definitions.proofs.HostLaws.{row_total, watch_total}
+use Rattle.hosts_db.proofs.Orders.{row_agrees, watch_agrees}
+use Rattle.hosts_db.proofs.Places.{any_at, first_at, change_at, put_at, none_gap, first_none, change_none, put_gap}
 
 module _ (rows : List HostRow) (name : Bytes) (rise : IsAscending row_cmp rows) where
   pub row_at : (at : ℕ) (d : HostRow) → IsAt row_cmp (row_named name) rows at → first_that (is_named name) rows ≡ Some (get_or rows at d)
@@ -27,10 +28,10 @@ module _ (rows : List HostRow) (name : Bytes) (rise : IsAscending row_cmp rows) 
   has_row_at (Ok at) h = sym (any_at row_cmp row_total (row_named name) (is_named name) (row_agrees name) rows at h.inside h.ties)
   has_row_at (Err at) h = sym (no_row at h)
 
-  pub changed_at : (g : HostRow → HostRow) (at : ℕ) (d : HostRow) → IsAt row_cmp (row_named name) rows at → set rows at (g (get_or rows at d)) ≡ change (is_named name) g rows
+  pub changed_at : (g : HostRow → HostRow) (at : ℕ) (d : HostRow) → IsAt row_cmp (row_named name) rows at → set rows at (g (get_or rows at d)) ≡ change_first (is_named name) g rows
   changed_at g at d h = sym (change_at row_cmp row_total (row_named name) (is_named name) (row_agrees name) g rows at d rise h.inside h.ties)
 
-  pub unchanged : (g : HostRow → HostRow) (at : ℕ) → IsGap row_cmp (row_named name) rows at → change (is_named name) g rows ≡ rows
+  pub unchanged : (g : HostRow → HostRow) (at : ℕ) → IsGap row_cmp (row_named name) rows at → change_first (is_named name) g rows ≡ rows
   unchanged g at h = change_none row_cmp row_total (row_named name) (is_named name) (row_agrees name) g rows (no_row at h)
 
 -- a row in its place
@@ -51,29 +52,17 @@ watch_put_at watches w at rise h = sym (put_at watch_cmp watch_total w (is_watch
 pub watch_put_gap : (watches : List Watch) (w : Watch) (at : ℕ) → IsGap watch_cmp (watch_keyed w.mon_name w.my_id) watches at → insert watches at w ≡ put watch_cmp w watches
 watch_put_gap watches w at h = sym (put_gap watch_cmp watch_total w (is_watch (Some w.mon_name) w.my_id) (watch_agrees w.mon_name w.my_id) watches at h.inside h.below h.above)
 
--- ---- the changes of one row
+-- ---- what is noted in a row
 
-pub seen_is_change : (name : Bytes) (seen : ℤ) (rows : List HostRow) → change (is_named name) (changed (to.Seen seen)) rows ≡ with_seen name seen rows
-seen_is_change name seen [] = refl
-seen_is_change name seen (r ∷ rows) = ap (λ rs. cond (same_bytes r.name name) (record r { seen = seen } ∷ rows) (r ∷ rs)) (seen_is_change name seen rows)
-
-pub epoch_is_change : (name : Bytes) (epoch : ℕ) (rows : List HostRow) → change (is_named name) (changed (to.Epoch epoch)) rows ≡ with_epoch name epoch rows
-epoch_is_change name epoch [] = refl
-epoch_is_change name epoch (r ∷ rows) = ap (λ rs. cond (same_bytes r.name name) (record r { epoch = epoch } ∷ rows) (r ∷ rs)) (epoch_is_change name epoch rows)
-
-pub quota_is_change : (name : Bytes) (runs : ℕ) (rows : List HostRow) → change (is_named name) (changed (to.Quota runs)) rows ≡ with_quota name runs rows
-quota_is_change name runs [] = refl
-quota_is_change name runs (r ∷ rows) = ap (λ rs. cond (same_bytes r.name name) (record r { quota = runs } ∷ rows) (r ∷ rs)) (quota_is_change name runs rows)
-
--- names stay, and so does the order
-keeps_name : (k : RowChange) (r : HostRow) → (changed k r).name ≡ r.name
+pub keeps_name : (note : Note) (r : HostRow) → (noted note r).name ≡ r.name
 keeps_name (to.Seen seen) r = refl
 keeps_name (to.Epoch epoch) r = refl
-keeps_name (to.Quota quota) r = refl
+keeps_name (to.Quota runs) r = refl
 
-pub keeps_order : (name : Bytes) (k : RowChange) (rows : List HostRow) → IsAscending row_cmp rows → IsAscending row_cmp (change (is_named name) (changed k) rows)
-keeps_order name k rows h =
-    change_ascends row_cmp (is_named name) (changed k) (λ r s. ap (λ n. row_cmp (row_named n) s) (keeps_name k r)) (λ r s. ap (λ n. row_cmp s (row_named n)) (keeps_name k r)) rows h
+pub note_is : (h : Hosts) (name : Bytes) (note : Note) → ◌≡◌ {A = Hosts} (record h { rows = change_first (is_named name) (noted note) h.rows }) (after_store h (view_of_note name note))
+note_is h name (to.Seen seen) = refl
+note_is h name (to.Epoch epoch) = refl
+note_is h name (to.Quota runs) = refl
 
 -- ---- an item that is put in its place
 

@@ -1,4 +1,4 @@
 pub mod Places
 pub mod Kept
 pub mod Calls
-pub mod Changes
+pub mod Notes

@@ -3,9 +3,9 @@ ghost use Rattle.std.specs.Prelude.{◌≡◌, ◌<◌, ◌≤◌, ◌⊎◌, []
 ghost use Rattle.std.specs.Option.{is_some, option_copied};
 ghost use Rattle.definitions.specs.Bytes.{is_any, put};
 ghost use Rattle.definitions.specs.Hosts.{row_cmp, watch_cmp, row_of, has_row, next_own, after_store, is_past_limit, is_watch, Begin, Monitor, Seen, Acked, Watched, Unwatched, AreInOrder, Quota};
-ghost use Rattle.hosts_db.specs.Changes.{is_named, change, changed};
+ghost use Rattle.hosts_db.specs.Notes.{view_of_note};
 
-use crate::rows::{FULL_QUOTA, HostRow, MOST_NAME_BYTES, MyId, RowChange, Watch};
+use crate::rows::{FULL_QUOTA, HostRow, MOST_NAME_BYTES, MyId, Note, Watch};
 use crate::search::{MOST_HOSTS, MOST_WATCHES, place_of_host, place_of_watch, put_in};
 use definitions::own_state::next_own_state;
 use std::alloc::{AllocError, Global};
@@ -155,35 +155,14 @@ impl HostRows {
         }
     }
 
-    // Changes the row of this name, where there is one.
-    fn change_row(&mut self, name: &[u8], to: RowChange)
-        ensures { self.new ≡ record self.old { rows = change (is_named name.now) (changed to) self.old.rows } }
+    /// Notes something in the row of a host. Without a row of that name nothing changes.
+    pub fn note(&mut self, name: &[u8], note: Note)
+        ensures { self.new ≡ after_store self.old (view_of_note name.now note) }
     {
         if let Ok(at) = place_of_host(&self.hosts, name) {
             let row = &mut self.hosts[at];
-            row.change(to);
+            row.note(note);
         }
-    }
-
-    /// Notes the state that a host has told.
-    pub fn seen(&mut self, name: &[u8], state: i32)
-        ensures { self.new ≡ after_store self.old (Seen name.now state) }
-    {
-        self.change_row(name, RowChange::Seen(state));
-    }
-
-    /// Notes the own state that a host has acknowledged.
-    pub fn acked(&mut self, name: &[u8], epoch: u32)
-        ensures { self.new ≡ after_store self.old (Acked name.now epoch) }
-    {
-        self.change_row(name, RowChange::Epoch(epoch));
-    }
-
-    /// Sets how many runs a host's owners may have.
-    pub fn quota(&mut self, name: &[u8], runs: u32)
-        ensures { self.new ≡ after_store self.old (Quota name.now runs) }
-    {
-        self.change_row(name, RowChange::Quota(runs));
     }
 
     /// Adds a watch, and the row of its host, where it has none.

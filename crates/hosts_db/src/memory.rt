@@ -7,7 +7,7 @@ ghost use Rattle.hosts_db.specs.Places.{put_all};
 use crate::error::StoreError;
 use crate::host_rows::HostRows;
 use crate::refusals::Refusals;
-use crate::rows::{HostRow, MOST_NAME_BYTES, MyId, Watch};
+use crate::rows::{HostRow, MOST_NAME_BYTES, MyId, Note, Watch};
 use crate::search::{MOST_HOSTS, MOST_WATCHES};
 use crate::store::HostStore;
 use std::alloc::{AllocError, Global};
@@ -135,17 +135,17 @@ impl HostStore for MemHosts {
     }
 
     fn seen(&mut self, name: &[u8], state: i32) -> Result<(), StoreError> {
-        self.rows.seen(name, state);
+        self.rows.note(name, Note::Seen(state));
         Ok(())
     }
 
     fn acked(&mut self, name: &[u8], epoch: u32) -> Result<(), StoreError> {
-        self.rows.acked(name, epoch);
+        self.rows.note(name, Note::Epoch(epoch));
         Ok(())
     }
 
     fn quota(&mut self, name: &[u8], runs: u32) -> Result<(), StoreError> {
-        self.rows.quota(name, runs);
+        self.rows.note(name, Note::Quota(runs));
         Ok(())
     }
 

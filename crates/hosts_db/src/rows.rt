@@ -2,7 +2,7 @@
 ghost use Rattle.std.specs.Prelude.{◌≡◌, ◌≤◌, length, IfOk};
 ghost use Rattle.definitions.specs.Bytes.{bytes_cmp, same_bytes};
 ghost use Rattle.definitions.specs.Hosts.{my_id_cmp, is_watch};
-ghost use Rattle.hosts_db.specs.Changes.{changed};
+ghost use Rattle.hosts_db.specs.Notes.{noted};
 ghost use Rattle.std.specs.Ordering.{ordering_then};
 ghost use Rattle.std.specs.Option.{option_copied};
 
@@ -25,11 +25,14 @@ pub struct HostRow {
     quota: u32,
 }
 
-/// What of a row changes, and what to.
+/// What is noted in a row.
 #[derive(Clone, Copy)]
-pub(crate) enum RowChange {
+pub enum Note {
+    /// The state that the host has told.
     Seen(i32),
+    /// The own state that it has acknowledged.
     Epoch(u32),
+    /// How many runs its owners may have.
     Quota(u32),
 }
 
@@ -87,13 +90,13 @@ impl HostRow {
         self.quota
     }
 
-    pub(crate) fn change(&mut self, change: RowChange)
-        ensures { self.new ≡ changed change self.old }
+    pub(crate) fn note(&mut self, note: Note)
+        ensures { self.new ≡ noted note self.old }
     {
-        match change {
-            RowChange::Seen(seen) => self.seen = seen,
-            RowChange::Epoch(epoch) => self.epoch = epoch,
-            RowChange::Quota(quota) => self.quota = quota,
+        match note {
+            Note::Seen(seen) => self.seen = seen,
+            Note::Epoch(epoch) => self.epoch = epoch,
+            Note::Quota(quota) => self.quota = quota,
         }
     }
 

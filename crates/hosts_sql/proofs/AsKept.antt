@@ -7,18 +7,18 @@ use Rattle.sqlite.specs.State.{State, HasCleanDisk}
 use Rattle.sqlite.proofs.StateLemmas.{survives_weaker}
 use Rattle.definitions.specs.Bytes.{Bytes, IsAscending, bytes_cmp, same_bytes, first_that, put, without}
 use Rattle.definitions.specs.Nsm.{MyId}
-use Rattle.definitions.specs.Hosts.{HostRow, Hosts, row_cmp, watch_cmp, row_of, has_row, after_store, Watched}
+use Rattle.definitions.specs.Hosts.{HostRow, Hosts, row_cmp, watch_cmp, row_of, is_named, has_row, after_store, Watched}
+use Rattle.hosts_db.specs.Notes.{view_of_note, noted}
+use Rattle.hosts_db.specs.declared.rows.Note.{Note}
+use Rattle.hosts_db.proofs.RowPlaces.{keeps_name, note_is}
 use Rattle.hosts_sql.specs.Maps.{listed}
-use Rattle.hosts_sql.specs.Notes.{call_of, noted}
-use Rattle.hosts_sql.specs.declared.notes.Note.{Note}
-use Rattle.hosts_sql.specs.declared.notes.Note.TheVariants as to
 use Rattle.hosts_sql.specs.Shown.{shown}
 use Rattle.hosts_sql.specs.Wrote.{IsAsKept, MayLeave, MayWriteHosts, hosts_in}
 use Rattle.hosts_transactions.proofs.Results.{gave, on_then}
 use Rattle.hosts_sql.proofs.Commits.{CommitsHosts}
 use Rattle.hosts_sql.proofs.Listed.{bytes_exact}
 use Rattle.hosts_sql.proofs.OwnIds.{eq_equal}
-use Rattle.hosts_sql.proofs.Changed.{change, put_changes, none_changes, seen_is, epoch_is, quota_is}
+use Rattle.hosts_sql.proofs.Changed.{put_changes, none_changes}
 
 -- the last commit shows the rows that are in memory, and of these both changes make the same
 pub hosts_as_kept : {X E : Type 0} {from : Hosts → Hosts} {old new : State} {r : Result X E} (to : Hosts → Hosts) (rows : Hosts) → IsAsKept old rows → from rows ≡ to rows → CommitsHosts from old new r → CommitsHosts to old new r
@@ -50,9 +50,6 @@ watch_of_host h mon my private there =
     let same : h.rows ≡ cond (has_row h mon) h.rows other = ap (λ b. cond b h.rows other) (sym there) in
     λ i. record { own = h.own; rows = same i; watches = put watch_cmp (record { mon_name = mon; my_id = my; private_bytes = private }) h.watches }
 
-abbrev is_named : Bytes → HostRow → Bool
-is_named name row = same_bytes row.name name
-
 same_name : (a b : Bytes) → same_bytes a b ≡ true → a ≡ b
 same_name a b e = bytes_exact a b (eq_equal (bytes_cmp a b) (is_eq-slice_cmp a b ∙ e))
 
@@ -64,21 +61,11 @@ found_name name (r ∷ rs) row found = go (same_bytes r.name name) refl found (�
     go true e found more = ap (λ (x : HostRow). x.name) (sym (same_Some {A = HostRow} r row found)) ∙ same_name r.name name e
     go false e found more = more found
 
-keeps_name : (note : Note) (row : HostRow) → (noted note row).name ≡ row.name
-keeps_name (to.Seen seen) row = refl
-keeps_name (to.Epoch epoch) row = refl
-keeps_name (to.Quota runs) row = refl
-
 module _ (h : Hosts) (name : Bytes) where
-  note_is : (note : Note) → ◌≡◌ {A = Hosts} (record h { rows = change name (noted note) h.rows }) (after_store h (call_of name note))
-  note_is (to.Seen seen) = ap (λ rows. record h { rows = rows }) (seen_is name seen h.rows)
-  note_is (to.Epoch epoch) = ap (λ rows. record h { rows = rows }) (epoch_is name epoch h.rows)
-  note_is (to.Quota runs) = ap (λ rows. record h { rows = rows }) (quota_is name runs h.rows)
+  pub unnoted : (note : Note) → has_row h name ≡ false → ◌≡◌ {A = Hosts} (record h { rows = without (is_named name) h.rows }) (after_store h (view_of_note name note))
+  unnoted note none = let both = none_changes name (noted note) h.rows none in ap (λ rows. record h { rows = rows }) (both.0 ∙ sym both.1) ∙ note_is h name note
 
-  pub unnoted : (note : Note) → has_row h name ≡ false → ◌≡◌ {A = Hosts} (record h { rows = without (λ (r : HostRow). same_bytes r.name name) h.rows }) (after_store h (call_of name note))
-  unnoted note none = let both = none_changes name (noted note) h.rows none in ap (λ rows. record h { rows = rows }) (both.0 ∙ sym both.1) ∙ note_is note
-
-  pub noted_at : IsAscending row_cmp h.rows → (row : HostRow) → row_of h name ≡ Some row → (note : Note) → ◌≡◌ {A = Hosts} (record h { rows = put row_cmp (record (noted note row) { name = name }) h.rows }) (after_store h (call_of name note))
+  pub noted_at : IsAscending row_cmp h.rows → (row : HostRow) → row_of h name ≡ Some row → (note : Note) → ◌≡◌ {A = Hosts} (record h { rows = put row_cmp (record (noted note row) { name = name }) h.rows }) (after_store h (view_of_note name note))
   noted_at rise row is note =
       let named : name ≡ (noted note row).name = sym (found_name name h.rows row is) ∙ sym (keeps_name note row) in
-      ap (λ n. record h { rows = put row_cmp (record (noted note row) { name = n }) h.rows }) named ∙ ap (λ rows. record h { rows = rows }) (put_changes name (noted note) (keeps_name note) row h.rows rise is) ∙ note_is note
+      ap (λ n. record h { rows = put row_cmp (record (noted note row) { name = n }) h.rows }) named ∙ ap (λ rows. record h { rows = rows }) (put_changes name (noted note) (keeps_name note) row h.rows rise is) ∙ note_is h name note

@@ -1,5 +1,5 @@
 -- What the statements of a call make of the rows, and of the lists that a store shows.
-use Rattle.std.proofs.Common.{◌≡◌, ℕ, ℤ, pos, Bool, true, false, cond, not, ◌||◌, List, [], ◌∷◌, map, Option, Some, None, refl, sym, ap, ◌∙◌}
+use Rattle.std.proofs.Common.{◌≡◌, ℕ, pos, Bool, true, false, cond, not, ◌||◌, List, [], ◌∷◌, map, Option, Some, None, refl, sym, ap, ◌∙◌}
 use Rattle.std.proofs.lemmas.Bool.{true≢false}
 use Rattle.std.specs.declared.cmp.Ordering.{Ordering}
 use Rattle.std.specs.declared.cmp.Ordering.TheVariants.{Less, Equal, Greater}
@@ -10,10 +10,10 @@ use Rattle.std.proofs.lemmas.Cmp.{tied_itself}
 use Rattle.std.proofs.lemmas.Map.Text.{is_eq-slice_cmp}
 use Rattle.std.specs.FinMap.{FinMap, IsAntisymmetric, get, insert, entries, retain_keys, get-insert, get-retain_keys, same_map}
 use Rattle.std.proofs.lemmas.Option.{same_Some}
-use Rattle.definitions.specs.Bytes.{Bytes, IsAscending, IsBelowAll, bytes_cmp, same_bytes, is_any, first_that, put, placed, without}
+use Rattle.definitions.specs.Bytes.{Bytes, IsAscending, IsBelowAll, bytes_cmp, same_bytes, is_any, first_that, change_first, put, placed, without}
 use Rattle.definitions.specs.Nsm.{MyId}
-use Rattle.definitions.specs.Hosts.{HostRow, Hosts, row_cmp, watch_cmp, has_row, is_watch, with_seen, with_epoch, after_store, Watched, Unwatched, with_quota}
-use Rattle.hosts_db.proofs.Orders.{row_total}
+use Rattle.definitions.specs.Hosts.{HostRow, Hosts, row_cmp, watch_cmp, is_named, has_row, is_watch, after_store, Watched, Unwatched}
+use Rattle.definitions.proofs.HostLaws.{row_total}
 use Rattle.sqlite.specs.Effect.{Database}
 use Rattle.hosts_sql.specs.Maps.{Host, WatchKey, Rows, key_cmp, host_row, watch_row, listed, made_now, is_key_of, with_host, with_watch, without_host, without_watches}
 use Rattle.hosts_sql.specs.Shown.{shown}
@@ -102,13 +102,6 @@ watches_gone mon my r =
 
 -- ---- a host's row that is put in the place of the one of its name
 
-abbrev is_named : Bytes → HostRow → Bool
-is_named name row = same_bytes row.name name
-
-abbrev pub change : Bytes → (HostRow → HostRow) → List HostRow → List HostRow
-change name g [] = []
-change name g (r ∷ rows) = cond (same_bytes r.name name) (g r ∷ rows) (r ∷ change name g rows)
-
 below_found : (r row : HostRow) (name : Bytes) (rs : List HostRow) → IsBelowAll row_cmp r rs → first_that (is_named name) rs ≡ Some row → row_cmp r row ≡ Less
 below_found r row name [] below found = absurd cc
 below_found r row name (s ∷ rs) below found = go (same_bytes s.name name) found (λ more. below_found r row name rs below.1 more)
@@ -118,15 +111,15 @@ below_found r row name (s ∷ rs) below found = go (same_bytes s.name name) foun
     go false e more = more e
 
 pub put_changes : (name : Bytes) (g : HostRow → HostRow) → ((r : HostRow) → (g r).name ≡ r.name) → (row : HostRow) (rows : List HostRow) → IsAscending row_cmp rows → first_that (is_named name) rows ≡ Some row
-    → put row_cmp (g row) rows ≡ change name g rows
+    → put row_cmp (g row) rows ≡ change_first (is_named name) g rows
 put_changes name g same row [] rise found = absurd cc
 put_changes name g same row (r ∷ rs) rise found = go (same_bytes r.name name) found (λ more. put_changes name g same row rs rise.1 more)
   where
     keyed : (s : HostRow) → row_cmp (g row) s ≡ row_cmp row s
     keyed s = ap (λ n. bytes_cmp n s.name) (same row)
 
-    go : (b : Bool) → cond b (Some r) (first_that (is_named name) rs) ≡ Some row → (first_that (is_named name) rs ≡ Some row → put row_cmp (g row) rs ≡ change name g rs)
-        → put row_cmp (g row) (r ∷ rs) ≡ cond b (g r ∷ rs) (r ∷ change name g rs)
+    go : (b : Bool) → cond b (Some r) (first_that (is_named name) rs) ≡ Some row → (first_that (is_named name) rs ≡ Some row → put row_cmp (g row) rs ≡ change_first (is_named name) g rs)
+        → put row_cmp (g row) (r ∷ rs) ≡ cond b (g r ∷ rs) (r ∷ change_first (is_named name) g rs)
     go true e more =
         let is : r ≡ row = same_Some {A = HostRow} r row e in
         let tie : row_cmp (g row) r ≡ Equal = keyed r ∙ ap (row_cmp row) is ∙ tied_itself row_total row in
@@ -135,26 +128,14 @@ put_changes name g same row (r ∷ rs) rise found = go (same_bytes r.name name) 
         let above : row_cmp (g row) r ≡ Greater = keyed r ∙ row_total.antisymm row r ∙ ap ordering_reverse (below_found r row name rs rise.0 e) in
         ap (λ o. placed o (g row) r rs (put row_cmp (g row) rs)) above ∙ ap (λ xs. r ∷ xs) (more e)
 
-pub none_changes : (name : Bytes) (g : HostRow → HostRow) (rows : List HostRow) → is_any (is_named name) rows ≡ false → (without (is_named name) rows ≡ rows) × (change name g rows ≡ rows)
+pub none_changes : (name : Bytes) (g : HostRow → HostRow) (rows : List HostRow) → is_any (is_named name) rows ≡ false → (without (is_named name) rows ≡ rows) × (change_first (is_named name) g rows ≡ rows)
 none_changes name g [] none = (refl, refl)
 none_changes name g (r ∷ rs) none = go (same_bytes r.name name) none (λ more. none_changes name g rs more)
   where
-    go : (b : Bool) → (b || is_any (is_named name) rs) ≡ false → (is_any (is_named name) rs ≡ false → (without (is_named name) rs ≡ rs) × (change name g rs ≡ rs))
-        → (cond b (without (is_named name) rs) (r ∷ without (is_named name) rs) ≡ r ∷ rs) × (cond b (g r ∷ rs) (r ∷ change name g rs) ≡ r ∷ rs)
+    go : (b : Bool) → (b || is_any (is_named name) rs) ≡ false → (is_any (is_named name) rs ≡ false → (without (is_named name) rs ≡ rs) × (change_first (is_named name) g rs ≡ rs))
+        → (cond b (without (is_named name) rs) (r ∷ without (is_named name) rs) ≡ r ∷ rs) × (cond b (g r ∷ rs) (r ∷ change_first (is_named name) g rs) ≡ r ∷ rs)
     go true e more = absurd (true≢false e)
     go false e more = let both = more e in (ap (λ xs. r ∷ xs) both.0, ap (λ xs. r ∷ xs) both.1)
-
-pub seen_is : (name : Bytes) (seen : ℤ) (rows : List HostRow) → change name (λ r. record r { seen = seen }) rows ≡ with_seen name seen rows
-seen_is name seen [] = refl
-seen_is name seen (r ∷ rows) = ap (λ rs. cond (same_bytes r.name name) (record r { seen = seen } ∷ rows) (r ∷ rs)) (seen_is name seen rows)
-
-pub epoch_is : (name : Bytes) (epoch : ℕ) (rows : List HostRow) → change name (λ r. record r { epoch = epoch }) rows ≡ with_epoch name epoch rows
-epoch_is name epoch [] = refl
-epoch_is name epoch (r ∷ rows) = ap (λ rs. cond (same_bytes r.name name) (record r { epoch = epoch } ∷ rows) (r ∷ rs)) (epoch_is name epoch rows)
-
-pub quota_is : (name : Bytes) (runs : ℕ) (rows : List HostRow) → change name (λ r. record r { quota = runs }) rows ≡ with_quota name runs rows
-quota_is name runs [] = refl
-quota_is name runs (r ∷ rows) = ap (λ rs. cond (same_bytes r.name name) (record r { quota = runs } ∷ rows) (r ∷ rs)) (quota_is name runs rows)
 
 -- a watch of a host that is new
 pub host_and_watch_listed : (r : Rows) (k : WatchKey) (private : Bytes) (epoch : ℕ) → (listed r).own ≡ epoch → has_row (listed r) k.mon ≡ false

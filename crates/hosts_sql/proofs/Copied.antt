@@ -40,7 +40,7 @@ use Rattle.hosts_sql.proofs.Places.{on_table, one_change}
 use Rattle.hosts_sql.proofs.Reading.{each_alone, map_twice, env_of}
 use Rattle.hosts_sql.proofs.Apart.{hosts_apart, unclashed}
 use Rattle.hosts_sql.proofs.Meant.{copy_query}
-use Rattle.hosts_sql.proofs.Moved.{put_all_moves, put_all_own, is_named, hosts_numbered, hosts_fit}
+use Rattle.hosts_sql.proofs.Moved.{put_all_moves, put_all_own, has_name, hosts_numbered, hosts_fit}
 use Rattle.hosts_sql.proofs.Typed.{IsTyped, typed_rows}
 
 -- a row of the old table without its rowid, with the full quota
@@ -74,9 +74,9 @@ cast_copied (r ∷ rs) typed =
     let rest = cast_copied rs typed.1 in
     λ i. (id i ∷ column r 1 ∷ epoch i ∷ seen i ∷ quota i ∷ []) ∷ rest i
 
-named_copied : (rows : List Row) → AllByRecursion IsTyped rows → list_any (λ s. not (is_named s)) (map copied rows) ≡ false
+named_copied : (rows : List Row) → AllByRecursion IsTyped rows → list_any (λ s. not (has_name s)) (map copied rows) ≡ false
 named_copied [] typed = refl
-named_copied (r ∷ rs) typed = ap (λ b. Rattle.std.proofs.Common.◌||◌ (not b) (list_any (λ s. not (is_named s)) (map copied rs))) typed.0.name ∙ named_copied rs typed.1
+named_copied (r ∷ rs) typed = ap (λ b. Rattle.std.proofs.Common.◌||◌ (not b) (list_any (λ s. not (has_name s)) (map copied rs))) typed.0.name ∙ named_copied rs typed.1
 
 -- ---- the new table
 
@@ -96,7 +96,7 @@ copy_trees checks keys db next rows typed none moved a =
     let sources = map cast_source rows in
     let news = numbered Chosen (db 5) sources in
     let stored : IsPermutation (map copied (db 1)) sources = subst (λ xs. IsPermutation xs sources) (cast_copied (db 1) typed) (IsPermutation-map cast_source (map copied (db 1)) rows moved) in
-    let named : list_any (λ s. not (is_named s)) sources ≡ false = sym (list_any-IsPermutation (λ s. not (is_named s)) (map copied (db 1)) sources stored) ∙ named_copied (db 1) typed in
+    let named : list_any (λ s. not (has_name s)) sources ≡ false = sym (list_any-IsPermutation (λ s. not (has_name s)) (map copied (db 1)) sources stored) ∙ named_copied (db 1) typed in
     let fit : list_any (λ r. not (is_host r)) news ≡ false = hosts_fit (db 5) sources named a.keyed in
     let ids : AreOwn is_host (next 5) = subst (AreOwn is_host) (sym a.rows) (put_all_own (db 5) news a.fresh fit (subst (AreOwn is_host) (sym none) (none_own is_host))) in
     let placed : IsPermutation news (next 5) = subst (IsPermutation news) (sym a.rows) (subst (λ xs. IsPermutation xs (put_all (db 5) news)) (ap (λ xs. news ++ xs) none ∙ append-nil news) (put_all_moves (db 5) news a.fresh)) in

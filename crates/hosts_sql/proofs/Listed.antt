@@ -10,7 +10,7 @@ use Rattle.std.specs.FinMap.{FinMap, IsAntisymmetric, empty, empty_of_len, from_
 use Rattle.definitions.proofs.Lists.{none_from_is_some}
 use Rattle.definitions.specs.Bytes as list
 use Rattle.definitions.specs.Bytes.{Bytes, bytes_cmp, same_bytes, is_any, placed}
-use Rattle.definitions.specs.Hosts.{HostRow, Hosts, row_cmp, watch_cmp, has_row, is_watch, after_store, Monitor}
+use Rattle.definitions.specs.Hosts.{Hosts, row_cmp, watch_cmp, has_row, is_watch, after_store, Monitor, is_named}
 use Rattle.hosts_db.proofs.Orders.{watch_agrees}
 use Rattle.hosts_sql.specs.Maps.{Host, WatchKey, Rows, no_rows, key_cmp, host_row, watch_row, listed, made_now, with_host}
 use Rattle.sqlite_trees.specs.Tree.{Trees}
@@ -52,13 +52,13 @@ name_agrees name e = sym (is_eq-slice_cmp e.0 name) ∙ (eq_by_cmp_equiv nat_lis
 pub key_agrees : (k : WatchKey) (e : WatchKey × Bytes) → is_watch (Some k.mon) k.my (watch_row e) ≡ eq_by_cmp key_cmp k e.0
 key_agrees k e = watch_agrees k.mon k.my (watch_row e) ∙ (eq_by_cmp_equiv watch_total).symm e.0 k
 
-pub row_found : (m : FinMap bytes_cmp Host) (name : Bytes) → is_any (λ (r : HostRow). same_bytes r.name name) (map host_row (entries m)) ≡ is_some (get m name)
-row_found m name = any_found bytes_cmp host_row name (λ (r : HostRow). same_bytes r.name name) (name_agrees name) (entries m) ∙ ap is_some (sym (get-entries m name))
+pub row_found : (m : FinMap bytes_cmp Host) (name : Bytes) → is_any (is_named name) (map host_row (entries m)) ≡ is_some (get m name)
+row_found m name = any_found bytes_cmp host_row name (is_named name) (name_agrees name) (entries m) ∙ ap is_some (sym (get-entries m name))
 
 pub watch_found : (m : FinMap key_cmp Bytes) (k : WatchKey) → is_any (is_watch (Some k.mon) k.my) (map watch_row (entries m)) ≡ is_some (get m k)
 watch_found m k = any_found key_cmp watch_row k (is_watch (Some k.mon) k.my) (key_agrees k) (entries m) ∙ ap is_some (sym (get-entries m k))
 
-pub no_host : (m : FinMap bytes_cmp Host) (name : Bytes) → is_any (λ (r : HostRow). same_bytes r.name name) (map host_row (entries m)) ≡ false → get m name ≡ None
+pub no_host : (m : FinMap bytes_cmp Host) (name : Bytes) → is_any (is_named name) (map host_row (entries m)) ≡ false → get m name ≡ None
 no_host m name h = none_from_is_some (get m name) (sym (row_found m name) ∙ h)
 
 pub no_watch : (m : FinMap key_cmp Bytes) (k : WatchKey) → is_any (is_watch (Some k.mon) k.my) (map watch_row (entries m)) ≡ false → get m k ≡ None

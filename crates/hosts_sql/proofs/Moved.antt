@@ -77,23 +77,23 @@ hosts_numbered rows [] = refl
 hosts_numbered rows (s ∷ ss) = (λ i. host_numbered rows s i ∷ hosts_numbered (put_row (with_rowid Chosen rows s) rows) ss i)
 
 -- the name is bytes
-abbrev pub is_named : Row → Bool
-is_named row = is_blob (column row 1)
+abbrev pub has_name : Row → Bool
+has_name row = is_blob (column row 1)
 
-name_numbered : (rows : List Row) (s : Row) → is_named (with_rowid Chosen rows s) ≡ is_named s
+name_numbered : (rows : List Row) (s : Row) → has_name (with_rowid Chosen rows s) ≡ has_name s
 name_numbered rows [] = refl
 name_numbered rows (v ∷ vs) = go (is_null v)
   where
-    go : (b : Bool) → is_named (cond b (Int (Rattle.sqlite_rules.specs.Edit.next_rowid rows) ∷ vs) (v ∷ vs)) ≡ is_named (v ∷ vs)
+    go : (b : Bool) → has_name (cond b (Int (Rattle.sqlite_rules.specs.Edit.next_rowid rows) ∷ vs) (v ∷ vs)) ≡ has_name (v ∷ vs)
     go true = refl
     go false = refl
 
-pub hosts_fit : (rows sources : List Row) → list_any (λ s. not (is_named s)) sources ≡ false → have_rowids (numbered Chosen rows sources) ≡ true → list_any (λ r. not (is_host r)) (numbered Chosen rows sources) ≡ false
+pub hosts_fit : (rows sources : List Row) → list_any (λ s. not (has_name s)) sources ≡ false → have_rowids (numbered Chosen rows sources) ≡ true → list_any (λ r. not (is_host r)) (numbered Chosen rows sources) ≡ false
 hosts_fit rows [] named ids = refl
 hosts_fit rows (s ∷ ss) named ids =
     let new = with_rowid Chosen rows s in
     let more = numbered Chosen (put_row new rows) ss in
     let id = and_left (is_int (rowid new)) (have_rowids more) ids in
-    let here : not (is_named new) ≡ false = ap not (name_numbered rows s) ∙ (or_parts (not (is_named s)) (list_any (λ x. not (is_named x)) ss) named).0 in
-    let rest = hosts_fit (put_row new rows) ss (or_parts (not (is_named s)) (list_any (λ x. not (is_named x)) ss) named).1 (and_right (is_int (rowid new)) (have_rowids more) ids) in
-    ap (λ b. not (b && is_named new) || list_any (λ r. not (is_host r)) more) id ∙ ap (λ b. b || list_any (λ r. not (is_host r)) more) here ∙ rest
+    let here : not (has_name new) ≡ false = ap not (name_numbered rows s) ∙ (or_parts (not (has_name s)) (list_any (λ x. not (has_name x)) ss) named).0 in
+    let rest = hosts_fit (put_row new rows) ss (or_parts (not (has_name s)) (list_any (λ x. not (has_name x)) ss) named).1 (and_right (is_int (rowid new)) (have_rowids more) ids) in
+    ap (λ b. not (b && has_name new) || list_any (λ r. not (is_host r)) more) id ∙ ap (λ b. b || list_any (λ r. not (is_host r)) more) here ∙ rest

@@ -6,5 +6,4 @@ pub mod Own
 pub mod Reading
 pub mod Wrote
 pub mod Making
-pub mod Notes
 pub mod Holds

@@ -5,7 +5,7 @@ ghost use Rattle.sqlite.specs.Values.{bound};
 ghost use Rattle.sqlite.specs.State.{HasCleanDisk, KeepsCommit, Survives};
 ghost use Rattle.sqlite.specs.Held.{state};
 ghost use Rattle.definitions.specs.Bytes.{same_bytes, without};
-ghost use Rattle.definitions.specs.Hosts.{HostRow, has_row, after_store, Monitor, Watched, Unwatched};
+ghost use Rattle.definitions.specs.Hosts.{HostRow, has_row, after_store, Monitor, Watched, Unwatched, is_named};
 ghost use Rattle.hosts_sql.specs.Given.{my_given, watch_given, watch_params};
 ghost use Rattle.hosts_sql.specs.Maps.{with_listed_host, with_listed_watch};
 ghost use Rattle.hosts_sql.specs.Wrote.{HasTables, IsFresh, MayWriteHosts, WroteHosts, hosts_in};
@@ -63,9 +63,9 @@ pub(crate) fn replace_host<S: Alter>(
 /// Takes out the row of a host.
 pub(crate) fn delete_host<S: Alter>(conn: &mut Connection<S>, name: &[u8]) -> Result<(), Error>
     requires tables { HasTables Second (state S.Store conn.old) }
-    ensures ok { HasCleanDisk (state S.Store conn.new) → OnOk result (WroteHosts (λ h. record h { rows = without (λ (r : HostRow). same_bytes r.name name.now) h.rows }) (state S.Store conn.old) (state S.Store conn.new)) }
+    ensures ok { HasCleanDisk (state S.Store conn.new) → OnOk result (WroteHosts (λ h. record h { rows = without (is_named name.now) h.rows }) (state S.Store conn.old) (state S.Store conn.new)) }
     ensures err { HasCleanDisk (state S.Store conn.new) → OnErr result (KeepsCommit (state S.Store conn.old) (state S.Store conn.new)) }
-    ensures crash { Survives (state S.Store conn.old) (state S.Store conn.new) (MayWriteHosts (λ h. record h { rows = without (λ (r : HostRow). same_bytes r.name name.now) h.rows }) (state S.Store conn.old)) }
+    ensures crash { Survives (state S.Store conn.old) (state S.Store conn.new) (MayWriteHosts (λ h. record h { rows = without (is_named name.now) h.rows }) (state S.Store conn.old)) }
 {
     run_one(conn, "DELETE FROM hosts2 WHERE name = ?1", params![name])
 }

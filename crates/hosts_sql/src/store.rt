@@ -8,15 +8,15 @@ ghost use Rattle.hosts_sql.specs.declared.tables.Version.TheVariants.{Second};
 ghost use Rattle.hosts_sql.specs.Holds.{Holds, Holds-prop};
 ghost use Rattle.definitions.specs.Hosts.{after_store};
 ghost use Rattle.hosts_db.specs.Calls.{Counts, Leaves, Makes, IsNotStarved, OnRefused};
-ghost use Rattle.hosts_sql.specs.Notes.{call_of};
+ghost use Rattle.hosts_db.specs.Notes.{view_of_note};
 
 use crate::calls::{write_start, write_watch};
 use crate::loading::load;
-use crate::notes::{Note, write_note};
+use crate::notes::write_note;
 use crate::statements::{delete_watches, insert_host};
 use crate::tables::{Version, is_none, version_of};
 use definitions::own_state::next_own_state;
-use hosts_db::{HostRow, HostRows, HostStore, MyId, Refusals, StoreError, Watch};
+use hosts_db::{HostRow, HostRows, HostStore, MyId, Note, Refusals, StoreError, Watch};
 use sqlite::{Alter, Connection};
 use std::alloc::Global;
 
@@ -92,17 +92,17 @@ impl<S: Alter> SqlHosts<S> {
 
     // Notes this in the row of a host. Without a row of that name nothing changes.
     fn note(&mut self, name: &[u8], note: Note) -> Result<(), StoreError>
-        ensures makes { Makes result self.old.rows self.new.rows (after_store self.old.rows (call_of name.now note)) }
+        ensures makes { Makes result self.old.rows self.new.rows (after_store self.old.rows (view_of_note name.now note)) }
         ensures counts { Counts result self.old.refusals self.new.refusals }
         ensures refused { OnRefused result (⟦<SqlHosts<S> as HostStore>⟧.may_refuse self.old false) }
         ensures not_starved { IsNotStarved result }
-        ensures crash { Leaves result (⟦<SqlHosts<S> as HostStore>⟧.may_leave self.old) (⟦<SqlHosts<S> as HostStore>⟧.may_leave self.new) (after_store self.old.rows (call_of name.now note)) }
+        ensures crash { Leaves result (⟦<SqlHosts<S> as HostStore>⟧.may_leave self.old) (⟦<SqlHosts<S> as HostStore>⟧.may_leave self.new) (after_store self.old.rows (view_of_note name.now note)) }
     {
         if !self.is_ready() || write_note(&mut self.conn, &self.rows, name, note).is_err() {
             self.refusals.add();
             return Err(StoreError::StoreRefused);
         }
-        note.keep(&mut self.rows, name);
+        self.rows.note(name, note);
         Ok(())
     }
 

@@ -2,7 +2,7 @@ use Rattle.std.proofs.Common.{rules}
 use Rattle.std.proofs.lemmas.Fn.{always_returns_same}
 use Rattle.definitions.specs.Hosts.{row_cmp}
 use Rattle.hosts_db.specs.Places.{row_named}
-use Rattle.hosts_db.proofs.Orders.{row_total}
+use Rattle.definitions.proofs.HostLaws.{row_total}
 use Rattle.hosts_db.proofs.Places.{place_from_search}
 use Rattle.hosts_db.proofs.search.place_of_host.Goals as goal
 

@@ -2,7 +2,7 @@ use Rattle.std.proofs.Common.{rules}
 use Rattle.std.proofs.lemmas.Fn.{always_returns_same}
 use Rattle.definitions.specs.Hosts.{watch_cmp}
 use Rattle.hosts_db.specs.Places.{watch_keyed}
-use Rattle.hosts_db.proofs.Orders.{watch_total}
+use Rattle.definitions.proofs.HostLaws.{watch_total}
 use Rattle.hosts_db.proofs.Places.{place_from_search}
 use Rattle.hosts_db.proofs.search.place_of_watch.Goals as goal
 

@@ -1,7 +1,6 @@
 use Rattle.std.proofs.Common.{sym, ap, subst, ◌∙◌}
 use Rattle.definitions.specs.Bytes.{IsAscending, is_any}
-use Rattle.definitions.specs.Hosts.{row_cmp}
-use Rattle.hosts_db.specs.Changes.{is_named}
+use Rattle.definitions.specs.Hosts.{row_cmp, is_named}
 use Rattle.hosts_db.proofs.RowPlaces.{has_row_at}
 use Rattle.hosts_db.proofs.host_rows.HostRows.has_host.Goals as goal
 

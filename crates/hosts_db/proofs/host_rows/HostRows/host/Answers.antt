@@ -1,7 +1,6 @@
 use Rattle.std.proofs.Common.{Some, Ok, Err, sym, ap, subst, ◌∙◌}
 use Rattle.definitions.specs.Bytes.{IsAscending, first_that, is_any}
-use Rattle.definitions.specs.Hosts.{row_cmp}
-use Rattle.hosts_db.specs.Changes.{is_named}
+use Rattle.definitions.specs.Hosts.{row_cmp, is_named}
 use Rattle.hosts_db.proofs.RowPlaces.{row_at, row_gap, has_row_at}
 use Rattle.hosts_db.proofs.host_rows.HostRows.host.Goals as goal
 

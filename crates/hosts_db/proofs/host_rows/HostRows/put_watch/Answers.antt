@@ -2,7 +2,7 @@ use Rattle.std.proofs.Common.{length, sym, ap, subst, ◌∙◌, arith}
 use Rattle.definitions.specs.Bytes.{put, IsAscending}
 use Rattle.definitions.specs.Hosts.{Hosts, watch_cmp}
 use Rattle.definitions.proofs.Orders.{put_ascends}
-use Rattle.hosts_db.proofs.Orders.{watch_total}
+use Rattle.definitions.proofs.HostLaws.{watch_total}
 use Rattle.hosts_db.proofs.RowPlaces.{put_watch}
 use Rattle.hosts_db.proofs.host_rows.HostRows.put_watch.Goals as goal
 
