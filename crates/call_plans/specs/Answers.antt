@@ -76,7 +76,7 @@ change_by true = TableChanges
 change_by false = TableStays
 
 -- what the store said, where it was asked
-abbrev pub store_said : {X : Type 0} → Option (Result X StoreError) → StoreAnswer
-store_said None = NotAsked
-store_said (Some (Ok x)) = Yes
-store_said (Some (Err e)) = Refused
+abbrev pub view_of_store_result : {X : Type 0} → Option (Result X StoreError) → StoreAnswer
+view_of_store_result None = NotAsked
+view_of_store_result (Some (Ok x)) = Yes
+view_of_store_result (Some (Err e)) = Refused

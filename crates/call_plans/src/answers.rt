@@ -16,7 +16,7 @@ ghost use Rattle.record_reading.specs.Answers.{view_of_answer};
 ghost use Rattle.call_plans.specs.Planned.{view_of_stored, counted};
 ghost use Rattle.lock_state.specs.Answered.{call_at, lock_at};
 ghost use Rattle.lock_state.specs.Seen.{IsIdle, Knows};
-ghost use Rattle.call_plans.specs.Answers.{IsDone, IsFoundForgotten, IsGrant, IsGrantForgotten, IsNotice, IsTurnedForgotten, is_granted, grant_told, change_by, store_said};
+ghost use Rattle.call_plans.specs.Answers.{IsDone, IsFoundForgotten, IsGrant, IsGrantForgotten, IsNotice, IsTurnedForgotten, is_granted, grant_told, change_by, view_of_store_result};
 
 use crate::plans::StoreAnswer;
 use callbacks::Message;
@@ -181,7 +181,7 @@ fn noticed<R: RangeTable, S: HostStore>(
 }
 
 fn store_answer(acked: Option<Result<(), StoreError>>) -> StoreAnswer
-    ensures { view_of_stored result ≡ store_said acked }
+    ensures { view_of_stored result ≡ view_of_store_result acked }
 {
     match acked {
         None => StoreAnswer::NotAsked,

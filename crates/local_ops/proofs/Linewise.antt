@@ -14,7 +14,7 @@ use Rattle.local_ops.specs.Texts.{spaced, owner_text, mode_text}
 use Rattle.local_ops.specs.Grammar.{IsLocalOwner, SpellsLock, SpellsClose, SpellsQuota, Spells, IsLine, Reads, change_text}
 use Rattle.local_ops.specs.Reading.{Gives, first_field, owned_in, quota_in, lock_in, fields_of, ◌>>=◌}
 use Rattle.local_ops.specs.Words.{word_in, asked, get_lock_of, line_by, whole_line, line_in, read_line}
-use Rattle.local_ops.specs.Calls.{view_of_local_call, line_read}
+use Rattle.local_ops.specs.Calls.{view_of_local_call, view_of_line_read}
 use Rattle.local_ops.specs.declared.call.LocalCall.{LocalCall}
 use Rattle.local_ops.specs.declared.fields.BadLine.{BadLine}
 use Rattle.local_ops.specs.declared.fields.Word.{Word}
@@ -207,7 +207,7 @@ reads_line bytes (def.SetQuota host runs) h = h
 reads_line bytes def.Stop h = h
 reads_line bytes def.BadLine h = absurd h.1
 
-pub reads_is : (bytes : Bytes) (read : Result LocalCall BadLine) → Gives view_of_local_call read (read_line bytes) → Reads bytes (line_read read)
+pub reads_is : (bytes : Bytes) (read : Result LocalCall BadLine) → Gives view_of_local_call read (read_line bytes) → Reads bytes (view_of_line_read read)
 reads_is bytes (Ok call) e = reads_line bytes (view_of_local_call call) (read_is_spelled bytes (view_of_local_call call) e)
 reads_is bytes (Err bad) e = λ line h. let some = spelled_is_read bytes line h in absurd cc
 

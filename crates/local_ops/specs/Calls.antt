@@ -19,6 +19,6 @@ view_of_local_call (call.Quota quota) = def.SetQuota quota.name quota.runs
 view_of_local_call call.Stop = def.Stop
 
 -- a line that is refused is a bad one
-abbrev pub line_read : Result LocalCall BadLine → def.Line
-line_read (Ok call) = view_of_local_call call
-line_read (Err bad) = def.BadLine
+abbrev pub view_of_line_read : Result LocalCall BadLine → def.Line
+view_of_line_read (Ok call) = view_of_local_call call
+view_of_line_read (Err bad) = def.BadLine

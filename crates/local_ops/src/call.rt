@@ -2,7 +2,7 @@
 
 ghost use Rattle.local_ops.specs.Reading.{Gives, GivesRest};
 ghost use Rattle.local_ops.specs.Words.{line_by, read_line};
-ghost use Rattle.local_ops.specs.Calls.{view_of_local_call, line_read};
+ghost use Rattle.local_ops.specs.Calls.{view_of_local_call, view_of_line_read};
 ghost use Rattle.local_ops.specs.Grammar.{Reads};
 
 use crate::fields::{BadLine, Fields, Word};
@@ -39,7 +39,7 @@ impl LocalCall {
     /// Reads a line, without its line feed. `BadLine` where it is none of the protocol, or longer than 512 bytes. It takes
     /// no memory.
     pub fn read(line: &[u8]) -> Result<LocalCall, BadLine>
-        ensures { Reads line.now (line_read result) }
+        ensures { Reads line.now (view_of_line_read result) }
     {
         read_fields(line)
     }

@@ -22,28 +22,28 @@ use Rattle.lock_service.specs.declared.lock_ask.LockAsk as ask
 abbrev pub view_of_new_host : host.NewHost → NewHost
 view_of_new_host h = record { name = h.name.now; state = h.state }
 
-abbrev pub granted_by : call.GrantCall → Message
-granted_by c =
+abbrev pub view_of_granted : call.GrantCall → Message
+view_of_granted c =
     cond c.by_message (GrantedMsg (view_of_version c.version) c.exclusive (view_of_lock c.lock)) (Granted (view_of_version c.version) c.exclusive (view_of_lock c.lock))
 
-abbrev pub call_letter_of : call.GrantCall → Letter
-call_letter_of c = record { to = ToHost c.lock.caller_name.bytes.now; message = granted_by c }
+abbrev pub view_of_grant_call : call.GrantCall → Letter
+view_of_grant_call c = record { to = ToHost c.lock.caller_name.bytes.now; message = view_of_granted c }
 
-abbrev pub line_letter_of : ℕ → Mode → local.LocalLock → Letter
-line_letter_of l mode lock = record { to = ToConnection l; message = GrantedLine (view_of_mode mode) (view_of_local_lock lock) }
+abbrev pub view_of_grant_line : ℕ → Mode → local.LocalLock → Letter
+view_of_grant_line l mode lock = record { to = ToConnection l; message = GrantedLine (view_of_mode mode) (view_of_local_lock lock) }
 
-abbrev pub letter_of : Grant → Letter
-letter_of (grant.Call c) = call_letter_of c
-letter_of (grant.Line l mode lock) = line_letter_of l mode lock.now
+abbrev pub view_of_grant : Grant → Letter
+view_of_grant (grant.Call c) = view_of_grant_call c
+view_of_grant (grant.Line l mode lock) = view_of_grant_line l mode lock.now
 
 -- where so many places are free, those that the telling takes are none for a waiter
-abbrev pub ask_of : ask.LockAsk → ℕ → LockAsk
-ask_of a free = record {
+abbrev pub view_of_ask : ask.LockAsk → ℕ → LockAsk
+view_of_ask a free = record {
   request = view_of_wanted a.wanted;
   block = a.block;
   reclaim = a.reclaim;
   row = option_map view_of_new_host a.row;
-  letter = letter_of a.grant;
+  letter = view_of_grant a.grant;
   slots = free - a.reserved;
 }
 

@@ -9,7 +9,7 @@ ghost use Rattle.callbacks.specs.Meanings.{view_of_told_lock, view_of_message};
 ghost use Rattle.nlm4_types.specs.Lock.{view_of_lock};
 ghost use Rattle.nlm4_types.specs.Stat.{view_of_stat};
 ghost use Rattle.call_plans.specs.Planned.{changed, FitsChange};
-ghost use Rattle.lock_service.specs.Asks.{ask_of, call_letter_of, granted_by, kept_out as kept_out_said, letter_of, line_letter_of, view_of_new_host};
+ghost use Rattle.lock_service.specs.Asks.{view_of_ask, view_of_grant_call, view_of_granted, kept_out as kept_out_said, view_of_grant, view_of_grant_line, view_of_new_host};
 ghost use Rattle.lock_service.specs.Verdicts.{IsAfterRow, IsVerdict, IsVerdictWith, OnlyAsksIf};
 
 use crate::lock_ask::{Grant, GrantCall, LockAsk, NewHost};
@@ -28,7 +28,7 @@ pub(crate) fn lock_rules<R: RangeTable, S: HostStore>(
     world: &World<R, S>,
     ask: LockAsk<'_>,
 ) -> Result<Verdict, Starved>
-    ensures verdict { IfOk result (λ made. IsVerdict (rules_said the_limits world.now.world (ask_of ask.entry (slots_free the_limits world.now.world))) ask.entry.reserved world.now.world made) }
+    ensures verdict { IfOk result (λ made. IsVerdict (rules_said the_limits world.now.world (view_of_ask ask.entry (slots_free the_limits world.now.world))) ask.entry.reserved world.now.world made) }
     ensures asks { IfOk result (OnlyAsksIf (is_some ask.entry.row)) }
 {
     if world.conflicts(&ask.wanted.request()) {
@@ -46,7 +46,7 @@ fn kept_out<R: RangeTable, S: HostStore>(
     world: &World<R, S>,
     ask: LockAsk<'_>,
 ) -> Result<Verdict, Starved>
-    ensures verdict { IfOk result (λ made. IsVerdict (kept_out_said world.now.world (ask_of ask.entry (slots_free the_limits world.now.world))) ask.entry.reserved world.now.world made) }
+    ensures verdict { IfOk result (λ made. IsVerdict (kept_out_said world.now.world (view_of_ask ask.entry (slots_free the_limits world.now.world))) ask.entry.reserved world.now.world made) }
     ensures asks { IfOk result (OnlyAsksIf (is_some ask.entry.row)) }
 {
     if ask.reclaim || !ask.block {
@@ -60,7 +60,7 @@ fn blocked<R: RangeTable, S: HostStore>(
     world: &World<R, S>,
     ask: LockAsk<'_>,
 ) -> Result<Verdict, Starved>
-    ensures verdict { IfOk result (λ made. IsVerdict (blocked_said world.now.world (ask_of ask.entry (slots_free the_limits world.now.world))) ask.entry.reserved world.now.world made) }
+    ensures verdict { IfOk result (λ made. IsVerdict (blocked_said world.now.world (view_of_ask ask.entry (slots_free the_limits world.now.world))) ask.entry.reserved world.now.world made) }
     ensures asks { IfOk result (OnlyAsksIf (is_some ask.entry.row)) }
 {
     if world.is_waiting(&ask.wanted.request()) {
@@ -128,7 +128,7 @@ fn after_row(
 impl Grant<'_> {
     // What is sent when the lock is granted.
     fn letter(&self, alloc: Global) -> Result<Letter, Starved>
-        ensures { IfOk result (λ letter. letter ≡ letter_of self.now) }
+        ensures { IfOk result (λ letter. letter ≡ view_of_grant self.now) }
     {
         match self {
             Grant::Call(call) => call.letter(alloc),
@@ -142,7 +142,7 @@ impl Grant<'_> {
 }
 
 fn line_letter(connection: u64, mode: Mode, lock: &LocalLock) -> Result<Letter, Starved>
-    ensures { IfOk result (λ letter. letter ≡ line_letter_of connection mode lock.now) }
+    ensures { IfOk result (λ letter. letter ≡ view_of_grant_line connection mode lock.now) }
 {
     let lock = LocalLock {
         owner: lock.owner.clone()?,
@@ -158,7 +158,7 @@ fn line_letter(connection: u64, mode: Mode, lock: &LocalLock) -> Result<Letter, 
 
 impl GrantCall<'_> {
     fn letter(&self, alloc: Global) -> Result<Letter, Starved>
-        ensures { IfOk result (λ letter. letter ≡ call_letter_of self.now) }
+        ensures { IfOk result (λ letter. letter ≡ view_of_grant_call self.now) }
     {
         let name = self.lock.caller_name.bytes;
         let host = ShortBytes::copy_of(alloc, name)?;
@@ -175,7 +175,7 @@ impl GrantCall<'_> {
 
     fn message(&self, lock: callbacks::Lock) -> Message
         requires { view_of_told_lock lock ≡ view_of_lock self.now.lock }
-        ensures { view_of_message result ≡ granted_by self.now }
+        ensures { view_of_message result ≡ view_of_granted self.now }
     {
         let GrantCall {
             version,

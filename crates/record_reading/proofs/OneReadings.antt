@@ -9,7 +9,7 @@ use Rattle.rpc_msg.proofs.OneVerdict.{has_one_verdict}
 use Rattle.nlm4_types.specs.Call as nlm_call
 use Rattle.nlm4_types.specs.Version.{numbered_version}
 use Rattle.nsm_types.specs.Call as nsm_call
-use Rattle.record_reading.specs.Readings.{reading_of_refused, IsArguments, IsNlmAsked, IsAsked, in_version, OneReading}
+use Rattle.record_reading.specs.Readings.{view_of_header_error, IsArguments, IsNlmAsked, IsAsked, in_version, OneReading}
 
 both : {X : Type 0} (x y z : X) → x ≡ z → y ≡ z → x ≡ y
 both x y z p q = p ∙ sym q
@@ -44,4 +44,4 @@ one_of_record bytes a b (inl p) (inl q) =
     one_asked q.header q.arguments a b (subst (λ h. IsAsked h q.arguments a) same.0 (subst (λ x. IsAsked p.header x a) same.1 p.is)) q.is
 one_of_record bytes a b (inl p) (inr q) = absurd (has_one_verdict.either bytes p.header p.arguments q.error p.asks q.refused)
 one_of_record bytes a b (inr p) (inl q) = absurd (has_one_verdict.either bytes q.header q.arguments p.error q.asks p.refused)
-one_of_record bytes a b (inr p) (inr q) = p.is ∙ ap reading_of_refused (has_one_verdict.refusal bytes p.error q.error p.refused q.refused) ∙ sym q.is
+one_of_record bytes a b (inr p) (inr q) = p.is ∙ ap view_of_header_error (has_one_verdict.refusal bytes p.error q.error p.refused q.refused) ∙ sym q.is

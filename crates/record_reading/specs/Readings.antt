@@ -12,11 +12,11 @@ use Rattle.nlm4_types.specs.Version.{numbered_version}
 use Rattle.nsm_types.specs.Call as nsm_call
 
 -- what is no call, or has no header, is ignored
-abbrev pub reading_of_refused : HeaderError → Reading
-reading_of_refused NotACall = Ignored
-reading_of_refused BadHeader = Ignored
-reading_of_refused (RpcVersion xid) = Turned xid RpcMismatch
-reading_of_refused (BadCred xid) = Turned xid BadCredential
+abbrev pub view_of_header_error : HeaderError → Reading
+view_of_header_error NotACall = Ignored
+view_of_header_error BadHeader = Ignored
+view_of_header_error (RpcVersion xid) = Turned xid RpcMismatch
+view_of_header_error (BadCred xid) = Turned xid BadCredential
 
 -- a version that is not served, of a program that is served between these
 abbrev pub mismatch : ℕ → ℕ → ℕ → Reading
@@ -71,7 +71,7 @@ pub record IsCalled (record' : List ℕ) (said : Reading) : Type 0 where
 pub record IsTurned (record' : List ℕ) (said : Reading) : Type 0 where
   pub error : HeaderError
   pub refused : IsRefusal record' error
-  pub is : said ≡ reading_of_refused error
+  pub is : said ≡ view_of_header_error error
 
 abbrev pub IsReading : List ℕ → Reading → Type 0
 IsReading bytes said = IsCalled bytes said ⊎ IsTurned bytes said

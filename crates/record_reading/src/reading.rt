@@ -2,7 +2,7 @@
 ghost use Rattle.record_reading.specs.Values.{view_of_reading};
 ghost use Rattle.std.specs.Prelude.{◌≡◌, Some};
 ghost use Rattle.nlm4_types.specs.Version.{view_of_version};
-ghost use Rattle.record_reading.specs.Readings.{IsReading, IsAsked, IsNlmAsked, IsNsmAsked, mismatch, reading_of_refused};
+ghost use Rattle.record_reading.specs.Readings.{IsReading, IsAsked, IsNlmAsked, IsNsmAsked, mismatch, view_of_header_error};
 
 use crate::call::{Call, Refusal};
 use nlm4_types::{CallError as NlmError, NlmCall, Version};
@@ -47,7 +47,7 @@ impl<'r> Reading<'r> {
 }
 
 fn refused<'r>(error: HeaderError) -> Reading<'r>
-    ensures { view_of_reading result ≡ reading_of_refused error }
+    ensures { view_of_reading result ≡ view_of_header_error error }
 {
     match error {
         HeaderError::NotACall | HeaderError::BadHeader => Reading::Ignored,

@@ -1,6 +1,6 @@
 use Rattle.std.proofs.Common.{subst, ℕ, List, inl, inr}
 use Rattle.record_reading.specs.Answers.{IsAnswerReading, view_of_answer}
-use Rattle.local_ops.specs.Calls.{line_read}
+use Rattle.local_ops.specs.Calls.{view_of_line_read}
 use Rattle.local_ops.specs.Grammar.{Reads as LineReads}
 use Rattle.book.proofs.Early.{answer, line, silent, grace, anew}
 use Rattle.book.proofs.event.BookEvent.starved_reply.Goals as goal
@@ -16,7 +16,7 @@ returns-in-Answer c =
 
 pub returns-in-Local : goal.returns-in-Local
 returns-in-Local c =
-    let whole = line_read c.read-reading-in-Local.result in
+    let whole = view_of_line_read c.read-reading-in-Local.result in
     let read = subst (λ (bytes : List ℕ). LineReads bytes whole) c.deref-in-Local.ensures.value c.read-reading-in-Local.ensures in
     λ s. rw c.in-Local.is (line s c.in-Local.connection c.in-Local.line.items whole read)
 
