@@ -28,18 +28,6 @@ impl Access {
         Access { read, write }
     }
 
-    pub fn reads(self) -> bool
-        ensures { result ≡ self.read }
-    {
-        self.read
-    }
-
-    pub fn writes(self) -> bool
-        ensures { result ≡ self.write }
-    {
-        self.write
-    }
-
     /// Whether both read, or both write.
     pub fn meets(self, other: Access) -> bool
         ensures { result ≡ is_met self other }

@@ -39,7 +39,7 @@ impl Plain {
             && held.caller_name() == [self.name].as_slice()
             && held.oh() == [self.oh].as_slice()
             && held.deny() == Access::new(self.deny.0, self.deny.1)
-            && (held.access().reads(), held.access().writes()) == self.access
+            && held.access() == Access::new(self.access.0, self.access.1)
     }
 
     fn is_at_place_of(self, other: Plain) -> bool {
