@@ -205,25 +205,6 @@ abbrev pub IsForgotten : Plan → World → Seen → Type 0
 IsForgotten (plan.Decided a) w s = IsForgottenFor a.change w s
 IsForgotten (plan.AfterStore call agreed refused) w s = IsForgottenFor agreed.change w s
 
--- whoever the change names, and holds nothing and waits for nothing once it is done, has no number
-abbrev pub IsForgottenBy : Change → Seen → Type 0
-IsForgottenBy change.Nothing s = Unit {0}
-IsForgottenBy (change.Set r) s = IsForgottenIfIdle (view_of_owner r.owner) s.world s
-IsForgottenBy (change.Wait x letter) s = IsForgottenIfIdle (view_of_owner x.owner) s.world s
-IsForgottenBy (change.Cancel x) s = IsForgottenIfIdle (view_of_owner x.owner) s.world s
-IsForgottenBy (change.Share x) s = Unit {0}
-IsForgottenBy (change.Unshare x) s = Unit {0}
-IsForgottenBy (change.DropHost name) s = (x : Owner) → is_of_host name.items x ≡ true → Knows s x → ⊥
-IsForgottenBy (change.GrantAnswered cookie stat) s = Unit {0}
-IsForgottenBy (change.Restart notices) s = (x : Owner) → Knows s x → ⊥
-
--- and so where the plan is done under this answer of the store
-abbrev pub IsForgottenUnder : StoreAnswer → Plan → Seen → Type 0
-IsForgottenUnder store (plan.Decided a) s = IsForgottenBy a.change s
-IsForgottenUnder Yes (plan.AfterStore call agreed refused) s = IsForgottenBy agreed.change s
-IsForgottenUnder NotAsked (plan.AfterStore call agreed refused) s = IsForgottenFor agreed.change s.world s
-IsForgottenUnder Refused (plan.AfterStore call agreed refused) s = IsForgottenFor agreed.change s.world s
-
 -- everybody else who was known still is
 abbrev pub KeepsOthersThan : Owner → Seen → Seen → Type 0
 KeepsOthersThan x before after = (y : Owner) → y ≢ x → Knows before y → Knows after y

@@ -10,7 +10,8 @@ ghost use Rattle.std.specs.Option.{option_copied};
 ghost use Rattle.lock_state.specs.Seen.{KeepsKnown};
 ghost use Rattle.call_plans.specs.Planned.{view_of_stored, answered, view_of_asked, told_in, stored, counted};
 ghost use Rattle.call_plans.specs.Planned.{IsAnswerTo, IsCommitted, IsWithin, Fits, FitsChange, FitsAnswer, FitsDue, FitsUnder, CanAsk, CanAskFor, IsReady, IsReadyFor, MayHold};
-ghost use Rattle.call_plans.specs.Planned.{IsForgotten, IsForgottenFor, IsForgottenBy, IsForgottenUnder, KeepsOthers, KeepsOthersFor, changed, view_of_range};
+ghost use Rattle.call_plans.specs.Forgotten.{IsForgottenBy, IsForgottenUnder};
+ghost use Rattle.call_plans.specs.Planned.{IsForgotten, IsForgottenFor, KeepsOthers, KeepsOthersFor, changed, view_of_range};
 
 use crate::answers::granted_res;
 use crate::plans::{Answer, Asked, Change, Plan, Range, Shared, StoreAnswer, Told};
@@ -179,7 +180,7 @@ pub fn commit<R: RangeTable, S: HostStore>(
     requires ready { IsReady plan world.old }
     ensures answer { IsCommitted (view_of_stored store) plan (view_of_outcome result.told.value) world.old.world world.new.world }
     ensures refusals { world.new.refusals ≡ world.old.refusals }
-    ensures forgotten { IsForgottenUnder (view_of_stored store) plan world.new }
+    ensures forgotten { IsForgottenUnder (view_of_stored store) plan world.old.world.calls world.new }
 {
     match plan {
         Plan::Decided(answer) => do_answer(world, answer),
@@ -223,7 +224,7 @@ fn do_answer<R: RangeTable, S: HostStore>(world: &mut World<R, S>, answer: Answe
     requires ready { IsReadyFor answer.change world.old }
     ensures told { record { outcome = view_of_outcome result.told.value; due = answer.told.due.items; world = world.new.world } ≡ answered answer world.old.world }
     ensures refusals { world.new.refusals ≡ world.old.refusals }
-    ensures forgotten { IsForgottenBy answer.change world.new }
+    ensures forgotten { IsForgottenBy answer.change world.old.world.calls world.new }
 {
     let Answer {
         told,
@@ -259,7 +260,7 @@ pub fn make_change<R: RangeTable, S: HostStore>(world: &mut World<R, S>, change:
     requires ready { IsReadyFor change world.old }
     ensures world { world.new.world ≡ changed change world.old.world }
     ensures refusals { world.new.refusals ≡ world.old.refusals }
-    ensures forgotten { IsForgottenBy change world.new }
+    ensures forgotten { IsForgottenBy change world.old.world.calls world.new }
 {
     match change {
         Change::Nothing => {}
