@@ -212,7 +212,7 @@ ends-within events start most bound fits unread left before after hub e = record
 
 -- there was no memory for the place of the pieces
 pub unplaced : (events : List Event) (start : Hub) (bound : ℕ) (unread left before after : Option (List ℕ)) (hub : Hub) → EndsAt events start 0 unread left before after [] hub → (end : Hub) → StreamEnds events start bound (Err Fault.Starved) unread left before after end
-unplaced events start bound unread left before after hub e end = inr (inl (inl (hub, ends-within events start 0 bound (omega arith) unread left before after hub e)))
+unplaced events start bound unread left before after hub e end = inr (inl (inl (hub, e)))
 
 module _ (events : List Event) (start : Hub) (most next : ℕ) (one_more : most < next) (unread left before after : Option (List ℕ)) (mid : Hub) (so_far : EndsAt events start most unread left before after [] mid) where
   -- a read that failed

@@ -197,7 +197,7 @@ pub record Unbegun (events : List Event) (start : Hub) (why : Refusal) (unread l
 abbrev pub PipeStarves : List Event → Hub → ℕ → Option (List ℕ) → Option (List ℕ) → Option (List ℕ) → Option (List ℕ) → Type 0
 PipeStarves events start bound unread left before after =
     (Untouched unread left before after ⊎ Unbegun events start Refusal.Starved unread left before after)
-    ⊎ ((WholePipe events start bound unread left before after [] ⊎ WholePipe events start bound unread left before after (Refusal.Starved ∷ []))
+    ⊎ ((WholePipe events start 0 unread left before after [] ⊎ WholePipe events start bound unread left before after (Refusal.Starved ∷ []))
     ⊎ BrokenPipe Starved events start bound unread left before after)
 
 -- at most `bound` pieces are read, and the end is a piece of no bytes; `end` is the state then. A ReadFault comes after `bound`

@@ -1,5 +1,5 @@
 -- A connection's own thread reads on.
-use Rattle.std.proofs.Common.{◌≡◌, ℕ, suc, ◌+◌, ◌<◌, Bool, true, false, cond, List, [], ◌∷◌, ◌++◌, length, take, map, Option, Some, None, Result, Err, refl, sym, ap, ◌∙◌, subst, append_assoc, arith, rules}
+use Rattle.std.proofs.Common.{◌≡◌, ◌≢◌, ℕ, suc, ◌+◌, ◌<◌, Bool, true, false, cond, List, [], ◌∷◌, ◌++◌, length, take, map, Option, Some, None, Result, Err, refl, sym, ap, ◌∙◌, subst, append_assoc, arith, rules}
 use Rattle.std.proofs.lemmas.List.{map-append, append-nil, length-append, length-take-le}
 use Rattle.std.proofs.Math.Seq.{take-append-add, take-length}
 use Rattle.std.proofs.KnownBytes.{Consumes-nil, Consumes-trans}
@@ -113,7 +113,7 @@ module _ (o p : Origin) (before mid after : Option (List ℕ)) (a : Assembled) (
   whole : Splits a.received a.given false
   whole = subst (λ fault. Splits a.received a.given fault) so_far.going so_far.split
 
-  all_of : (ending : Ending) → Consumes mid after [] → EndsBy ending a.given false (length a.given) [] after → IsRead ending o p before after v w s s'
+  all_of : (ending : Ending) → Consumes mid after [] → EndsBy ending a.received a.given false (length a.given) [] after → IsRead ending o p before after v w s s'
   all_of ending none ends = record {
     bytes = a.received;
     lost = [];
@@ -202,8 +202,8 @@ module _ (o p : Origin) (before mid after : Option (List ℕ)) (a : Assembled) (
           record { split = fed.split; going = fed.failed ∙ is; consumed = read_now; numbered = on.0; serves = on.1 }
 
     -- there was no memory for the piece
-    starved : records ≡ [] → HavePut records p q w x → IsRead Starved o q before after v y s s''
-    starved none put =
+    starved : records ≡ [] → piece ≢ [] → HavePut records p q w x → IsRead Starved o q before after v y s s''
+    starved none some put =
         let on = puts_on records put in
         let same : a.given ++ records ≡ a.given = ap (λ l. a.given ++ l) none ∙ append-nil a.given in record {
           bytes = a.received;
@@ -213,7 +213,7 @@ module _ (o p : Origin) (before mid after : Option (List ℕ)) (a : Assembled) (
           fault = false;
           splits = whole;
           count = length a.given;
-          ends = (refl, refl);
+          ends = (refl, refl, λ e. absurd (some e));
           numbered = on.0 ∙ ap (counted o) (sym (length-append a.given records) ∙ ap length same);
           serves = subst (λ l. Serves (jobs_of o l) v y s s'') (same ∙ sym (take-length a.given)) on.1;
         }
@@ -230,7 +230,7 @@ module _ (o p : Origin) (before mid after : Option (List ℕ)) (a : Assembled) (
 
     ends : (ending : Ending) → Cuts a piece records (Some ending) a' → Puts true records p q w x → IsRead ending o q before after v y s s''
     ends TooLong cuts puts = too_long true cuts refl puts
-    ends Starved cuts puts = starved cuts.1 puts
+    ends Starved cuts puts = starved cuts.1 cuts.2 puts
     ends Over cuts puts = absurd cuts
     ends Failed cuts puts = absurd cuts
     ends Closed cuts puts = absurd cuts
@@ -272,7 +272,7 @@ unread o before w s = record {
   fault = false;
   splits = unsplit;
   count = 0;
-  ends = (refl, refl);
+  ends = (refl, refl, λ e. refl);
   numbered = sym (counted-none o);
   serves = Serves-none w s;
 }

@@ -1,5 +1,5 @@
 -- What a connection's own thread reads, puts and answers.
-use Rattle.std.specs.Prelude.{◌≡◌, ℕ, ◌+◌, ◌<◌, Bool, true, false, List, [], ◌∷◌, ◌++◌, length, take, map, Option, Some, None, Result, Ok, Err}
+use Rattle.std.specs.Prelude.{◌≡◌, ◌≢◌, ℕ, ◌+◌, ◌<◌, Bool, true, false, List, [], ◌∷◌, ◌++◌, length, take, map, Option, Some, None, Result, Ok, Err}
 use Rattle.std.specs.Io.KnownBytes.{Consumes, IsAtEnd}
 use Rattle.definitions.specs.Bytes.{Bytes}
 use Rattle.record_mark.specs.Stream.{Splits}
@@ -57,7 +57,7 @@ pub record Fed (old : Assembled) (piece : List ℕ) (records : List Bytes) (faul
 abbrev pub Cuts : Assembled → List ℕ → List Bytes → Option Ending → Assembled → Type 0
 Cuts old piece records None new = Fed old piece records false new
 Cuts old piece records (Some TooLong) new = Fed old piece records true new
-Cuts old piece records (Some Starved) new = (new ≡ old) × (records ≡ [])
+Cuts old piece records (Some Starved) new = (new ≡ old) × (records ≡ []) × (piece ≢ [])
 Cuts old piece records (Some Over) new = ⊥
 Cuts old piece records (Some Failed) new = ⊥
 Cuts old piece records (Some Closed) new = ⊥
@@ -73,13 +73,14 @@ abbrev pub Puts : Bool → List Bytes → Origin → Origin → Worker → Worke
 Puts true records o o' old new = HavePut records o o' old new
 Puts false records o o' old new = (count : ℕ) × (count < length records) × HavePut (take count records) o o' old new
 
--- which records were put, where the stream's bytes make these records, and which bytes that were read are not among those
-abbrev pub EndsBy : Ending → List Bytes → Bool → ℕ → List ℕ → Option (List ℕ) → Type 0
-EndsBy Over records fault count lost after = (fault ≡ false) × (count ≡ length records) × (lost ≡ []) × IsAtEnd after
-EndsBy Failed records fault count lost after = (fault ≡ false) × (count ≡ length records) × (lost ≡ [])
-EndsBy TooLong records fault count lost after = (fault ≡ true) × (count ≡ length records) × (lost ≡ [])
-EndsBy Closed records fault count lost after = (count < length records) × (lost ≡ [])
-EndsBy Starved records fault count lost after = (fault ≡ false) × (count ≡ length records)
+-- which records were put, where these bytes of the stream make these records, and which bytes that were read are not among them:
+-- for those there was no memory, or for the place of what is read, and then nothing was
+abbrev pub EndsBy : Ending → List ℕ → List Bytes → Bool → ℕ → List ℕ → Option (List ℕ) → Type 0
+EndsBy Over bytes records fault count lost after = (fault ≡ false) × (count ≡ length records) × (lost ≡ []) × IsAtEnd after
+EndsBy Failed bytes records fault count lost after = (fault ≡ false) × (count ≡ length records) × (lost ≡ [])
+EndsBy TooLong bytes records fault count lost after = (fault ≡ true) × (count ≡ length records) × (lost ≡ [])
+EndsBy Closed bytes records fault count lost after = (count < length records) × (lost ≡ [])
+EndsBy Starved bytes records fault count lost after = (fault ≡ false) × (count ≡ length records) × (lost ≡ [] → bytes ≡ [])
 
 -- the jobs that were put are, numbered on, those of the first records of the bytes that were read; all of them, unless the
 -- channel took no more or there was no memory for the last bytes
@@ -91,6 +92,6 @@ pub record IsRead (ending : Ending) (o o' : Origin) (before after : Option (List
   pub fault : Bool
   pub splits : Splits bytes records fault
   pub count : ℕ
-  pub ends : EndsBy ending records fault count lost after
+  pub ends : EndsBy ending bytes records fault count lost after
   pub numbered : o' ≡ counted o count
   pub serves : Serves (jobs_of o (take count records)) old new sent sent'

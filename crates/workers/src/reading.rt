@@ -1,5 +1,5 @@
 //! A connection's own thread: it reads records, puts each as a job, and answers as many jobs as it put.
-ghost use Rattle.std.specs.Prelude.{◌≡◌, ℕ, ◌+◌, ◌<◌, ◌≤◌, true, false, cond, length, take, ◌∷◌, [], List, Some, Err, vec_len, IfOk, IfErr, MatchResult};
+ghost use Rattle.std.specs.Prelude.{◌≡◌, ◌≢◌, ℕ, ◌+◌, ◌<◌, ◌≤◌, true, false, cond, length, take, ◌∷◌, [], List, Some, Err, vec_len, IfOk, IfErr, MatchResult};
 ghost use Rattle.std.specs.Io.KnownBytes.{Consumes};
 ghost use Rattle.jobs.specs.Passes.{with_put};
 ghost use Rattle.record_mark.specs.Assembled.{IsSplit};
@@ -83,6 +83,7 @@ fn hear<T: Read>(stream: &mut T, place: &mut [u8]) -> Result<usize, Ending>
 
 // The records that the piece ends, and how the stream ends with them, if it does.
 fn cut(assembler: &mut Assembler, alloc: Global, piece: &[u8]) -> (Records, Option<Ending>)
+    requires { piece.now ≢ [] }
     ensures { Cuts assembler.old piece.now result.0.items result.1 assembler.new }
 {
     match assembler.feed(piece) {
@@ -133,11 +134,16 @@ impl Intake {
         stream: &mut T,
         place: &mut [u8],
     ) -> Result<(Records, Option<Ending>), Ending>
-        requires { 0 < length place.old }
+        requires room { 0 < length place.old }
+        requires split { IsSplit self.old }
+        requires going { self.old.failed ≡ false }
         ensures ok { IfOk result (λ read. (piece : List ℕ) × Consumes (T.remaining stream.old) (T.remaining stream.new) piece × Cuts self.old piece read.0.items read.1 self.new) }
         ensures err { IfErr result (λ ending. Consumes (T.remaining stream.old) (T.remaining stream.new) [] × EndsSo (Err ending) (T.remaining stream.new)) }
     {
         let count = hear(stream, place)?;
+        if count == 0 {
+            return Ok((Vec::new(self.alloc), None));
+        }
         Ok(cut(&mut self.assembler, self.alloc, &place[..count]))
     }
 }
