@@ -9,8 +9,8 @@ use Rattle.definitions.specs.Ranges.{request_of}
 use Rattle.definitions.specs.Replies.{Call, Nlm, Success, SystemErr, TestResResult, Asks}
 use Rattle.definitions.specs.Rulings.{ruled, stays, decided}
 use Rattle.definitions.specs.Shown.{shown_stat}
-use Rattle.definitions.specs.World.{World, the_limits, slots_free, with_all_due}
-use Rattle.definitions.specs.Step.{Event, Take, Peer, Doing, Applied, Starved, Given, Replies, State, Stepped, KeptPair, applied, taken, repeated, look, step, with_row_stored, asked_unless_kept, moved_to_front, IsUnapplied}
+use Rattle.definitions.specs.World.{World, LeavesRest, the_limits, slots_free, with_all_due}
+use Rattle.definitions.specs.Step.{Event, Take, Peer, Doing, Applied, Starved, Given, Replies, State, Stepped, KeptPair, applied, taken, repeated, look, step, with_row_stored, asked_unless_kept, moved_to_front}
 use Rattle.definition_laws.proofs.RepeatLaws.{repeat_law}
 use Rattle.kept_replies.specs.Pairs.{view_of_peer}
 use Rattle.call_plans.specs.Planned.{view_of_stored}
@@ -105,7 +105,7 @@ module _ (place i : ℕ) (old new : Hub) (out : Outputs) (t : Answers place i ol
 
   pub repeats : (xid : ℕ) (call : Call) (k : KeptPair) → t.step.said ≡ Take (view_of_peer t.link.peer) t.bytes (Asks xid call) → look old.state (view_of_peer t.link.peer) t.bytes ≡ Some k → AnswersRepeat t.link xid k old out new
   repeats xid call k is there = record {
-    unapplied = subst (λ (s : State). IsUnapplied old.state.world s.world) (sym (steps old.state new.state t.step.said (upshot_of out t.given) t.step.step (view_of_peer t.link.peer) t.bytes xid call is (view_of_outcome out.outcome) refl).1) (repeat_law the_limits old.state (view_of_peer t.link.peer) t.bytes xid call (view_of_outcome out.outcome) (view_of_stored out.store) k there);
+    unapplied = subst (λ (s : State). LeavesRest old.state.world s.world) (sym (steps old.state new.state t.step.said (upshot_of out t.given) t.step.step (view_of_peer t.link.peer) t.bytes xid call is (view_of_outcome out.outcome) refl).1) (repeat_law the_limits old.state (view_of_peer t.link.peer) t.bytes xid call (view_of_outcome out.outcome) (view_of_stored out.store) k there);
     again = λ applied slots.
         let r = again old.state new.state t.step.said (upshot_of out t.given) t.step.step (view_of_peer t.link.peer) t.bytes xid call is k there applied in
         let both : repeated the_limits old.state k ≡ record { given = Replies k.xid k.outcome; state = record { world = with_all_due old.state.world k.letters; kept = moved_to_front k old.state.kept } } = rw slots refl in

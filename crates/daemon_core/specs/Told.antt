@@ -5,8 +5,8 @@ use Rattle.definitions.specs.Nlm.{Version, Stat, NlmCall, Test, Locks, Cancel, U
 use Rattle.definitions.specs.Ranges.{range_refusal, file_refusal}
 use Rattle.definitions.specs.Replies.{Call, Nlm, Outcome, Success, SystemErr, ResResult, TestResResult, ShareResult, Asks}
 use Rattle.definitions.specs.Shown.{shown_stat}
-use Rattle.definitions.specs.World.{World, the_limits, slots_free, with_all_due}
-use Rattle.definitions.specs.Step.{Take, Applied, Starved, KeptPair, Replies, look, moved_to_front, IsUnapplied}
+use Rattle.definitions.specs.World.{World, LeavesRest, the_limits, slots_free, with_all_due}
+use Rattle.definitions.specs.Step.{Take, Applied, Starved, KeptPair, Replies, look, moved_to_front}
 use Rattle.kept_replies.specs.Pairs.{view_of_peer}
 use Rattle.daemon_core.specs.Link.{Link}
 use Rattle.daemon_core.specs.Outcomes.{view_of_outcome}
@@ -68,7 +68,7 @@ pub record IsTurnedBack (link : Link) (xid : ℕ) (old : Hub) (out : Outputs) (n
 -- a call whose reply is kept is not done again: locks, waiters, shares, phase and hosts stay. It gets its reply again, unless
 -- memory or the places for its calls are wanting
 pub record AnswersRepeat (link : Link) (xid : ℕ) (k : KeptPair) (old : Hub) (out : Outputs) (new : Hub) : Type 0 where
-  pub unapplied : IsUnapplied old.state.world new.state.world
+  pub unapplied : LeavesRest old.state.world new.state.world
   pub again : view_of_outcome out.outcome ≡ Applied → leb (length k.letters) (slots_free the_limits old.state.world) ≡ true → IsRepeated link k old out new
   pub full : view_of_outcome out.outcome ≡ Applied → leb (length k.letters) (slots_free the_limits old.state.world) ≡ false
       → IsTurnedBack link k.xid old out new

@@ -13,7 +13,7 @@ use Rattle.definitions.specs.Hosts.{Hosts, HostRow, Watch, Begin, Seen, StoreAns
 use Rattle.definitions.specs.Outgoing.{Letter, Granted, GrantedMsg, LocalLock, is_grant, is_grant_to}
 use Rattle.definitions.specs.Ranges.{is_stale, file_refusal, line_unlock}
 use Rattle.definitions.specs.Replies.{Call, Nlm, Nsm, SystemErr, Line, GetLock, SetLock, SetLockWait, Close, Table, HostList, Stop, BadLine, LineReply, SetQuota, LineAbsent}
-use Rattle.definitions.specs.World.{World, Limits, with_hosts, with_due, with_all_due, without_host_of, restarted, restart_letter, opening, first_number, slots_free, closed_by}
+use Rattle.definitions.specs.World.{World, Limits, with_hosts, with_all_due, without_host_of, restarted, restart_letter, opening, first_number, slots_free, closed_by}
 use Rattle.definitions.specs.Rulings.{Told, Ruling, decided, ruled, stays}
 use Rattle.definitions.specs.Answer.{Answered, gives, lock_ask, caller_row, lock_msg_answer, cancel_answer, unlock_answer, if_slots, by_reply, by_call, by_message, sent_back, lock_letter, cancel_letter, unlock_letter, share_unless, share_of, unshare_unless, nlm_answer, stored, notified, notify_rules, status_letter, nsm_answer, ruling}
 use Rattle.definitions.specs.Lines.{line_refusal, line_answer, set_unless, line_sets, line_ask, quota_stored}

@@ -13,7 +13,7 @@ use Rattle.definitions.specs.Hosts.{StoreCall, after_store}
 use Rattle.definitions.specs.Outgoing.{Outgoing, Letter, is_grant, is_numbered, after_silence_of, without_call}
 use Rattle.definitions.specs.Ranges.{range_refusal, request_of, unlock_of}
 use Rattle.definitions.specs.Waits.{is_waiting, closes_cycle}
-use Rattle.definitions.specs.World.{World, Limits, with_setting, with_waiter, with_hosts, with_due, with_all_due, first_number}
+use Rattle.definitions.specs.World.{World, Limits, with_setting, with_waiter, with_hosts, with_all_due, first_number}
 use Rattle.definitions.specs.Rulings.{Told, Ruling, decided, stays}
 use Rattle.definitions.specs.LockRules.{LockAsk, row_asked, after_row, free_lock, blocked_lock, lock_rules, unlock_rules, cancel_rules}
 use Rattle.definitions.specs.Answer.{lock_unless, lock_verdict, cancel_unless, cancel_answer, unlock_unless, unlock_answer}

@@ -9,7 +9,7 @@ use Rattle.definitions.specs.Outgoing.{Letter, Outgoing, next_due, is_numbered, 
 use Rattle.definitions.specs.Replies.{Call, Nlm, Ignored, Turned, Asks, AnswerReading}
 use Rattle.definitions.specs.Shares.{Share}
 use Rattle.definitions.specs.Waits.{Waiter}
-use Rattle.definitions.specs.World.{World, Limits, first_ready, granted, settled, settled_within, with_all_due, with_due, with_calls, slots_free, first_number}
+use Rattle.definitions.specs.World.{World, Limits, first_ready, granted, settled, settled_within, with_all_due, with_calls, slots_free, first_number}
 use Rattle.definitions.specs.Rulings.{Told, ruled}
 use Rattle.definitions.specs.Grants.{TableChange, TableStays, TableChanges, answer_rules}
 use Rattle.definitions.specs.Lines.{line_answer}

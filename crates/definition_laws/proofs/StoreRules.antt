@@ -1,5 +1,5 @@
 -- Hosts under the rules of each call, line and answer: after the store call where it is agreed, and else as before.
-use Rattle.std.proofs.Common.{◌≡◌, ℕ, ◌-◌, Bool, true, false, cond, not, ◌&&◌, eqb, leb, List, [], ◌∷◌, length, map, refl, Option, Some, None}
+use Rattle.std.proofs.Common.{◌≡◌, ℕ, ◌-◌, Bool, true, false, cond, not, ◌&&◌, eqb, leb, length, map, refl, Option, Some, None}
 use Rattle.std.specs.Ordering.{int_eq}
 use Rattle.definitions.specs.Bytes.{Bytes}
 use Rattle.definitions.specs.Settings.{Mode, Setting, Request, setting_of}
@@ -14,7 +14,7 @@ use Rattle.definitions.specs.Outgoing.{Outgoing, Letter, LocalLock, Message, Gra
 use Rattle.definitions.specs.Ranges.{range_refusal, file_refusal, request_of, unlock_of, line_unlock}
 use Rattle.definitions.specs.Replies.{Call, Nlm, Nsm, SystemErr, AnswerReading, Unreadable, AcceptedSuccess, OtherAnswer, Line, GetLock, SetLock, SetLockWait, Close, Table, HostList, SetQuota, Stop, BadLine, LineReply, LineAbsent}
 use Rattle.definitions.specs.Waits.{is_waiting, closes_cycle}
-use Rattle.definitions.specs.World.{World, Limits, with_setting, with_waiter, with_hosts, with_due, with_all_due, slots_free, restart_letter, opening}
+use Rattle.definitions.specs.World.{World, Limits, with_setting, with_waiter, with_hosts, slots_free, restart_letter, opening}
 use Rattle.definitions.specs.Rulings.{Told, Ruling, decided, stays}
 use Rattle.definitions.specs.LockRules.{LockAsk, row_asked, after_row, free_lock, blocked_lock, lock_rules, unlock_rules, cancel_rules}
 use Rattle.definitions.specs.Lines.{line_refusal, line_answer, quota_stored, set_unless, line_sets, line_ask}

@@ -6,18 +6,9 @@ use Rattle.definitions.specs.Hosts.{HostRow, next_own, IsLeastOddAbove, NextOwnL
 use Rattle.definitions.specs.Outgoing.{Letter, Outgoing, due_now}
 use Rattle.definitions.specs.Waits.{Waiter}
 use Rattle.definitions.proofs.Lists.{first_found, none_found}
-use Rattle.definitions.specs.World.{World, Limits, opening, with_due, with_all_due, restart_letter, RestartNotices, is_ready_in, first_ready, granted, settled_within, IsFirstReady, after_grant, Settles, AtRest, Grants, SettleLaw}
+use Rattle.definitions.specs.World.{World, Limits, opening, with_due, with_all_due, LeavesRest, restart_letter, RestartNotices, is_ready_in, first_ready, granted, settled_within, IsFirstReady, after_grant, Settles, AtRest, Grants, SettleLaw}
 
 -- ---- calls that become due
-
--- all but the calls and their numbers are as they were
-pub record LeavesRest (w v : World) : Type 0 where
-  pub settings : v.settings ≡ w.settings
-  pub waiters : v.waiters ≡ w.waiters
-  pub shares : v.shares ≡ w.shares
-  pub phase : v.phase ≡ w.phase
-  pub hosts : v.hosts ≡ w.hosts
-  pub own_name : v.own_name ≡ w.own_name
 
 pub due_keeps : (w : World) (letters : List Letter) → LeavesRest w (with_all_due w letters)
 due_keeps w [] = record { settings = refl; waiters = refl; shares = refl; phase = refl; hosts = refl; own_name = refl }

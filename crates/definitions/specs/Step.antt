@@ -7,7 +7,7 @@ use Rattle.definitions.specs.Nsm.{SmSimuCrash}
 use Rattle.definitions.specs.Hosts.{Hosts, StoreCall, Begin, StoreAnswer, NotAsked, Yes, Refused, after_store}
 use Rattle.definitions.specs.Outgoing.{Letter, Outgoing, next_due, after_sending, after_silence}
 use Rattle.definitions.specs.Replies.{Call, Nlm, Nsm, Outcome, Success, Refuses, SystemErr, Reading, Ignored, Turned, Asks, AnswerReading, Line, LineReply, LineStarved}
-use Rattle.definitions.specs.World.{World, Limits, opening, slots_free, with_hosts, with_calls, with_all_due, settled, restarted}
+use Rattle.definitions.specs.World.{World, Limits, opening, slots_free, with_hosts, with_calls, with_all_due, LeavesRest, settled, restarted}
 use Rattle.definitions.specs.Rulings.{Told, ruled}
 use Rattle.definitions.specs.Answer.{Answered, ruling}
 use Rattle.definitions.specs.Lines.{line_answer}
@@ -205,14 +205,7 @@ step limits s event Applied store = applied limits s event store
 step limits s event Starved store = starved limits s event store
 
 -- a call whose reply is kept is not applied again: whatever it says, locks, waiters, shares, phase and hosts stay
-pub record IsUnapplied (w v : World) : Type 0 where
-  pub settings : v.settings ≡ w.settings
-  pub waiters : v.waiters ≡ w.waiters
-  pub shares : v.shares ≡ w.shares
-  pub phase : v.phase ≡ w.phase
-  pub hosts : v.hosts ≡ w.hosts
-
 abbrev pub RepeatLaw : Type 0
 RepeatLaw =
     (limits : Limits) (s : State) (peer : Peer) (asked : Bytes) (xid : ℕ) (call : Call) (doing : Doing) (store : StoreAnswer) (k : KeptPair)
-    → look s peer asked ≡ Some k → IsUnapplied s.world (step limits s (Take peer asked (Asks xid call)) doing store).state.world
+    → look s peer asked ≡ Some k → LeavesRest s.world (step limits s (Take peer asked (Asks xid call)) doing store).state.world
