@@ -1,6 +1,6 @@
 -- A search for a cycle of waits: who is reached, and whose waits were followed.
-use Rattle.std.proofs.Common.{◌≡◌, ◌≢◌, ◌<◌, ◌≤◌, Bool, true, false, not, ℕ, zero, suc, ◌&&◌, ◌||◌, ◌+◌, eqb, List, [], ◌∷◌, length, get_or, set, replicate, Some, refl, sym, ap, subst, arith, ◌∙◌, ◌⊎◌, inl, inr}
-use Rattle.std.proofs.lemmas.Bool.{false≢true, or_right, and_parts, not-true}
+use Rattle.std.proofs.Common.{◌≡◌, ◌≢◌, ◌<◌, ◌≤◌, Bool, true, false, not, ℕ, zero, suc, ◌&&◌, ◌||◌, ◌+◌, eqb, List, [], ◌∷◌, length, get_or, set, replicate, Some, refl, sym, ap, subst, arith, ◌∙◌, inl, inr}
+use Rattle.std.proofs.lemmas.Bool.{false≢true, or_right, and_parts, not-true, or_cases}
 use Rattle.std.proofs.lemmas.Bool.Decides.{nat_tests}
 use Rattle.std.proofs.lemmas.List.{get_or-set_same, get_or-set_other, length-map}
 use Rattle.std.specs.List.{slice_get}
@@ -21,14 +21,6 @@ use Rattle.blocked_list.specs.Waiting.{Waiting, AreNamed, owner_at, request_by, 
 use Rattle.blocked_list.proofs.Waits.{named_at}
 
 -- ---- lists of marks
-
-either : (a b : Bool) → (a || b) ≡ true → (a ≡ true) ⊎ (b ≡ true)
-either true b e = inl refl
-either false b e = inr e
-
-pub not_false : (b : Bool) → false ≡ not b → b ≡ true
-not_false true e = refl
-not_false false e = absurd (false≢true e)
 
 -- how many are not marked
 abbrev pub unmarked : List Bool → ℕ
@@ -90,7 +82,7 @@ module _ (settings : List Setting) (xs : List Waiter) (r : Request) where
   -- the waits of one that was reached are followed
   follows : (reached followed new : List Bool) (p : ℕ) (x : Waiter) → IsSearched reached followed → slice_get xs p ≡ Some x → get_or reached p false ≡ true → p < length followed → conflicts_with settings x.request r.owner ≡ false → ((k : ℕ) (y : Waiter) → slice_get xs k ≡ Some y → get_or new k false ≡ (get_or reached k false || leads settings x.request y)) → IsSearched new (set followed p true)
   follows reached followed new p x s at here l free led = record {
-    sound = λ k y there e. elim (either (get_or reached k false) (leads settings x.request y) (sym (led k y there) ∙ e)) [ inl old ↦ s.sound k y there old | inr next ↦ further k y there next ];
+    sound = λ k y there e. elim (or_cases (get_or reached k false) (leads settings x.request y) (sym (led k y there) ∙ e)) [ inl old ↦ s.sound k y there old | inr next ↦ further k y there next ];
     begun = λ k y there e. stays k y there (s.begun k y there e);
     free = λ k y there e. by_test (eqb k p) (λ t. opened k y there (same k t)) (λ t. s.free k y there (sym (other k t) ∙ e));
     on = λ k y there e j z stands e'. by_test (eqb k p) (λ t. led_on k y there (same k t) j z stands e') (λ t. stays j z stands (s.on k y there (sym (other k t) ∙ e) j z stands e'));

@@ -1,6 +1,6 @@
 -- A change of one file leaves the conflicts on the others.
 use Rattle.std.proofs.Common.{◌≡◌, ◌≢◌, ◌≤◌, Bool, true, false, cond, not, ℕ, ◌&&◌, ◌||◌, List, [], ◌∷◌, ◌++◌, refl, sym, ap, ◌∙◌, ◌⊎◌, inl, inr, None}
-use Rattle.std.proofs.lemmas.Bool.{false≢true, or_parts}
+use Rattle.std.proofs.lemmas.Bool.{false≢true, or_parts, and_right}
 use Rattle.std.proofs.lemmas.Slice.Eq.{bytes_eq-Decides}
 use Rattle.range_table.proofs.Tests.{by_test}
 use Rattle.definitions.specs.Bytes.{Bytes, same_bytes, is_any}
@@ -85,9 +85,5 @@ close_frees quotas settings file x waiters ranges enough free rest =
     none_off quotas settings (without_owner_on file x settings) file
     (λ other n owner byte. drop_owner file x settings other owner byte ∙ (rw n refl))
     enough
-    (λ r. exceeds_still quotas settings (without_owner_on file x settings) x (λ on owner byte n. drop_owner file x settings on owner byte ∙ ap (λ b. cond b None (mode_at settings on owner byte)) (and_off (same_bytes on file) (same_owner owner x) (another x owner n))) free enough (setting_of r))
+    (λ r. exceeds_still quotas settings (without_owner_on file x settings) x (λ on owner byte n. drop_owner file x settings on owner byte ∙ ap (λ b. cond b None (mode_at settings on owner byte)) (and_right (same_bytes on file) (same_owner owner x) (another x owner n))) free enough (setting_of r))
     waiters ranges rest
-  where
-    and_off : (a b : Bool) → b ≡ false → (a && b) ≡ false
-    and_off true b e = e
-    and_off false b e = refl

@@ -1,6 +1,6 @@
 -- An index stays one.
 use Rattle.std.proofs.Common.{◌≡◌, ◌<◌, ◌-◌, Bool, true, false, cond, not, ℕ, zero, suc, eqb, List, [], ◌∷◌, ◌++◌, length, map, take, drop, get_or, refl, sym, ap, subst, arith, ◌∙◌}
-use Rattle.std.proofs.lemmas.Bool.{false≢true}
+use Rattle.std.proofs.lemmas.Bool.{false≢true, not-true}
 use Rattle.std.proofs.lemmas.Bool.Decides.{nat_tests}
 use Rattle.std.proofs.lemmas.Cmp.{upto}
 use Rattle.std.proofs.lemmas.List.{append-nil, length-append, length-map, take-append-drop}
@@ -185,12 +185,8 @@ module _ (file new : ℕ → Bytes) where
     abbrev stays : ℕ → Bool
     stays q = not (eqb q p)
 
-    not_is : (b : Bool) → not b ≡ true → b ≡ false
-    not_is true k = absurd (false≢true k)
-    not_is false k = refl
-
     kept_same_files : (ps : List ℕ) → AllByRecursion (λ q. q < suc m) ps → AllByRecursion (λ q. new (moved_up p q) ≡ file q) (filter stays ps)
-    kept_same_files ps h = all_both (λ q. q < suc m) (λ q. stays q ≡ true) (λ q. new (moved_up p q) ≡ file q) (filter stays ps) (λ q u k. e q u (not_is (eqb q p) k)) (all_filter (λ q. q < suc m) stays ps h) (all_kept stays ps)
+    kept_same_files ps h = all_both (λ q. q < suc m) (λ q. stays q ≡ true) (λ q. new (moved_up p q) ≡ file q) (filter stays ps) (λ q u k. e q u (not-true (eqb q p) k)) (all_filter (λ q. q < suc m) stays ps h) (all_kept stays ps)
 
     on_moved : (f : Bytes) (ps : List ℕ) → AllByRecursion (λ q. q < suc m) ps → places_of new f (without_place p ps) ≡ map (moved_up p) (filter stays (places_of file f ps))
     on_moved f ps h =
@@ -210,7 +206,7 @@ module _ (file new : ℕ → Bytes) where
         sym (kept_within is on ps on_it) ∙ ap (filter is) (h.in_order (file p)) ∙ kept_within is on (below (suc m)) on_it ∙ one_below p (suc m) l
 
     moved_within : (q : ℕ) → q < suc m → stays q ≡ true → moved_up p q < m
-    moved_within q u k = let j = not_is (eqb q p) k in grind (arith, nat_tests)
+    moved_within q u k = let j = not-true (eqb q p) k in grind (arith, nat_tests)
 
     pub index_less : (ps : List ℕ) → IsIndex file (suc m) ps → IsIndex new m (without_place p ps)
     index_less ps h = record {

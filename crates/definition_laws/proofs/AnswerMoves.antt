@@ -1,6 +1,6 @@
 -- How each call and line may change the table.
-use Rattle.std.proofs.Common.{◌≡◌, ℕ, ◌+◌, ◌-◌, ◌≤◌, Bool, true, false, cond, ◌&&◌, ◌||◌, eqb, leb, ltb, List, length, map, refl, sym, ap, subst, ◌∙◌, Option, Some, None, ℤ, arith}
-use Rattle.std.proofs.lemmas.Bool.{true≢false, ltb-false, eqb-false}
+use Rattle.std.proofs.Common.{◌≡◌, ℕ, ◌+◌, ◌-◌, ◌≤◌, Bool, true, false, cond, ◌&&◌, eqb, leb, ltb, List, length, map, refl, sym, ap, subst, ◌∙◌, Option, Some, None, ℤ, arith}
+use Rattle.std.proofs.lemmas.Bool.{true≢false, ltb-false, eqb-false, or_parts}
 use Rattle.std.specs.Ordering.{int_eq}
 use Rattle.std.proofs.lemmas.Option.{none-some}
 use Rattle.definitions.specs.Bytes.{Bytes, without}
@@ -31,12 +31,8 @@ use Rattle.definitions.proofs.WorldLaws.{due_keeps}
 -- ---- what is known where a call with a range isn't refused
 
 ordered : (offset len : ℕ) → is_too_far offset len ≡ false → offset ≤ last_of offset len
-ordered offset len e = by_cond (λ n. offset ≤ n) (eqb len 0) top (offset + len - 1) (λ h. ltb-false top offset (or_none (ltb top offset) (ltb top (last_of offset len)) e)) (λ h. let k : len ≡ 0 → ⊥ = eqb-false len 0 h in more offset len k)
+ordered offset len e = by_cond (λ n. offset ≤ n) (eqb len 0) top (offset + len - 1) (λ h. ltb-false top offset (or_parts (ltb top offset) (ltb top (last_of offset len)) e).0) (λ h. let k : len ≡ 0 → ⊥ = eqb-false len 0 h in more offset len k)
   where
-    or_none : (a b : Bool) → (a || b) ≡ false → a ≡ false
-    or_none true b e = absurd (true≢false e)
-    or_none false b e = refl
-
     more : (a b : ℕ) → (b ≡ 0 → ⊥) → a ≤ a + b - 1
     more a b h = omega arith
 

@@ -1,8 +1,7 @@
 -- Lists of the server's own calls: what is left of them, what is due again, and what comes behind.
-use Rattle.std.proofs.Common.{◌≡◌, ℕ, ◌+◌, ◌%◌, ◌^◌, Bool, true, false, cond, List, [], ◌∷◌, ◌++◌, refl, sym, ap, ◌∙◌, Some, inl, inr}
+use Rattle.std.proofs.Common.{◌≡◌, ℕ, ◌+◌, ◌%◌, ◌^◌, Bool, true, false, cond, List, [], ◌∷◌, ◌++◌, refl, sym, ap, ◌∙◌, inl, inr}
 use Rattle.std.proofs.lemmas.List.{append-nil, append_assoc}
-use Rattle.std.proofs.lemmas.Option.{none-some, same_Some}
-use Rattle.definitions.specs.Bytes.{Holds, first_that, without, without_first}
+use Rattle.definitions.specs.Bytes.{without, without_first}
 use Rattle.definitions.specs.Outgoing.{Letter, Outgoing, due_now, ends_when_sent, once_more, after_sending}
 use Rattle.definitions.specs.World.{World, with_due, with_all_due}
 use Rattle.definition_laws.specs.Numbers.{numbered, number_behind, AreLeft, NoneLeft, IsGone, IsLeft, Continues}
@@ -37,16 +36,6 @@ left_sending (c ∷ calls) = go c.is_due refl (ends_when_sent c.letter.message) 
     go true h true k = IsGone (left_same calls)
     go true h false k = IsLeft (inr (h, refl)) (left_same calls)
     go false h e k = IsLeft (inl refl) k
-
--- ---- who is there
-
-pub holds_first : {X : Type 0} (p : X → Bool) (xs : List X) (x : X) → first_that p xs ≡ Some x → Holds xs x
-holds_first p [] x e = absurd (none-some x e)
-holds_first p (y ∷ ys) x e = go (p y) e (holds_first p ys x)
-  where
-    go : (b : Bool) → cond b (Some y) (first_that p ys) ≡ Some x → (first_that p ys ≡ Some x → Holds ys x) → Holds (y ∷ ys) x
-    go true h more = inl (same_Some y x h)
-    go false h more = inr (more h)
 
 -- ---- what comes behind
 

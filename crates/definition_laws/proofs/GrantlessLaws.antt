@@ -19,13 +19,13 @@ use Rattle.definitions.specs.Replay.{Done, after, state_after}
 use Rattle.definition_laws.specs.Numbers.{numbered, AreLeft, NoneLeft, IsGone, IsLeft, IsSameCall, AreRenewed}
 use Rattle.definition_laws.specs.Standing.{IsGrantless, is_grant_call, GraceCallsLaw}
 use Rattle.definitions.specs.Uses.{new_pair}
-use Rattle.definitions.proofs.Lists.{have_without_first}
+use Rattle.definitions.proofs.Lists.{have_without_first, holds_first}
 use Rattle.definitions.proofs.MoveLaws.{by_cond}
 use Rattle.definitions.specs.Moves.{Moves}
 use Rattle.definitions.proofs.WorldLaws.{due_keeps}
 use Rattle.definition_laws.proofs.AnswerMoves.{restart_moves, call_moves, ruled_moves, answer_moves, told_moves, line_moves}
 use Rattle.definition_laws.proofs.StepLaws.{settled_nobody}
-use Rattle.definition_laws.proofs.CallLaws.{left_same, left_sending, holds_first, AllOf}
+use Rattle.definition_laws.proofs.CallLaws.{left_same, left_sending, AllOf}
 use Rattle.definition_laws.proofs.SideMoves.{IsPlain, GoesPlainlyOn, BeginsPlainly, SideMoves, goes_left, goes_due, goes_silent}
 use Rattle.definition_laws.proofs.SideGrants.{answer_sides}
 use Rattle.definition_laws.proofs.SideAnswers.{restart_sides, call_sides, ruled_sides, ruled_due, line_sides}

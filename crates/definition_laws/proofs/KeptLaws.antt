@@ -1,7 +1,7 @@
 -- What is kept are the newest uses.
 use Rattle.std.proofs.Common.{◌≡◌, ℕ, zero, suc, Bool, true, false, cond, not, ◌&&◌, ◌||◌, leb, List, [], ◌∷◌, length, take, refl, sym, ap, subst, ◌∙◌, Option, Some, None}
 use Rattle.std.proofs.lemmas.Bool.{true≢false, and_parts}
-use Rattle.std.proofs.lemmas.Option.{none-some, same_Some}
+use Rattle.std.proofs.lemmas.Option.{none-some}
 use Rattle.std.proofs.lemmas.Slice.Eq.{bytes_eq-Decides}
 use Rattle.definitions.specs.Bytes.{Bytes, same_bytes, is_any, first_that, without, without_first}
 use Rattle.definitions.specs.Hosts.{StoreAnswer, NotAsked, Yes, Refused}
@@ -15,6 +15,8 @@ use Rattle.definitions.specs.Hosts.{StoreCall}
 use Rattle.definitions.specs.Nlm.{Locks, LockMsg}
 use Rattle.definitions.specs.Replay.{Done, after, state_after}
 use Rattle.definitions.specs.Uses.{new_pair, used_by_call, used_by_event, used_by, uses_after, distinct, KeptLaw, KeptIsFound}
+use Rattle.definitions.proofs.Lists.{none_left, none_after, none_found, first_found}
+use Rattle.definitions.proofs.Firsts.{without-none}
 
 -- ---- lists in which at most one element passes
 
@@ -23,38 +25,13 @@ module _ {X : Type 0} (p : X → Bool) where
   PassesOnce [] = Unit {0}
   PassesOnce (x ∷ xs) = (p x ≡ true → is_any p xs ≡ false) × PassesOnce xs
 
-  none_without : (xs : List X) → is_any p xs ≡ false → without p xs ≡ xs
-  none_without [] e = refl
-  none_without (x ∷ xs) e = go (p x) refl e (none_without xs)
-    where
-      go : (b : Bool) → p x ≡ b → (b || is_any p xs) ≡ false → (is_any p xs ≡ false → without p xs ≡ xs) → cond b (without p xs) (x ∷ without p xs) ≡ x ∷ xs
-      go true h k more = absurd (true≢false k)
-      go false h k more = ap (λ ys. x ∷ ys) (more k)
-
-  gone : (xs : List X) → is_any p (without p xs) ≡ false
-  gone [] = refl
-  gone (x ∷ xs) = go (p x) refl (gone xs)
-    where
-      go : (b : Bool) → p x ≡ b → is_any p (without p xs) ≡ false → is_any p (cond b (without p xs) (x ∷ without p xs)) ≡ false
-      go true h k = k
-      go false h k = ap (λ b. b || is_any p (without p xs)) h ∙ k
-
-  fewer : (q : X → Bool) (xs : List X) → is_any p xs ≡ false → is_any p (without q xs) ≡ false
-  fewer q [] e = refl
-  fewer q (x ∷ xs) e = go (p x) refl e (q x) (fewer q xs)
-    where
-      go : (b : Bool) → p x ≡ b → (b || is_any p xs) ≡ false → (c : Bool) → (is_any p xs ≡ false → is_any p (without q xs) ≡ false) → is_any p (cond c (without q xs) (x ∷ without q xs)) ≡ false
-      go true h k c more = absurd (true≢false k)
-      go false h k true more = more k
-      go false h k false more = ap (λ b. b || is_any p (without q xs)) h ∙ more k
-
   once_without : (q : X → Bool) (xs : List X) → PassesOnce xs → PassesOnce (without q xs)
   once_without q [] h = tt
   once_without q (x ∷ xs) h = go (q x) (once_without q xs h.1)
     where
       go : (b : Bool) → PassesOnce (without q xs) → PassesOnce (cond b (without q xs) (x ∷ without q xs))
       go true k = k
-      go false k = (λ e. fewer q xs (h.0 e), k)
+      go false k = (λ e. none_left p q xs (h.0 e), k)
 
   -- one that is among the first goes, and one more comes in
   taken_out : (m : ℕ) (xs : List X) → PassesOnce xs → is_any p (take (suc m) xs) ≡ true → without_first p (take (suc m) xs) ≡ take m (without p xs)
@@ -62,7 +39,7 @@ module _ {X : Type 0} (p : X → Bool) where
   taken_out m (x ∷ xs) h e = go m (p x) refl e (λ j i. taken_out j xs h.1 i)
     where
       go : (m : ℕ) (b : Bool) → p x ≡ b → (b || is_any p (take m xs)) ≡ true → ((j : ℕ) → is_any p (take (suc j) xs) ≡ true → without_first p (take (suc j) xs) ≡ take j (without p xs)) → cond b (take m xs) (x ∷ without_first p (take m xs)) ≡ take m (cond b (without p xs) (x ∷ without p xs))
-      go m true k i more = ap (take m) (sym (none_without xs (h.0 k)))
+      go m true k i more = ap (take m) (sym (without-none p xs (h.0 k)))
       go zero false k i more = absurd (true≢false (sym i))
       go (suc j) false k i more = ap (λ ys. x ∷ ys) (more j i)
 
@@ -83,22 +60,6 @@ module _ {X : Type 0} (p : X → Bool) where
       go : (b : Bool) → cond b (Some y) (first_that p ys) ≡ Some x → (first_that p ys ≡ Some x → is_any p ys ≡ true) → (b || is_any p ys) ≡ true
       go true k more = refl
       go false k more = more k
-
-  first_none : (xs : List X) → first_that p xs ≡ None → is_any p xs ≡ false
-  first_none [] e = refl
-  first_none (y ∷ ys) e = go (p y) e (first_none ys)
-    where
-      go : (b : Bool) → cond b (Some y) (first_that p ys) ≡ None → (first_that p ys ≡ None → is_any p ys ≡ false) → (b || is_any p ys) ≡ false
-      go true k more = absurd (none-some y (sym k))
-      go false k more = more k
-
-  first_passes : (xs : List X) (x : X) → first_that p xs ≡ Some x → p x ≡ true
-  first_passes [] x e = absurd (none-some x e)
-  first_passes (y ∷ ys) x e = go (p y) refl e (first_passes ys x)
-    where
-      go : (b : Bool) → p y ≡ b → cond b (Some y) (first_that p ys) ≡ Some x → (first_that p ys ≡ Some x → p x ≡ true) → p x ≡ true
-      go true h k more = ap p (sym (same_Some y x k)) ∙ h
-      go false h k more = more k
 
 -- ---- keys
 
@@ -137,7 +98,7 @@ key_is peer k e = subst (λ (q : Peer). is_same_key q k.asked k ≡ true) e (all
 distinct_once : (peer : Peer) (asked : Bytes) (uses : List KeptPair) → PassesOnce (is_same_key peer asked) (distinct uses)
 distinct_once peer asked [] = tt
 distinct_once peer asked (k ∷ uses) = (
-  λ e. let h = key_same peer asked k e in subst (λ (q : Peer). is_any (is_same_key q asked) (without (is_same_key k.peer k.asked) (distinct uses)) ≡ false) h.0 (subst (λ (bs : Bytes). is_any (is_same_key k.peer bs) (without (is_same_key k.peer k.asked) (distinct uses)) ≡ false) h.1 (gone (is_same_key k.peer k.asked) (distinct uses))),
+  λ e. let h = key_same peer asked k e in subst (λ (q : Peer). is_any (is_same_key q asked) (without (is_same_key k.peer k.asked) (distinct uses)) ≡ false) h.0 (subst (λ (bs : Bytes). is_any (is_same_key k.peer bs) (without (is_same_key k.peer k.asked) (distinct uses)) ≡ false) h.1 (none_after (is_same_key k.peer k.asked) (distinct uses))),
   once_without (is_same_key peer asked) (is_same_key k.peer k.asked) (distinct uses) (distinct_once peer asked uses),
 )
 
@@ -153,7 +114,7 @@ again (suc m) uses k e = ap (λ ks. k ∷ ks) (taken_out (is_same_key k.peer k.a
 
 anew : (n : ℕ) (uses : List KeptPair) (k : KeptPair) → first_that (is_same_key k.peer k.asked) (take n (distinct uses)) ≡ None → take n (k ∷ take n (distinct uses)) ≡ take n (distinct (k ∷ uses))
 anew zero uses k e = refl
-anew (suc m) uses k e = ap (λ ks. k ∷ ks) (not_there (is_same_key k.peer k.asked) m (distinct uses) (first_none (is_same_key k.peer k.asked) (take (suc m) (distinct uses)) e))
+anew (suc m) uses k e = ap (λ ks. k ∷ ks) (not_there (is_same_key k.peer k.asked) m (distinct uses) (none_found (is_same_key k.peer k.asked) (take (suc m) (distinct uses)) e))
 
 -- ---- steps
 
@@ -164,7 +125,7 @@ module _ (limits : Limits) (s : State) (uses : List KeptPair) (so_far : s.kept �
 
   repeat_kept : (peer : Peer) (asked : Bytes) (k : KeptPair) → look s peer asked ≡ Some k → moved_to_front k s.kept ≡ take limits.kept (distinct (k ∷ uses))
   repeat_kept peer asked k e =
-      let h = key_same peer asked k (first_passes (is_same_key peer asked) s.kept k e) in
+      let h = key_same peer asked k (first_found (is_same_key peer asked) s.kept k e).passes in
       let found : first_that (is_same_key k.peer k.asked) s.kept ≡ Some k = ap (λ (q : Peer). first_that (is_same_key q k.asked) s.kept) h.0 ∙ ap (λ (bs : Bytes). first_that (is_same_key peer bs) s.kept) h.1 ∙ e in
       ap (moved_to_front k) so_far ∙ again limits.kept uses k (ap (first_that (is_same_key k.peer k.asked)) (sym so_far) ∙ found)
 

@@ -1,12 +1,14 @@
 -- Shares: when two clash, and that those that are held never do.
-use Rattle.std.proofs.Common.{◌≡◌, Bool, true, false, cond, not, ◌&&◌, ◌||◌, List, [], ◌∷◌, ◌++◌, refl, sym, ap, ◌∙◌, ◌⊎◌, inl, inr, ℕ, subst}
+use Rattle.std.proofs.Common.{◌≡◌, Bool, true, false, not, ◌&&◌, ◌||◌, List, [], ◌∷◌, ◌++◌, refl, sym, ap, ◌∙◌, ◌⊎◌, inl, inr, ℕ, subst}
 use Rattle.std.proofs.lemmas.Bool.{true≢false, and_parts, or_cases, not-true, or_left, or_right, and_from, not_from_false, false_from_ne_true}
 use Rattle.std.proofs.lemmas.Slice.Eq.{bytes_eq-Decides}
-use Rattle.definitions.specs.Bytes.{same_bytes, without, Holds}
+use Rattle.definitions.specs.Bytes.{same_bytes, Holds}
 use Rattle.definitions.specs.Phases.{Phase, Grace}
 use Rattle.definitions.specs.Shares.{Access, Share, meets, is_same_place, shares_clash, is_denied, with_share, without_share, IsOneOwner, IsClash, ClashLaw, SharesStand}
 use Rattle.definitions.proofs.HostLaws.{shares_law}
 use Rattle.definition_laws.proofs.SideMoves.{ShareMove, SharesStay, HostGoes, ShareGoes, ShareComes, AllGo}
+use Rattle.definitions.proofs.Lists.{holds_without}
+use Rattle.std.proofs.Math.Bool.{and_comm}
 
 -- ---- the test of two shares is the fact
 
@@ -57,15 +59,6 @@ clash_law shares new = (found shares, λ h. there shares h.0 h.1 h.2)
 
 -- ---- who is there after a change
 
-pub holds_without : {X : Type 0} (p : X → Bool) (xs : List X) (x : X) → Holds (without p xs) x → Holds xs x
-holds_without p [] x h = h
-holds_without p (y ∷ ys) x h = go (p y) h (holds_without p ys x)
-  where
-    go : (b : Bool) → Holds (cond b (without p ys) (y ∷ without p ys)) x → (Holds (without p ys) x → Holds ys x) → Holds (y ∷ ys) x
-    go true k more = inr (more k)
-    go false (inl e) more = inl e
-    go false (inr k) more = inr (more k)
-
 pub holds_last : {X : Type 0} (xs : List X) (y x : X) → Holds (xs ++ y ∷ []) x → Holds xs x ⊎ (y ≡ x)
 holds_last [] y x (inl e) = inr e
 holds_last [] y x (inr h) = absurd h
@@ -86,13 +79,7 @@ came_or_was R phase before behind AllGo g share h = absurd h
 -- ---- no two clash
 
 meets_back : (a b : Access) → meets a b ≡ meets b a
-meets_back a b = ap (λ t. t || (a.write && b.write)) (and_back a.read b.read) ∙ ap (λ t. (b.read && a.read) || t) (and_back a.write b.write)
-  where
-    and_back : (x y : Bool) → (x && y) ≡ (y && x)
-    and_back true true = refl
-    and_back true false = refl
-    and_back false true = refl
-    and_back false false = refl
+meets_back a b = ap (λ t. t || (a.write && b.write)) (and_comm a.read b.read) ∙ ap (λ t. (b.read && a.read) || t) (and_comm a.write b.write)
 
 clash_back : (a b : Share) → IsClash a b → IsClash b a
 clash_back a b h = (

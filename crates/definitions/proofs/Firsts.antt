@@ -1,11 +1,11 @@
 -- The first that passes a test: what is found, and what is left without it.
 use Rattle.std.proofs.Common.{◌≡◌, ◌<◌, Bool, true, false, cond, not, ℕ, suc, ◌||◌, ◌+◌, ltb, List, [], ◌∷◌, ◌++◌, length, Option, Some, None, refl, sym, ap, arith, ◌∙◌}
-use Rattle.std.proofs.lemmas.Bool.{false≢true}
+use Rattle.std.proofs.lemmas.Bool.{false≢true, or_right}
 use Rattle.std.proofs.lemmas.Bool.Decides.{nat_tests}
 use Rattle.std.specs.List.{remove, position_or_len}
 use Rattle.std.specs.Prelude.{slice_index_or}
 use Rattle.std.specs.Option.{is_some}
-use Rattle.definitions.specs.Bytes.{is_any, first_that, without_first}
+use Rattle.definitions.specs.Bytes.{is_any, first_that, without_first, without, change_first}
 use Rattle.definitions.specs.First.{IsFirstAt, IsFirstPlace}
 
 module _ {X : Type 0} (test : X → Bool) where
@@ -50,6 +50,22 @@ module _ {X : Type 0} (test : X → Bool) where
   without_first-none (x ∷ xs) e = go (test x) (without_first-none xs) e
     where
       go : (b : Bool) → (is_any test xs ≡ false → without_first test xs ≡ xs) → (b || is_any test xs) ≡ false → cond b xs (x ∷ without_first test xs) ≡ x ∷ xs
+      go true k h = absurd (false≢true (sym h))
+      go false k h = ap (λ l. x ∷ l) (k h)
+
+  pub without-none : (xs : List X) → is_any test xs ≡ false → without test xs ≡ xs
+  without-none [] e = refl
+  without-none (x ∷ xs) e = go (test x) (without-none xs) e
+    where
+      go : (b : Bool) → (is_any test xs ≡ false → without test xs ≡ xs) → (b || is_any test xs) ≡ false → cond b (without test xs) (x ∷ without test xs) ≡ x ∷ xs
+      go true k h = absurd (false≢true (sym h))
+      go false k h = ap (λ l. x ∷ l) (k h)
+
+  pub change_first-none : (change : X → X) (xs : List X) → is_any test xs ≡ false → change_first test change xs ≡ xs
+  change_first-none change [] e = refl
+  change_first-none change (x ∷ xs) e = go (test x) (change_first-none change xs) e
+    where
+      go : (b : Bool) → (is_any test xs ≡ false → change_first test change xs ≡ xs) → (b || is_any test xs) ≡ false → cond b (change x ∷ xs) (x ∷ change_first test change xs) ≡ x ∷ xs
       go true k h = absurd (false≢true (sym h))
       go false k h = ap (λ l. x ∷ l) (k h)
 
@@ -110,11 +126,7 @@ module _ {X : Type 0} (test : X → Bool) where
 
   any-split : (before : List X) (x : X) (behind : List X) → test x ≡ true → is_any test (before ++ x ∷ behind) ≡ true
   any-split [] x behind p = rw p refl
-  any-split (y ∷ ys) x behind p = rw (any-split ys x behind p) (go (test y))
-    where
-      go : (b : Bool) → (b || true) ≡ true
-      go true = refl
-      go false = refl
+  any-split (y ∷ ys) x behind p = or_right (test y) (is_any test (ys ++ x ∷ behind)) (any-split ys x behind p)
 
   pub any_at : (xs : List X) (i : ℕ) → IsFirstAt test xs i → is_any test xs ≡ true
   any_at xs i f = ap (is_any test) f.there ∙ any-split f.before f.x f.behind f.passes

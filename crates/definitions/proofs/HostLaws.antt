@@ -1,14 +1,14 @@
 -- Rows and watches stay in order, and shares stay single.
-use Rattle.std.proofs.Common.{◌≡◌, Bool, true, false, cond, ◌&&◌, ◌||◌, List, [], ◌∷◌, ◌++◌, refl, sym, ap, ◌∙◌, ℤ, pos}
-use Rattle.std.proofs.lemmas.Bool.{true≢false}
+use Rattle.std.proofs.Common.{◌≡◌, Bool, true, false, cond, ◌&&◌, List, [], ◌∷◌, ◌++◌, refl, sym, ap, ◌∙◌, ℤ, pos}
 use Rattle.std.proofs.lemmas.Cmp.{then_total, on_total, nat_list_cmp_total, int_cmp_total}
 use Rattle.std.proofs.lemmas.Slice.Eq.{bytes_eq-Decides}
 use Rattle.std.specs.Cmp.{IsTotalOrder, both_ways}
 use Rattle.std.specs.declared.cmp.Ordering.{Ordering}
-use Rattle.definitions.specs.Bytes.{Bytes, same_bytes, is_any, change_first, without, IsBelowAll, IsAscending}
+use Rattle.definitions.specs.Bytes.{Bytes, same_bytes, change_first, without, IsBelowAll, IsAscending}
 use Rattle.definitions.specs.Hosts.{HostRow, Hosts, row_cmp, my_id_cmp, watch_cmp, is_named, has_row, full_quota, with_row, with_new_row, is_watch, Begin, Monitor, Seen, Acked, Quota, Watched, Unwatched, AreInOrder, HostsLaw}
 use Rattle.definitions.specs.Shares.{Share, is_same_place, AreSingle, SharesLaw}
 use Rattle.definitions.proofs.Orders.{put_ascends}
+use Rattle.definitions.proofs.Lists.{none_more, none_left}
 
 pub row_total : IsTotalOrder row_cmp
 row_total = on_total (λ r. r.name) nat_list_cmp_total
@@ -81,25 +81,13 @@ hosts_law hosts (Unwatched name my) h = record { rows = h.rows; watches = withou
 
 -- ---- shares
 
-any_less : (p q : Share → Bool) (xs : List Share) → is_any p xs ≡ false → is_any p (without q xs) ≡ false
-any_less p q [] e = refl
-any_less p q (x ∷ xs) e = go (p x) refl e (any_less p q xs)
-  where
-    keep : (c : Bool) → p x ≡ false → is_any p (without q xs) ≡ false → is_any p (cond c (without q xs) (x ∷ without q xs)) ≡ false
-    keep true i k = k
-    keep false i k = ap (λ b. b || is_any p (without q xs)) i ∙ k
-
-    go : (b : Bool) → p x ≡ b → (b || is_any p xs) ≡ false → (is_any p xs ≡ false → is_any p (without q xs) ≡ false) → is_any p (cond (q x) (without q xs) (x ∷ without q xs)) ≡ false
-    go true i k more = absurd (true≢false k)
-    go false i k more = keep (q x) i (more k)
-
 single_without : (q : Share → Bool) (xs : List Share) → AreSingle xs → AreSingle (without q xs)
 single_without q [] h = tt
 single_without q (x ∷ xs) h = go (q x) (single_without q xs h.1)
   where
     go : (b : Bool) → AreSingle (without q xs) → AreSingle (cond b (without q xs) (x ∷ without q xs))
     go true k = k
-    go false k = (any_less (is_same_place x) q xs h.0, k)
+    go false k = (none_left (is_same_place x) q xs h.0, k)
 
 bytes_back : (a b : Bytes) → same_bytes a b ≡ same_bytes b a
 bytes_back a b = both_ways (same_bytes a b) (same_bytes b a) (λ e. (bytes_eq-Decides b a).1 (sym ((bytes_eq-Decides a b).0 e))) (λ e. (bytes_eq-Decides a b).1 (sym ((bytes_eq-Decides b a).0 e)))
@@ -110,21 +98,13 @@ place_back a b =
     ∙ ap (λ t. same_bytes b.file a.file && t && same_bytes a.oh b.oh) (bytes_back a.name b.name)
     ∙ ap (λ t. same_bytes b.file a.file && same_bytes b.name a.name && t) (bytes_back a.oh b.oh)
 
-any_last : (s new : Share) (xs : List Share) → is_any (is_same_place s) xs ≡ false → is_same_place s new ≡ false → is_any (is_same_place s) (xs ++ new ∷ []) ≡ false
-any_last s new [] e f = ap (λ b. b || false) f
-any_last s new (x ∷ xs) e f = go (is_same_place s x) refl e (λ k. any_last s new xs k f)
-  where
-    go : (b : Bool) → is_same_place s x ≡ b → (b || is_any (is_same_place s) xs) ≡ false → (is_any (is_same_place s) xs ≡ false → is_any (is_same_place s) (xs ++ new ∷ []) ≡ false) → (is_same_place s x || is_any (is_same_place s) (xs ++ new ∷ [])) ≡ false
-    go true i k more = absurd (true≢false k)
-    go false i k more = ap (λ b. b || is_any (is_same_place s) (xs ++ new ∷ [])) i ∙ more k
-
 single_last : (new : Share) (xs : List Share) → AreSingle xs → AreSingle (without (is_same_place new) xs ++ new ∷ [])
 single_last new [] h = (refl, tt)
 single_last new (x ∷ xs) h = go (is_same_place new x) refl (single_last new xs h.1)
   where
     go : (b : Bool) → is_same_place new x ≡ b → AreSingle (without (is_same_place new) xs ++ new ∷ []) → AreSingle (cond b (without (is_same_place new) xs) (x ∷ without (is_same_place new) xs) ++ new ∷ [])
     go true e k = k
-    go false e k = (any_last x new (without (is_same_place new) xs) (any_less (is_same_place x) (is_same_place new) xs h.0) (place_back x new ∙ e), k)
+    go false e k = (none_more (is_same_place x) (without (is_same_place new) xs) new (none_left (is_same_place x) (is_same_place new) xs h.0) (place_back x new ∙ e), k)
 
 pub shares_law : SharesLaw
 shares_law shares new name h = (single_last new shares h, single_without (is_same_place new) shares h, single_without (λ (s : Share). same_bytes s.name name) shares h)

@@ -15,10 +15,11 @@ use Rattle.definitions.specs.Hosts.{HostRow, Hosts, StoreCall, Begin, Monitor, S
 use Rattle.definitions.specs.Quotas.{Quotas, quota_in, quotas_of, is_past, is_past_own, exceeds_of, exceeds, lacks_room, FullQuotaLaw}
 use Rattle.definitions.specs.Waits.{Waiter}
 use Rattle.definitions.specs.World.{Limits, is_ready}
-use Rattle.definitions.proofs.Lists.{any_by}
+use Rattle.definitions.proofs.Lists.{none_by}
 use Rattle.definitions.proofs.RunCounts.{two_more, as_many_by, used_parted, used_beside}
 use Rattle.definitions.proofs.SettingLaws.{newest_wins}
 use Rattle.definitions.proofs.ReclaimLaws.{covered}
+use Rattle.definitions.proofs.Firsts.{first_that-none}
 
 -- ---- a full quota refuses nothing that finds room
 
@@ -108,9 +109,7 @@ module _ (limits : Limits) (before after : Quotas) (kept : AreKept before after)
   not_readied x e = or_off (is_ready limits before settings x) (is_ready limits after settings x) (was_ready x) e
 
   pub none_readied : (waiters : List Waiter) → is_any (is_ready limits before settings) waiters ≡ false → is_any (is_ready limits after settings) waiters ≡ false
-  none_readied waiters e =
-      or_off (is_any (is_ready limits before settings) waiters) (is_any (is_ready limits after settings) waiters)
-      (any_by (is_ready limits after settings) (is_ready limits before settings) waiters was_ready) e
+  none_readied waiters e = none_by (is_ready limits before settings) (is_ready limits after settings) waiters not_readied e
 
 -- ---- each store call but that of a quota keeps them
 
@@ -153,14 +152,6 @@ put_beside new other (r ∷ rows) e = go (row_cmp new r) refl (put_beside new ot
         ∙ sym (ap (λ b. cond b (Some r) (first_that (is_named other) rows)) (ap (λ n. same_bytes n other) (sym (exact_bytes new.name r.name k)) ∙ e))
     go Greater k more = ap (λ rest. cond (same_bytes r.name other) (Some r) rest) more
 
-no_row : (rows : List HostRow) (name : Bytes) → is_any (is_named name) rows ≡ false → first_that (is_named name) rows ≡ None
-no_row [] name e = refl
-no_row (r ∷ rows) name e = go (same_bytes r.name name) e (no_row rows name)
-  where
-    go : (b : Bool) → (b || is_any (is_named name) rows) ≡ false → (is_any (is_named name) rows ≡ false → first_that (is_named name) rows ≡ None) → cond b (Some r) (first_that (is_named name) rows) ≡ None
-    go true e more = absurd (true≢false e)
-    go false e more = more e
-
 new_keeps : (hosts : Hosts) (name : Bytes) (state : ℤ) (other : Bytes) → (quotas_of hosts other ≡ None) ⊎ (quota_in (first_that (is_named other) (with_new_row name state hosts)) ≡ quotas_of hosts other)
 new_keeps hosts name state other = go (has_row hosts name) refl (same_bytes name other) refl
   where
@@ -168,7 +159,7 @@ new_keeps hosts name state other = go (has_row hosts name) refl (same_bytes name
     go true e c f = inr refl
     go false e true f =
         let same : name ≡ other = (bytes_eq-Decides name other).0 f in
-        inl (ap quota_in (no_row hosts.rows other (ap (λ n. is_any (is_named n) hosts.rows) (sym same) ∙ e)))
+        inl (ap quota_in (first_that-none (is_named other) hosts.rows (ap (λ n. is_any (is_named n) hosts.rows) (sym same) ∙ e)))
     go false e false f = inr (ap quota_in (put_beside (record { name = name; epoch = hosts.own; seen = state; quota = full_quota }) other hosts.rows f))
 
 pub store_keeps : (hosts : Hosts) (call : StoreCall) → is_quota call ≡ false → AreKept (quotas_of hosts) (quotas_of (after_store hosts call))

@@ -67,7 +67,7 @@ start_fact settings t e =
       ],
     )
 
-differ : (a b : Option Mode) → b ≢ a → not (same_mode a b) ≡ true
+pub differ : (a b : Option Mode) → b ≢ a → not (same_mode a b) ≡ true
 differ a b h = go (same_mode a b) refl
   where
     go : (c : Bool) → same_mode a b ≡ c → not c ≡ true

@@ -1,6 +1,6 @@
 -- Runs have one mode throughout and end where it ends, and a range conflicts where a run stands against it.
 use Rattle.std.proofs.Common.{◌≡◌, ◌≢◌, ℕ, zero, suc, ◌+◌, ◌-◌, ◌≤◌, ◌<◌, Bool, true, false, cond, not, ◌&&◌, leb, ltb, List, [], ◌∷◌, filter, map, refl, sym, ap, subst, ◌∙◌, ◌⊎◌, inl, inr, Option, Some, None, is_some, unwrap_or, arith, add-zero, add-suc}
-use Rattle.std.proofs.lemmas.Bool.{true≢false, and_parts, and_from, leb-true, leb-false, le-leb, lt-leb, ltb-true, lt-ltb, not-true, not_from_false, false_from_ne_true}
+use Rattle.std.proofs.lemmas.Bool.{true≢false, and_parts, and_from, leb-true, leb-false, le-leb, lt-leb, ltb-true, lt-ltb, not-true, not_from_false, false_from_ne_true, and_right}
 use Rattle.std.proofs.lemmas.Slice.Eq.{bytes_eq-Decides}
 use Rattle.std.specs.Ordering.{on}
 use Rattle.std.specs.Cmp.{both_ways}
@@ -13,7 +13,8 @@ use Rattle.definitions.specs.Starts.{Start, start_cmp, same_mode, ends, starts, 
 use Rattle.definitions.proofs.OwnerLaws.{same_owner-Decides}
 use Rattle.definitions.proofs.Orders.{filter_holds, holds_filter, holds_map, map_holds, first_is_least}
 use Rattle.definitions.proofs.ConflictLaws.{conflicts_law}
-use Rattle.definitions.proofs.StartLaws.{start_total, starts_law, end_at, later_end, is_held, same_mode_is, same_mode_itself}
+use Rattle.definitions.proofs.StartLaws.{start_total, starts_law, end_at, later_end, is_held, same_mode_is, same_mode_itself, differ}
+use Rattle.definitions.proofs.Lists.{holds_first, first_found}
 
 -- ---- the least of some numbers
 
@@ -52,12 +53,8 @@ beyond before (s ∷ settings) file owner n h = ap (λ c. mode_after (cond c s.m
     high : leb n s.last ≡ false
     high = lt-leb n s.last (omega arith)
 
-    and_no : (a b : Bool) → b ≡ false → (a && b) ≡ false
-    and_no true b e = e
-    and_no false b e = refl
-
     uncovered : covers s file owner n ≡ false
-    uncovered = and_no (is_of file owner s) (within s.first s.last n) (and_no (leb s.first n) (leb n s.last) high)
+    uncovered = and_right (is_of file owner s) (within s.first s.last n) (and_right (leb s.first n) (leb n s.last) high)
 
 -- ---- one mode from a start to the next change
 
@@ -68,13 +65,6 @@ module _ (settings : List Setting) (t : Start) (begins : IsStart settings t) whe
   abbrev changes : List ℕ
   changes = changes_behind settings t
 
-  unlike : (a b : Option Mode) → a ≢ b → not (same_mode a b) ≡ true
-  unlike a b h = go (same_mode a b) refl
-    where
-      go : (c : Bool) → same_mode a b ≡ c → not c ≡ true
-      go true e = absurd (h (same_mode_is a b e))
-      go false e = refl
-
   change_in : (n : ℕ) → Holds (ends settings) (end_at t.file t.owner n) → t.byte < n → mode_here n ≢ mode_here t.byte → Holds changes n
   change_in n h later other =
       holds_map (λ (u : Start). u.byte) (filter _ (ends settings)) (end_at t.file t.owner n)
@@ -83,7 +73,7 @@ module _ (settings : List Setting) (t : Start) (begins : IsStart settings t) whe
       (and_from (same_bytes t.file t.file && same_owner t.owner t.owner) (ltb t.byte n)
       (and_from (same_bytes t.file t.file) (same_owner t.owner t.owner) ((bytes_eq-Decides t.file t.file).1 refl) ((same_owner-Decides t.owner t.owner).1 refl))
       (lt-ltb t.byte n later))
-      (unlike (mode_here n) (mode_here t.byte) other)))
+      (differ (mode_here n) (mode_here t.byte) (λ e. other (sym e)))))
 
   change_is : (n : ℕ) → Holds changes n → (t.byte < n) × (mode_here n ≢ mode_here t.byte)
   change_is n h =
@@ -272,12 +262,11 @@ found_held p (y ∷ ys) x h e = go (p y) refl h (found_held p ys x)
     go false i (inr k) more = more k e
 
 held_found : {X : Type 0} (p : X → Bool) (xs : List X) → is_some (first_that p xs) ≡ true → (x : X) × Holds xs x × (p x ≡ true)
-held_found p [] e = absurd (true≢false (sym e))
-held_found p (y ∷ ys) e = go (p y) refl e (held_found p ys)
+held_found {X} p xs e = go (first_that p xs) refl e
   where
-    go : (b : Bool) → p y ≡ b → is_some (cond b (Some y) (first_that p ys)) ≡ true → (is_some (first_that p ys) ≡ true → (x : _) × Holds ys x × (p x ≡ true)) → (x : _) × Holds (y ∷ ys) x × (p x ≡ true)
-    go true i k more = (y, inl refl, i)
-    go false i k more = ((more k).0, inr (more k).1, (more k).2)
+    go : (o : Option X) → first_that p xs ≡ o → is_some o ≡ true → (x : X) × Holds xs x × (p x ≡ true)
+    go (Some x) f e = (x, holds_first p xs x f, (first_found p xs x f).passes)
+    go None f e = absurd (true≢false (sym e))
 
 ascends_map : (settings : List Setting) (ts : List Start) → IsAscending start_cmp ts → IsAscending (on start_of start_cmp) (map (run_at settings) ts)
 ascends_map settings [] h = tt

@@ -1,6 +1,5 @@
 -- What a place in a list in order says of the words of the definitions.
-use Rattle.std.proofs.Common.{◌≡◌, ◌<◌, ◌≤◌, ◌+◌, ℕ, zero, suc, Bool, true, false, cond, ◌||◌, List, [], ◌∷◌, length, get_or, set, refl, sym, ap, ◌∙◌, arith, Some, None, Result, Ok, Err}
-use Rattle.std.proofs.lemmas.Bool.{true≢false}
+use Rattle.std.proofs.Common.{◌≡◌, ◌<◌, ◌≤◌, ◌+◌, ℕ, zero, suc, Bool, true, false, cond, ◌||◌, List, [], ◌∷◌, length, get_or, set, refl, sym, ap, ◌∙◌, arith, Some, Result, Ok, Err}
 use Rattle.std.proofs.lemmas.List.Sorted.{searchable_from_sorted}
 use Rattle.std.specs.Cmp.{IsTotalOrder}
 use Rattle.std.specs.List.{AllWithin, HoldsAt, insert}
@@ -92,22 +91,6 @@ module _ {X : Type 0} (cmp : X → X → Ordering) (total : IsTotalOrder cmp) wh
     none_gap (y ∷ ys) (suc at) l b a =
         ap (λ t. t || is_any p ys) (fails y (b 0 y (omega arith) (omega arith)))
         ∙ none_gap ys at (omega arith) (λ k d u v. b (suc k) d (omega arith) (omega arith)) (λ k d u v. a (suc k) d (omega arith) (omega arith))
-
-    pub first_none : (xs : List X) → is_any p xs ≡ false → first_that p xs ≡ None
-    first_none [] e = refl
-    first_none (y ∷ ys) e = go (p y) e (first_none ys)
-      where
-        go : (b : Bool) → (b || is_any p ys) ≡ false → (is_any p ys ≡ false → first_that p ys ≡ None) → cond b (Some y) (first_that p ys) ≡ None
-        go true h more = absurd (true≢false h)
-        go false h more = more h
-
-    pub change_none : (g : X → X) (xs : List X) → is_any p xs ≡ false → change_first p g xs ≡ xs
-    change_none g [] e = refl
-    change_none g (y ∷ ys) e = go (p y) e (change_none g ys)
-      where
-        go : (b : Bool) → (b || is_any p ys) ≡ false → (is_any p ys ≡ false → change_first p g ys ≡ ys) → cond b (g y ∷ ys) (y ∷ change_first p g ys) ≡ y ∷ ys
-        go true h more = absurd (true≢false h)
-        go false h more = ap (λ zs. y ∷ zs) (more h)
 
     pub put_gap : (xs : List X) (at : ℕ) → at ≤ length xs → AllWithin (λ y. cmp y x ≡ Less) xs 0 at → AllWithin (λ y. cmp y x ≡ Greater) xs at (length xs) → put cmp x xs ≡ insert xs at x
     put_gap [] zero l b a = refl

@@ -12,7 +12,8 @@ use Rattle.hosts_db.specs.declared.rows.Note.TheVariants as to
 use Rattle.hosts_db.specs.Places.{IsAt, IsGap, IsPlace, IsInside, put_at_place, len_after, row_named, watch_keyed}
 use Rattle.definitions.proofs.HostLaws.{row_total, watch_total}
 use Rattle.hosts_db.proofs.Orders.{row_agrees, watch_agrees}
-use Rattle.hosts_db.proofs.Places.{any_at, first_at, change_at, put_at, none_gap, first_none, change_none, put_gap}
+use Rattle.hosts_db.proofs.Places.{any_at, first_at, change_at, put_at, none_gap, put_gap}
+use Rattle.definitions.proofs.Firsts.{first_that-none, change_first-none}
 
 module _ (rows : List HostRow) (name : Bytes) (rise : IsAscending row_cmp rows) where
   pub row_at : (at : ℕ) (d : HostRow) → IsAt row_cmp (row_named name) rows at → first_that (is_named name) rows ≡ Some (get_or rows at d)
@@ -22,7 +23,7 @@ module _ (rows : List HostRow) (name : Bytes) (rise : IsAscending row_cmp rows) 
   no_row at h = none_gap row_cmp row_total (row_named name) (is_named name) (row_agrees name) rows at h.inside h.below h.above
 
   pub row_gap : (at : ℕ) → IsGap row_cmp (row_named name) rows at → first_that (is_named name) rows ≡ None
-  row_gap at h = first_none row_cmp row_total (row_named name) (is_named name) (row_agrees name) rows (no_row at h)
+  row_gap at h = first_that-none (is_named name) rows (no_row at h)
 
   pub has_row_at : (place : Result ℕ ℕ) → IsPlace row_cmp (row_named name) rows place → is_ok place ≡ is_any (is_named name) rows
   has_row_at (Ok at) h = sym (any_at row_cmp row_total (row_named name) (is_named name) (row_agrees name) rows at h.inside h.ties)
@@ -32,7 +33,7 @@ module _ (rows : List HostRow) (name : Bytes) (rise : IsAscending row_cmp rows) 
   changed_at g at d h = sym (change_at row_cmp row_total (row_named name) (is_named name) (row_agrees name) g rows at d rise h.inside h.ties)
 
   pub unchanged : (g : HostRow → HostRow) (at : ℕ) → IsGap row_cmp (row_named name) rows at → change_first (is_named name) g rows ≡ rows
-  unchanged g at h = change_none row_cmp row_total (row_named name) (is_named name) (row_agrees name) g rows (no_row at h)
+  unchanged g at h = change_first-none (is_named name) g rows (no_row at h)
 
 -- a row in its place
 pub row_put_at : (rows : List HostRow) (row : HostRow) (at : ℕ) → IsAscending row_cmp rows → IsAt row_cmp (row_named row.name) rows at → set rows at row ≡ put row_cmp row rows

@@ -1,11 +1,10 @@
 -- What a call's statements make is what the call is to make.
-use Rattle.std.proofs.Common.{◌≡◌, pos, Bool, true, false, cond, List, [], ◌∷◌, Some, Result, IsTrue, is_err, refl, sym, ap, ◌∙◌, arith}
+use Rattle.std.proofs.Common.{◌≡◌, pos, true, false, cond, Some, Result, IsTrue, is_err, sym, ap, ◌∙◌, arith}
 use Rattle.std.proofs.lemmas.Map.Text.{is_eq-slice_cmp}
-use Rattle.std.proofs.lemmas.Option.{same_Some}
 use Rattle.sqlite_trees.specs.Tree.{Trees}
 use Rattle.sqlite.specs.State.{State, HasCleanDisk}
 use Rattle.sqlite.proofs.StateLemmas.{survives_weaker}
-use Rattle.definitions.specs.Bytes.{Bytes, IsAscending, bytes_cmp, same_bytes, first_that, put, without}
+use Rattle.definitions.specs.Bytes.{Bytes, IsAscending, bytes_cmp, same_bytes, put, without}
 use Rattle.definitions.specs.Nsm.{MyId}
 use Rattle.definitions.specs.Hosts.{HostRow, Hosts, row_cmp, watch_cmp, row_of, is_named, has_row, after_store, Watched}
 use Rattle.hosts_db.specs.Notes.{view_of_note, noted}
@@ -18,7 +17,9 @@ use Rattle.hosts_transactions.proofs.Results.{gave, on_then}
 use Rattle.hosts_sql.proofs.Commits.{CommitsHosts}
 use Rattle.hosts_sql.proofs.Listed.{bytes_exact}
 use Rattle.hosts_sql.proofs.OwnIds.{eq_equal}
-use Rattle.hosts_sql.proofs.Changed.{put_changes, none_changes}
+use Rattle.hosts_sql.proofs.Changed.{put_changes}
+use Rattle.definitions.proofs.Firsts.{without-none, change_first-none}
+use Rattle.definitions.proofs.Lists.{first_found}
 
 -- the last commit shows the rows that are in memory, and of these both changes make the same
 pub hosts_as_kept : {X E : Type 0} {from : Hosts → Hosts} {old new : State} {r : Result X E} (to : Hosts → Hosts) (rows : Hosts) → IsAsKept old rows → from rows ≡ to rows → CommitsHosts from old new r → CommitsHosts to old new r
@@ -53,19 +54,11 @@ watch_of_host h mon my private there =
 same_name : (a b : Bytes) → same_bytes a b ≡ true → a ≡ b
 same_name a b e = bytes_exact a b (eq_equal (bytes_cmp a b) (is_eq-slice_cmp a b ∙ e))
 
-found_name : (name : Bytes) (rows : List HostRow) (row : HostRow) → first_that (is_named name) rows ≡ Some row → row.name ≡ name
-found_name name [] row found = absurd cc
-found_name name (r ∷ rs) row found = go (same_bytes r.name name) refl found (λ more. found_name name rs row more)
-  where
-    go : (b : Bool) → same_bytes r.name name ≡ b → cond b (Some r) (first_that (is_named name) rs) ≡ Some row → (first_that (is_named name) rs ≡ Some row → row.name ≡ name) → row.name ≡ name
-    go true e found more = ap (λ (x : HostRow). x.name) (sym (same_Some {A = HostRow} r row found)) ∙ same_name r.name name e
-    go false e found more = more found
-
 module _ (h : Hosts) (name : Bytes) where
   pub unnoted : (note : Note) → has_row h name ≡ false → ◌≡◌ {A = Hosts} (record h { rows = without (is_named name) h.rows }) (after_store h (view_of_note name note))
-  unnoted note none = let both = none_changes name (noted note) h.rows none in ap (λ rows. record h { rows = rows }) (both.0 ∙ sym both.1) ∙ note_is h name note
+  unnoted note none = ap (λ rows. record h { rows = rows }) (without-none (is_named name) h.rows none ∙ sym (change_first-none (is_named name) (noted note) h.rows none)) ∙ note_is h name note
 
   pub noted_at : IsAscending row_cmp h.rows → (row : HostRow) → row_of h name ≡ Some row → (note : Note) → ◌≡◌ {A = Hosts} (record h { rows = put row_cmp (record (noted note row) { name = name }) h.rows }) (after_store h (view_of_note name note))
   noted_at rise row is note =
-      let named : name ≡ (noted note row).name = sym (found_name name h.rows row is) ∙ sym (keeps_name note row) in
+      let named : name ≡ (noted note row).name = sym (same_name row.name name (first_found (is_named name) h.rows row is).passes) ∙ sym (keeps_name note row) in
       ap (λ n. record h { rows = put row_cmp (record (noted note row) { name = n }) h.rows }) named ∙ ap (λ rows. record h { rows = rows }) (put_changes name (noted note) (keeps_name note) row h.rows rise is) ∙ note_is h name note

@@ -1,6 +1,5 @@
 -- What the statements of a call make of the rows, and of the lists that a store shows.
-use Rattle.std.proofs.Common.{◌≡◌, ℕ, pos, Bool, true, false, cond, not, ◌||◌, List, [], ◌∷◌, map, Option, Some, None, refl, sym, ap, ◌∙◌}
-use Rattle.std.proofs.lemmas.Bool.{true≢false}
+use Rattle.std.proofs.Common.{◌≡◌, ℕ, pos, Bool, true, false, cond, not, List, [], ◌∷◌, map, Option, Some, None, refl, sym, ap, ◌∙◌}
 use Rattle.std.specs.declared.cmp.Ordering.{Ordering}
 use Rattle.std.specs.declared.cmp.Ordering.TheVariants.{Less, Equal, Greater}
 use Rattle.std.specs.Ordering.{is_eq, eq_by_cmp, ordering_reverse}
@@ -10,7 +9,7 @@ use Rattle.std.proofs.lemmas.Cmp.{tied_itself}
 use Rattle.std.proofs.lemmas.Map.Text.{is_eq-slice_cmp}
 use Rattle.std.specs.FinMap.{FinMap, IsAntisymmetric, get, insert, entries, retain_keys, get-insert, get-retain_keys, same_map}
 use Rattle.std.proofs.lemmas.Option.{same_Some}
-use Rattle.definitions.specs.Bytes.{Bytes, IsAscending, IsBelowAll, bytes_cmp, same_bytes, is_any, first_that, change_first, put, placed, without}
+use Rattle.definitions.specs.Bytes.{Bytes, IsAscending, IsBelowAll, bytes_cmp, same_bytes, first_that, change_first, put, placed, without}
 use Rattle.definitions.specs.Nsm.{MyId}
 use Rattle.definitions.specs.Hosts.{HostRow, Hosts, row_cmp, watch_cmp, is_named, has_row, is_watch, after_store, Watched, Unwatched}
 use Rattle.definitions.proofs.HostLaws.{row_total}
@@ -127,15 +126,6 @@ put_changes name g same row (r ∷ rs) rise found = go (same_bytes r.name name) 
     go false e more =
         let above : row_cmp (g row) r ≡ Greater = keyed r ∙ row_total.antisymm row r ∙ ap ordering_reverse (below_found r row name rs rise.0 e) in
         ap (λ o. placed o (g row) r rs (put row_cmp (g row) rs)) above ∙ ap (λ xs. r ∷ xs) (more e)
-
-pub none_changes : (name : Bytes) (g : HostRow → HostRow) (rows : List HostRow) → is_any (is_named name) rows ≡ false → (without (is_named name) rows ≡ rows) × (change_first (is_named name) g rows ≡ rows)
-none_changes name g [] none = (refl, refl)
-none_changes name g (r ∷ rs) none = go (same_bytes r.name name) none (λ more. none_changes name g rs more)
-  where
-    go : (b : Bool) → (b || is_any (is_named name) rs) ≡ false → (is_any (is_named name) rs ≡ false → (without (is_named name) rs ≡ rs) × (change_first (is_named name) g rs ≡ rs))
-        → (cond b (without (is_named name) rs) (r ∷ without (is_named name) rs) ≡ r ∷ rs) × (cond b (g r ∷ rs) (r ∷ change_first (is_named name) g rs) ≡ r ∷ rs)
-    go true e more = absurd (true≢false e)
-    go false e more = let both = more e in (ap (λ xs. r ∷ xs) both.0, ap (λ xs. r ∷ xs) both.1)
 
 -- a watch of a host that is new
 pub host_and_watch_listed : (r : Rows) (k : WatchKey) (private : Bytes) (epoch : ℕ) → (listed r).own ≡ epoch → has_row (listed r) k.mon ≡ false

@@ -37,11 +37,12 @@ use Rattle.hosts_sql.proofs.Monitor.{cast_null, cast_number, went, same_value}
 use Rattle.hosts_sql.proofs.OwnIds.{int_is, own_ids}
 use Rattle.hosts_sql.proofs.Permuted.{same_entries}
 use Rattle.hosts_sql.proofs.Places.{on_table, one_change}
-use Rattle.hosts_sql.proofs.Reading.{each_alone, map_twice, env_of}
+use Rattle.hosts_sql.proofs.Reading.{map_twice, env_of}
 use Rattle.hosts_sql.proofs.Apart.{hosts_apart, unclashed}
 use Rattle.hosts_sql.proofs.Meant.{copy_query}
 use Rattle.hosts_sql.proofs.Moved.{put_all_moves, put_all_own, has_name, hosts_numbered, hosts_fit}
 use Rattle.hosts_sql.proofs.Typed.{IsTyped, typed_rows}
+use Rattle.std.proofs.lemmas.List.Concat.{flat_map_single}
 
 -- a row of the old table without its rowid, with the full quota
 abbrev pub copied : Row → Row
@@ -49,7 +50,7 @@ copied row = Null ∷ column row 1 ∷ column row 2 ∷ column row 3 ∷ Int (po
 
 copied_rows : (db : Trees) (rows : List Row) → IsAnswer copy_query (overlay db []) [] rows → IsPermutation (map copied (db 1)) rows
 copied_rows db rows a =
-    let staged : a.staged ≡ map env_of (db 1) = a.grouped ∙ each_alone env_of (db 1) in
+    let staged : a.staged ≡ map env_of (db 1) = a.grouped ∙ flat_map_single env_of (db 1) in
     let shown : map (λ (o : Output). o.1) a.kept ≡ map copied (db 1) =
     ap (map (λ (o : Output). o.1)) (a.distinct ∙ ap (map (output copy_query)) staged) ∙ ap (map (λ (o : Output). o.1)) (map_twice env_of (output copy_query) (db 1))
     ∙ map_twice (λ r. output copy_query (env_of r)) (λ (o : Output). o.1) (db 1) in

@@ -1,6 +1,6 @@
 -- Rows whose rowids differ: what a DELETE takes out by rowid is what its WHERE finds.
 use Rattle.std.proofs.Common.{◌≡◌, ℤ, Bool, true, false, cond, not, ◌&&◌, ◌||◌, List, [], ◌∷◌, filter, refl, sym, ap, ◌∙◌}
-use Rattle.std.proofs.lemmas.Bool.{true≢false}
+use Rattle.std.proofs.lemmas.Bool.{true≢false, or_parts}
 use Rattle.std.specs.List.{list_any}
 use Rattle.std.specs.Ordering.{is_eq}
 use Rattle.std.specs.Cmp.{eq_by_cmp_equiv}
@@ -74,16 +74,8 @@ module _ (p : Row → Bool) where
 
   not_taken : (r s : Row) (xs : List Row) → IsAmong r xs → is_taken xs s ≡ false → is_eq (value_cmp (rowid r) (rowid s)) ≡ false
   not_taken r s [] h free = elim h [ ]
-  not_taken r s (r' ∷ xs) Here free = first (is_eq (value_cmp (rowid r) (rowid s))) (is_taken xs s) free
-    where
-      first : (a b : Bool) → (a || b) ≡ false → a ≡ false
-      first true b h = h
-      first false b h = refl
-  not_taken r s (x ∷ xs) (Later h) free = not_taken r s xs h (rest (is_eq (value_cmp (rowid x) (rowid s))) (is_taken xs s) free)
-    where
-      rest : (a b : Bool) → (a || b) ≡ false → b ≡ false
-      rest true b h = absurd (true≢false h)
-      rest false b h = h
+  not_taken r s (r' ∷ xs) Here free = (or_parts (is_eq (value_cmp (rowid r) (rowid s))) (is_taken xs s) free).0
+  not_taken r s (x ∷ xs) (Later h) free = not_taken r s xs h (or_parts (is_eq (value_cmp (rowid x) (rowid s))) (is_taken xs s) free).1
 
   met_own : (r : Row) (rows : List Row) → AreOwnIds rows → IsAmong r rows → met r rows ≡ p r
   met_own r [] own h = elim h [ ]

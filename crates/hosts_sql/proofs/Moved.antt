@@ -1,6 +1,6 @@
 -- Rows that are put into a table, where no rowid comes twice.
-use Rattle.std.proofs.Common.{◌≡◌, Bool, true, false, cond, not, ◌&&◌, ◌||◌, List, [], ◌∷◌, ◌++◌, map, refl, sym, ap, ◌∙◌}
-use Rattle.std.proofs.lemmas.Bool.{true≢false, not-true, or_parts}
+use Rattle.std.proofs.Common.{◌≡◌, Bool, true, false, cond, not, ◌&&◌, ◌||◌, List, [], ◌∷◌, ◌++◌, map, refl, ap, ◌∙◌}
+use Rattle.std.proofs.lemmas.Bool.{true≢false, not-true, or_parts, not-false}
 use Rattle.std.specs.declared.cmp.Ordering.{Ordering}
 use Rattle.std.specs.declared.cmp.Ordering.TheVariants.{Less, Equal, Greater}
 use Rattle.std.specs.List.{list_any}
@@ -17,14 +17,7 @@ use Rattle.sqlite_rules.specs.declared.error.Rowids.TheVariants.{Chosen}
 use Rattle.hosts_sql.specs.Shown.{host_of}
 use Rattle.hosts_sql.specs.Own.{is_blob, is_host, AreOwn}
 use Rattle.hosts_sql.proofs.OwnIds.{own_put}
-
-pub and_left : (a b : Bool) → (a && b) ≡ true → a ≡ true
-and_left true b h = refl
-and_left false b h = absurd (true≢false (sym h))
-
-pub and_right : (a b : Bool) → (a && b) ≡ true → b ≡ true
-and_right true b h = h
-and_right false b h = absurd (true≢false (sym h))
+use Rattle.std.specs.Cmp.{first_so, second_so}
 
 -- ---- in any order
 
@@ -43,8 +36,8 @@ put_row_moves new (r ∷ rs) free =
 pub put_all_moves : (rows news : List Row) → are_fresh rows news ≡ true → IsPermutation (news ++ rows) (put_all rows news)
 put_all_moves rows [] fresh = IsPermutation-refl rows
 put_all_moves rows (n ∷ ns) fresh =
-    let free = not-true (is_taken rows n) (and_left (not (is_taken rows n)) (are_fresh (put_row n rows) ns) fresh) in
-    let rest = put_all_moves (put_row n rows) ns (and_right (not (is_taken rows n)) (are_fresh (put_row n rows) ns) fresh) in
+    let free = not-true (is_taken rows n) (first_so (not (is_taken rows n)) (are_fresh (put_row n rows) ns) fresh) in
+    let rest = put_all_moves (put_row n rows) ns (second_so (not (is_taken rows n)) (are_fresh (put_row n rows) ns) fresh) in
     let first : IsPermutation (n ∷ (ns ++ rows)) (ns ++ n ∷ rows) = IsPermutation-sym (ns ++ n ∷ rows) (n ∷ (ns ++ rows)) (IsPermutation-middle ns n rows) in
     let second : IsPermutation (ns ++ n ∷ rows) (ns ++ put_row n rows) = IsPermutation-append ns ns (n ∷ rows) (put_row n rows) (IsPermutation-refl ns) (put_row_moves n rows free) in
     IsPermutation-trans (n ∷ (ns ++ rows)) (ns ++ n ∷ rows) (put_all (put_row n rows) ns) first (IsPermutation-trans (ns ++ n ∷ rows) (ns ++ put_row n rows) (put_all (put_row n rows) ns) second rest)
@@ -54,13 +47,9 @@ put_all_moves rows (n ∷ ns) fresh =
 pub put_all_own : (rows news : List Row) → are_fresh rows news ≡ true → list_any (λ r. not (is_host r)) news ≡ false → AreOwn is_host rows → AreOwn is_host (put_all rows news)
 put_all_own rows [] fresh fit own = own
 put_all_own rows (n ∷ ns) fresh fit own =
-    let free = not-true (is_taken rows n) (and_left (not (is_taken rows n)) (are_fresh (put_row n rows) ns) fresh) in
-    let here = fits (is_host n) (or_parts (not (is_host n)) (list_any (λ r. not (is_host r)) ns) fit).0 in
-    put_all_own (put_row n rows) ns (and_right (not (is_taken rows n)) (are_fresh (put_row n rows) ns) fresh) (or_parts (not (is_host n)) (list_any (λ r. not (is_host r)) ns) fit).1 (own_put is_host n rows here free own)
-  where
-    fits : (b : Bool) → not b ≡ false → b ≡ true
-    fits true h = refl
-    fits false h = absurd (true≢false h)
+    let free = not-true (is_taken rows n) (first_so (not (is_taken rows n)) (are_fresh (put_row n rows) ns) fresh) in
+    let here = not-false (is_host n) (or_parts (not (is_host n)) (list_any (λ r. not (is_host r)) ns) fit).0 in
+    put_all_own (put_row n rows) ns (second_so (not (is_taken rows n)) (are_fresh (put_row n rows) ns) fresh) (or_parts (not (is_host n)) (list_any (λ r. not (is_host r)) ns) fit).1 (own_put is_host n rows here free own)
 
 -- ---- numbered
 
@@ -93,7 +82,7 @@ hosts_fit rows [] named ids = refl
 hosts_fit rows (s ∷ ss) named ids =
     let new = with_rowid Chosen rows s in
     let more = numbered Chosen (put_row new rows) ss in
-    let id = and_left (is_int (rowid new)) (have_rowids more) ids in
+    let id = first_so (is_int (rowid new)) (have_rowids more) ids in
     let here : not (has_name new) ≡ false = ap not (name_numbered rows s) ∙ (or_parts (not (has_name s)) (list_any (λ x. not (has_name x)) ss) named).0 in
-    let rest = hosts_fit (put_row new rows) ss (or_parts (not (has_name s)) (list_any (λ x. not (has_name x)) ss) named).1 (and_right (is_int (rowid new)) (have_rowids more) ids) in
+    let rest = hosts_fit (put_row new rows) ss (or_parts (not (has_name s)) (list_any (λ x. not (has_name x)) ss) named).1 (second_so (is_int (rowid new)) (have_rowids more) ids) in
     ap (λ b. not (b && has_name new) || list_any (λ r. not (is_host r)) more) id ∙ ap (λ b. b || list_any (λ r. not (is_host r)) more) here ∙ rest

@@ -38,6 +38,7 @@ use Rattle.hosts_sql.proofs.Permuted.{same_entries}
 use Rattle.hosts_sql.proofs.Places.{reads_tree}
 use Rattle.hosts_sql.proofs.Rows.{version_is, listed_as_tables}
 use Rattle.hosts_sql.proofs.Watch.{watch_exact, watch_total}
+use Rattle.std.proofs.lemmas.List.Concat.{flat_map_single}
 
 -- all rows of one table
 abbrev pub query : ℕ → List Term → List (Term × Key) → Query
@@ -146,10 +147,6 @@ tells sql db mid new rows at plain h q names is unlisted =
 pub Tells-alike : (db : Database) (sql text : List ℕ) (rows found : List Row) → sql ≡ text → found ≡ rows → Tells sql db rows → Tells text db found
 Tells-alike db sql text rows found e i told = subst (λ t. Tells t db found) e (subst (Tells sql db) (sym i) told)
 
-pub each_alone : {A B : Type 0} (f : A → B) (xs : List A) → flat_map (λ x. f x ∷ []) xs ≡ map f xs
-each_alone f [] = refl
-each_alone f (x ∷ xs) = ap (λ ys. f x ∷ ys) (each_alone f xs)
-
 pub map_twice : {A B C : Type 0} (f : A → B) (g : B → C) (xs : List A) → map g (map f xs) ≡ map (λ x. g (f x)) xs
 map_twice f g [] = refl
 map_twice f g (x ∷ xs) = ap (λ ys. g (f x) ∷ ys) (map_twice f g xs)
@@ -169,7 +166,7 @@ answer_is table terms order db rows a staged =
 -- all rows of a table, where a text shows them
 all_rows : (db : Database) (sql : List ℕ) (table : ℕ) (terms : List Term) (order : List (Term × Key)) (names : List (List ℕ)) (rows : List Row) → overlay db.trees [] table ≡ db.trees table → Means db.schema sql (query table terms order) names → Tells sql db rows
     → IsPermutation (map (λ row. eval_all terms (env_of row)) (db.trees table)) rows
-all_rows db sql table terms order names rows base means h = let a = (h _ _ means.command means.unlisted).answer Null in answer_is table terms order db.trees rows a (a.grouped ∙ ap (flat_map (λ row. env_of row ∷ [])) base ∙ each_alone env_of (db.trees table))
+all_rows db sql table terms order names rows base means h = let a = (h _ _ means.command means.unlisted).answer Null in answer_is table terms order db.trees rows a (a.grouped ∙ ap (flat_map (λ row. env_of row ∷ [])) base ∙ flat_map_single env_of (db.trees table))
 
 pub reads_own : (version : Version) (db : Database) (rows : List Row) → IsHostSchema version db.schema → Tells read_own_text db rows → IsPermutation (map own_shown (db.trees 0)) rows
 reads_own version db rows is h = all_rows db read_own_text 0 own_terms [] own_names rows refl (own_means version db.schema is) h

@@ -11,7 +11,7 @@ use Rattle.sqlite_schema.specs.Rules.{are_typed, are_present, is_of, has_compute
 use Rattle.sqlite_trees.specs.View.{is_int}
 use Rattle.hosts_sql.specs.Own.{is_blob}
 use Rattle.hosts_sql.specs.Tables.{first_hosts_columns, first_hosts_table}
-use Rattle.hosts_sql.proofs.Moved.{and_left, and_right}
+use Rattle.std.specs.Cmp.{first_so, second_so}
 
 -- a name in bytes and two numbers
 pub record IsTyped (row : Row) : Type 0 where
@@ -41,9 +41,9 @@ record HasAll (row : Row) : Type 0 where
 
 has_all : (row : Row) → are_present None 0 first_hosts_columns row ≡ true → HasAll row
 has_all row h =
-    let a = and_right (not (is_null (column row 1))) _ h in
-    let b = and_right (not (is_null (column row 2))) _ a in
-    record { name = not-true _ (and_left (not (is_null (column row 1))) _ h); epoch = not-true _ (and_left (not (is_null (column row 2))) _ a); seen = not-true _ (and_left (not (is_null (column row 3))) _ b) }
+    let a = second_so (not (is_null (column row 1))) _ h in
+    let b = second_so (not (is_null (column row 2))) _ a in
+    record { name = not-true _ (first_so (not (is_null (column row 1))) _ h); epoch = not-true _ (first_so (not (is_null (column row 2))) _ a); seen = not-true _ (first_so (not (is_null (column row 3))) _ b) }
 
 typed_row : (row : Row) → are_typed None 0 first_hosts_columns (drop 1 row) ≡ true → HasAll row → IsTyped row
 typed_row [] t p = absurd (true≢false p.seen)
@@ -51,12 +51,12 @@ typed_row (i ∷ []) t p = absurd (true≢false p.seen)
 typed_row (i ∷ a ∷ []) t p = absurd (true≢false p.seen)
 typed_row (i ∷ a ∷ b ∷ []) t p = absurd (true≢false p.seen)
 typed_row (i ∷ a ∷ b ∷ c ∷ []) t p =
-    let more = and_right (is_of kind.Blob a) _ t in
-    let last = and_right (is_of kind.Integer b) _ more in
-    record { name = is_bytes a (and_left (is_of kind.Blob a) _ t) p.name; epoch = is_number b (and_left (is_of kind.Integer b) _ more) p.epoch; seen = is_number c (and_left (is_of kind.Integer c) _ last) p.seen }
+    let more = second_so (is_of kind.Blob a) _ t in
+    let last = second_so (is_of kind.Integer b) _ more in
+    record { name = is_bytes a (first_so (is_of kind.Blob a) _ t) p.name; epoch = is_number b (first_so (is_of kind.Integer b) _ more) p.epoch; seen = is_number c (first_so (is_of kind.Integer c) _ last) p.seen }
 typed_row (i ∷ a ∷ b ∷ c ∷ d ∷ more) t p =
-    absurd (true≢false (sym (and_right (is_of kind.Integer c) false (and_right (is_of kind.Integer b) (is_of kind.Integer c && false) (and_right (is_of kind.Blob a) (is_of kind.Integer b && (is_of kind.Integer c && false)) t)))))
+    absurd (true≢false (sym (second_so (is_of kind.Integer c) false (second_so (is_of kind.Integer b) (is_of kind.Integer c && false) (second_so (is_of kind.Blob a) (is_of kind.Integer b && (is_of kind.Integer c && false)) t)))))
 
 pub typed_rows : (rows : List Row) → AllByRecursion (λ row. (are_typed None 0 first_hosts_columns (drop 1 row) && has_computed first_hosts_table row) ≡ true) rows → AllByRecursion (λ row. are_present None 0 first_hosts_columns row ≡ true) rows → AllByRecursion IsTyped rows
 typed_rows [] t p = tt
-typed_rows (r ∷ rs) t p = (typed_row r (and_left (are_typed None 0 first_hosts_columns (drop 1 r)) _ t.0) (has_all r p.0), typed_rows rs t.1 p.1)
+typed_rows (r ∷ rs) t p = (typed_row r (first_so (are_typed None 0 first_hosts_columns (drop 1 r)) _ t.0) (has_all r p.0), typed_rows rs t.1 p.1)

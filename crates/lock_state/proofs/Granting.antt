@@ -1,9 +1,8 @@
 -- A waiter is granted, and what settle comes to then.
-use Rattle.std.proofs.Common.{◌≡◌, ◌↔◌, ℕ, suc, zero, ◌+◌, ◌<◌, ◌≤◌, ◌^◌, Bool, true, false, not, ◌&&◌, ◌||◌, List, [], ◌∷◌, ◌++◌, length, refl, sym, ap, ◌∙◌, subst, Option, Some, None, unwrap_or, Result, Ok, Err, IsErr, IsTrue, OnOk, arith}
+use Rattle.std.proofs.Common.{◌≡◌, ◌↔◌, ℕ, suc, zero, ◌+◌, ◌<◌, ◌≤◌, ◌^◌, Bool, true, false, not, ◌&&◌, ◌||◌, List, [], ◌∷◌, ◌++◌, length, refl, sym, ap, ◌∙◌, subst, Option, Some, None, Result, Ok, Err, IsErr, IsTrue, OnOk, arith}
 use Rattle.std.specs.Option.{IsSome}
-use Rattle.std.proofs.lemmas.Bool.{false≢true}
 use Rattle.definitions.specs.Bytes.{is_any, first_that, without_first}
-use Rattle.definitions.specs.Owners.{Owner, Process}
+use Rattle.definitions.specs.Owners.{Owner}
 use Rattle.definitions.specs.Outgoing.{Outgoing, due_now}
 use Rattle.definitions.specs.Settings.{Setting, setting_of}
 use Rattle.definitions.specs.Quotas.{Quotas, exceeds}
@@ -22,8 +21,10 @@ use Rattle.blocked_list.specs.Ready.{SettingFreesLaw}
 use Rattle.lock_state.specs.declared.unsettled.Unsettled.{Unsettled}
 use Rattle.lock_state.specs.ReadyAt.{IsReadyAt, after_grant}
 use Rattle.lock_state.specs.Whole.{IsWhole, AreWaitersShown}
-use Rattle.lock_state.proofs.ReadyAt.{none_first, ready_granted}
+use Rattle.lock_state.proofs.ReadyAt.{ready_granted}
 use Rattle.lock_state.proofs.Shown.{shown_more, first_shown, waiters_without_first}
+use Rattle.definitions.proofs.Firsts.{first_that-none}
+use Rattle.blocked_list.proofs.Waits.{named_is}
 
 -- ---- settle
 
@@ -33,7 +34,7 @@ rest_within (suc n) limits w e = ap (λ (o : Option Waiter). elim o [ None ↦ w
 
 -- where nobody is ready the world is at rest
 pub settled_rest : (w : World) → is_any (is_ready_in the_limits w) w.waiters ≡ false → settled the_limits w ≡ w
-settled_rest w e = rest_within (length w.waiters) the_limits w (none_first (is_ready_in the_limits w) w.waiters e)
+settled_rest w e = rest_within (length w.waiters) the_limits w (first_that-none (is_ready_in the_limits w) w.waiters e)
 
 -- the first grant leads to the same rest, and one waits less
 module _ (w : World) (x : Waiter) (e : first_ready the_limits w ≡ Some x) where
@@ -54,10 +55,6 @@ module _ (w : World) (x : Waiter) (e : first_ready the_limits w ≡ Some x) wher
 
 -- ---- the grant
 
-some_named : (o : Option Owner) → IsSome o → o ≡ Some (unwrap_or o (Process 0))
-some_named None h = absurd (false≢true h)
-some_named (Some x) h = refl
-
 both : (a b q : Bool) → (not a && not (b || q)) ≡ true → b ≡ false
 both true b q e = cc
 both false true q e = cc
@@ -72,7 +69,7 @@ module _ (names : List (Option Owner)) (settings : List Setting) (slots left : T
   owner = owner_at (named names) waiting.wanted.owner
 
   pub is_named : named names waiting.wanted.owner ≡ Some owner
-  is_named = some_named (named names waiting.wanted.owner) one
+  is_named = named_is (named names) waiting.wanted.owner one
 
   room : is_short 65536 settings ≡ false
   room =

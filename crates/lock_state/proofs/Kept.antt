@@ -2,7 +2,7 @@
 use Rattle.std.proofs.Common.{◌≡◌, ◌≢◌, ℕ, ◌==◌, ◌||◌, Bool, true, false, List, [], ◌∷◌, length, refl, sym, ap, ◌∙◌, subst, Option, Some, None, unwrap_or, arith}
 use Rattle.std.specs.Option.{IsSome}
 use Rattle.std.specs.List.{list_any}
-use Rattle.std.proofs.lemmas.Bool.{false≢true, or_right}
+use Rattle.std.proofs.lemmas.Bool.{false≢true, or_right, or_parts}
 use Rattle.definitions.specs.Bytes.{Bytes, is_any}
 use Rattle.definitions.specs.Owners.{Owner, Process, is_of_host, same_owner}
 use Rattle.definitions.proofs.OwnerLaws.{same_owner-Decides}
@@ -20,15 +20,12 @@ use Rattle.lock_state.specs.declared.unsettled.Unsettled.{Unsettled}
 use Rattle.lock_state.specs.declared.unsettled.Unsettled.TheVariants.{Anywhere}
 use Rattle.lock_state.specs.ReadyAt.{IsReadyAt}
 use Rattle.lock_state.specs.Whole.{IsWhole, AreWaitersShown}
-use Rattle.lock_state.proofs.Shown.{none_passes, shown_without, waiters_without}
+use Rattle.lock_state.proofs.Shown.{shown_without, waiters_without}
+use Rattle.definitions.proofs.Lists.{none_after}
 
 pub some_of : {X : Type 0} (o : Option X) → IsSome o → (x : X) × (o ≡ Some x)
 some_of None h = absurd (false≢true h)
 some_of (Some x) h = (x, refl)
-
-neither : (a b : Bool) → (a || b) ≡ false → (a ≡ false) × (b ≡ false)
-neither true b e = cc
-neither false b e = (refl, e)
 
 -- each waiter's number stays with its owner
 abbrev pub KeepsWaiters : List (Option Owner) → List (Option Owner) → List Waiting → Type 0
@@ -47,7 +44,7 @@ module _ (names after : List (Option Owner)) where
   kept_strangers name keep [] a e = tt
   kept_strangers name keep (w ∷ ws) a e =
       let s = some_of (named names w.wanted.owner) a.0 in
-      let f = neither (is_of_host name (owner_at (named names) w.wanted.owner)) (is_any (λ (w : Waiter). is_of_host name w.request.owner) (waiters_by (named names) ws)) e in
+      let f = or_parts (is_of_host name (owner_at (named names) w.wanted.owner)) (is_any (λ (w : Waiter). is_of_host name w.request.owner) (waiters_by (named names) ws)) e in
       (keep w.wanted.owner s.0 (sym (ap (λ o. is_of_host name (unwrap_or o (Process 0))) s.1) ∙ f.0) s.1 ∙ sym s.1, kept_strangers name keep ws a.1 f.1)
 
   -- nobody of the number waits
@@ -55,7 +52,7 @@ module _ (names after : List (Option Owner)) where
   kept_others k y distinct is keep [] a e = tt
   kept_others k y distinct is keep (w ∷ ws) a e =
       let s = some_of (named names w.wanted.owner) a.0 in
-      let f = neither (w.wanted.owner == k) (list_any (λ (w : Waiting). w.wanted.owner == k) ws) e in
+      let f = or_parts (w.wanted.owner == k) (list_any (λ (w : Waiting). w.wanted.owner == k) ws) e in
       let other : s.0 ≢ y = λ same. differ w.wanted.owner k f.0 (distinct.once w.wanted.owner k y (s.1 ∙ ap Some same) is) in
       (keep w.wanted.owner s.0 other s.1 ∙ sym s.1, kept_others k y distinct is keep ws a.1 f.1)
     where
@@ -91,7 +88,7 @@ module _ (names after : List (Option Owner)) (name : Bytes) (settings : List Set
   of_host = λ (w : Waiter). is_of_host name w.request.owner
 
   kept_left : KeepsWaiters names after left.waiters
-  kept_left = kept_strangers names after name keep left.waiters in_use (rw by (none_passes of_host (waiters_by (named names) slots.waiters)))
+  kept_left = kept_strangers names after name keep left.waiters in_use (rw by (none_after of_host (waiters_by (named names) slots.waiters)))
 
   pub waiters_left : waiters_by (named after) left.waiters ≡ without_host_waiters name (waiters_by (named names) slots.waiters)
   waiters_left = waiters_kept names after left.waiters kept_left ∙ by

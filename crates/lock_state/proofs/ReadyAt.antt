@@ -1,5 +1,5 @@
 -- Where somebody may be ready, through the changes.
-use Rattle.std.proofs.Common.{◌≡◌, Bool, true, false, not, ◌&&◌, ◌||◌, cond, List, [], ◌∷◌, ◌++◌, refl, sym, ap, ◌∙◌, subst, Some, None, Result, Ok, Err, OnOk, OnErr}
+use Rattle.std.proofs.Common.{◌≡◌, Bool, true, false, not, ◌&&◌, ◌||◌, cond, List, [], ◌∷◌, ◌++◌, refl, sym, ap, ◌∙◌, subst, Some, Result, Ok, Err, OnOk, OnErr}
 use Rattle.std.proofs.lemmas.Bool.{false≢true, or_parts, and_right}
 use Rattle.std.proofs.lemmas.Option.{none-some, same_Some}
 use Rattle.std.proofs.lemmas.Slice.Eq.{bytes_eq-Decides}
@@ -11,43 +11,18 @@ use Rattle.definitions.specs.Settings.{Setting, without_owner_on}
 use Rattle.definitions.specs.Starts.{is_short}
 use Rattle.definitions.specs.Waits.{Waiter}
 use Rattle.definitions.specs.World.{is_ready, the_limits}
-use Rattle.definitions.proofs.Lists.{first_found}
+use Rattle.definitions.proofs.Lists.{first_found, none_by, none_more, none_left}
 use Rattle.definitions.proofs.QuotaLaws.{AreKept, not_readied, none_readied}
 use Rattle.blocked_list.specs.Quotas.{is_limited}
 use Rattle.blocked_list.specs.Ready.{is_ready_off, SettingFreesLaw, CloseFreesLaw}
 use Rattle.lock_state.specs.declared.unsettled.Unsettled.{Unsettled}
 use Rattle.lock_state.specs.declared.unsettled.Unsettled.TheVariants.{Nowhere, On, Anywhere}
 use Rattle.lock_state.specs.ReadyAt.{IsReadyAt, with_file, after_change, after_grant}
+use Rattle.definitions.proofs.Firsts.{first_that-none}
 
 -- ---- where none passes a test
 
 module _ {X : Type 0} (p : X → Bool) where
-  pub none_first : (xs : List X) → is_any p xs ≡ false → first_that p xs ≡ None
-  none_first [] e = refl
-  none_first (x ∷ xs) e =
-      let n = or_parts (p x) (is_any p xs) e in
-      ap (λ b. cond b (Some x) (first_that p xs)) n.0 ∙ none_first xs n.1
-
-  none_by : (q : X → Bool) (xs : List X) → ((x : X) → p x ≡ false → q x ≡ false) → is_any p xs ≡ false → is_any q xs ≡ false
-  none_by q [] f e = refl
-  none_by q (x ∷ xs) f e =
-      let n = or_parts (p x) (is_any p xs) e in
-      ap (λ b. b || is_any q xs) (f x n.0) ∙ none_by q xs f n.1
-
-  none_more : (xs : List X) (x : X) → is_any p xs ≡ false → p x ≡ false → is_any p (xs ++ x ∷ []) ≡ false
-  none_more [] x e h = ap (λ b. b || false) h
-  none_more (y ∷ xs) x e h =
-      let n = or_parts (p y) (is_any p xs) e in
-      ap (λ b. b || is_any p (xs ++ x ∷ [])) n.0 ∙ none_more xs x n.1 h
-
-  none_without : (test : X → Bool) (xs : List X) → is_any p xs ≡ false → is_any p (without test xs) ≡ false
-  none_without test [] e = refl
-  none_without test (x ∷ xs) e = let n = or_parts (p x) (is_any p xs) e in go (test x) n.0 (none_without test xs n.1)
-    where
-      go : (b : Bool) → p x ≡ false → is_any p (without test xs) ≡ false → is_any p (cond b (without test xs) (x ∷ without test xs)) ≡ false
-      go true h more = more
-      go false h more = ap (λ c. c || is_any p (without test xs)) h ∙ more
-
   none_without_first : (test : X → Bool) (xs : List X) → is_any p xs ≡ false → is_any p (without_first test xs) ≡ false
   none_without_first test [] e = refl
   none_without_first test (x ∷ xs) e = let n = or_parts (p x) (is_any p xs) e in go (test x) n.0 n.1 (none_without_first test xs n.1)
@@ -87,8 +62,8 @@ no_off file quotas settings ws e =
 
 -- fewer wait
 pub ready_without : (u : Unsettled) (quotas : Quotas) (settings : List Setting) (test : Waiter → Bool) (ws : List Waiter) → IsReadyAt u quotas settings ws → IsReadyAt u quotas settings (without test ws)
-ready_without Nowhere quotas settings test ws e = none_without (is_ready the_limits quotas settings) test ws e
-ready_without (On file) quotas settings test ws e = none_without (is_ready_off file quotas settings) test ws e
+ready_without Nowhere quotas settings test ws e = none_left (is_ready the_limits quotas settings) test ws e
+ready_without (On file) quotas settings test ws e = none_left (is_ready_off file quotas settings) test ws e
 ready_without Anywhere quotas settings test ws e = tt
 
 pub ready_without_first : (u : Unsettled) (quotas : Quotas) (settings : List Setting) (test : Waiter → Bool) (ws : List Waiter) → IsReadyAt u quotas settings ws → IsReadyAt u quotas settings (without_first test ws)
@@ -155,7 +130,7 @@ pub ready_granted : (law : SettingFreesLaw) (u : Unsettled) (held : Bool) (quota
     → IsReadyAt (after_grant u held) quotas (settings ++ s ∷ []) (without_first (is_ready the_limits quotas settings) ws)
 ready_granted law u true quotas settings s ws x ranges enough is f same e = tt
 ready_granted law Nowhere false quotas settings s ws x ranges enough is f same e =
-    absurd (none-some x (sym (none_first (is_ready the_limits quotas settings) ws e) ∙ f))
+    absurd (none-some x (sym (first_that-none (is_ready the_limits quotas settings) ws e) ∙ f))
 ready_granted law (On file) false quotas settings s ws x ranges enough free f same e =
     let ready = (first_found (is_ready the_limits quotas settings) ws x f).passes in
     let off = not_first (is_ready_off file quotas settings) (is_ready the_limits quotas settings) ws x e f in

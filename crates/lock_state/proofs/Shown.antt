@@ -1,7 +1,7 @@
 -- Which owners can be shown, through the changes of a list.
-use Rattle.std.proofs.Common.{◌≡◌, Bool, true, false, cond, List, [], ◌∷◌, ◌++◌, refl, Some, Result, Ok, Err, OnOk, OnErr}
+use Rattle.std.proofs.Common.{◌≡◌, Bool, true, false, cond, List, [], ◌∷◌, ◌++◌, Some, Result, Ok, Err, OnOk, OnErr}
 use Rattle.std.proofs.lemmas.Option.{none-some, same_Some}
-use Rattle.definitions.specs.Bytes.{is_any, without, without_first, first_that}
+use Rattle.definitions.specs.Bytes.{without, without_first, first_that}
 use Rattle.definitions.specs.Settings.{Setting}
 use Rattle.definitions.specs.Waits.{Waiter}
 use Rattle.definitions.proofs.Lists.{have_without, have_without_first}
@@ -30,15 +30,6 @@ first_shown test (y ∷ waiters) x a e = go (test y) e (first_shown test waiters
     go : (b : Bool) → cond b (Some y) (first_that test waiters) ≡ Some x → (first_that test waiters ≡ Some x → IsShown x.request.owner) → IsShown x.request.owner
     go true f more = is x (same_Some y x f)
     go false f more = more f
-
--- what is taken out by a test passes it no more
-pub none_passes : {X : Type 0} (test : X → Bool) (xs : List X) → is_any test (without test xs) ≡ false
-none_passes test [] = refl
-none_passes test (x ∷ xs) = go (test x) refl (none_passes test xs)
-  where
-    go : (b : Bool) → test x ≡ b → is_any test (without test xs) ≡ false → is_any test (cond b (without test xs) (x ∷ without test xs)) ≡ false
-    go true e more = more
-    go false e more = rw e more
 
 -- a setting that is made or refused
 pub shown_set : {A E : Type 0} (r : Result A E) (settings left : List Setting) (s : Setting) → OnOk r (left ≡ settings ++ s ∷ []) → OnErr r (left ≡ settings) → AreShown settings → CanShow s → AreShown left

@@ -17,6 +17,7 @@ use Rattle.daemon_core.specs.Sending.{Sending as Sent}
 use Rattle.daemon_core.specs.Outputs.{sent_on, refusal_of}
 use Rattle.daemon_core.specs.Hub.{Hub, SendStep}
 use Rattle.pipe_loops.specs.Answered.{NothingDue, SendStarves}
+use Rattle.daemon_core.proofs.SameRun.{same-hub}
 
 -- how many calls are due
 abbrev pub due_count : List Outgoing → ℕ
@@ -97,13 +98,10 @@ module _ (old new : Hub) (out : Outputs) (step : SendStep old out new) where
   pub finds_none : out.sent ≡ None → out.refusal ≡ None → (new ≡ old) × NothingDue new
   finds_none none agreed = go ended_here
     where
-      same : (a b : Hub) → a.state ≡ b.state → a.refusals ≡ b.refusals → a.links ≡ b.links → a ≡ b
-      same a b s r l = ap (λ x. record { state = x; refusals = a.refusals; links = a.links }) s ∙ ap (λ x. record { state = b.state; refusals = x; links = a.links }) r ∙ ap (λ x. record { state = b.state; refusals = b.refusals; links = x }) l
-
       go : SendEnds old.state (view_of_outcome out.outcome) (view_of_stored out.store) step.given new.state → (new ≡ old) × NothingDue new
       go (inl h) = let r : None ≡ refusal_of IsStarved = sym agreed ∙ refusal_is ∙ ap refusal_of h.0 in cc
       go (inr (inl h)) = (
-        same new old h.2 (step.refusals ∙ asked-none out.store old.refusals h.3) step.links,
+        same-hub new old h.2 (step.refusals ∙ asked-none out.store old.refusals h.3) step.links,
         ap (λ (s : State). next_due s.world.calls) h.2 ∙ h.1,
       )
       go (inr (inr h)) = let r : None ≡ sent_on (Gives h.0.number h.0.letter) = sym none ∙ sent_is ∙ ap sent_on h.1 in cc

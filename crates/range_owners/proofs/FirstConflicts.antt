@@ -1,13 +1,12 @@
 -- Runs by number are the runs by owner, and so are the first conflicts.
-use Rattle.std.proofs.Common.{◌≡◌, ◌≢◌, ℕ, ◌+◌, ◌<◌, ◌≤◌, Bool, true, false, cond, List, [], ◌∷◌, refl, sym, ap, ◌∙◌, subst, inl, inr, Option, Some, None, is_some, arith}
+use Rattle.std.proofs.Common.{◌≡◌, ◌≢◌, ℕ, ◌+◌, ◌<◌, ◌≤◌, true, false, List, refl, sym, ap, ◌∙◌, subst, inl, inr, Option, Some, None, is_some, arith}
 use Rattle.std.proofs.lemmas.Bool.{true≢false}
 use Rattle.std.proofs.lemmas.Bool.Decides.{nat_tests}
 use Rattle.std.proofs.lemmas.Cmp.{tied_itself, nat_list_cmp_total}
 use Rattle.std.specs.Ordering.{nat_cmp, ordering_then, ordering_reverse, is_gt}
 use Rattle.std.specs.declared.cmp.Ordering.{Ordering}
 use Rattle.std.specs.declared.cmp.Ordering.TheVariants.{Less, Equal, Greater}
-use Rattle.std.proofs.lemmas.Option.{same_Some}
-use Rattle.definitions.specs.Bytes.{Bytes, bytes_cmp, first_that, Holds}
+use Rattle.definitions.specs.Bytes.{Bytes, bytes_cmp, Holds}
 use Rattle.definitions.specs.Owners.{Owner, owner_cmp, same_owner}
 use Rattle.definitions.specs.Settings.{Mode, Shared, Exclusive, Setting, Request, mode_at}
 use Rattle.definitions.specs.Conflict.{excludes, HasConflict}
@@ -31,6 +30,7 @@ use Rattle.range_table.specs.Modes.{view_of_mode, view_of_held_mode}
 use Rattle.range_owners.specs.Stands.{Stands, OrdersNames, RunsLaw, FirstConflictLaw}
 use Rattle.range_owners.proofs.Words.{some_none, file_same, owner_test}
 use Rattle.range_owners.proofs.Counting.{held_once, starts_same}
+use Rattle.definitions.proofs.Lists.{holds_first, first_found}
 
 abbrev pub of_fields : Bytes → Owner → ℕ → ℕ → Mode → Run
 of_fields file owner first last mode = record { file = file; owner = owner; first = first; last = last; mode = mode }
@@ -115,14 +115,6 @@ module _ (names : Names) (held : Held) (settings : List Setting) (h : Stands nam
 
 -- ---- conflicts
 
-first_holds : {X : Type 0} (p : X → Bool) (xs : List X) (x : X) → first_that p xs ≡ Some x → Holds xs x × (p x ≡ true)
-first_holds p [] x e = absurd (some_none x (sym e))
-first_holds p (y ∷ ys) x e = go (p y) refl e (first_holds p ys x)
-  where
-    go : (b : Bool) → p y ≡ b → cond b (Some y) (first_that p ys) ≡ Some x → (first_that p ys ≡ Some x → Holds ys x × (p x ≡ true)) → Holds (y ∷ ys) x × (p x ≡ true)
-    go true i k more = let s = same_Some y x k in (inl s, ap p (sym s) ∙ i)
-    go false i k more = let j = more k in (inr j.0, j.1)
-
 neither_above : (a b : Ordering) → b ≡ ordering_reverse a → is_gt a ≡ false → b ≢ Greater → a ≡ Equal
 neither_above Less b e f g = absurd (g e)
 neither_above Equal b e f g = refl
@@ -191,12 +183,11 @@ module _ (names : Names) (held : Held) (settings : List Setting) (wanted : Numbe
       found_over : IsSameRun names q d
       found_over =
           let x = owner_of names held settings h q f.run in
-          let i = first_holds (stands_against r) (runs settings) d k in
-          let is = runs_law settings d i.0 in
+          let is = runs_law settings d (holds_first (stands_against r) (runs settings) d k) in
           let n = number_of names held settings h d is in
           let p : NumberRun = number_run n.0 d in
           let back = run_back names held settings h d n.0 n.1 is in
-          let c = against_back d n.0 n.1 i.1 in
+          let c = against_back d n.0 n.1 (first_found (stands_against r) (runs settings) d k).passes in
           let t : Run = view_of_run x.0 q in
           let listed = run_listed names held settings h t (run_over names held settings h q x.0 x.1 f.run) in
           let low = first_conflict_law.first settings r d t k listed (sym (against_same q x.0 x.1) ∙ f.in_way) in

@@ -6,11 +6,10 @@ use Rattle.std.proofs.lemmas.List.{length-map}
 use Rattle.std.specs.List.{AllByRecursion}
 use Rattle.std.specs.Ordering.{is_lt}
 use Rattle.std.specs.declared.cmp.Ordering.{Ordering}
-use Rattle.std.specs.declared.cmp.Ordering.TheVariants.{Less, Equal, Greater}
+use Rattle.std.specs.declared.cmp.Ordering.TheVariants.{Less}
 use Rattle.std.proofs.lemmas.Option.{same_Some}
-use Rattle.definitions.specs.Bytes.{Bytes, Holds, IsBelowAll, IsAscending}
-use Rattle.definitions.specs.Owners.{Owner}
-use Rattle.definitions.specs.Settings.{Mode, Setting}
+use Rattle.definitions.specs.Bytes.{Holds, IsBelowAll, IsAscending}
+use Rattle.definitions.specs.Settings.{Setting}
 use Rattle.definitions.specs.Starts.{Run, Start, IsRun, start_of, start_cmp, starts, runs, run_at, used}
 use Rattle.definitions.proofs.Orders.{below_of}
 use Rattle.definitions.proofs.StartLaws.{start_total, starts_law}
@@ -23,6 +22,7 @@ use Rattle.range_owners.specs.Same.{IsSameRun, view_of_run}
 use Rattle.range_owners.specs.Stands.{Stands, RunOrderLaw}
 use Rattle.range_owners.proofs.Words.{some_none}
 use Rattle.range_owners.proofs.FirstConflicts.{of_fields, run_over, run_listed, owner_of, runs_over}
+use Rattle.range_table.proofs.Orderings.{lt_is}
 
 -- ---- ascending lists with the same members are one
 
@@ -95,17 +95,12 @@ module _ (names : Names) (held : Held) (settings : List Setting) (h : Stands nam
         each t ts a b u (inl e) = subst (IsRun settings) e a
         each t ts a b u (inr i) = b u i
 
-  less_is : (o : Ordering) → is_lt o ≡ true → o ≡ Less
-  less_is Less e = refl
-  less_is Equal e = absurd (true≢false (sym e))
-  less_is Greater e = absurd (true≢false (sym e))
-
   order_same : (r s : NumberRun) (t u : Run) → IsSameRun names r t → IsSameRun names s u → comes_before (number_cmp names) r s ≡ is_lt (run_cmp t u)
   unfolding file_cmp
   order_same r s t u a b = rw (number_agrees names h.distinct r.owner s.owner t.owner u.owner a.owner b.owner, a.file, b.file, a.first, b.first) refl
 
   order_over : (r s : NumberRun) (t u : Run) → IsSameRun names r t → IsSameRun names s u → comes_before (number_cmp names) r s ≡ true → run_cmp t u ≡ Less
-  order_over r s t u a b c = less_is (run_cmp t u) (sym (order_same r s t u a b) ∙ c)
+  order_over r s t u a b c = lt_is (run_cmp t u) (sym (order_same r s t u a b) ∙ c)
 
   below_over : (r : NumberRun) (t : Run) (rs : List NumberRun) (ts : List Run) → IsSameRun names r t → Paired names rs ts → AllByRecursion (λ s. comes_before (number_cmp names) r s ≡ true) rs → IsBelowAll run_cmp t ts
   below_over r t [] [] a p c = tt

@@ -1,6 +1,6 @@
 -- Runs that ascend, and runs that have changed places.
 use Rattle.std.proofs.Common.{◌≡◌, ℕ, zero, suc, ◌-◌, ◌<◌, ◌≤◌, true, List, [], ◌∷◌, refl, sym, subst, inl, inr, arith, length, take, drop, slice_index_or}
-use Rattle.std.specs.List.{All, AllByRecursion}
+use Rattle.std.specs.List.{All}
 use Rattle.std.specs.List.Sorted.{IsPermutation}
 use Rattle.std.specs.Cmp.{IsTotalOrder}
 use Rattle.std.specs.declared.cmp.Ordering.{Ordering}
@@ -11,18 +11,14 @@ use Rattle.range_table.specs.Settings.{Held, IsIn, IsOrdered, AreRuns, comes_bef
 use Rattle.range_table.specs.Runs.{ascends}
 use Rattle.range_table.specs.declared.run.Run.{Run}
 use Rattle.range_table.proofs.Tests.{by_test}
-use Rattle.range_table.proofs.Ranks.{comes_trans}
+use Rattle.range_table.proofs.Ranks.{before_all}
 
 module _ (order : ℕ → ℕ → Ordering) (total : IsTotalOrder order) (exact : (a b : ℕ) → order a b ≡ Equal → a ≡ b) where
-  past : (r s : Run) (ss : List Run) → comes_before order r s ≡ true → AllByRecursion (λ t. comes_before order s t ≡ true) ss → AllByRecursion (λ t. comes_before order r t ≡ true) ss
-  past r s [] h k = tt
-  past r s (t ∷ ts) h k = (comes_trans order total exact r s t h k.0, past r s ts h k.1)
-
   pub ascends_ordered : (r : Run) (rs : List Run) → ascends order r rs ≡ true → IsOrdered order (r ∷ rs)
   ascends_ordered r [] h = (tt, tt)
   ascends_ordered r (s ∷ ss) h =
       by_test (comes_before order r s)
-      (λ t. let more = ascends_ordered s ss (rw t at h) in ((t, past r s ss t more.0), more))
+      (λ t. let more = ascends_ordered s ss (rw t at h) in ((t, before_all order total exact r s ss t more.0), more))
       (λ t. let f = rw t at h in absurd (cc))
 
   pub list_ordered : (rs : List Run) (x : Run) → 1 ≤ length rs → x ≡ slice_index_or rs 0 x → ascends order x (take (length rs - 1) (drop 1 rs)) ≡ true → IsOrdered order rs

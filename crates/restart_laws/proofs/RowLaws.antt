@@ -18,7 +18,6 @@ use Rattle.definitions.specs.Replay.{fits}
 use Rattle.definition_laws.specs.Asking.{hosts_after}
 use Rattle.definitions.specs.Uses.{new_pair}
 use Rattle.definitions.proofs.MoveLaws.{by_cond}
-use Rattle.definition_laws.proofs.CallLaws.{holds_first}
 use Rattle.definition_laws.proofs.StoreLaws.{store_law}
 use Rattle.definition_laws.proofs.StandingLaws.{shown_law}
 use Rattle.definition_laws.proofs.MonitoredLaws.{monitored_law}
@@ -26,6 +25,7 @@ use Rattle.definition_laws.proofs.SideSteps.{settle_keeps}
 use Rattle.hosts_lasting.proofs.Stays.{store_keeps}
 use Rattle.record_reading.specs.Readings.{IsReading, OneReading}
 use Rattle.restart_laws.specs.Rows.{monitored_by, tells_lock, telling_of, telling, PairHasRow, KeptHaveRows}
+use Rattle.definitions.proofs.Lists.{holds_first}
 
 -- ---- a row stays
 

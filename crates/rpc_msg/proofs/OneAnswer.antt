@@ -29,7 +29,7 @@ one_denied bytes (Success x) b p q = absurd p
 one_denied bytes Failure (Success y) p q = absurd q
 one_denied bytes Failure Failure p q = refl
 
-one_outcome : (bytes : List ℕ) (i j : ℕ) (a b : AnswerOutcome) → IsAnswerOf bytes i a → IsAnswerOf bytes j b → (i ≡ j) × (a ≡ b)
+pub one_outcome : (bytes : List ℕ) (i j : ℕ) (a b : AnswerOutcome) → IsAnswerOf bytes i a → IsAnswerOf bytes j b → (i ≡ j) × (a ≡ b)
 one_outcome bytes i j a b (inl p) (inl q) =
     let same = one_reply bytes i j 0 0 p.0 q.0 p.1 q.1 in
     let P : List ℕ → Type 0 = λ r. IsAcceptedOutcome r b in
@@ -56,7 +56,7 @@ no_denied : (bytes : List ℕ) (a : AnswerOutcome) → IsDeniedOutcome bytes a �
 no_denied bytes (Success x) p none = p
 no_denied bytes Failure p none = none p.2.text p.1 p.0 p.2.spelled p.2.parts
 
-either : (bytes : List ℕ) (xid : ℕ) (a : AnswerOutcome) → IsAnswerOf bytes xid a → IsNoAnswer bytes → ⊥
+pub either : (bytes : List ℕ) (xid : ℕ) (a : AnswerOutcome) → IsAnswerOf bytes xid a → IsNoAnswer bytes → ⊥
 either bytes xid a (inl p) none = no_accepted p.0 a p.2 (none.accepted xid p.0 p.1)
 either bytes xid a (inr p) none = no_denied p.0 a p.2 (none.denied xid p.0 p.1)
 

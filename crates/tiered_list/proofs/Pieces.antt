@@ -4,6 +4,8 @@ use Rattle.std.proofs.Math.Seq.{take-append-add, drop-append-add}
 use Rattle.std.proofs.lemmas.List.{get_or_append_left, get_or-append-add, take_at, length-take-le}
 use Rattle.std.specs.List.{AllByRecursion, concat, range_with_len}
 use Rattle.tiered_list.specs.Tiers.{AreTiers}
+use Rattle.std.proofs.lemmas.List.Folds.{concat-append}
+use Rattle.std.proofs.lemmas.List.FromFn.{length-range_with_len}
 
 abbrev pub Long : List (List ℕ) → Type 0
 Long ts = AllByRecursion (λ t. length t ≡ 256) ts
@@ -32,10 +34,6 @@ pub drop_tiers : (ts : List (List ℕ)) (b : ℕ) → Long ts → drop (256 * b)
 drop_tiers ts zero h = let e : 256 * 0 ≡ 0 = omega arith in ap (λ k. drop k (concat ts)) e
 drop_tiers [] (suc b) h = drop_nothing (256 * suc b)
 drop_tiers (t ∷ ts) (suc b) h = ap (λ k. drop k (t ++ concat ts)) (next t b h.0) ∙ drop-append-add t (concat ts) (256 * b) ∙ drop_tiers ts b h.1
-
-pub concat-append : (ts us : List (List ℕ)) → concat (ts ++ us) ≡ concat ts ++ concat us
-concat-append [] us = refl
-concat-append (t ∷ ts) us = ap (λ zs. t ++ zs) (concat-append ts us) ∙ sym (append_assoc t (concat ts) (concat us))
 
 pub long_at : (ts : List (List ℕ)) (b : ℕ) (d : List ℕ) → Long ts → b < length ts → length (get_or ts b d) ≡ 256
 long_at [] b d h l = absurd (omega arith)
@@ -110,10 +108,6 @@ range_append a (suc n) m =
     let f : suc n + m ≡ suc (n + m) = omega arith in
     ap (λ b. a ∷ (range_with_len (a + 1) n ++ range_with_len b m)) e ∙ ap (λ zs. a ∷ zs) (range_append (a + 1) n m) ∙ sym (ap (range_with_len a) f)
 
-length_range : (a n : ℕ) → length (range_with_len a n) ≡ n
-length_range a zero = refl
-length_range a (suc n) = let e = length_range (a + 1) n in omega arith
-
 -- the tiers so far
 pub record AreFirst (ts : List (List ℕ)) (i : ℕ) : Type 0 where
   pub numbers : concat ts ≡ range_with_len 0 (256 * i)
@@ -137,5 +131,5 @@ first_more ts us t i h e f =
           ∙ ap (λ b. range_with_len 0 (256 * i) ++ range_with_len b 256) (sym z)
           ∙ range_append 0 (256 * i) 256 ∙ ap (range_with_len 0) n;
       count = ap length f ∙ length-append ts (t ∷ []) ∙ (let c = h.count in omega arith);
-      long = rw f (Long-push ts t h.long (ap length e ∙ length_range (256 * i) 256));
+      long = rw f (Long-push ts t h.long (ap length e ∙ length-range_with_len (256 * i) 256));
     }
