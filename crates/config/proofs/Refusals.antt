@@ -8,7 +8,6 @@ use Rattle.clap.specs.declared.parser.matches.ArgMatches.{ArgMatches}
 use Rattle.std.specs.declared.net.ip_addr.IpAddr.{IpAddr}
 use Rattle.config.specs.Reads.{IsBound, IsWrong, Reads, ReadsAddress, ReadsServe, serve_in}
 use Rattle.clap.specs.declared.error.kind.ErrorKind.TheVariants.{OutOfMemory}
-use Rattle.clap.proofs.OnLiterals.{clap_on_literals}
 use Rattle.config.specs.Lockd.{pipe_app, table_app, serve_app}
 use Rattle.config.specs.Asked.{Answers, Asks, AsksBy, verb_in, AsksStream, AsksServe, IsFaultOf}
 use Rattle.config.specs.declared.settings.Config.{Config}
@@ -98,18 +97,6 @@ asks_first words rest word v r e is h =
     subst (λ (ws : List Text). Answers (Asks ws) r) (sym e) (subst (λ (o : Option Verb). Answers (AsksBy o rest) r) (sym is) h)
 
 -- ---- the three commands are of the kind whose matches are known
-
-pub pipe_simple : is_simple_and_free pipe_app ≡ true
-unfolding clap_on_literals
-pipe_simple = refl
-
-pub table_simple : is_simple_and_free table_app ≡ true
-unfolding clap_on_literals
-table_simple = refl
-
-pub serve_simple : is_simple_and_free serve_app ≡ true
-unfolding clap_on_literals
-serve_simple = refl
 
 -- what was found is the matches of the words
 pub rows_are : (app : App) (words : List Text) (m : ArgMatches) → is_simple_and_free app ≡ true → HasMatchesOf app words m → rows_of (found_of m) ≡ matches_of app words

@@ -22,7 +22,7 @@ use Rattle.daemon_core.specs.Hub.{Hub, with_links, place_of, IsQuiet, Connects, 
 abbrev Same : Outputs → Outputs → Hub → Hub → Type 0
 Same out out' new new' = (out ≡ out') × (new ≡ new')
 
-pub same-hub : (new end : Hub) → new.state ≡ end.state → new.refusals ≡ end.refusals → new.links ≡ end.links → new ≡ end
+same-hub : (new end : Hub) → new.state ≡ end.state → new.refusals ≡ end.refusals → new.links ≡ end.links → new ≡ end
 same-hub new end s r l = λ i. record { state = s i; refusals = r i; links = l i }
 
 -- what the events gave, and the states after them

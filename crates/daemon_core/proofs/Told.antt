@@ -1,5 +1,5 @@
 -- What a call gets that is refused early, and one whose reply is kept.
-use Rattle.std.proofs.Common.{◌≡◌, ℕ, Bool, leb, length, Option, Some, None, refl, sym, ◌∙◌, ap, subst}
+use Rattle.std.proofs.Common.{◌≡◌, ℕ, Option, Some, None, refl, sym, ◌∙◌, ap, subst}
 use Rattle.definitions.specs.Bytes.{Bytes}
 use Rattle.definitions.specs.Hosts.{StoreAnswer, NotAsked, Yes, Refused}
 use Rattle.definitions.specs.Nlm.{Version, Stat, NlmCall, Test, Locks, Cancel, Unlock, LockMsg, ShareCall, Unshare, NmLock}
@@ -71,9 +71,6 @@ module _ (s new : State) (said : Event) (u : Upshot) (h : IsStep s said u new) (
   anew e n = (steps Applied e).0 ∙ ap (λ (o : Option KeptPair). (taken the_limits s peer asked xid call u.store o).given) n
 
   module _ (k : KeptPair) (there : look s peer asked ≡ Some k) where
-    has_slots : Bool
-    has_slots = leb (length k.letters) (slots_free the_limits s.world)
-
     again : u.doing ≡ Applied → (u.given ≡ (repeated the_limits s k).given) × (new ≡ (repeated the_limits s k).state)
     again e =
         let same : taken the_limits s peer asked xid call u.store (look s peer asked) ≡ repeated the_limits s k = ap (taken the_limits s peer asked xid call u.store) there in

@@ -25,9 +25,6 @@ use Rattle.local_ops.proofs.Wholes.{LockRead, OwnedRead, QuotaRead, Locked, Owne
 
 -- ---- what is read is spelled
 
-LineRead : Type 0
-LineRead = def.Line × List Bytes
-
 asked_parts : (mode : Option Mode) (lock : LocalLock) (line : def.Line) → asked (mode, lock) ≡ Some line → (m : Mode) × (mode ≡ Some m) × (def.GetLock m lock ≡ line)
 asked_parts None lock line e = absurd cc
 asked_parts (Some m) lock line e = (m, refl, same_Some _ _ e)

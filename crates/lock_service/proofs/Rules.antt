@@ -54,9 +54,6 @@ module _ (w : World) (a : LockAsk) where
   pub granted : conflicts w.settings a.request ≡ false → lacks_room 65536 (quotas_of w.hosts) w.settings a.request ≡ false → lock_rules the_limits w a ≡ after_row w (row_asked w a.row) nlm.GRANTED (λ v. with_setting v (setting_of a.request))
   granted free room = rw (free, room) refl
 
-  pub waits_already : is_waiting a.request w.waiters ≡ true → blocked_lock w a ≡ after_row w (row_asked w a.row) nlm.BLOCKED (λ v. v)
-  waits_already e = rw e refl
-
   pub would_wait_for_itself : is_waiting a.request w.waiters ≡ false → closes_cycle w.settings w.waiters a.request ≡ true → blocked_lock w a ≡ stays w nlm.DEADLCK
   would_wait_for_itself e f = rw (e, f) refl
 

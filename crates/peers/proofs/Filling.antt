@@ -94,9 +94,6 @@ IsOnce-last (q ∷ peers) p once =
 
 -- ---- the file
 
-pub ArePeers-none : ArePeers [] []
-ArePeers-none = record { spelled = tt; once = tt; few = omega arith }
-
 pub ArePeers-more : (lines : List (List ℕ)) (line : List ℕ) (old new : List Peer) → ArePeers lines old → IsAdded old line new → ArePeers (lines ++ line ∷ []) new
 ArePeers-more lines line old new are a =
     let P : List Peer → Type 0 = λ ps. ArePeers (lines ++ line ∷ []) ps in

@@ -1,21 +1,17 @@
 -- One sending more, and one record more.
-use Rattle.std.proofs.Common.{◌≡◌, ℕ, false, List, [], ◌∷◌, ◌++◌, Option, Some, None, refl, sym, ◌∙◌, ap, subst}
-use Rattle.std.specs.Prelude.{is_some, IsSome, Result, Ok, Err}
+use Rattle.std.proofs.Common.{◌≡◌, ℕ, List, [], ◌∷◌, ◌++◌, Option, refl, sym, ◌∙◌, ap, subst}
+use Rattle.std.specs.Prelude.{IsSome, Result, Ok, Err}
 use Rattle.std.specs.Io.KnownBytes.{Appends}
 use Rattle.std.proofs.lemmas.Grind.{flat_map-append}
 use Rattle.std.proofs.lemmas.List.{append-nil}
-use Rattle.std.proofs.KnownBytes.{Appends-nil, Appends-trans}
+use Rattle.std.proofs.KnownBytes.{Appends-trans}
 use Rattle.daemon_core.specs.declared.event.Event.TheVariants.{Take}
-use Rattle.daemon_core.specs.declared.event.Refusal.{Refusal}
 use Rattle.daemon_core.specs.declared.outputs.Outputs.{Outputs}
-use Rattle.daemon_core.specs.Sending.{Sending}
 use Rattle.daemon_core.specs.Outputs.{bytes_sent}
 use Rattle.daemon_core.specs.Hub.{Hub, HubStep, SendStep, all_bytes_sent}
 use Rattle.pipe_loops.specs.declared.fault.Fault.{Fault}
-use Rattle.pipe_loops.specs.FaultOf.{fault_of}
 use Rattle.written.specs.Written.{WroteFront}
 use Rattle.pipe_loops.specs.Answered.{NothingDue, Sends, AnswersRecord, AnswersEach, in_order, SendsAll, SendsSome, SendsDue, AnswersBegun, AnswersNext}
-use Rattle.pipe_loops.proofs.DueCalls.{finds_none, starves}
 use Rattle.pipe_loops.proofs.PipeLemmas.{bytes-append, bytes-more, Breaks-after}
 
 -- ---- the calls that are due
@@ -25,11 +21,6 @@ Sends-append old mid new [] more h k = subst (λ (x : Hub). Sends x more new) h 
 Sends-append old mid new (c ∷ calls) more h k = (h.0, h.1, h.2, Sends-append h.0 mid new calls more h.3 k)
 
 module _ (old new : Hub) (before : Option (List ℕ)) (out : Outputs) (step : SendStep old out new) where
-  pub send-starved : (r : Refusal) → out.refusal ≡ Some r → SendsSome (fault_of r) old new before before
-  send-starved r met =
-      let s = starves old new out step r met in
-      rw s.0 (record { calls = []; mid = old; sends = refl; breaks = (s.1, Appends-nil before) })
-
   pub send-broken : (after : Option (List ℕ)) → IsSome out.sent → WroteFront before after (bytes_sent out.sent) → SendsSome Fault.WriteFault old new before after
   send-broken after some front = record {
     calls = out ∷ [];
@@ -61,13 +52,6 @@ module _ (old mid new : Hub) (before between after : Option (List ℕ)) (calls :
     sends = Sends-append old mid s.mid calls s.calls sends s.sends;
     breaks = Breaks-after fault s.mid new before between after calls s.calls wrote s.breaks;
   }
-
-pub nothing-due : (old new : Hub) (out : Outputs) → SendStep old out new → out.refusal ≡ None → is_some out.sent ≡ false → (new ≡ old) × NothingDue new
-nothing-due old new out step agreed none = finds_none old new out step (absent out.sent none) agreed
-  where
-    absent : (s : Option Sending) → is_some s ≡ false → s ≡ None
-    absent None e = refl
-    absent (Some x) e = cc
 
 -- ---- a record and the calls behind it
 

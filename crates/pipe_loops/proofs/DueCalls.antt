@@ -6,18 +6,13 @@ use Rattle.definitions.specs.Outgoing.{Outgoing, next_due, after_sending, ends_w
 use Rattle.definitions.specs.Step.{State, Event, Send, Doing, Applied, Starved, Given, Nothing, Sends as Gives, IsStarved, sent}
 use Rattle.book.specs.Given.{comes_to}
 use Rattle.book.specs.Notes.{IsStep}
-use Rattle.call_plans.specs.Planned.{view_of_stored, counted}
-use Rattle.call_plans.specs.declared.plans.StoreAnswer.{StoreAnswer as Answered}
-use Rattle.daemon_core.specs.declared.event.Refusal.{Refusal}
-use Rattle.daemon_core.specs.declared.outcome.Outcome.{Outcome}
+use Rattle.call_plans.specs.Planned.{view_of_stored}
 use Rattle.daemon_core.specs.declared.outcome.Outcome.TheVariants as outcome
 use Rattle.daemon_core.specs.Outcomes.{view_of_outcome}
 use Rattle.daemon_core.specs.declared.outputs.Outputs.{Outputs}
 use Rattle.daemon_core.specs.Sending.{Sending as Sent}
-use Rattle.daemon_core.specs.Outputs.{sent_on, refusal_of}
+use Rattle.daemon_core.specs.Outputs.{sent_on}
 use Rattle.daemon_core.specs.Hub.{Hub, SendStep}
-use Rattle.pipe_loops.specs.Answered.{NothingDue, SendStarves}
-use Rattle.daemon_core.proofs.SameRun.{same-hub}
 
 -- how many calls are due
 abbrev pub due_count : List Outgoing → ℕ
@@ -62,14 +57,6 @@ send_ends s Applied store given new h = inr (go (next_due s.world.calls) refl h.
 
 -- ---- a step of the daemon
 
-unsegmented : (o : Outcome) → view_of_outcome o ≡ Starved → (o ≡ outcome.Starved → ⊥) → o ≡ outcome.NoSegment
-unsegmented outcome.Applied e fed = cc
-unsegmented outcome.Starved e fed = absurd (fed refl)
-unsegmented outcome.NoSegment e fed = refl
-
-asked-none : (store : Answered) (refusals : ℕ) → view_of_stored store ≡ NotAsked → counted (view_of_stored store) refusals ≡ refusals
-asked-none store refusals e = ap (λ (a : StoreAnswer). counted a refusals) e
-
 module _ (old new : Hub) (out : Outputs) (step : SendStep old out new) where
   ended_here : SendEnds old.state (view_of_outcome out.outcome) (view_of_stored out.store) step.given new.state
   ended_here =
@@ -78,9 +65,6 @@ module _ (old new : Hub) (out : Outputs) (step : SendStep old out new) where
 
   sent_is : out.sent ≡ sent_on step.given
   sent_is = ap (λ (o : Outputs). o.sent) step.outputs
-
-  refusal_is : out.refusal ≡ refusal_of step.given
-  refusal_is = ap (λ (o : Outputs). o.refusal) step.outputs
 
   -- a call that is sent is no longer due
   pub lowers : IsSome out.sent → due_count new.state.world.calls < due_count old.state.world.calls
@@ -93,26 +77,3 @@ module _ (old new : Hub) (out : Outputs) (step : SendStep old out new) where
       go (inl h) = absurd (nothing_sent (sent_is ∙ ap sent_on h.0))
       go (inr (inl h)) = absurd (nothing_sent (sent_is ∙ ap sent_on h.0))
       go (inr (inr h)) = let n = h.2 in omega (arith, n)
-
-  -- a sending that gives nothing and is not refused finds nothing due
-  pub finds_none : out.sent ≡ None → out.refusal ≡ None → (new ≡ old) × NothingDue new
-  finds_none none agreed = go ended_here
-    where
-      go : SendEnds old.state (view_of_outcome out.outcome) (view_of_stored out.store) step.given new.state → (new ≡ old) × NothingDue new
-      go (inl h) = let r : None ≡ refusal_of IsStarved = sym agreed ∙ refusal_is ∙ ap refusal_of h.0 in cc
-      go (inr (inl h)) = (
-        same-hub new old h.2 (step.refusals ∙ asked-none out.store old.refusals h.3) step.links,
-        ap (λ (s : State). next_due s.world.calls) h.2 ∙ h.1,
-      )
-      go (inr (inr h)) = let r : None ≡ sent_on (Gives h.0.number h.0.letter) = sym none ∙ sent_is ∙ ap sent_on h.1 in cc
-
-  -- it is refused where there is no segment for its entry alone
-  pub starves : (r : Refusal) → out.refusal ≡ Some r → (r ≡ Refusal.Starved) × SendStarves old new
-  starves r met = go ended_here
-    where
-      go : SendEnds old.state (view_of_outcome out.outcome) (view_of_stored out.store) step.given new.state → (r ≡ Refusal.Starved) × SendStarves old new
-      go (inl h) =
-          let is : Some r ≡ Some Refusal.Starved = sym met ∙ refusal_is ∙ ap refusal_of h.0 in
-          (cc, record { out = out; step = step; met = unsegmented out.outcome h.1 step.fed })
-      go (inr (inl h)) = let e : Some r ≡ refusal_of Nothing = sym met ∙ refusal_is ∙ ap refusal_of h.0 in cc
-      go (inr (inr h)) = let e : Some r ≡ refusal_of (Gives h.0.number h.0.letter) = sym met ∙ refusal_is ∙ ap refusal_of h.1 in cc

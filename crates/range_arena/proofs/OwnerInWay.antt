@@ -87,14 +87,6 @@ module _ (owner : ℕ) (wanted : Run) (ys : List Run) where
         (λ t. t)
 
     module _ (at : ℕ) (r : Run) (below : at < place) (within : at < length ys) (read : r ≡ get_or ys at r) where
-      pub clear_more : IsClearFrom owner wanted ys (at + 1) → is_against owner wanted r ≡ false → IsClearFrom owner wanted ys at
-      clear_more c t i s u l e =
-          by_order at i
-          (λ k. c i s (omega arith) l e)
-          (λ k. let m : i ≡ at = omega arith in
-          let f : s ≡ get_or ys at s = subst (λ n. s ≡ get_or ys n s) m e in
-          subst (λ z. is_against owner wanted z ≡ false) (sym (f ∙ get_or_default ys at s r within ∙ sym read)) t)
-
       -- none of those in front of it reaches the range
       pub none_further : (list : List Run) → IsRunList list → AreSame list ys → IsSortedBy owned_cmp ys → IsClearFrom owner wanted ys (at + 1) → (is_of r wanted.file owner ≡ true → r.last < wanted.first) → false ≡ list_any (is_against owner wanted) ys
       none_further list listed same sorted c short = none_any (is_against owner wanted) ys each where
@@ -131,6 +123,3 @@ module _ (owner : ℕ) (wanted : Run) (ys : List Run) where
 
   pub clear_all : IsClearFrom owner wanted ys 0 → false ≡ list_any (is_against owner wanted) ys
   clear_all c = none_any (is_against owner wanted) ys (λ s i. let m = seat_in ys s i in c m.0 s (omega arith) m.1 m.2)
-
-  pub one_against : (at : ℕ) (r : Run) → at < length ys → r ≡ get_or ys at r → is_against owner wanted r ≡ true → true ≡ list_any (is_against owner wanted) ys
-  one_against at r l e t = sym (any_of (is_against owner wanted) ys r (in_at ys at r l e) t)

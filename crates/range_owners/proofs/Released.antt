@@ -11,10 +11,6 @@ no_members : (xs : List Start) (x : Start) → length xs ≡ 0 → is_member sam
 no_members [] x e = refl
 no_members (y ∷ ys) x e = absurd (omega arith)
 
-none_here : (m : Option Mode) → is_some m ≡ false → m ≡ None
-none_here None e = refl
-none_here (Some m) e = absurd (cc)
-
 first_none : (m before : Option Mode) → (is_some m && (true || not (same_held before m))) ≡ false → m ≡ None
 first_none None before e = refl
 first_none (Some m) before e = absurd (cc)

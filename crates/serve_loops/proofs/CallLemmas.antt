@@ -1,7 +1,7 @@
 -- One call more is handed over.
-use Rattle.std.proofs.Common.{◌≡◌, ℕ, ◌+◌, ◌≤◌, List, [], ◌∷◌, ◌++◌, sym, ◌∙◌, ap, append_assoc, arith}
+use Rattle.std.proofs.Common.{ℕ, ◌+◌, ◌≤◌, List, [], ◌∷◌, ◌++◌, sym, ◌∙◌, ap, append_assoc, arith}
 use Rattle.std.proofs.lemmas.List.{append-nil, length-append}
-use Rattle.serve_loops.specs.Calls.{Call, IsSent, AreSent, Hands}
+use Rattle.serve_loops.specs.Calls.{Call, AreSent, Hands}
 
 sent-all : (xs ys : List Call) → AreSent xs → AreSent ys → AreSent (xs ++ ys)
 sent-all [] ys p q = q
@@ -9,9 +9,6 @@ sent-all (x ∷ xs) ys p q = (p.0, sent-all xs ys p.1 q)
 
 pub Hands-none : (most : ℕ) (l : List Call) → Hands most l l
 Hands-none most l = record { calls = []; sent = tt; handed = sym (append-nil l); few = omega arith }
-
-pub Hands-one : (l m : List Call) (call : Call) → IsSent call → m ≡ l ++ call ∷ [] → Hands 1 l m
-Hands-one l m call sent handed = record { calls = call ∷ []; sent = (sent, tt); handed = handed; few = omega arith }
 
 pub Hands-more : (a b : ℕ) (l m n : List Call) → Hands a l m → Hands b m n → Hands (a + b) l n
 Hands-more a b l m n s t = record {

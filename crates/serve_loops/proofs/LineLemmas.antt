@@ -2,7 +2,7 @@
 use Rattle.std.proofs.Common.{◌≡◌, ℕ, ◌+◌, ◌<◌, inl, inr, Bool, true, false, ◌||◌, eqb, List, [], ◌∷◌, ◌++◌, length, take, drop, get_or, Option, Some, None, refl, sym, ◌∙◌, ap, subst, append_assoc}
 use Rattle.std.specs.Prelude.{Result, Ok, Err, IfOk, IfErr}
 use Rattle.std.proofs.lemmas.Bool.{eqb-true}
-use Rattle.std.specs.Io.KnownBytes.{Appends, Consumes, Keeps, IsAtEnd}
+use Rattle.std.specs.Io.KnownBytes.{Appends, Consumes, Keeps}
 use Rattle.std.proofs.KnownBytes.{Consumes-nil, Consumes-trans, Consumes-kept, Appends-nil, Appends-trans, Appends-kept}
 use Rattle.std.proofs.lemmas.Grind.{flat_map-append}
 use Rattle.std.proofs.lemmas.List.{append-nil, take_more, take-append-drop}
@@ -14,12 +14,12 @@ use Rattle.book.specs.declared.event.BookEvent.{BookEvent}
 use Rattle.book.specs.Given.{Upshot}
 use Rattle.book.specs.Notes.{Happening, AsksLine, Steps, view_of_event}
 use Rattle.workers.specs.Holds.{Held, Notes}
-use Rattle.written.specs.Written.{WroteFront, Wrote}
+use Rattle.written.specs.Written.{WroteFront}
 use Rattle.written.specs.declared.WriteFault.{WriteFault}
 use Rattle.written.proofs.Appending.{WroteFront-whole}
 use Rattle.serve_loops.specs.declared.ending.Ending.{Ending}
 use Rattle.serve_loops.specs.declared.ending.Ending.TheVariants as ending
-use Rattle.serve_loops.specs.Lines.{IsOpen, AreOpen, ended, kept, text_of, texts, IsAnswered, AreAnswered, Serves, ServesFront, Breaks, Cuts, Ends, Turns, Takes, AnswersLine, Finishes, Hears, StarvesAs, TellsOf}
+use Rattle.serve_loops.specs.Lines.{IsOpen, AreOpen, ended, kept, text_of, texts, IsAnswered, AreAnswered, Serves, ServesFront, Breaks, Cuts, Ends, Turns, Takes, AnswersLine, StarvesAs, TellsOf}
 
 pub open-append : (xs ys : Bytes) → IsOpen xs → IsOpen ys → IsOpen (xs ++ ys)
 open-append xs ys p q = list_any-append (λ b. eqb b 10) xs ys ∙ (λ i. p i || q i)
@@ -106,10 +106,6 @@ module _ (c : ℕ) (p q : Bytes) (bs : Bytes) (x y : Option Bytes) (s : Serves c
   Cuts-after ending.ReadFault cs z h = Front-after cs z h
   Cuts-after ending.WriteFault cs z h = Breaks-after cs z h
 
-  pub Takes-after : (e : Option Ending) (cs r : Bytes) (z : Option Bytes) → Takes e c q cs r y z → Takes e c p (bs ++ cs) r x z
-  Takes-after None cs r z h = Serves-append c p q r bs cs x y z s h
-  Takes-after (Some e) cs r z h = Cuts-after e cs z h
-
   pub Ends-after : (u m l : Option Bytes) → Consumes u m bs → (e : Ending) (z : Option Bytes) → Ends e c q m l y z → Ends e c p u l x z
   Ends-after u m l read ending.Over z h = (bs ++ h.0, Consumes-trans u m l bs h.0 read h.1, h.2, (h.3.0, Serves-append c p q h.3.0 bs h.0 x y z s h.3.1))
   Ends-after u m l read ending.Stopped z h = (bs ++ h.0, Consumes-trans u m l bs h.0 read h.1, Front-after h.0 z h.2)
@@ -153,37 +149,7 @@ flush_done a b d x p k = Appends-kept a b d x p k
 pub flush_failed : (a b d : Option Bytes) (x : Bytes) → Appends a b x → Keeps b d → WroteFront a d x
 flush_failed a b d x p k = WroteFront-whole a d x (Appends-kept a b d x p k)
 
-pub line_answered : (e : Option Ending) (c : ℕ) (line : Bytes) (given : Given) (x y : Option Bytes) (r : Result (Unit {0}) WriteFault) → IsAnswered c line given → Wrote x y r (text_of given) → Finishes r e → AnswersLine e c line x y
-line_answered None c line given x y (Ok done) a w f = (given, a, w)
-line_answered None c line given x y (Err fault) a w f = absurd f
-line_answered (Some ending.Stopped) c line given x y (Ok done) a w f = (given, a, w)
-line_answered (Some ending.Stopped) c line given x y (Err fault) a w f = absurd f
-line_answered (Some ending.WriteFault) c line given x y (Ok done) a w f = absurd f
-line_answered (Some ending.WriteFault) c line given x y (Err fault) a w f = (given, a, w)
-line_answered (Some ending.Over) c line given x y (Ok done) a w f = absurd f
-line_answered (Some ending.Over) c line given x y (Err fault) a w f = absurd f
-line_answered (Some ending.Starved) c line given x y (Ok done) a w f = absurd f
-line_answered (Some ending.Starved) c line given x y (Err fault) a w f = absurd f
-line_answered (Some ending.ReadFault) c line given x y (Ok done) a w f = absurd f
-line_answered (Some ending.ReadFault) c line given x y (Err fault) a w f = absurd f
-
 -- ---- a piece
-
-pub piece-heard : (e : Option Ending) (c : ℕ) (part bytes rest : Bytes) (u l x y : Option Bytes) → Consumes u l bytes → (bytes ≡ [] → IsAtEnd l) → Hears e c part bytes rest x y → Turns e c part rest u l x y
-piece-heard None c part bytes rest u l x y read over h = (bytes, read, h)
-piece-heard (Some ending.Over) c part bytes rest u l x y read over h = (bytes, read, over h.0, (rest, subst (λ (b : Bytes). Serves c part b rest x y) (sym h.0) h.1))
-piece-heard (Some ending.Stopped) c part bytes rest u l x y read over h = (bytes, read, h)
-piece-heard (Some ending.Starved) c part bytes rest u l x y read over h = (bytes, read, h)
-piece-heard (Some ending.ReadFault) c part bytes rest u l x y read over h = (bytes, read, h)
-piece-heard (Some ending.WriteFault) c part bytes rest u l x y read over h = (bytes, read, h)
-
-pub takes-hears : (e : Option Ending) (c : ℕ) (part bytes rest : Bytes) (x y : Option Bytes) → Takes e c part bytes rest x y → Hears e c part bytes rest x y
-takes-hears None c part bytes rest x y h = h
-takes-hears (Some ending.Over) c part bytes rest x y h = absurd h
-takes-hears (Some ending.Stopped) c part bytes rest x y h = h
-takes-hears (Some ending.Starved) c part bytes rest x y h = h
-takes-hears (Some ending.ReadFault) c part bytes rest x y h = h
-takes-hears (Some ending.WriteFault) c part bytes rest x y h = h
 
 -- nothing was read
 pub nothing-read : (c : ℕ) (part : Bytes) (u l x : Option Bytes) → IsOpen part → Keeps u l → Turns None c part part u l x x

@@ -1,7 +1,7 @@
 -- Pushes through parts of a list that lie side by side are one push.
 use Rattle.std.proofs.Common.{◌≡◌, ◌≢◌, ℕ, suc, ◌+◌, ◌-◌, ◌*◌, ◌/◌, ◌%◌, ◌<◌, ◌≤◌, List, [], ◌∷◌, ◌++◌, length, get_or, take, drop, set, refl, sym, ap, subst, ◌∙◌, arith, append_assoc, length-append}
 use Rattle.std.proofs.Math.Seq.{take-add}
-use Rattle.std.proofs.lemmas.List.{length-take-le, length-drop, take_at, drop_at, drop-drop, drop-take, take-take, set_split, drop_more, take-append-drop, take-append-le, drop-append-le, length_push}
+use Rattle.std.proofs.lemmas.List.{length-take-le, length-drop, take_at, drop_at, drop-drop, drop-take, take-take, set_split, drop_more, take-append-le, drop-append-le, length_push}
 use Rattle.std.specs.List.{concat}
 use Rattle.tiered_list.specs.Moves.{PushedIn, PulledIn, brought, sent}
 use Rattle.tiered_list.specs.Tiers.{AreTiers}
@@ -84,20 +84,6 @@ length-pushed xs i j x ys y a b h = length_around xs h.part ys i j a b (length_p
 
 pub length-pulled : (xs : List ℕ) (i j x : ℕ) (ys : List ℕ) (y : ℕ) → i ≤ j → j ≤ length xs → PulledIn xs i j x ys y → length ys ≡ length xs
 length-pulled xs i j x ys y a b h = length_around xs h.part ys i j a b (sym (length_pushed y x h.part (part_of xs i j) (sym h.pulled)) ∙ length_part xs i j a b) h.around
-
-pub pushed_none : (xs : List ℕ) (i x : ℕ) → PushedIn xs i i x xs x
-pushed_none xs i x = record {
-  part = [];
-  around = sym (take-append-drop i xs);
-  pushed = let e : i - i ≡ 0 = omega arith in ap (λ n. x ∷ take n (drop i xs)) e;
-}
-
-pub pulled_none : (xs : List ℕ) (i x : ℕ) → PulledIn xs i i x xs x
-pulled_none xs i x = record {
-  part = [];
-  around = sym (take-append-drop i xs);
-  pulled = let e : i - i ≡ 0 = omega arith in ap (λ n. take n (drop i xs) ++ x ∷ []) e;
-}
 
 part_one : (xs : List ℕ) (i : ℕ) → i < length xs → part_of xs i (i + 1) ≡ get_or xs i 0 ∷ []
 part_one xs i l = let e : i + 1 - i ≡ 1 = omega arith in ap (λ n. take n (drop i xs)) e ∙ ap (take 1) (drop_more xs i 0 l)

@@ -1,5 +1,5 @@
 -- A connection's own thread reads on.
-use Rattle.std.proofs.Common.{◌≡◌, ◌≢◌, ℕ, suc, ◌+◌, ◌<◌, Bool, true, false, cond, List, [], ◌∷◌, ◌++◌, length, take, map, Option, Some, None, Result, Err, refl, sym, ap, ◌∙◌, subst, append_assoc, arith, rules}
+use Rattle.std.proofs.Common.{◌≡◌, ◌≢◌, ℕ, suc, ◌+◌, ◌<◌, Bool, true, false, cond, List, [], ◌∷◌, ◌++◌, length, take, map, Option, Some, None, Err, refl, sym, ap, ◌∙◌, subst, append_assoc, arith, rules}
 use Rattle.std.proofs.lemmas.List.{map-append, append-nil, length-append, length-take-le}
 use Rattle.std.proofs.Math.Seq.{take-append-add, take-length}
 use Rattle.std.proofs.KnownBytes.{Consumes-nil, Consumes-trans}
@@ -33,9 +33,6 @@ jobs_of-append o (x ∷ xs) ys =
 
 abbrev with_puts : Worker → List Task → Worker
 with_puts w l = record { seat = with_hand w.seat (record { put = l; taken = w.seat.hand.taken }); receipts = w.receipts }
-
-pub HavePut-none : (o : Origin) (w : Worker) → HavePut [] o o w w
-HavePut-none o w = record { numbered = sym (counted-none o); put = ap (with_puts w) (sym (append-nil w.seat.hand.put)) }
 
 pub HavePut-next : (xs : List Bytes) (asked : Bytes) (o p q : Origin) (v w x : Worker) → HavePut xs o p v w → x ≡ record { seat = with_put w.seat (job_of p asked); receipts = w.receipts } → q ≡ counted p 1 → HavePut (xs ++ asked ∷ []) o q v x
 HavePut-next xs asked o p q v w x before put number = record {
@@ -255,9 +252,6 @@ module _ (o p : Origin) (before mid after : Option (List ℕ)) (a : Assembled) (
 
 -- ---- a piece, where a read may have been interrupted
 
-pub heard_some : (mid after : Option (List ℕ)) (place : List ℕ) (r : Result ℕ Ending) (ending : Ending) → r ≡ Err ending → Consumes mid after (heard r place) → Consumes mid after []
-heard_some mid after place r ending is c = subst (λ (q : Result ℕ Ending). Consumes mid after (heard q place)) is c
-
 -- no bytes make no records
 unsplit : Splits [] [] false
 unsplit = record { begun = []; rest = []; reads = record { fragments = []; each = search rules; fit = tt; whole = refl; makes = refl; leaves = refl }; ending = search rules }
@@ -276,11 +270,3 @@ unread o before w s = record {
   numbered = sym (counted-none o);
   serves = Serves-none w s;
 }
-
--- one came back: those before it were put
-pub Puts-some : (o p : Origin) (v w : Worker) (xs : List Bytes) (asked : Bytes) (rest all : List Bytes) → xs ++ asked ∷ rest ≡ all → HavePut xs o p v w → Puts false all o p v w
-Puts-some o p v w xs asked rest all is put =
-    let size : length all ≡ length xs + length (asked ∷ rest) = ap length (sym is) ∙ length-append xs (asked ∷ rest) in
-    let zero : length xs ≡ length xs + 0 = omega arith in
-    let these : take (length xs) all ≡ xs = ap (take (length xs)) (sym is) ∙ ap (λ n. take n (xs ++ asked ∷ rest)) zero ∙ take-append-add xs (asked ∷ rest) 0 ∙ append-nil xs in
-    (length xs, omega (arith, size), subst (λ l. HavePut l o p v w) (sym these) put)
