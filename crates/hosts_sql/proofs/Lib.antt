@@ -27,3 +27,4 @@ pub mod Typed
 pub mod Copied
 pub mod Whole
 pub mod AsKept
+pub mod Numbers

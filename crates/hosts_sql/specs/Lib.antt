@@ -7,3 +7,4 @@ pub mod Reading
 pub mod Wrote
 pub mod Making
 pub mod Holds
+pub mod Laws

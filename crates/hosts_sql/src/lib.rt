@@ -2,6 +2,7 @@
 #![tactic(auto)]
 
 mod calls;
+mod law;
 mod loading;
 mod making;
 mod notes;
@@ -11,4 +12,5 @@ mod store;
 mod tables;
 mod upgrade;
 
+pub use law::numbers_fit;
 pub use store::SqlHosts;
