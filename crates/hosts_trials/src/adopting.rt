@@ -1,4 +1,5 @@
 //! Files that the store refuses, beside the nearest ones that it takes.
+use crate::stops::Calls;
 use crate::tables::{FIRST, SECOND};
 use crate::visits::{Came, Trials, Work, fresh, visit_files};
 use hosts_db::HostStore;
@@ -18,16 +19,6 @@ struct Look(Shown);
 impl Work for Look {
     fn work<S: HostStore>(&mut self, store: &mut S) {
         self.0 = (store.own(), store.hosts().len(), store.watches().len());
-    }
-}
-
-/// Notes whether a store starts.
-#[derive(Clone, Copy)]
-struct Start(bool);
-
-impl Work for Start {
-    fn work<S: HostStore>(&mut self, store: &mut S) {
-        self.0 = store.start().is_ok();
     }
 }
 
@@ -54,9 +45,12 @@ fn shows(alloc: Global, files: Trials, want: Option<Shown>) -> (bool, Trials) {
 }
 
 fn starts(alloc: Global, files: Trials) -> bool {
-    let mut start = Start(false);
+    let mut start = Calls {
+        script: "start",
+        done: 0,
+    };
     visit_files(alloc, files, ["", ""], &mut start);
-    start.0
+    start.done == 1
 }
 
 /// What both files hold.

@@ -283,12 +283,6 @@ start
 
 const HOST_MORE: &str = "INSERT INTO hosts2 VALUES (x'616161', 1, 0, 65536)";
 
-#[test]
-fn hosts_full(rt: HostRuntime) {
-    let hosts = ("monitor ", 4096, " 0");
-    assert!(rt; is_full_of(rt.alloc(), hosts, HOSTS_FULL, HOST_MORE));
-}
-
 /// A watch more is refused and changes nothing, and a stored one with other bytes is no new watch.
 const WATCHES_FULL: &str = "\
 watch 1 1024 7 -> refused
@@ -303,7 +297,13 @@ const WATCH_MORE: &str =
     "INSERT INTO watches VALUES (x'61', x'6d', 1, 2, 3, x'000102030405060708090a0b0c0d0e0f')";
 
 #[test]
-fn watches_full(rt: HostRuntime) {
-    let watches = ("watch 1 ", 1024, " 7");
-    assert!(rt; is_full_of(rt.alloc(), watches, WATCHES_FULL, WATCH_MORE));
+fn full_stores(rt: HostRuntime) -> Result<(), &'static str> {
+    let alloc = rt.alloc();
+    if !is_full_of(alloc, ("monitor ", 4096, " 0"), HOSTS_FULL, HOST_MORE) {
+        return Err("hosts_full");
+    }
+    if !is_full_of(alloc, ("watch 1 ", 1024, " 7"), WATCHES_FULL, WATCH_MORE) {
+        return Err("watches_full");
+    }
+    Ok(())
 }

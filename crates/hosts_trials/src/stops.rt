@@ -42,9 +42,9 @@ struct Script<'a> {
 
 /// Makes the calls up to the first that isn't answered by Ok.
 #[derive(Clone, Copy)]
-struct Calls<'a> {
-    script: &'a str,
-    done: usize,
+pub(crate) struct Calls<'a> {
+    pub(crate) script: &'a str,
+    pub(crate) done: usize,
 }
 
 impl Work for Calls<'_> {
@@ -203,6 +203,17 @@ const SCRIPTS: &[&str] = &[
     UNWATCHED,
 ];
 
+/// The own state 3, and two hosts of schema 1.
+const ROWS: &str =
+    "INSERT INTO own VALUES (1, 1, 3); INSERT INTO hosts VALUES (x'62', 3, 0), (x'61', 1, 3)";
+
+/// The start that upgrades them.
+const UPGRADE: &Script<'static> = &Script {
+    sql: [FIRST, ROWS],
+    past: "start\nmonitor a 3\nstart\nmonitor b 0",
+    script: "start",
+};
+
 #[test]
 fn stop_at_each_write(rt: HostRuntime) -> Result<(), &'static str> {
     for script in SCRIPTS {
@@ -210,19 +221,9 @@ fn stop_at_each_write(rt: HostRuntime) -> Result<(), &'static str> {
             return Err(*script);
         }
     }
-    Ok(())
-}
-
-/// The own state 3, and two hosts of schema 1.
-const ROWS: &str =
-    "INSERT INTO own VALUES (1, 1, 3); INSERT INTO hosts VALUES (x'62', 3, 0), (x'61', 1, 3)";
-
-#[test]
-fn stop_at_each_write_of_the_upgrade(rt: HostRuntime) {
-    let trial = Script {
-        sql: [FIRST, ROWS],
-        past: "start\nmonitor a 3\nstart\nmonitor b 0",
-        script: "start",
-    };
-    assert!(rt; are_met(rt.alloc(), &trial));
+    if are_met(rt.alloc(), UPGRADE) {
+        Ok(())
+    } else {
+        Err("the upgrade")
+    }
 }

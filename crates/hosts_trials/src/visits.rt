@@ -19,7 +19,7 @@ pub(crate) trait Work {
 }
 
 /// What came of a visit.
-#[derive(Clone, Copy, Debug, PartialEq, Eq)]
+#[derive(Clone, Copy, PartialEq, Eq)]
 pub(crate) enum Came {
     // The files failed, or the SQL before the store.
     Unopened,
