@@ -1,5 +1,5 @@
 -- A worker goes on.
-use Rattle.std.proofs.Common.{◌≡◌, List, [], ◌∷◌, ◌++◌, map, sym, ap, ◌∙◌, append_assoc}
+use Rattle.std.proofs.Common.{◌≡◌, List, [], ◌∷◌, ◌++◌, map, refl, sym, ap, ◌∙◌, append_assoc}
 use Rattle.std.proofs.lemmas.List.{map-append, append-nil}
 use Rattle.jobs.specs.Task.{Task}
 use Rattle.jobs.specs.declared.passes.View.{View}
@@ -26,11 +26,11 @@ jobs-more v xs a = ap (with_list v)
     (append_assoc v.hand.taken (map (λ (x : Answer). x.job) xs) (a.job ∷ []) ∙ ap (λ l. v.hand.taken ++ l) (sym (map-append (λ (x : Answer). x.job) xs (a ∷ []))))
 
 pub Worked-none : (w : Worker) (s : List Sent) → Worked w w s s
-Worked-none w s = ([], record { met = tt; taken = ap (with_list w.seat) (sym (append-nil w.seat.hand.taken)); handed = sym (append-nil s); receipts = sym (append-nil w.receipts) })
+Worked-none w s = ([], record { met = tt; taken = ap (with_list w.seat) (sym (append-nil w.seat.hand.taken)); handed = sym (append-nil s); receipts = sym (append-nil w.receipts); keeps = refl })
 
 -- one job more was taken and answered
-pub Worked-more : (v w x : Worker) (seat : View) (s s' s'' : List Sent) (job : Task) → Worked v w s s' → seat ≡ with_taken w.seat job → (a : Answer) → a.job ≡ job → IsMet a a.receipt → s'' ≡ s' ++ posted job.connection a.given → x.receipts ≡ w.receipts ++ listed a.receipt → x.seat ≡ seat → Worked v x s s''
-Worked-more v w x seat s s' s'' job before took a same met handed noted stays =
+pub Worked-more : (v w x : Worker) (seat : View) (s s' s'' : List Sent) (job : Task) → Worked v w s s' → seat ≡ with_taken w.seat job → (a : Answer) → a.job ≡ job → IsMet a a.receipt → s'' ≡ s' ++ posted job.connection a.given → x.receipts ≡ w.receipts ++ listed a.receipt → x.seat ≡ seat → x.keeps ≡ w.keeps → Worked v x s s''
+Worked-more v w x seat s s' s'' job before took a same met handed noted stays keeps =
     let xs = before.0 in
     let b = before.1 in (
       xs ++ a ∷ [],
@@ -40,5 +40,6 @@ Worked-more v w x seat s s' s'' job before took a same met handed noted stays =
         handed = handed ∙ ap (λ l. l ++ posted job.connection a.given) b.handed ∙ ap (λ (j : Task). (s ++ all_sent xs) ++ posted j.connection a.given) (sym same)
             ∙ append_assoc s (all_sent xs) (sent_for a) ∙ ap (λ l. s ++ l) (sym (all_sent-append xs a));
         receipts = noted ∙ ap (λ l. l ++ listed a.receipt) b.receipts ∙ append_assoc v.receipts (all_receipts xs) (listed a.receipt) ∙ ap (λ l. v.receipts ++ l) (sym (all_receipts-append xs a));
+        keeps = keeps ∙ b.keeps;
       },
     )

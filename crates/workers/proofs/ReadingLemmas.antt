@@ -13,7 +13,7 @@ use Rattle.record_mark.specs.Assembled.{Assembled, IsSplit}
 use Rattle.workers.specs.declared.reading.Origin.{Origin}
 use Rattle.workers.specs.declared.reading.Ending.{Ending}
 use Rattle.workers.specs.declared.reading.Ending.TheVariants.{Over, Failed, TooLong, Closed, Starved}
-use Rattle.workers.specs.Answers.{Sent, sent_for, listed, Answer, AreMet, all_sent, all_receipts, Worker, Worked}
+use Rattle.workers.specs.Answers.{Sent, sent_for, listed, Answer, AreMet, all_sent, all_receipts, Worker, with_seat, Worked}
 use Rattle.workers.specs.Reading.{job_of, counted, jobs_of, Serves, HavePut, Puts, heard, EndsSo, Fed, Cuts, EndsBy, IsRead}
 
 -- ---- jobs of records
@@ -32,13 +32,13 @@ jobs_of-append o (x ∷ xs) ys =
 -- ---- records are put
 
 abbrev with_puts : Worker → List Task → Worker
-with_puts w l = record { seat = with_hand w.seat (record { put = l; taken = w.seat.hand.taken }); receipts = w.receipts }
+with_puts w l = with_seat w (with_hand w.seat (record { put = l; taken = w.seat.hand.taken }))
 
-pub HavePut-next : (xs : List Bytes) (asked : Bytes) (o p q : Origin) (v w x : Worker) → HavePut xs o p v w → x ≡ record { seat = with_put w.seat (job_of p asked); receipts = w.receipts } → q ≡ counted p 1 → HavePut (xs ++ asked ∷ []) o q v x
+pub HavePut-next : (xs : List Bytes) (asked : Bytes) (o p q : Origin) (v w x : Worker) → HavePut xs o p v w → x ≡ with_seat w (with_put w.seat (job_of p asked)) → q ≡ counted p 1 → HavePut (xs ++ asked ∷ []) o q v x
 HavePut-next xs asked o p q v w x before put number = record {
   numbered = number ∙ ap (λ (r : Origin). counted r 1) before.numbered ∙ counted-twice o (length xs) 1 (length (xs ++ asked ∷ [])) (sym (length-append xs (asked ∷ [])));
   put = put
-      ∙ (λ i. record { seat = with_put (before.put i).seat (job_of (before.numbered i) asked); receipts = (before.put i).receipts })
+      ∙ (λ i. with_seat (before.put i) (with_put (before.put i).seat (job_of (before.numbered i) asked)))
       ∙ ap (with_puts v) (append_assoc v.seat.hand.put (jobs_of o xs) (job_of (counted o (length xs)) asked ∷ []) ∙ ap (λ l. v.seat.hand.put ++ l) (sym (jobs_of-append o xs (asked ∷ []))));
 }
 
@@ -69,6 +69,7 @@ Serves-none w s = record {
   hand = λ i. with_both w.seat (sym (append-nil w.seat.hand.put) i) (sym (append-nil w.seat.hand.taken) i);
   handed = sym (append-nil s);
   receipts = sym (append-nil w.receipts);
+  keeps = refl;
 }
 
 pub Serves-more : (jobs : List Task) (records : List Bytes) (o p : Origin) (v w x y : Worker) (s s' s'' : List Sent) → Serves jobs v w s s' → HavePut records o p w x → Worked x y s' s'' → Serves (jobs ++ jobs_of o records) v y s s''
@@ -85,6 +86,7 @@ Serves-more jobs records o p v w x y s s' s'' so_far put worked =
       handed = more.handed ∙ ap (λ l. l ++ all_sent bs) so_far.handed ∙ append_assoc s (all_sent first) (all_sent bs) ∙ ap (λ l. s ++ l) (sym (all_sent-all first bs));
       receipts = more.receipts ∙ ap (λ (u : Worker). u.receipts ++ all_receipts bs) put.put ∙ ap (λ l. l ++ all_receipts bs) so_far.receipts
           ∙ append_assoc v.receipts (all_receipts first) (all_receipts bs) ∙ ap (λ l. v.receipts ++ l) (sym (all_receipts-all first bs));
+      keeps = more.keeps ∙ ap (λ (u : Worker). u.keeps) put.put ∙ so_far.keeps;
     }
 
 -- ---- the loop

@@ -1,5 +1,5 @@
 -- What a worker answered.
-use Rattle.std.specs.Prelude.{◌≡◌, ℕ, List, [], ◌∷◌, ◌++◌, map, Option, Some, None}
+use Rattle.std.specs.Prelude.{◌≡◌, ℕ, Bool, List, [], ◌∷◌, ◌++◌, map, Option, Some, None}
 use Rattle.definitions.specs.Bytes.{Bytes}
 use Rattle.definitions.specs.Hosts.{NotAsked}
 use Rattle.definitions.specs.Step.{State, Given, Nothing, Replies, Says, Sends, IsStarved, IsRefused, Starved}
@@ -73,10 +73,14 @@ abbrev pub all_receipts : List Answer → List Receipt
 all_receipts [] = []
 all_receipts (a ∷ rest) = listed a.receipt ++ all_receipts rest
 
--- what its seat knows, and all receipts that it was given
+-- what its seat knows, all receipts that it was given, and whether they are kept
 pub record Worker : Type 0 where
   pub seat : View
   pub receipts : List Receipt
+  pub keeps : Bool
+
+abbrev pub with_seat : Worker → View → Worker
+with_seat w seat = record { seat = seat; receipts = w.receipts; keeps = w.keeps }
 
 abbrev pub with_jobs : View → List Task → View
 with_jobs v jobs = with_hand v (record { put = v.hand.put; taken = v.hand.taken ++ jobs })
@@ -87,6 +91,7 @@ pub record Answered (answers : List Answer) (old new : Worker) (sent sent' : Lis
   pub taken : new.seat ≡ with_jobs old.seat (map (λ (a : Answer). a.job) answers)
   pub handed : sent' ≡ sent ++ all_sent answers
   pub receipts : new.receipts ≡ old.receipts ++ all_receipts answers
+  pub keeps : new.keeps ≡ old.keeps
 
 -- all that the worker did was to take jobs and to answer them
 abbrev pub Worked : Worker → Worker → List Sent → List Sent → Type 0

@@ -5,10 +5,11 @@ use Rattle.book.specs.Given.{Upshot}
 use Rattle.book.specs.Notes.{Happening, Takes, SendsNext, HearsAnswer, AsksLine, FallsSilent, GraceEnds, BeginsAnew, Note}
 use Rattle.book.specs.Journal.{Journal, Book, next_of, rotated, Enters}
 
--- the journals of the segments that are closed, in order, and the book with its open one
+-- the journals of the segments that are closed, in order, and the book with its open one; and whether closed segments are kept
 pub record Held : Type 0 where
   pub closed : List Journal
   pub book : Book
+  pub keeps : Bool
 
 -- the event is a record that was taken
 abbrev pub is_take : Happening → Bool
@@ -29,9 +30,6 @@ abbrev pub takes_of : List Journal → ℕ
 takes_of [] = 0
 takes_of (j ∷ journals) = takes_in j.notes + takes_of journals
 
-abbrev pub all_takes : Held → ℕ
-all_takes h = takes_of h.closed + takes_in h.book.journal.notes
-
 -- each journal begins where the one before it ends, with the number behind its last
 abbrev pub Join : State → ℕ → List Journal → Type 0
 Join base first [] = Unit {0}
@@ -41,14 +39,14 @@ Join base first (j ∷ journals) = (j.base ≡ base) × (j.first ≡ first) × J
 abbrev pub IsOneHistory : List Journal → Type 0
 IsOneHistory journals = (base : State) × Join base 1 journals
 
--- the total is the number of calls that all segments took, which are one history
-pub record IsInStep (total : ℕ) (h : Held) : Type 0 where
-  pub counted : total ≡ all_takes h
-  pub joined : IsOneHistory (h.closed ++ h.book.journal ∷ [])
+-- the total is the number of calls that all segments took, the closed ones and the last, which are one history
+pub record IsInStep (total : ℕ) (closed : List Journal) (last : Journal) : Type 0 where
+  pub counted : total ≡ takes_of closed + takes_in last.notes
+  pub joined : IsOneHistory (closed ++ last ∷ [])
 
 -- the open segment is closed, and a fresh one begins where it ends
 abbrev pub turned : Held → Held
-turned h = record { closed = h.closed ++ h.book.journal ∷ []; book = rotated h.book }
+turned h = record { closed = h.closed ++ h.book.journal ∷ []; book = rotated h.book; keeps = h.keeps }
 
 -- nothing happened, but perhaps a segment was closed
 abbrev pub Rests : Held → Held → Type 0
@@ -59,4 +57,5 @@ pub record Notes (old : Held) (event : Happening) (upshot : Upshot) (new : Held)
   pub before : Held
   pub rests : Rests old before
   pub closed : new.closed ≡ before.closed
+  pub keeps : new.keeps ≡ before.keeps
   pub enters : Enters before.book event upshot new.book

@@ -10,7 +10,7 @@ use Rattle.jobs.specs.Passes.{with_hand}
 use Rattle.workers.specs.declared.reading.Origin.{Origin}
 use Rattle.workers.specs.declared.reading.Ending.{Ending}
 use Rattle.workers.specs.declared.reading.Ending.TheVariants.{Over, Failed, TooLong, Closed, Starved}
-use Rattle.workers.specs.Answers.{Answer, AreMet, Sent, all_sent, all_receipts, Worker}
+use Rattle.workers.specs.Answers.{Answer, AreMet, Sent, all_sent, all_receipts, Worker, with_seat}
 
 -- the job of this record, under the next number
 abbrev pub job_of : Origin → Bytes → Task
@@ -32,6 +32,7 @@ pub record Serves (jobs : List Task) (old new : Worker) (sent sent' : List Sent)
   pub hand : new.seat ≡ with_hand old.seat (record { put = old.seat.hand.put ++ jobs; taken = old.seat.hand.taken ++ map (λ (a : Answer). a.job) answers })
   pub handed : sent' ≡ sent ++ all_sent answers
   pub receipts : new.receipts ≡ old.receipts ++ all_receipts answers
+  pub keeps : new.keeps ≡ old.keeps
 
 -- the bytes of a read
 abbrev pub heard : Result ℕ Ending → List ℕ → List ℕ
@@ -65,8 +66,7 @@ Cuts old piece records (Some Closed) new = ⊥
 -- these were put, numbered on, and nothing else happened
 pub record HavePut (records : List Bytes) (o o' : Origin) (old new : Worker) : Type 0 where
   pub numbered : o' ≡ counted o (length records)
-  pub put :
-      new ≡ record { seat = with_hand old.seat (record { put = old.seat.hand.put ++ jobs_of o records; taken = old.seat.hand.taken }); receipts = old.receipts }
+  pub put : new ≡ with_seat old (with_hand old.seat (record { put = old.seat.hand.put ++ jobs_of o records; taken = old.seat.hand.taken }))
 
 -- all were put, or those before one that came back
 abbrev pub Puts : Bool → List Bytes → Origin → Origin → Worker → Worker → Type 0

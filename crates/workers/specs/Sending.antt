@@ -11,6 +11,7 @@ pub record Sends (old : Held) (next : Option _) (new : Held) : Type 0 where
   pub before : Held
   pub rests : Rests old before
   pub closed : new.closed ≡ before.closed
+  pub keeps : new.keeps ≡ before.keeps
   pub sent : IsNext before.book next new.book
 
 -- a call is sent; or none is due; or one is due, and there was no room for its entry

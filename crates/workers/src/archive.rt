@@ -1,5 +1,5 @@
 //! What is noted for an audit.
-ghost use Rattle.std.specs.Prelude.{◌≡◌, ◌<◌, [], ◌∷◌, ◌++◌, IfOk, IfSome};
+ghost use Rattle.std.specs.Prelude.{◌≡◌, ◌<◌, [], ◌∷◌, ◌++◌, is_some, IfOk, IfSome};
 ghost use Rattle.std.specs.Option.{ForSome};
 ghost use Rattle.workers.specs.Places.{HasPlace};
 
@@ -17,7 +17,8 @@ pub(crate) struct Archive<T> {
 
 impl<T: Drop> Archive<T> {
     pub(crate) fn new(alloc: Global, is_kept: bool) -> Archive<T>
-        ensures { result.all.items ≡ [] }
+        ensures all { result.all.items ≡ [] }
+        ensures kept { is_some result.kept ≡ is_kept }
     {
         Archive {
             all: History::new(),
@@ -29,6 +30,7 @@ impl<T: Drop> Archive<T> {
     pub(crate) fn reserve(&mut self) -> Result<(), Starved>
         ensures place { IfOk result (λ _. HasPlace self.new.kept) }
         ensures same { self.new.all.items ≡ self.old.all.items }
+        ensures kept { is_some self.new.kept ≡ is_some self.old.kept }
     {
         if let Some(items) = &mut self.kept {
             items.reserve(1)?;
@@ -39,7 +41,8 @@ impl<T: Drop> Archive<T> {
     /// One item more. It comes back where none are kept.
     pub(crate) fn add(&mut self, item: T) -> Option<T>
         requires place { HasPlace self.old.kept }
-        ensures { self.new.all.items ≡ self.old.all.items ++ item ∷ [] }
+        ensures all { self.new.all.items ≡ self.old.all.items ++ item ∷ [] }
+        ensures kept { is_some self.new.kept ≡ is_some self.old.kept }
     {
         self.all = self.all.and(&item);
         match &mut self.kept {
@@ -53,14 +56,16 @@ impl<T: Drop> Archive<T> {
 
     /// The items, where they were kept.
     pub(crate) fn into_kept(self) -> Option<Vec<T>>
-        ensures { IfSome result (λ items. items.items ≡ self.all.items) }
+        ensures all { IfSome result (λ items. items.items ≡ self.all.items) }
+        ensures kept { is_some result ≡ is_some self.kept }
     {
         self.kept
     }
 
     /// The items and a last one, where they were kept.
     pub(crate) fn into_kept_with(mut self, last: T) -> Result<Option<Vec<T>>, Starved>
-        ensures { IfOk result (λ kept. IfSome kept (λ items. items.items ≡ self.all.items ++ last ∷ [])) }
+        ensures all { IfOk result (λ kept. IfSome kept (λ items. items.items ≡ self.all.items ++ last ∷ [])) }
+        ensures kept { IfOk result (λ kept. is_some kept ≡ is_some self.kept) }
     {
         self.reserve()?;
         self.add(last);

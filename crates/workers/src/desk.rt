@@ -1,5 +1,5 @@
 //! What a worker has beside its seat.
-ghost use Rattle.std.specs.Prelude.{◌≡◌, [], IfOk, IfErr, length};
+ghost use Rattle.std.specs.Prelude.{◌≡◌, [], is_some, IfOk, IfErr, length};
 ghost use Rattle.workers.specs.Answers.{TakesCall};
 ghost use Rattle.workers.specs.Places.{HasPlace};
 
@@ -28,7 +28,8 @@ pub(crate) struct Desk<L: Ledger> {
 impl<L: Ledger> Desk<L> {
     pub(crate) fn new(alloc: Global, share: Share<L>, is_kept: bool) -> Desk<L>
         requires part { (share.parts ≡ 1) × (share.amount ≡ 0) }
-        ensures { result.receipts.all.items ≡ [] }
+        ensures none { result.receipts.all.items ≡ [] }
+        ensures kept { is_some result.receipts.kept ≡ is_kept }
     {
         Desk {
             alloc,
@@ -41,6 +42,7 @@ impl<L: Ledger> Desk<L> {
     pub(crate) fn into_parts(self) -> (Share<L>, Archive<Receipt>)
         ensures share { (result.0.parts ≡ 1) × (result.0.amount ≡ length self.receipts.all.items) }
         ensures receipts { result.1.all.items ≡ self.receipts.all.items }
+        ensures kept { is_some result.1.kept ≡ is_some self.receipts.kept }
     {
         let Desk {
             share,
@@ -55,6 +57,7 @@ impl<L: Ledger> Desk<L> {
         ensures same { IfOk result (λ same. same ≡ asked.now) }
         ensures place { IfOk result (λ _. HasPlace self.new.receipts.kept) }
         ensures all { self.new.receipts.all.items ≡ self.old.receipts.all.items }
+        ensures kept { is_some self.new.receipts.kept ≡ is_some self.old.receipts.kept }
     {
         self.receipts.reserve()?;
         Ok(asked.clone()?)
@@ -72,6 +75,7 @@ impl<L: Ledger> Desk<L> {
     ) -> Result<bool, Taken>
         ensures taken { IfOk result (λ _. TakesCall taken connection self.old.receipts.all.items self.new.receipts.all.items (O.handed outbox.old) (O.handed outbox.new)) }
         ensures none { IfErr result (λ back. (back ≡ taken) × (self.new.receipts.all.items ≡ self.old.receipts.all.items) × (O.handed outbox.new ≡ O.handed outbox.old)) }
+        ensures kept { is_some self.new.receipts.kept ≡ is_some self.old.receipts.kept }
     {
         let Ok(same) = self.prepare(&taken.record) else {
             return Err(taken);

@@ -3,6 +3,7 @@ ghost use Rattle.std.specs.Prelude.{◌≡◌, ◌≢◌, ℕ, ◌+◌, ◌<◌,
 ghost use Rattle.std.specs.Io.KnownBytes.{Consumes};
 ghost use Rattle.jobs.specs.Passes.{with_put};
 ghost use Rattle.record_mark.specs.Assembled.{IsSplit};
+ghost use Rattle.workers.specs.Answers.{with_seat};
 ghost use Rattle.workers.specs.Reading.{heard, EndsSo, Cuts, Puts, job_of, counted, IsRead};
 
 use crate::outbox::{Gate, Outbox};
@@ -217,7 +218,7 @@ impl<P: Place, L: Ledger> Worker<P, L> {
         origin: &mut Origin,
         asked: Bytes,
     ) -> bool
-        ensures put { result ≡ true → (self.new ≡ record { seat = with_put self.old.seat (job_of origin.old asked); receipts = self.old.receipts }) × (origin.new ≡ counted origin.old 1) }
+        ensures put { result ≡ true → (self.new ≡ with_seat self.old (with_put self.old.seat (job_of origin.old asked))) × (origin.new ≡ counted origin.old 1) }
         ensures back { result ≡ false → (self.new ≡ self.old) × (origin.new ≡ origin.old) }
     {
         let Some(next) = origin.put.checked_add(1) else {

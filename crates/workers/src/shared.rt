@@ -22,7 +22,7 @@ use std::sync::ledger::{Book as Total, Ledger, Share};
 use xdr_core::Frame;
 
 /// The book, its closed segments, and beside them how many calls were taken. Contracts see the journals, whose numbers and
-/// states join, and the total is that of their entries that took a record.
+/// states join, and whether closed ones are kept. The total is that of their entries that took a record.
 pub struct Shared<R: RangeTable, S: HostStore, L: Ledger> {
     alloc: Global,
     book: Book<R, S>,
@@ -33,13 +33,14 @@ pub struct Shared<R: RangeTable, S: HostStore, L: Ledger> {
 }
 
 impl<R: RangeTable, S: HostStore, L: Ledger> Model for Shared<R, S, L> {
+    ghost use Rattle.std.specs.Prelude.{is_some};
     ghost use Rattle.workers.specs.Holds.{Held, IsInStep};
 
     ghost Value = { Held };
 
-    ghost view = { λ s. record { closed = s.archive.all.items; book = s.book } };
+    ghost view = { λ s. record { closed = s.archive.all.items; book = s.book; keeps = is_some s.archive.kept } };
 
-    ghost invariant = { λ s. IsInStep s.total.total (record { closed = s.archive.all.items; book = s.book }) };
+    ghost invariant = { λ s. IsInStep s.total.total s.archive.all.items s.book.journal };
 }
 
 // It is written out, so that no crate above proves again how each part is dropped.
@@ -89,7 +90,7 @@ impl<R: RangeTable, S: HostStore, L: Ledger> Shared<R, S, L> {
     pub fn new(alloc: Global, book: Book<R, S>, total: Total<L>, is_kept: bool) -> Shared<R, S, L>
         requires new { (book.journal.notes ≡ []) × (book.journal.first ≡ 1) }
         requires total { total.total ≡ 0 }
-        ensures { result ≡ record { closed = []; book = book } }
+        ensures { result ≡ record { closed = []; book = book; keeps = is_kept } }
     {
         Shared {
             alloc,
@@ -213,11 +214,12 @@ impl<R: RangeTable, S: HostStore, L: Ledger> Shared<R, S, L> {
 }
 
 impl<R: RangeTable + Drop, S: HostStore + Drop, L: Ledger> Shared<R, S, L> {
-    /// Ends it. The gathered shares sum to the number of the calls that its segments took.
+    /// Ends it. The gathered shares sum to the number of the calls that its segments took, which are given where they were kept.
     pub fn finish(self, all: &mut Share<L>) -> Result<Ends<R, S>, Starved>
         requires whole { all.old.parts ≡ L.parts }
         ensures counted { IfOk result (λ ends. IfSome ends.segments (λ segments. all.old.amount ≡ takes_of segments.items)) }
         ensures joined { IfOk result (λ ends. IfSome ends.segments (λ segments. IsOneHistory segments.items)) }
+        ensures kept { IfOk result (λ ends. is_some ends.segments ≡ self.keeps) }
     {
         let Shared {
             book,

@@ -1,7 +1,7 @@
 //! What a worker does.
-ghost use Rattle.std.specs.Prelude.{◌≡◌, ◌+◌, ◌<◌, [], ◌∷◌, ◌++◌, IfOk, IfSome, IfNone, Some, None, length, MatchResult};
+ghost use Rattle.std.specs.Prelude.{◌≡◌, ◌+◌, ◌<◌, [], ◌∷◌, ◌++◌, is_some, IfOk, IfSome, IfNone, Some, None, length, MatchResult};
 ghost use Rattle.jobs.specs.Passes.{with_put, with_taken};
-ghost use Rattle.workers.specs.Answers.{Answer, Worked, IsMet, posted, listed};
+ghost use Rattle.workers.specs.Answers.{Answer, Worked, IsMet, posted, listed, with_seat};
 
 use crate::desk::Desk;
 use crate::outbox::{Gate, Outbox, post_last};
@@ -16,18 +16,19 @@ use std::sync::ledger::{Ledger, Share};
 use std::sync::{Mutex, Wait};
 
 /// Whoever answers jobs: a worker's thread, or a connection's own. It has a seat at the channel, and a desk. Contracts see what
-/// the seat knows, and the receipts of all calls that it took.
+/// the seat knows, the receipts of all calls that it took, and whether they are kept.
 pub struct Worker<P: Place, L: Ledger> {
     pub(crate) seat: Seat<P>,
     pub(crate) desk: Desk<L>,
 }
 
 impl<P: Place, L: Ledger> Model for Worker<P, L> {
+    ghost use Rattle.std.specs.Prelude.{is_some};
     ghost use Rattle.workers.specs.Answers.{Worker};
 
     ghost Value = { Worker };
 
-    ghost view = { λ w. record { seat = w.seat; receipts = w.desk.receipts.all.items } };
+    ghost view = { λ w. record { seat = w.seat; receipts = w.desk.receipts.all.items; keeps = is_some w.desk.receipts.kept } };
 }
 
 // It is written out, so that no crate above proves again how each part is dropped.
@@ -63,7 +64,7 @@ impl<P: Place, L: Ledger> Worker<P, L> {
     /// With this seat and this one part of the ledger. `is_kept` keeps its receipts for an audit.
     pub fn new(alloc: Global, seat: Seat<P>, share: Share<L>, is_kept: bool) -> Worker<P, L>
         requires part { (share.parts ≡ 1) × (share.amount ≡ 0) }
-        ensures { result ≡ record { seat = seat; receipts = [] } }
+        ensures { result ≡ record { seat = seat; receipts = []; keeps = is_kept } }
     {
         Worker {
             seat,
@@ -82,11 +83,12 @@ impl<P: Place, L: Ledger> Worker<P, L> {
         self.desk.alloc
     }
 
-    /// Ends it. Its share is the number of its receipts.
+    /// Ends it. Its share is the number of its receipts, which are given where they were kept.
     pub fn leave(self) -> Leaves<P, L>
         ensures seat { result.seat ≡ self.seat }
         ensures share { (result.share.parts ≡ 1) × (result.share.amount ≡ length self.receipts) }
         ensures receipts { IfSome result.receipts (λ receipts. receipts.items ≡ self.receipts) }
+        ensures kept { is_some result.receipts ≡ self.keeps }
     {
         let Worker { seat, desk } = self;
         let (share, receipts) = desk.into_parts();
@@ -99,14 +101,14 @@ impl<P: Place, L: Ledger> Worker<P, L> {
 
     /// Puts a job and wakes another for it, or gives it back: the channel is closed.
     pub fn send<W: Wait>(&mut self, rt: &W, channel: &Channel<P>, job: Job) -> Result<(), Closed>
-        ensures put { MatchResult result (λ _. self.new ≡ record { seat = with_put self.old.seat job; receipts = self.old.receipts }) (λ e. (e.job ≡ job) × (self.new ≡ self.old)) }
+        ensures put { MatchResult result (λ _. self.new ≡ with_seat self.old (with_put self.old.seat job)) (λ e. (e.job ≡ job) × (self.new ≡ self.old)) }
     {
         self.seat.send(rt, channel, job)
     }
 
     /// As `send`, but nobody is woken: it takes a job itself next.
     pub fn put<W: Wait>(&mut self, rt: &W, channel: &Channel<P>, job: Job) -> Result<(), Closed>
-        ensures put { MatchResult result (λ _. self.new ≡ record { seat = with_put self.old.seat job; receipts = self.old.receipts }) (λ e. (e.job ≡ job) × (self.new ≡ self.old)) }
+        ensures put { MatchResult result (λ _. self.new ≡ with_seat self.old (with_put self.old.seat job)) (λ e. (e.job ≡ job) × (self.new ≡ self.old)) }
     {
         self.seat.put(rt, channel, job)
     }
@@ -162,7 +164,7 @@ impl<P: Place, L: Ledger> Worker<P, L> {
         channel: &Channel<P>,
         outbox: &mut O,
     ) -> Option<Job>
-        ensures taken { IfSome result (λ job. self.new ≡ record { seat = with_taken self.old.seat job; receipts = self.old.receipts }) }
+        ensures taken { IfSome result (λ job. self.new ≡ with_seat self.old (with_taken self.old.seat job)) }
         ensures none { IfNone result (self.new ≡ self.old) }
         ensures handed { O.handed outbox.new ≡ O.handed outbox.old }
     {
@@ -186,6 +188,7 @@ impl<P: Place, L: Ledger> Worker<P, L> {
             × (O.handed outbox.new ≡ O.handed outbox.old ++ posted job.connection a.given)
             × (self.new.receipts ≡ self.old.receipts ++ listed a.receipt) }
         ensures seat { self.new.seat ≡ self.old.seat }
+        ensures keeps { self.new.keeps ≡ self.old.keeps }
     {
         let connection = job.connection();
         outbox.turn_to(connection);
@@ -206,6 +209,7 @@ impl<P: Place, L: Ledger> Worker<P, L> {
             × (O.handed outbox.new ≡ O.handed outbox.old ++ posted job.connection a.given)
             × (self.new.receipts ≡ self.old.receipts ++ listed a.receipt) }
         ensures seat { self.new.seat ≡ self.old.seat }
+        ensures keeps { self.new.keeps ≡ self.old.keeps }
     {
         let connection = job.connection();
         let peer = job.peer();

@@ -8,7 +8,7 @@ returns-clause-taken g c = (
   view_of_reply c.reply.result.now,
   c.in_ok-receipt.ensures.told.0,
   c.reply.ensures,
-  c.add.ensures ∙ ap (λ l. l ++ c.in_ok-receipt.field-0.receipt ∷ []) c.prepare.ensures.all,
+  c.add.ensures.all ∙ ap (λ l. l ++ c.in_ok-receipt.field-0.receipt ∷ []) c.prepare.ensures.all,
   c.post.ensures,
 )
 

@@ -15,3 +15,4 @@ loop-preserved g c =
     a.0 a.1 a.2 a.3
     (a.4 ∙ ap (λ (w : Worker). w.receipts ++ listed a.0.receipt) c.self.view_is)
     c.serve.ensures.seat
+    (c.serve.ensures.keeps ∙ ap (λ (w : Worker). w.keeps) c.self.view_is)

@@ -16,3 +16,4 @@ loop-preserved g c =
     (a.3 ∙ ap (λ l. l ++ posted c.in-Some-next_job.job.connection a.0.given) c.in-Some-next_job.ensures.handed)
     (a.4 ∙ ap (λ (w : Worker). w.receipts ++ listed a.0.receipt) taken)
     c.serve.ensures.seat
+    (c.serve.ensures.keeps ∙ ap (λ (w : Worker). w.keeps) taken)
