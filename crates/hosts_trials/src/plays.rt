@@ -165,6 +165,11 @@ fn event_of(alloc: Global, event: &str) -> Option<Event> {
     }
 }
 
+// It alone takes a step, since each place that does is a dear proof.
+fn step<T: RangeTable, S: HostStore>(daemon: &mut Daemon<T, S>, event: Event) -> Outputs {
+    daemon.step(event)
+}
+
 // What comes of it, or of the record that it brings.
 fn happens<T: RangeTable, S: HostStore>(
     alloc: Global,
@@ -172,15 +177,16 @@ fn happens<T: RangeTable, S: HostStore>(
     event: &str,
 ) -> Option<Outputs> {
     let event = event_of(alloc, event)?;
-    let outputs = daemon.step(event);
+    let outputs = step(daemon, event);
     if daemon.waiting(CONNECTION) == 0 {
         return Some(outputs);
     }
     drop(outputs);
-    Some(daemon.step(Event::Take {
+    let take = Event::Take {
         connection: CONNECTION,
         index: 0,
-    }))
+    };
+    Some(step(daemon, take))
 }
 
 fn put_sent(room: &mut Frame, outputs: &Outputs, bytes: &mut Vec<u8>) -> bool {

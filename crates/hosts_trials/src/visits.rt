@@ -30,19 +30,19 @@ pub(crate) enum Came {
     Worked,
 }
 
-fn number<S: Alter + Drop>(conn: &mut Connection<S>, sql: &str) -> Option<u32> {
+fn number<S: Alter>(conn: &mut Connection<S>, sql: &str) -> Option<u32> {
     conn.query_row(sql, &[]).ok()?.get::<u32>(0).ok()
 }
 
 // Whether the SQL runs, or shows the number behind ` -> `. What is no number there is for what fails.
-fn holds<S: Alter + Drop>(conn: &mut Connection<S>, line: &str) -> bool {
+fn holds<S: Alter>(conn: &mut Connection<S>, line: &str) -> bool {
     match line.split_once(" -> ") {
         Some((sql, want)) => number(conn, sql) == want.parse().ok(),
         None => conn.execute_batch(line).is_ok(),
     }
 }
 
-fn all_hold<S: Alter + Drop>(conn: &mut Connection<S>, sql: &str) -> bool {
+fn all_hold<S: Alter>(conn: &mut Connection<S>, sql: &str) -> bool {
     for line in sql.lines() {
         if !holds(conn, line) {
             return false;
