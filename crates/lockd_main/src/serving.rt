@@ -15,7 +15,7 @@ use thiserror::Error;
 use workers::Gate;
 
 /// What ends `serve` before it is told to stop. It is printed by number and name.
-#[derive(Clone, Copy, Debug, PartialEq, Eq, Error)]
+#[derive(Clone, Copy, Debug, Error)]
 pub(crate) enum ServeFault {
     /// There was no memory.
     #[error("1 Starved")]
