@@ -1,11 +1,12 @@
 //! A stop of the disk at each of its calls while a daemon plays a script from bytes to bytes: what the files hold then, and a daemon
 //! that begins anew over them.
-use crate::plays::{Deed, Line, are_rows_after, goes, notifies, parted, played, with_daemon};
-use crate::shown::shown;
 use crate::stops::{Stop, Trial, after_crash, are_met, stopping};
 use crate::visits::{Trials, Work, visit_files};
 use daemon_core::{Daemon, Frame};
 use hosts_db::HostStore;
+use hosts_scripts::{
+    Deed, Line, are_rows_after, goes, notifies, parted, played, shown, with_daemon,
+};
 use range_table::RangeTable;
 use std::alloc::Global;
 use std::test::*;

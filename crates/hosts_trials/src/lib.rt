@@ -5,21 +5,13 @@
 #[cfg(test)]
 mod adopting;
 #[cfg(test)]
-mod calls;
-#[cfg(test)]
 mod daemons;
 #[cfg(test)]
 mod growths;
 #[cfg(test)]
-mod messages;
-#[cfg(test)]
 mod pairs;
 #[cfg(test)]
-mod plays;
-#[cfg(test)]
 mod rows;
-#[cfg(test)]
-mod shown;
 #[cfg(test)]
 mod stops;
 #[cfg(test)]

@@ -1,10 +1,9 @@
 //! A store over a database and one in memory, which get the same calls: one script of all calls, files of schema 1, and
 //! full stores.
-use crate::calls::{answers, call, run};
-use crate::shown::{are_same, does_show, model};
 use crate::tables::FIRST;
 use crate::visits::{Came, Work, fresh, visit_files};
 use hosts_db::{HostStore, MemHosts};
+use hosts_scripts::{answers, are_same, call, does_show, model, run};
 use std::alloc::{AllocError, Global};
 use std::fmt::Write;
 use std::test::*;

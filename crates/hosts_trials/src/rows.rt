@@ -1,10 +1,10 @@
 //! Rows that a daemon plays over a database which never stops: what is sent behind each line and whom it is for, what the store says
 //! and holds then, and how often it is asked to write in all.
-use crate::plays::{Deed, Server, parted, with_daemon, wrong_line};
 use crate::tables::SECOND;
 use crate::visits::{Work, fresh, visit_files};
 use daemon_core::{Daemon, Frame};
 use hosts_db::HostStore;
+use hosts_scripts::{Deed, Server, parted, with_daemon, wrong_line};
 use range_table::RangeTable;
 use std::alloc::Global;
 use std::test::*;

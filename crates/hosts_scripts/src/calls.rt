@@ -83,7 +83,7 @@ fn unwatch<S: HostStore>(store: &mut S, mon: &str, my: &[u8]) -> &'static str {
 }
 
 /// Makes the call of this line. What is answered.
-pub(crate) fn call<S: HostStore>(store: &mut S, line: &str) -> &'static str {
+pub fn call<S: HostStore>(store: &mut S, line: &str) -> &'static str {
     let words = words_of(line);
     let name = words.first.as_bytes();
     let second = number(words.second);
@@ -100,7 +100,7 @@ pub(crate) fn call<S: HostStore>(store: &mut S, line: &str) -> &'static str {
 }
 
 /// Makes the call of this line: whether the answer is the one behind it.
-pub(crate) fn answers<S: HostStore>(store: &mut S, line: &str) -> bool {
+pub fn answers<S: HostStore>(store: &mut S, line: &str) -> bool {
     match line.split_once(" -> ") {
         Some((made, want)) => call(store, made) == want,
         None => call(store, line) == "ok",
@@ -108,7 +108,7 @@ pub(crate) fn answers<S: HostStore>(store: &mut S, line: &str) -> bool {
 }
 
 /// Makes at most so many calls of the script, up to the first that is answered otherwise. How many weren't.
-pub(crate) fn run<S: HostStore>(store: &mut S, script: &str, most: usize) -> usize {
+pub fn run<S: HostStore>(store: &mut S, script: &str, most: usize) -> usize {
     for (at, line) in script.lines().take(most).enumerate() {
         if !answers(store, line) {
             return at;

@@ -43,7 +43,7 @@ fn write_all<S: HostStore>(to: &mut String, store: &S) -> Result<(), AllocError>
 }
 
 /// What the store shows. One growth that is refused is asked for again.
-pub(crate) fn shown<S: HostStore>(alloc: Global, store: &S) -> Option<String> {
+pub fn shown<S: HostStore>(alloc: Global, store: &S) -> Option<String> {
     let mut all = String::new(alloc);
     if write_all(&mut all, store).is_ok() || write_all(&mut all, store).is_ok() {
         Some(all)
@@ -53,7 +53,7 @@ pub(crate) fn shown<S: HostStore>(alloc: Global, store: &S) -> Option<String> {
 }
 
 /// Whether it shows this, whatever white space stands around it.
-pub(crate) fn does_show<S: HostStore>(alloc: Global, store: &S, want: &str) -> bool {
+pub fn does_show<S: HostStore>(alloc: Global, store: &S, want: &str) -> bool {
     match shown(alloc, store) {
         Some(text) => text.trim() == want.trim(),
         None => false,
@@ -61,7 +61,7 @@ pub(crate) fn does_show<S: HostStore>(alloc: Global, store: &S, want: &str) -> b
 }
 
 /// Whether both show the same.
-pub(crate) fn are_same<A: HostStore, B: HostStore>(alloc: Global, one: &A, other: &B) -> bool {
+pub fn are_same<A: HostStore, B: HostStore>(alloc: Global, one: &A, other: &B) -> bool {
     match shown(alloc, one) {
         Some(text) => does_show(alloc, other, &text),
         None => false,
@@ -69,12 +69,12 @@ pub(crate) fn are_same<A: HostStore, B: HostStore>(alloc: Global, one: &A, other
 }
 
 /// A fresh store in memory.
-pub(crate) fn model(alloc: Global) -> Option<MemHosts> {
+pub fn model(alloc: Global) -> Option<MemHosts> {
     MemHosts::new(alloc, 0, Vec::new(alloc), Vec::new(alloc)).ok()
 }
 
 /// What a store in memory shows after one script, and so many calls of another.
-pub(crate) fn shown_after(alloc: Global, past: &str, script: &str, most: usize) -> Option<String> {
+pub fn shown_after(alloc: Global, past: &str, script: &str, most: usize) -> Option<String> {
     let mut model = model(alloc)?;
     run(&mut model, past, usize::MAX);
     run(&mut model, script, most);

@@ -9,7 +9,7 @@
 //!   `answer-cut 1 agreed`: by the first three bytes of that. `silent 1 9`: nobody answers the ninth call in the own state 1.
 //! - `local quota 61 5`: a local program's line.
 use crate::messages::message;
-use crate::shown::shown;
+use crate::showing::shown;
 use callbacks::ShortBytes;
 use daemon_core::{Addressee, Daemon, Event, Frame, Outputs, Peer, Posting, Refusal, StoreAnswer};
 use hosts_db::HostStore;
@@ -25,14 +25,19 @@ const LOCAL: u64 = 5;
 
 /// A line of a script.
 #[derive(Clone, Copy)]
-pub(crate) struct Line<'a> {
-    pub(crate) event: &'a str,
-    pub(crate) answer: &'a str,
-    pub(crate) refusal: &'a str,
-    pub(crate) rows: &'a str,
+pub struct Line<'a> {
+    /// What happens.
+    pub event: &'a str,
+    /// What is sent for it.
+    pub answer: &'a str,
+    /// What is sent for it where the store refuses.
+    pub refusal: &'a str,
+    /// What the store holds then. Nothing: it isn't asked.
+    pub rows: &'a str,
 }
 
-pub(crate) fn parted(line: &str) -> Line<'_> {
+/// The parts of a line. One that isn't there is empty; what is sent for a refusal is then what is sent.
+pub fn parted(line: &str) -> Line<'_> {
     let (told, rows) = line.split_once(" -> ").unwrap_or((line, ""));
     let (event, answers) = told.split_once(" = ").unwrap_or((told, ""));
     let (answer, refusal) = answers.split_once(" or ").unwrap_or((answers, answers));
@@ -54,7 +59,7 @@ fn wanted(rows: &str) -> StoreAnswer {
 }
 
 /// Whether a store that held those found holds these rows after so many lines that went as they say.
-pub(crate) fn are_rows_after(found: &str, script: &str, most: usize, rows: &str) -> bool {
+pub fn are_rows_after(found: &str, script: &str, most: usize, rows: &str) -> bool {
     let mut is_so = rows == found;
     for line in script.lines().take(most) {
         let Line { rows: told, .. } = parted(line);
@@ -66,7 +71,8 @@ pub(crate) fn are_rows_after(found: &str, script: &str, most: usize, rows: &str)
 }
 
 /// What is done with a daemon. The room is lent for what is sent.
-pub(crate) trait Deed {
+pub trait Deed {
+    /// Has the daemon do it.
     fn act<T: RangeTable, S: HostStore>(&mut self, daemon: &mut Daemon<T, S>, room: &mut Frame);
 }
 
@@ -95,11 +101,7 @@ fn opened<'a, S: HostStore>(
 }
 
 /// Does it with a daemon over this store. How often that asks the store to write.
-pub(crate) fn with_daemon<S: HostStore, D: Deed>(
-    alloc: Global,
-    store: &mut S,
-    deed: &mut D,
-) -> usize {
+pub fn with_daemon<S: HostStore, D: Deed>(alloc: Global, store: &mut S, deed: &mut D) -> usize {
     let mut writes = 0;
     lend(opened(alloc, Lent::new(store, &mut writes)), deed);
     writes
@@ -251,7 +253,7 @@ fn told<T: RangeTable, S: HostStore>(
 }
 
 /// Whether a line goes well, or the store has refused. None where it goes otherwise than the line says.
-pub(crate) fn goes<T: RangeTable, S: HostStore>(
+pub fn goes<T: RangeTable, S: HostStore>(
     alloc: Global,
     daemon: &mut Daemon<T, S>,
     room: &mut Frame,
@@ -261,7 +263,7 @@ pub(crate) fn goes<T: RangeTable, S: HostStore>(
 }
 
 /// How many lines go well, up to the first that the store refuses. None where one goes otherwise than it says.
-pub(crate) fn played<T: RangeTable, S: HostStore>(
+pub fn played<T: RangeTable, S: HostStore>(
     alloc: Global,
     daemon: &mut Daemon<T, S>,
     room: &mut Frame,
@@ -290,10 +292,10 @@ fn does_show_after<S: HostStore>(
 }
 
 /// What the store holds when a server begins, and its script.
-pub(crate) type Server = (&'static str, &'static str);
+pub type Server = (&'static str, &'static str);
 
 /// The first line that goes otherwise than it says, or behind which the store holds other rows than were told last.
-pub(crate) fn wrong_line<T: RangeTable, S: HostStore>(
+pub fn wrong_line<T: RangeTable, S: HostStore>(
     alloc: Global,
     daemon: &mut Daemon<T, S>,
     room: &mut Frame,
@@ -336,7 +338,7 @@ fn notifies_one<T: RangeTable, S: HostStore>(
 }
 
 /// Whether the calls that are due are just a notice to each stored host, in order of name.
-pub(crate) fn notifies<T: RangeTable, S: HostStore>(
+pub fn notifies<T: RangeTable, S: HostStore>(
     alloc: Global,
     daemon: &mut Daemon<T, S>,
     room: &mut Frame,
