@@ -14,7 +14,7 @@ use Rattle.workers.specs.declared.reading.Origin.{Origin}
 use Rattle.workers.specs.declared.reading.Ending.{Ending}
 use Rattle.workers.specs.declared.reading.Ending.TheVariants.{Over, Failed, TooLong, Closed, Starved}
 use Rattle.workers.specs.Answers.{Sent, sent_for, listed, Answer, AreMet, all_sent, all_receipts, Worker, with_seat, Worked}
-use Rattle.workers.specs.Reading.{job_of, counted, jobs_of, Serves, HavePut, Puts, heard, EndsSo, Fed, Cuts, EndsBy, IsRead}
+use Rattle.workers.specs.Reading.{job_of, counted, jobs_of, Serves, HavePut, Puts, EndsSo, Fed, Cuts, EndsBy, IsRead}
 
 -- ---- jobs of records
 
