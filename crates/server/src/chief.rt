@@ -1,6 +1,6 @@
 //! What the thread that started all others does.
 use crate::signals::Bells;
-use crate::threads::Chief;
+use connections::Chief;
 use hosts_db::HostStore;
 use range_table::RangeTable;
 use serve_loops::sender::{Locals, Sender};

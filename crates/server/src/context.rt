@@ -1,11 +1,10 @@
 //! What every thread knows, and what it does.
-use crate::connections::{Latch, Roster, Writer};
 use crate::incoming::Incoming;
 use crate::notes;
 use crate::outbox::SocketOutbox;
 use crate::peer::peer_at;
 use crate::signals::Bells;
-use crate::threads::{Guest, Service, Side};
+use connections::{Guest, Latch, Roster, Service, Side, Writer};
 use hosts_db::HostStore;
 use jobs::{Channel, Place};
 use log::Log;

@@ -1,8 +1,7 @@
-//! The server over sockets: its connections, the threads, the staff that answers jobs, and the sender, over one book.
+//! The server over sockets: what its threads do, the staff that answers jobs, and the sender, over one book.
 #![tactic(auto)]
 
 mod chief;
-mod connections;
 mod context;
 mod fault;
 mod incoming;
@@ -16,8 +15,6 @@ mod serving;
 mod settings;
 mod signals;
 pub mod staff;
-mod threads;
-mod wire;
 
 pub use fault::Fault;
 pub use runtime::Runtime;

@@ -1,5 +1,5 @@
 //! Lines for local programs that nobody asked for just then.
-use crate::connections::Roster;
+use connections::Roster;
 use serve_loops::sender::Locals;
 use std::sync::{Mutex, Wait};
 

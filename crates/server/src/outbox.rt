@@ -1,9 +1,8 @@
 //! Replies go to the connections that their calls came on.
 ghost use Rattle.std.specs.Prelude.{◌≡◌, [], ◌∷◌, ◌++◌};
 
-use crate::connections::{Connection, Roster};
-use crate::wire::Wire;
 use book::Reply;
+use connections::{Connection, Roster, Wire};
 use history::History;
 use serve_loops::Signals;
 use std::alloc::Global;

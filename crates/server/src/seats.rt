@@ -1,7 +1,7 @@
 //! What the places of connections lend.
-use crate::connections::{PLACES, Roster};
 use crate::fault::Fault;
 use crate::staff::{Cutter, Gatherer};
+use connections::{PLACES, Roster};
 use jobs::{Channel, Place};
 use std::alloc::Global;
 use std::sync::ledger::Ledger;

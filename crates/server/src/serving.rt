@@ -2,7 +2,6 @@
 ghost use Rattle.std.specs.Prelude.{◌≡◌, ◌+◌, [], IfOk};
 
 use crate::chief::Sends;
-use crate::connections::{Door, PLACES, Roster};
 use crate::context::{Context, Latches, Rosters};
 use crate::fault::Fault;
 use crate::lines::LocalLines;
@@ -11,9 +10,9 @@ use crate::seats::{callers, locals, take_back};
 use crate::settings::{Backing, Settings};
 use crate::signals::Bells;
 use crate::staff::{Cutter, Gatherer};
-use crate::threads::{NoThread, Service, Staff, run};
 use book::{Book, BookEvent, Reply, Upshot};
 use callbacks::ShortBytes;
+use connections::{Door, NoThread, PLACES, Roster, Service, Staff, run};
 use hosts_db::HostStore;
 use jobs::{Channel, Opened, Place};
 use peers::Peers;

@@ -1,7 +1,7 @@
 //! The connections that are open.
 ghost use Rattle.std.specs.Prelude.{◌≡◌, ◌≤◌, ◌<◌, IfSome};
 
-use super::connection::Connection;
+use crate::connection::Connection;
 use std::alloc::{AllocError, Global};
 use std::marker::Model;
 use std::net::TcpStream;
@@ -9,7 +9,7 @@ use std::sync::Arc;
 use std::time::Duration;
 
 /// The most connections of a roster of the server.
-pub(crate) const PLACES: usize = 256;
+pub const PLACES: usize = 256;
 
 // A place, and what is lent to whoever serves its connection.
 #[derive(Drop)]
@@ -21,7 +21,7 @@ struct Place<K> {
 /// The connections that are open, each at a place of its own, which lends something to whoever serves it. Contracts see the
 /// least number that a further connection can have.
 #[derive(Drop)]
-pub(crate) struct Roster<K> {
+pub struct Roster<K> {
     alloc: Global,
     places: Vec<Place<K>>,
     // A multiple of the number of places. A connection's number is that and its place.
@@ -51,7 +51,7 @@ fn open(
 
 impl<K: Drop> Roster<K> {
     /// Without a place.
-    pub(crate) fn new(alloc: Global) -> Roster<K>
+    pub fn new(alloc: Global) -> Roster<K>
         ensures { result ≡ 0 }
     {
         Roster {
@@ -63,7 +63,7 @@ impl<K: Drop> Roster<K> {
     }
 
     /// One place more, which lends this. It comes before any connection: a number is found by how many places there are.
-    pub(crate) fn add_place(&mut self, lent: K) -> Result<(), AllocError>
+    pub fn add_place(&mut self, lent: K) -> Result<(), AllocError>
         ensures { self.new ≡ self.old }
     {
         self.places.push(Place {
@@ -75,7 +75,7 @@ impl<K: Drop> Roster<K> {
 
     /// Takes the stream in, under a number that none had before. `None` where no place is free, the roster is closed, the
     /// socket fails, or memory is wanting; the stream is closed then. `idle` is how long its reads wait.
-    pub(crate) fn admit(
+    pub fn admit(
         &mut self,
         stream: TcpStream,
         idle: Option<Duration>,
@@ -104,7 +104,7 @@ impl<K: Drop> Roster<K> {
     }
 
     /// The connection of this number. `None` where it has ended.
-    pub(crate) fn find(&self, number: u64) -> Option<Arc<Connection, Global>>
+    pub fn find(&self, number: u64) -> Option<Arc<Connection, Global>>
         ensures { IfSome result (λ c. c.value ≡ number) }
     {
         let place = self.place_of(number)?;
@@ -116,7 +116,7 @@ impl<K: Drop> Roster<K> {
     }
 
     /// Lends what the place of this connection lends.
-    pub(crate) fn lend(&mut self, number: u64) -> Option<K>
+    pub fn lend(&mut self, number: u64) -> Option<K>
         ensures { self.new ≡ self.old }
     {
         let place = self.place_of(number)?;
@@ -124,7 +124,7 @@ impl<K: Drop> Roster<K> {
     }
 
     /// Takes back what its place lent.
-    pub(crate) fn give_back(&mut self, number: u64, lent: K)
+    pub fn give_back(&mut self, number: u64, lent: K)
         ensures { self.new ≡ self.old }
     {
         let Some(place) = self.place_of(number) else {
@@ -136,7 +136,7 @@ impl<K: Drop> Roster<K> {
     }
 
     /// The connection of this number has ended. Its place is free.
-    pub(crate) fn leave(&mut self, number: u64)
+    pub fn leave(&mut self, number: u64)
         ensures { self.new ≡ self.old }
     {
         let Some(place) = self.place_of(number) else {
@@ -148,7 +148,7 @@ impl<K: Drop> Roster<K> {
     }
 
     /// Ends reading on every connection, and takes none in any more.
-    pub(crate) fn close(&mut self)
+    pub fn close(&mut self)
         ensures { self.new ≡ self.old }
     {
         self.is_closed = true;
@@ -160,7 +160,7 @@ impl<K: Drop> Roster<K> {
     }
 
     /// Takes what the place of this index lends, from 0, once nobody serves.
-    pub(crate) fn take(&mut self, index: usize) -> Option<K>
+    pub fn take(&mut self, index: usize) -> Option<K>
         ensures { self.new ≡ self.old }
     {
         self.places.get_mut(index)?.lent.take()

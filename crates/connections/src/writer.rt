@@ -1,15 +1,13 @@
 //! What is written to a connection in pieces.
-use super::connection::{Connection, Lost, Outgoing};
+use crate::JOINED;
+use crate::connection::{Connection, Lost, Outgoing};
 use std::alloc::Global;
 use std::io::{self, ErrorKind, Write};
 use std::sync::{MutexGuard, Wait};
 
-/// So many bytes are written at once.
-const MOST: usize = 16_384;
-
 /// Writes to a connection. What is written between two flushes stays together, whatever others write to it.
 #[derive(Drop)]
-pub(crate) struct Writer<'a, R> {
+pub struct Writer<'a, R> {
     rt: &'a R,
     connection: &'a Connection,
     bytes: Vec<u8>,
@@ -22,7 +20,8 @@ fn broken(_lost: Lost) -> io::Error {
 }
 
 impl<'a, R: Wait> Writer<'a, R> {
-    pub(crate) fn new(alloc: Global, rt: &'a R, connection: &'a Connection) -> Writer<'a, R> {
+    /// With nothing to write yet.
+    pub fn new(alloc: Global, rt: &'a R, connection: &'a Connection) -> Writer<'a, R> {
         Writer {
             rt,
             connection,
@@ -46,7 +45,7 @@ impl<'a, R: Wait> Writer<'a, R> {
 
 impl<'a, R: Wait> Write for Writer<'a, R> {
     fn write(&mut self, bytes: &[u8]) -> io::Result<usize> {
-        if self.bytes.len() > MOST {
+        if self.bytes.len() > JOINED {
             self.push_out().map_err(broken)?;
         }
         self.bytes.extend_from_slice(bytes)?;

@@ -18,7 +18,7 @@ const TURNS: usize = 4;
 /// The bytes were not all written. The connection is shut, and never written again.
 #[derive(Clone, Copy, Debug, PartialEq, Eq, Error)]
 #[error("its peer takes no bytes")]
-pub(crate) struct Lost;
+pub struct Lost;
 
 // What the connection's own lock keeps.
 #[derive(Drop)]
@@ -28,7 +28,7 @@ pub(crate) struct Outgoing {
 
 /// A connection that is open. Whoever has something for it writes it whole, one after another. Contracts see its number.
 #[derive(Drop)]
-pub(crate) struct Connection {
+pub struct Connection {
     number: u64,
     stream: TcpStream,
     outgoing: Mutex<Outgoing>,
@@ -65,11 +65,7 @@ fn write_in_turns(stream: &TcpStream, bytes: &[u8]) -> Result<(), Lost> {
 impl Connection {
     /// Over this stream, whose writes get their timeout. `idle` is how long a read waits for bytes; with `None` it waits on.
     /// The error is the socket's.
-    pub(crate) fn new(
-        number: u64,
-        stream: TcpStream,
-        idle: Option<Duration>,
-    ) -> io::Result<Connection>
+    pub fn new(number: u64, stream: TcpStream, idle: Option<Duration>) -> io::Result<Connection>
         ensures { IfOk result (λ c. c ≡ number) }
     {
         stream.set_nodelay(true)?;
@@ -84,20 +80,21 @@ impl Connection {
         })
     }
 
-    pub(crate) fn number(&self) -> u64
+    /// Its number.
+    pub fn number(&self) -> u64
         ensures { result ≡ self.now }
     {
         self.number
     }
 
     /// What comes in.
-    pub(crate) fn stream(&self) -> &TcpStream {
+    pub fn stream(&self) -> &TcpStream {
         &self.stream
     }
 
     /// Writes the bytes whole, before or behind what others write. A turn of 20 ms that moves none of them, or the end of the
     /// fourth before all are written, loses the connection: it is shut, and this and each later call answers `Lost`.
-    pub(crate) fn send<R: Wait>(&self, rt: &R, bytes: &[u8]) -> Result<(), Lost> {
+    pub fn send<R: Wait>(&self, rt: &R, bytes: &[u8]) -> Result<(), Lost> {
         let mut outgoing = self.outgoing.lock(rt);
         self.write(&mut outgoing, bytes)
     }
@@ -126,12 +123,12 @@ impl Connection {
     }
 
     /// Nothing more is read or written.
-    pub(crate) fn shut(&self) {
+    pub fn shut(&self) {
         let _ = self.stream.shutdown(Shutdown::Both);
     }
 
     /// So many jobs more are done: their replies are written, or lost.
-    pub(crate) fn count_done(&self, jobs: u64) {
+    pub fn count_done(&self, jobs: u64) {
         self.done.fetch_add(jobs, Ordering::SeqCst);
         if self.is_awaited.load(Ordering::SeqCst) {
             self.done.wake_all();
@@ -139,7 +136,7 @@ impl Connection {
     }
 
     /// Waits until so many of its jobs are done.
-    pub(crate) fn wait_for<R: Wait>(&self, rt: &R, jobs: u64) {
+    pub fn wait_for<R: Wait>(&self, rt: &R, jobs: u64) {
         // It says that it waits before it looks, so that it is woken for what it doesn't see.
         self.is_awaited.store(true, Ordering::SeqCst);
         for _ in rt.forever() {

@@ -1,7 +1,7 @@
 //! All threads.
 use super::accepting::{Post, accept};
 use super::service::{Chief, Service, Side};
-use crate::connections::Door;
+use crate::door::Door;
 use std::alloc::Global;
 use std::sync::Wait;
 use std::thread;
@@ -12,17 +12,20 @@ use thiserror::Error;
 /// A thread could not be started. All that were started have ended.
 #[derive(Clone, Copy, Debug, PartialEq, Eq, Error)]
 #[error("1 Starved")]
-pub(crate) struct NoThread;
+pub struct NoThread;
 
 /// Where connections come in, and what each worker has.
 #[derive(Drop)]
-pub(crate) struct Staff<W> {
-    pub(crate) alloc: Global,
-    pub(crate) callers: Door,
-    pub(crate) locals: Door,
-    pub(crate) workers: Vec<W>,
+pub struct Staff<W> {
+    pub alloc: Global,
+    /// For calls by record.
+    pub callers: Door,
+    /// For local programs.
+    pub locals: Door,
+    /// What each worker has, in the order in which they start.
+    pub workers: Vec<W>,
     /// The bytes of each thread's stack.
-    pub(crate) stack: usize,
+    pub stack: usize,
 }
 
 // A worker's thread.
@@ -177,7 +180,7 @@ where
 }
 
 /// Starts all threads, and comes back with what the workers had once the server was stopped and all have ended.
-pub(crate) fn run<R, W, C, K>(
+pub fn run<R, W, C, K>(
     rt: &R,
     service: &C,
     staff: Staff<W>,

@@ -1,12 +1,12 @@
 //! What the threads do.
-use crate::connections::Connection;
+use crate::connection::Connection;
 use std::alloc::Global;
 use std::net::{SocketAddr, TcpStream};
 use std::sync::Arc;
 
 /// Which door a connection came in by.
 #[derive(Clone, Copy, PartialEq, Eq)]
-pub(crate) enum Side {
+pub enum Side {
     /// Calls by record.
     Callers,
     /// Lines of local programs.
@@ -15,15 +15,16 @@ pub(crate) enum Side {
 
 /// A connection that was taken in.
 #[derive(Drop)]
-pub(crate) struct Guest {
-    pub(crate) side: Side,
-    pub(crate) connection: Arc<Connection, Global>,
+pub struct Guest {
+    /// By which door it came.
+    pub side: Side,
+    pub connection: Arc<Connection, Global>,
     /// Where its peer is.
-    pub(crate) from: SocketAddr,
+    pub from: SocketAddr,
 }
 
 /// What the threads of a server do. `W` is what a worker has.
-pub(crate) trait Service<R, W> {
+pub trait Service<R, W> {
     /// Takes a connection in. `None`: there is no place for it, and it is closed.
     fn admit(&self, rt: &R, side: Side, stream: TcpStream, from: SocketAddr) -> Option<Guest>;
 
@@ -47,7 +48,7 @@ pub(crate) trait Service<R, W> {
 }
 
 /// What the thread that started all others does meanwhile.
-pub(crate) trait Chief<R> {
+pub trait Chief<R> {
     /// It comes back once the server is stopped, or stops it.
     fn preside(&mut self, rt: &R);
 }

@@ -1,19 +1,18 @@
 //! Replies on their way to their connections.
-use crate::connections::{Connection, Roster};
+use crate::JOINED;
+use crate::connection::Connection;
+use crate::roster::Roster;
 use record_mark::last_mark;
 use std::alloc::{AllocError, Global};
 use std::sync::{Arc, Mutex, Wait};
 use xdr_core::Frame;
-
-/// The most bytes of replies that are written at once.
-const MOST: usize = 16_384;
 
 /// The bytes of the largest frame and its mark.
 const LARGEST: usize = 4_100;
 
 /// Replies to one connection that are written together, and how many of its jobs they end.
 #[derive(Drop)]
-pub(crate) struct Wire<'a, 'h, K, R> {
+pub struct Wire<'a, 'h, K, R> {
     rt: &'a R,
     callers: &'a Mutex<Roster<K>>,
     // The connection of whoever joins them, if it has one.
@@ -24,7 +23,8 @@ pub(crate) struct Wire<'a, 'h, K, R> {
 }
 
 impl<'a, 'h, K: Drop, R: Wait> Wire<'a, 'h, K, R> {
-    pub(crate) fn new(
+    /// With nothing joined. `home` is the connection of whoever joins, if it has one; all others are found in the roster.
+    pub fn new(
         alloc: Global,
         rt: &'a R,
         callers: &'a Mutex<Roster<K>>,
@@ -56,7 +56,7 @@ impl<'a, 'h, K: Drop, R: Wait> Wire<'a, 'h, K, R> {
     }
 
     /// What comes next is for the connection of this number.
-    pub(crate) fn turn_to(&mut self, number: u64) {
+    pub fn turn_to(&mut self, number: u64) {
         if self.is_to(number) {
             return;
         }
@@ -66,11 +66,11 @@ impl<'a, 'h, K: Drop, R: Wait> Wire<'a, 'h, K, R> {
 
     // Whether what is joined leaves no room for one more record.
     fn is_full(&self) -> bool {
-        self.joined.len() > MOST - LARGEST
+        self.joined.len() > JOINED - LARGEST
     }
 
     /// Whether what is joined is written before a record for this connection is joined.
-    pub(crate) fn will_write(&self, number: u64) -> bool {
+    pub fn will_write(&self, number: u64) -> bool {
         !self.joined.is_empty() && (self.is_full() || !self.is_to(number))
     }
 
@@ -91,8 +91,8 @@ impl<'a, 'h, K: Drop, R: Wait> Wire<'a, 'h, K, R> {
         self.joined.extend_from_slice(record)
     }
 
-    /// Joins a record.
-    pub(crate) fn join(&mut self, record: &Frame) {
+    /// Joins a record, behind its mark (RFC 5531, section 11). Where there is no memory for it the connection is shut.
+    pub fn join(&mut self, record: &Frame) {
         if self.is_full() {
             self.write();
         }
@@ -110,12 +110,12 @@ impl<'a, 'h, K: Drop, R: Wait> Wire<'a, 'h, K, R> {
     }
 
     /// One more job is done.
-    pub(crate) fn count(&mut self) {
+    pub fn count(&mut self) {
         self.done = self.done.wrapping_add(1);
     }
 
     /// Writes what is joined, and tells that its jobs are done.
-    pub(crate) fn flush(&mut self) {
+    pub fn flush(&mut self) {
         self.write();
         let done = self.done;
         self.done = 0;

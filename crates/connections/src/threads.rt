@@ -3,5 +3,5 @@ mod accepting;
 mod running;
 mod service;
 
-pub(crate) use running::{NoThread, Staff, run};
-pub(crate) use service::{Chief, Guest, Service, Side};
+pub use running::{NoThread, Staff, run};
+pub use service::{Chief, Guest, Service, Side};

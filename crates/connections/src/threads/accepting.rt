@@ -1,6 +1,6 @@
 //! The thread of a door.
 use super::service::{Guest, Service, Side};
-use crate::connections::Door;
+use crate::door::Door;
 use std::net::{SocketAddr, TcpStream};
 use std::thread;
 use std::thread::{Builder, Scope, Threads};
