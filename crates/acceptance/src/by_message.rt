@@ -1,5 +1,5 @@
 //! The message forms: an empty reply at once, and the result in a call of the server's own (XNFS, NLM_TEST_MSG and NLM_LOCK_MSG).
-use crate::servers::{Misplayed, Row, Way, play_rows};
+use daemon_scripts::{Misplayed, Row, Way, play_rows};
 
 /// What is told by a call of the server's own, and when.
 const ROWS: &[Row] = &[

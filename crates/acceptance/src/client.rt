@@ -1,9 +1,6 @@
 //! A stock Linux 6.1 kernel client, as it was seen on the wire: each of its calls is read as what it asks, and answered by
 //! the rules.
-use crate::messages::put_message;
-use crate::page::read_xid;
-use crate::servers::{Misplayed, play};
-use crate::words::Terms;
+use daemon_scripts::{Misplayed, Terms, play, put_message, read_xid};
 use nlm4_types::{Lock, LockArgs, Netobj, NlmCall, TestArgs, Version, WIDE};
 use record_reading::{Call, Reading};
 use std::alloc::Global;

@@ -1,6 +1,7 @@
-//! The worked rows, from bytes to bytes: what a client sends, what it is sent, and what the server calls. Each is a script,
-//! which `script` plays through `Daemon::run`: that cuts streams into records, reads them, does them in the book and writes
-//! what each is answered. The store is one in memory; rows over a database stand in `hosts_trials`.
+//! The worked rows, from bytes to bytes: what a client sends, what it is sent, and what the server calls. Each is a script, which
+//! `daemon_scripts` plays through `Daemon::run`: that cuts streams into records, reads them, does them in the book and writes what
+//! each is answered. `pipe` has those of `lockd pipe` and `lockd table`, over readers and writers. The store is one in memory; rows over a
+//! database stand in `hosts_trials`.
 #![tactic(auto)]
 
 #[cfg(test)]
@@ -8,21 +9,17 @@ mod by_message;
 #[cfg(test)]
 mod client;
 #[cfg(test)]
-mod events;
-#[cfg(test)]
 mod growths;
 #[cfg(test)]
 mod limits;
 #[cfg(test)]
 mod lines;
 #[cfg(test)]
-mod messages;
-#[cfg(test)]
 mod monitor;
 #[cfg(test)]
 mod notices;
 #[cfg(test)]
-mod page;
+mod pipe;
 #[cfg(test)]
 mod quotas;
 #[cfg(test)]
@@ -32,12 +29,6 @@ mod repeats;
 #[cfg(test)]
 mod rows;
 #[cfg(test)]
-mod script;
-#[cfg(test)]
-mod servers;
-#[cfg(test)]
-mod state;
-#[cfg(test)]
 mod stores;
 #[cfg(test)]
 mod streams;
@@ -45,5 +36,3 @@ mod streams;
 mod versions;
 #[cfg(test)]
 mod waits;
-#[cfg(test)]
-mod words;

@@ -1,12 +1,8 @@
 //! Calls at random, cut at random places, and over both tables.
 ghost use Rattle.std.specs.Prelude.{◌≡◌, []};
 
-use crate::messages::put_terms;
-use crate::page::Page;
-use crate::script::{happens, streams};
-use crate::servers::{memory, opened};
-use crate::words::Terms;
 use daemon_core::Daemon;
+use daemon_scripts::{Page, Terms, happens, memory, opened, put_terms, streams};
 use hosts_db::HostStore;
 use hosts_lent::Lent;
 use range_arena::ArenaTable;

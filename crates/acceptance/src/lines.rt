@@ -1,5 +1,5 @@
 //! Lines of local programs, beside the calls of clients: all share one table.
-use crate::servers::{Misplayed, PIECE, Row, Way, play_by, play_rows};
+use daemon_scripts::{Misplayed, PIECE, Row, Way, play_by, play_rows};
 use std::alloc::{AllocError, Global};
 
 /// A LOCK of ten bytes by an owner whose host's name and own bytes are as long as can be: 1,024.

@@ -1,5 +1,5 @@
 //! The status monitor: what hosts tell, who is called then, and how the server begins anew (XNFS, NSM).
-use crate::servers::{Misplayed, Row, Way, play_rows, play_with_hosts};
+use daemon_scripts::{Misplayed, Row, Way, play_rows, play_with_hosts};
 
 // The largest own state is followed by the first.
 #[test]

@@ -1,5 +1,5 @@
 //! What the server itself calls once it has begun anew.
-use crate::servers::{Misplayed, play, play_with_hosts};
+use daemon_scripts::{Misplayed, play, play_with_hosts};
 
 /// Each host is told once, in order of name, and then nothing is due. A notice that nobody answers is sent three times, with
 /// the same bytes, and then forgotten. A silence of no call changes nothing.

@@ -1,5 +1,5 @@
 //! Quotas of runs, from bytes to bytes: what a host is refused, and who is granted once its quota is raised.
-use crate::servers::{Misplayed, play};
+use daemon_scripts::{Misplayed, play};
 
 /// One run of `a`, which may not become two. Who waits for `b`'s quota alone is granted once it is raised.
 const QUOTA_OF_RUNS: &[&str] = &[

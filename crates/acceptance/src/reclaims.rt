@@ -1,5 +1,5 @@
 //! Reclaims after a restart, in every order, and one of a lock that nobody had (XNFS, "Grace period").
-use crate::servers::{Misplayed, play, play_with_hosts};
+use daemon_scripts::{Misplayed, play, play_with_hosts};
 use std::alloc::Global;
 use std::test::*;
 

@@ -1,5 +1,5 @@
 //! Calls that come again, and a server that begins anew.
-use crate::servers::{Misplayed, Row, Way, play_rows};
+use daemon_scripts::{Misplayed, Row, Way, play_rows};
 
 /// A stream comes by 64 bytes.
 const ROWS: &[Row] = &[

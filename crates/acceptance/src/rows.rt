@@ -1,5 +1,5 @@
 //! The rows of the lock manager, under their own names.
-use crate::servers::{Misplayed, Row, Way, play, play_rows};
+use daemon_scripts::{Misplayed, Row, Way, play, play_rows};
 
 pub(crate) const SHARE_CONFLICT: &[&str] = &[
     "begins",

@@ -1,8 +1,7 @@
 //! Stores that are lent: which rows they hold behind a server, and how often they are asked. `hosts_trials` has the same over a
 //! database, and over one that refuses.
 use crate::rows::{REFUSED_HOST, SHARE_CONFLICT};
-use crate::servers::{PIECE, all_hosts, memory, played};
-use crate::state::are_rows;
+use daemon_scripts::{PIECE, all_hosts, are_rows, memory, played};
 use hosts_db::HostStore;
 use std::alloc::Global;
 use std::test::*;

@@ -1,5 +1,5 @@
 //! Streams in their words, and what is sent for them (RFC 5531; RFC 1813, appendix II), each whole and byte by byte.
-use crate::servers::{Misplayed, Streams, play_streams};
+use daemon_scripts::{Misplayed, Streams, play_streams};
 
 /// The streams of each row are played one by one.
 const ROWS: &[Streams] = &[

@@ -1,5 +1,5 @@
 //! Calls of versions 1 and 3: what they are answered, and in which version the server calls back (XNFS, NLM).
-use crate::servers::{Misplayed, Row, Way, play_rows};
+use daemon_scripts::{Misplayed, Row, Way, play_rows};
 
 /// Calls of both versions, beside those of version 4.
 const ROWS: &[Row] = &[

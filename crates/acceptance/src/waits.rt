@@ -1,6 +1,6 @@
 //! Locks that are waited for, from bytes to bytes: who waits, who is granted, and what the server calls then (XNFS, NLM_LOCK,
 //! NLM_CANCEL and NLM_GRANTED).
-use crate::servers::{Misplayed, Row, Way, play_rows};
+use daemon_scripts::{Misplayed, Row, Way, play_rows};
 
 /// Each of a server that begins anew, with its grace period over.
 const ROWS: &[Row] = &[

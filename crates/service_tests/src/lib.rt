@@ -1,6 +1,5 @@
 //! Tests of the book apart from the daemon above it, and of what serves it: where a segment of its journal is full, where the
-//! audit misses a receipt and where its store is begun, the loops of `lockd pipe`, the threads over one book, and a server over
-//! loopback. There is nothing in it but tests; the book's other rows are played from bytes to bytes in `acceptance`.
+//! audit misses a receipt and where its store is begun, the threads over one book, and a server over loopback. There is nothing in it but tests; the book's other rows are played from bytes to bytes in `acceptance`.
 #![tactic(auto)]
 
 #[cfg(test)]
@@ -10,15 +9,9 @@ mod hall;
 #[cfg(test)]
 mod lasting;
 #[cfg(test)]
-mod pipe;
-#[cfg(test)]
 mod rotation;
 #[cfg(test)]
-mod sink;
-#[cfg(test)]
 mod sockets;
-#[cfg(test)]
-mod source;
 #[cfg(test)]
 mod threads;
 #[cfg(test)]

@@ -1,5 +1,6 @@
 //! Calls, word for word.
-use crate::words::{put_header, put_words};
+use crate::words::put_header;
+use daemon_scripts::put_plain;
 use std::alloc::AllocError;
 
 /// A call: its mark, its procedure (RFC 1813, appendix II), and the words of its arguments.
@@ -41,7 +42,7 @@ pub(crate) const UNLOCK_BY_FIRST: Call = Call {
 pub(crate) fn put_call(to: &mut Vec<u8>, xid: u32, call: &Call) -> Result<(), AllocError> {
     to.extend_from_slice(call.mark.to_be_bytes().as_slice())?;
     put_header(to, xid, call.procedure)?;
-    if put_words(to, call.arguments) {
+    if put_plain(to, call.arguments) {
         Ok(())
     } else {
         Err(AllocError)

@@ -2,8 +2,8 @@
 use super::parts::{Kept, Open, are_replies, null, sent};
 use super::rounds::{Crew, Turn, audited};
 use super::sending::{NOTHING, Sent};
-use crate::words::put_words;
 use bytes::Bytes;
+use daemon_scripts::put_plain;
 use jobs::{Channel, Place};
 use serve_loops::Due;
 use std::alloc::Global;
@@ -36,7 +36,7 @@ const LATE: u64 = 4;
 
 fn record(alloc: Global, words: &str) -> Option<Bytes> {
     let mut record = Vec::new(alloc);
-    if put_words(&mut record, words) {
+    if put_plain(&mut record, words) {
         Bytes::from_vec(record).ok()
     } else {
         None
@@ -61,8 +61,7 @@ fn put_all<P: Place, L: Ledger, R: Wait>(
 }
 
 impl Waiting<'_> {
-    /// The first worker puts the calls, and the second answers them: whether this comes of it, and a call that is late comes back (the
-    /// worked row send_after_close).
+    /// The first worker puts the calls, and the second answers them: whether this comes of it, and a call that is late comes back.
     pub(crate) fn goes<P: Place, L: Ledger, R: Wait>(
         &self,
         rt: &R,

@@ -1,8 +1,7 @@
 //! A connection's own thread over memory.
 use super::parts::{Kept, Open, are_replies};
 use super::rounds::{Crew, Turn, audited};
-use crate::source::{Pace, Source};
-use crate::words::put_words;
+use daemon_scripts::{Pace, Source, put_plain};
 use jobs::{Channel, Place};
 use kept_replies::Peer;
 use std::alloc::Global;
@@ -50,7 +49,7 @@ impl Reading<'_> {
             channel.close();
         }
         let mut bytes = Vec::new(alloc);
-        let are_words = put_words(&mut bytes, self.stream);
+        let are_words = put_plain(&mut bytes, self.stream);
         let mut outbox = MemoryOutbox::new(alloc);
         let pace = Pace {
             most: self.most,

@@ -22,8 +22,8 @@ use daemon_core::{Daemon, Event, StoreAnswer};
 use hosts_db::HostStore;
 use range_table::RangeTable;
 
-// Everything that happens to a daemon happens here.
-pub(crate) fn happens<T: RangeTable, S: HostStore>(
+/// Everything that happens to a daemon happens here. None where there is no memory.
+pub fn happens<T: RangeTable, S: HostStore>(
     daemon: &mut Daemon<T, S>,
     page: &mut Page<'_>,
     events: Vec<Event>,
@@ -49,7 +49,7 @@ fn comes<T: RangeTable, S: HostStore>(
 }
 
 /// The stream comes, and all its records are taken, and one more, which isn't there. Whether the pieces were as they should.
-pub(crate) fn streams<T: RangeTable, S: HostStore>(
+pub fn streams<T: RangeTable, S: HostStore>(
     daemon: &mut Daemon<T, S>,
     page: &mut Page<'_>,
 ) -> Option<bool> {

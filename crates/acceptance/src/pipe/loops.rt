@@ -1,10 +1,8 @@
 //! A stream through the loops of `lockd`, and what they write for it.
 ghost use Rattle.std.specs.Prelude.{◌≡◌, [], IfOk};
 
-use crate::sink::Sink;
-use crate::source::{Pace, Source};
-use crate::words::put_words;
 use callbacks::ShortBytes;
+use daemon_scripts::{Pace, Sink, Source, put_plain};
 use hosts_db::{FULL_QUOTA, HostRow, MemHosts};
 use pipe_loops::{Fault, Server, pipe_loop, table_loop};
 use range_table::FlatTable;
@@ -136,7 +134,7 @@ fn put_told(bytes: &mut Vec<u8>, stream: &Stream) -> bool {
     if stream.which == Loop::Table {
         bytes.extend_from_slice(stream.told.as_bytes()).is_ok()
     } else {
-        put_words(bytes, stream.told)
+        put_plain(bytes, stream.told)
     }
 }
 
@@ -144,7 +142,7 @@ fn put_told(bytes: &mut Vec<u8>, stream: &Stream) -> bool {
 pub(crate) fn is_served(alloc: Global, stream: &Stream, ends: Ends) -> bool {
     let mut comes = Vec::new(alloc);
     let mut told = Vec::new(alloc);
-    let is_put = put_words(&mut comes, stream.comes) && put_told(&mut told, stream);
+    let is_put = put_plain(&mut comes, stream.comes) && put_told(&mut told, stream);
     let (held, ended) = written(alloc, stream.which, &comes, ends);
     is_put && ended == stream.ended && held.as_slice() == front(&told, ends.told)
 }

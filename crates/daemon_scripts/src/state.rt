@@ -31,7 +31,7 @@ fn name_of(store: StoreAnswer) -> &'static str {
 }
 
 /// Whether the stored hosts are these: name, epoch and state of each, in order of name. Each has the full quota.
-pub(crate) fn are_rows<S: HostStore>(store: &S, text: &str) -> bool {
+pub fn are_rows<S: HostStore>(store: &S, text: &str) -> bool {
     let mut words = text.split_whitespace();
     for host in store.hosts() {
         if is_row(host, &mut words) != Some(true) {

@@ -45,7 +45,7 @@ impl<'a> Page<'a> {
     }
 
     /// What happens in a line. None where it can't be read.
-    pub(crate) fn events(&mut self, verb: &str, rest: &'a str) -> Option<Vec<Event>> {
+    pub fn events(&mut self, verb: &str, rest: &'a str) -> Option<Vec<Event>> {
         let mut events = Vec::new(self.alloc);
         if self.put_events(&mut events, verb, rest).is_none() {
             return None;

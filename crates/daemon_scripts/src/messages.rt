@@ -142,7 +142,7 @@ fn words_of(name: &str) -> Option<&'static str> {
 }
 
 /// Appends the message of this name. None where no message has it.
-pub(crate) fn put_terms(bytes: &mut Vec<u8>, name: &str, terms: &Terms) -> Option<()> {
+pub fn put_terms(bytes: &mut Vec<u8>, name: &str, terms: &Terms) -> Option<()> {
     if name == NOTHING {
         return Some(());
     }
@@ -150,7 +150,7 @@ pub(crate) fn put_terms(bytes: &mut Vec<u8>, name: &str, terms: &Terms) -> Optio
 }
 
 /// Appends the message of a text: its name, and what fills its places.
-pub(crate) fn put_message(bytes: &mut Vec<u8>, xid: u32, text: &str) -> Option<()> {
+pub fn put_message(bytes: &mut Vec<u8>, xid: u32, text: &str) -> Option<()> {
     let (name, terms) = text.split_once(" ").unwrap_or((text, ""));
     put_terms(bytes, name, &Terms::read(xid, terms))
 }

@@ -2,15 +2,16 @@
 
 /// What fills the places of a message.
 #[derive(Clone, Copy)]
-pub(crate) struct Terms {
-    pub(crate) xid: u32,
+pub struct Terms {
+    pub xid: u32,
     /// The one byte of a host's name. Its owner's handle is the capital, and its process's number counts from 7 on.
-    pub(crate) who: u8,
-    pub(crate) numbers: [u64; 12],
+    pub who: u8,
+    pub numbers: [u64; 12],
 }
 
 impl Terms {
-    pub(crate) fn new(xid: u32, who: u8) -> Terms {
+    /// Of this owner, with noughts.
+    pub fn new(xid: u32, who: u8) -> Terms {
         Terms {
             xid,
             who,
@@ -19,7 +20,7 @@ impl Terms {
     }
 
     /// The owner's letter and the numbers of a text, in order.
-    pub(crate) fn read(xid: u32, text: &str) -> Terms {
+    pub fn read(xid: u32, text: &str) -> Terms {
         let mut terms = Terms::new(xid, b'a');
         let mut place = 0;
         for word in text.split_whitespace() {
@@ -33,7 +34,8 @@ impl Terms {
         terms
     }
 
-    pub(crate) fn set(&mut self, place: usize, number: u64) {
+    /// Puts a number at this place, counted from 0; none past the twelfth.
+    pub fn set(&mut self, place: usize, number: u64) {
         if let Some(at) = self.numbers.get_mut(place) {
             *at = number;
         }
@@ -112,4 +114,9 @@ pub(crate) fn put_words(bytes: &mut Vec<u8>, words: &str, terms: &Terms) -> Opti
         put_term(bytes, word, terms)?;
     }
     Some(())
+}
+
+/// Appends the bytes of these words, none of which is a place: whether they are words, and there was memory for them.
+pub fn put_plain(bytes: &mut Vec<u8>, words: &str) -> bool {
+    put_words(bytes, words, &Terms::new(0, b'a')).is_some()
 }

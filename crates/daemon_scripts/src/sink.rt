@@ -3,9 +3,9 @@ use std::io::{self, Error, ErrorKind, Write};
 
 /// Holds so many bytes, and takes no more.
 #[derive(Drop)]
-pub(crate) struct Sink {
-    pub(crate) held: Vec<u8>,
-    pub(crate) room: usize,
+pub struct Sink {
+    pub held: Vec<u8>,
+    pub room: usize,
 }
 
 impl Write for Sink {

@@ -13,10 +13,10 @@ pub(crate) const LOCAL: u64 = 5;
 
 /// What comes, and what is sent.
 #[derive(Drop)]
-pub(crate) struct Page<'a> {
+pub struct Page<'a> {
     pub(crate) alloc: Global,
     /// The stream that comes, whether one does, and how many bytes of it come at once.
-    pub(crate) come: Vec<u8>,
+    pub come: Vec<u8>,
     pub(crate) is_streaming: bool,
     pub(crate) most: usize,
     /// What is to be sent, and to whom: to the `client`, the `local` program, or a host.
@@ -25,7 +25,7 @@ pub(crate) struct Page<'a> {
     /// The refusal that the stream's last piece is to get.
     pub(crate) fault: Option<Refusal>,
     /// What is sent, whether all of it to whom it should, and the refusal of what came last.
-    pub(crate) sent: Vec<u8>,
+    pub sent: Vec<u8>,
     pub(crate) is_theirs: bool,
     pub(crate) refusal: Option<Refusal>,
     /// What the store said, if what came asked it.
@@ -38,7 +38,8 @@ pub(crate) struct Page<'a> {
 }
 
 impl<'a> Page<'a> {
-    pub(crate) fn new(alloc: Global, most: usize) -> Page<'a> {
+    /// Of a stream of which so many bytes come at once.
+    pub fn new(alloc: Global, most: usize) -> Page<'a> {
         Page {
             alloc,
             come: Vec::new(alloc),
@@ -160,6 +161,6 @@ impl<'a> Page<'a> {
 }
 
 /// An xid, or another number of 4 bytes.
-pub(crate) fn read_xid(word: &str) -> Option<u32> {
+pub fn read_xid(word: &str) -> Option<u32> {
     u32::try_from(read_number(word)?).ok()
 }

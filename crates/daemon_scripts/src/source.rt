@@ -3,17 +3,17 @@ use std::io::{self, Error, ErrorKind, Read};
 
 /// How a reader gives its bytes.
 #[derive(Clone, Copy)]
-pub(crate) struct Pace {
+pub struct Pace {
     /// The most bytes that one read gives.
-    pub(crate) most: usize,
+    pub most: usize,
     /// How often each read is interrupted first.
-    pub(crate) interruptions: u32,
+    pub interruptions: u32,
     /// How many reads go well. Those behind them fail.
-    pub(crate) reads: usize,
+    pub reads: usize,
 }
 
 /// All at once.
-pub(crate) const AT_ONCE: Pace = Pace {
+pub const AT_ONCE: Pace = Pace {
     most: usize::MAX,
     interruptions: 0,
     reads: usize::MAX,
@@ -21,14 +21,15 @@ pub(crate) const AT_ONCE: Pace = Pace {
 
 /// Gives its bytes at this pace.
 #[derive(Drop)]
-pub(crate) struct Source<'a> {
+pub struct Source<'a> {
     rest: &'a [u8],
     pace: Pace,
     interruptions_left: u32,
 }
 
 impl<'a> Source<'a> {
-    pub(crate) fn new(bytes: &'a [u8], pace: Pace) -> Source<'a> {
+    /// From the first byte on.
+    pub fn new(bytes: &'a [u8], pace: Pace) -> Source<'a> {
         Source {
             rest: bytes,
             pace,

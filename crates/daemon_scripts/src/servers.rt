@@ -15,7 +15,7 @@ use std::alloc::Global;
 
 /// Why a script is not played as it says.
 #[derive(Clone, Copy, Debug, PartialEq, Eq)]
-pub(crate) enum Misplayed {
+pub enum Misplayed {
     /// The server can't begin at all.
     NoServer,
     /// The first line that goes otherwise; of a stream, the first line behind it.
@@ -25,14 +25,14 @@ pub(crate) enum Misplayed {
 }
 
 /// A worked row: its name, and its script.
-pub(crate) type Row = (&'static str, &'static [&'static str]);
+pub type Row = (&'static str, &'static [&'static str]);
 
 /// A row of some streams, each of which is a script.
-pub(crate) type Streams = (&'static str, &'static [&'static [&'static str]]);
+pub type Streams = (&'static str, &'static [&'static [&'static str]]);
 
 /// How the rows of a table are played.
 #[derive(Clone, Copy)]
-pub(crate) enum Way {
+pub enum Way {
     /// A stream comes by 64 bytes.
     Pieces,
     /// It comes whole, and once more by five bytes.
@@ -42,10 +42,10 @@ pub(crate) enum Way {
 }
 
 /// The bytes of a stream that come at once, where the test doesn't care.
-pub(crate) const PIECE: usize = 64;
+pub const PIECE: usize = 64;
 
 /// The daemon of a server named `server`, over a table without runs.
-pub(crate) fn opened<T: RangeTable + Drop, S: HostStore + Drop>(
+pub fn opened<T: RangeTable + Drop, S: HostStore + Drop>(
     alloc: Global,
     table: T,
     store: S,
@@ -92,7 +92,7 @@ pub(crate) fn play_over<'a, S: HostStore + Drop>(
 
 /// Whether a server over the store that is lent to it plays the lines, and how often it asks the store. All servers have such a
 /// store, since the compiler builds a daemon of its own for each kind.
-pub(crate) fn played<S: HostStore>(
+pub fn played<S: HostStore>(
     alloc: Global,
     store: &mut S,
     most: usize,
@@ -104,7 +104,7 @@ pub(crate) fn played<S: HostStore>(
 }
 
 /// A store in memory whose own state is this, with these rows.
-pub(crate) fn memory(alloc: Global, own: u32, hosts: Vec<HostRow>) -> Option<MemHosts>
+pub fn memory(alloc: Global, own: u32, hosts: Vec<HostRow>) -> Option<MemHosts>
     requires { own < 2147483648 }
 {
     MemHosts::new(alloc, own, hosts, Vec::new(alloc)).ok()
@@ -129,12 +129,12 @@ fn play_in_memory(
 }
 
 /// Of a server of no hosts, in memory.
-pub(crate) fn play(alloc: Global, lines: &[&str]) -> Result<(), Misplayed> {
+pub fn play(alloc: Global, lines: &[&str]) -> Result<(), Misplayed> {
     play_by(alloc, PIECE, lines)
 }
 
 /// The same where the stream comes by so many bytes.
-pub(crate) fn play_by(alloc: Global, most: usize, lines: &[&str]) -> Result<(), Misplayed> {
+pub fn play_by(alloc: Global, most: usize, lines: &[&str]) -> Result<(), Misplayed> {
     play_in_memory(alloc, 0, Some(Vec::new(alloc)), most, lines)
 }
 
@@ -155,7 +155,7 @@ fn play_each(alloc: Global, streams: &[&[&str]]) -> Result<(), Misplayed> {
 }
 
 /// Of a server in this own state that knows these hosts, each of one byte of name, with the epoch 1 and the state 3.
-pub(crate) fn play_with_hosts(
+pub fn play_with_hosts(
     alloc: Global,
     own: u32,
     names: &[u8],
@@ -188,7 +188,7 @@ fn play_with_all_hosts(alloc: Global, lines: &[&str]) -> Result<(), Misplayed> {
 }
 
 /// As many hosts as a store has.
-pub(crate) fn all_hosts(alloc: Global) -> Option<Vec<HostRow>> {
+pub fn all_hosts(alloc: Global) -> Option<Vec<HostRow>> {
     let mut hosts = Vec::new(alloc);
     if put_all_hosts(alloc, &mut hosts).is_none() {
         return None;
@@ -213,11 +213,7 @@ fn play_row(alloc: Global, way: Way, lines: &[&str]) -> Result<(), Misplayed> {
 }
 
 /// Plays each row with a server of its own. The error is the first that goes otherwise than it says.
-pub(crate) fn play_rows(
-    alloc: Global,
-    way: Way,
-    rows: &[Row],
-) -> Result<(), (&'static str, Misplayed)> {
+pub fn play_rows(alloc: Global, way: Way, rows: &[Row]) -> Result<(), (&'static str, Misplayed)> {
     for (name, lines) in rows {
         if let Err(why) = play_row(alloc, way, lines) {
             return Err((*name, why));
@@ -228,10 +224,7 @@ pub(crate) fn play_rows(
 
 /// Plays the streams of each row, whole and byte by byte, each with a server of its own. The error is the first row of which
 /// one goes otherwise.
-pub(crate) fn play_streams(
-    alloc: Global,
-    rows: &[Streams],
-) -> Result<(), (&'static str, Misplayed)> {
+pub fn play_streams(alloc: Global, rows: &[Streams]) -> Result<(), (&'static str, Misplayed)> {
     for (name, streams) in rows {
         if let Err(why) = play_each(alloc, streams) {
             return Err((*name, why));

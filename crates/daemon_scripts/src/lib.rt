@@ -1,0 +1,27 @@
+//! Scripts of a daemon for tests, from bytes to bytes: what a client sends, what it is sent, and what the server calls. `script`
+//! says what a line may be, and plays it through `Daemon::run`. Beside them a reader and a writer in memory, and bytes as text.
+#![tactic(auto)]
+
+mod events;
+mod growths;
+mod messages;
+mod page;
+mod script;
+mod servers;
+mod sink;
+mod source;
+mod state;
+mod words;
+
+pub use growths::play_in_want;
+pub use messages::{put_message, put_terms};
+pub use page::{Page, read_xid};
+pub use script::{happens, streams};
+pub use servers::{
+    Misplayed, PIECE, Row, Streams, Way, all_hosts, memory, opened, play, play_by, play_rows,
+    play_streams, play_with_hosts, played,
+};
+pub use sink::Sink;
+pub use source::{AT_ONCE, Pace, Source};
+pub use state::are_rows;
+pub use words::{Terms, put_plain};
