@@ -106,26 +106,41 @@ fn unlike<'a>(alloc: Global, both: &mut Both<'a>, story: Story<'a>) -> Option<&'
     }
 }
 
-/// One call of each kind at least.
+/// One call of each kind at least, and what there is behind each.
 const SCRIPT: &str = "\
 unready seen a 1
 start
+shows 1;
 monitor b -5
+shows 1; b 1 -5 65536;
 start
+shows 3; b 1 -5 65536;
 monitor a 7
+shows 3; a 3 7 65536; b 1 -5 65536;
 seen b 8
+shows 3; a 3 7 65536; b 1 8 65536;
 seen i 8
+shows 3; a 3 7 65536; b 1 8 65536;
 acked b 3
+shows 3; a 3 7 65536; b 3 8 65536;
 acked i 3
+shows 3; a 3 7 65536; b 3 8 65536;
 quota a 5
+shows 3; a 3 7 5; b 3 8 65536;
 watch b f 7
+shows 3; a 3 7 5; b 3 8 65536; b f 4 2 -3 07070707070707070707070707070707;
 watch c f 7
+shows 3; a 3 7 5; b 3 8 65536; c 3 0 65536; b f 4 2 -3 07070707070707070707070707070707; c f 4 2 -3 07070707070707070707070707070707;
 watch b f 9
+shows 3; a 3 7 5; b 3 8 65536; c 3 0 65536; b f 4 2 -3 09090909090909090909090909090909; c f 4 2 -3 07070707070707070707070707070707;
 watch b e 8
+shows 3; a 3 7 5; b 3 8 65536; c 3 0 65536; b e 4 2 -3 08080808080808080808080808080808; b f 4 2 -3 09090909090909090909090909090909; c f 4 2 -3 07070707070707070707070707070707;
 unwatch c e
+shows 3; a 3 7 5; b 3 8 65536; c 3 0 65536; b e 4 2 -3 08080808080808080808080808080808; b f 4 2 -3 09090909090909090909090909090909; c f 4 2 -3 07070707070707070707070707070707;
 unwatch c f
+shows 3; a 3 7 5; b 3 8 65536; c 3 0 65536; b e 4 2 -3 08080808080808080808080808080808; b f 4 2 -3 09090909090909090909090909090909;
 unwatch * f
-shows 3; a 3 7 5; b 3 8 65536; c 3 0 65536; b e 4 2 -3 08080808080808080808080808080808; 
+shows 3; a 3 7 5; b 3 8 65536; c 3 0 65536; b e 4 2 -3 08080808080808080808080808080808;
 ";
 
 const AGAIN: &str = "\
