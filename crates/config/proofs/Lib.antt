@@ -1,3 +1,2 @@
 pub mod Founds
-pub mod Made
 pub mod Refusals

@@ -9,8 +9,8 @@ use Rattle.config.specs.declared.fault.ConfigFault.{ConfigFault}
 use Rattle.config.specs.declared.fault.ConfigFault.TheVariants as fault
 use Rattle.config.specs.declared.settings.Config.{Config}
 use Rattle.config.specs.declared.settings.Config.TheVariants as config
-use Rattle.config.specs.declared.asked.Verb.{Verb}
-use Rattle.config.specs.declared.asked.Verb.TheVariants as verb
+use Rattle.config.specs.declared.command.Verb.{Verb}
+use Rattle.config.specs.declared.command.Verb.TheVariants as verb
 use Rattle.config.specs.declared.settings.StreamConfig.{StreamConfig}
 use Rattle.config.specs.declared.settings.ServeConfig.{ServeConfig}
 

@@ -1,26 +1,18 @@
 //! The command line.
 
-ghost use Rattle.std.specs.Prelude.{◌≡◌, true, IfOk, Some, map, string_bytes};
+ghost use Rattle.std.specs.Prelude.{◌≡◌, true, Some, map, string_bytes};
 ghost use Rattle.clap.specs.Words.{app_of, is_simple_and_free};
 ghost use Rattle.config.specs.declared.fault.ConfigFault.TheVariants as fault_as;
 ghost use Rattle.config.specs.declared.settings.Unread.TheVariants as unread_as;
 ghost use Rattle.config.specs.Lockd.{pipe_app, table_app, serve_app};
 ghost use Rattle.config.specs.Asked.{Answers, Asks, AsksBy, AsksStream, AsksServe, verb_in};
 
-use crate::command::{lockd_command, pipe_command, serve_command, table_command};
+use crate::command::{Verb, command_of};
 use crate::fault::ConfigFault;
 use crate::settings::{Config, ServeConfig, StreamConfig, Unread, read_serve, read_stream};
 use clap::Command;
 use clap::error::ErrorKind;
-use std::alloc::{AllocError, Global};
-
-/// The command that the first word names.
-#[derive(Clone, Copy)]
-enum Verb {
-    Pipe,
-    Table,
-    Serve,
-}
+use std::alloc::Global;
 
 /// The fault with this message, and with how the command is used.
 fn refused(command: &mut Command<'_>, kind: ErrorKind, message: &str) -> ConfigFault {
@@ -88,20 +80,6 @@ fn no_command<'a>(command: &mut Command<'a>, words: &'a [String]) -> ConfigFault
         ErrorKind::MissingSubcommand,
         "a command comes first",
     )
-}
-
-/// The command line of a command, or of `lockd` where none is named.
-fn command_of<'a>(alloc: Global, verb: Option<Verb>) -> Result<Command<'a>, AllocError>
-    ensures pipe { verb ≡ Some Verb.Pipe → IfOk result (λ r. app_of r ≡ pipe_app) }
-    ensures table { verb ≡ Some Verb.Table → IfOk result (λ r. app_of r ≡ table_app) }
-    ensures serve { verb ≡ Some Verb.Serve → IfOk result (λ r. app_of r ≡ serve_app) }
-{
-    match verb {
-        Some(Verb::Pipe) => pipe_command(alloc),
-        Some(Verb::Table) => table_command(alloc),
-        Some(Verb::Serve) => serve_command(alloc),
-        None => lockd_command(alloc),
-    }
 }
 
 /// What the words ask of it.

@@ -3,8 +3,8 @@ use Rattle.std.specs.Prelude.{Err}
 use Rattle.clap.specs.Words.{App}
 use Rattle.config.specs.Asked.{Answers, AsksBy, AsksServe, AsksStream}
 use Rattle.config.specs.Lockd.{pipe_app, table_app, serve_app}
-use Rattle.config.specs.declared.asked.Verb.{Verb}
-use Rattle.config.specs.declared.asked.Verb.TheVariants as verb
+use Rattle.config.specs.declared.command.Verb.{Verb}
+use Rattle.config.specs.declared.command.Verb.TheVariants as verb
 use Rattle.config.specs.declared.settings.Config.TheVariants as config
 use Rattle.config.proofs.Refusals.{Answers-mapped, as_pipe, as_table, as_serve, unasked}
 use Rattle.config.proofs.asked.config_by.Goals as goal
