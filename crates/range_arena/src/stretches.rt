@@ -1,5 +1,5 @@
 //! A list of runs in stretches, so that a search goes over those in which nothing can be found.
-ghost use Rattle.std.specs.Prelude.{◌≡◌, ◌+◌, ◌<◌, ◌≤◌, ◌^◌, true, false, IfOk, ℕ, List, length, slice_index_or, slice_set};
+ghost use Rattle.std.specs.Prelude.{◌≡◌, ◌+◌, ◌<◌, ◌≤◌, ◌^◌, true, false, IfOk, IfSome, ℕ, List, None, length, slice_index_or, slice_set};
 ghost use Rattle.std.specs.List.{insert, remove};
 ghost use Rattle.range_table.specs.Settings.{conflicts};
 ghost use Rattle.range_arena.specs.Reaches.{Vouches, AreVouched};
@@ -322,6 +322,33 @@ fn first_of(runs: &RunList, begin: usize, past: usize, wanted: &Run) -> usize
     past
 }
 
+// The first of a stretch's runs from one place to another that is in the way. A quiet one isn't looked through.
+fn first_within(
+    stretch: &Stretch,
+    runs: &RunList,
+    begin: usize,
+    past: usize,
+    wanted: &Run,
+) -> Option<usize>
+    requires order { begin ≤ past }
+    requires within { past ≤ length runs.now }
+    requires start { stretch.now.start ≤ begin }
+    requires end { past ≤ stretch.now.end }
+    requires inside { wanted.now.first < 2 ^ 63 }
+    requires vouched { Vouches stretch.now runs.now }
+    ensures from { IfSome result (λ at. begin ≤ at) }
+    ensures upto { IfSome result (λ at. at < past) }
+    ensures found { IfSome result (λ at. (r : Run) → r ≡ slice_index_or runs.now at r → conflicts wanted.now r ≡ true) }
+    ensures before { IfSome result (λ at. (i : ℕ) (r : Run) → begin ≤ i → i < at → r ≡ slice_index_or runs.now i r → conflicts wanted.now r ≡ false) }
+    ensures none { result ≡ None → (i : ℕ) (r : Run) → begin ≤ i → i < past → r ≡ slice_index_or runs.now i r → conflicts wanted.now r ≡ false }
+{
+    if stretch.is_quiet(wanted) {
+        return None;
+    }
+    let found = first_of(runs, begin, past, wanted);
+    if found < past { Some(found) } else { None }
+}
+
 impl Stretches {
     /// The same, but for the stretches in which there is none.
     pub(crate) fn first_in_way(
@@ -348,11 +375,8 @@ impl Stretches {
             let stretch = &self.items[k];
             if stretch.start <= at && at < stretch.end {
                 let upto = stretch.end.min(past);
-                if !stretch.is_quiet(wanted) {
-                    let found = first_of(runs, at, upto, wanted);
-                    if found < upto {
-                        return found;
-                    }
+                if let Some(found) = first_within(stretch, runs, at, upto, wanted) {
+                    return found;
                 }
                 at = upto;
             }
