@@ -13,7 +13,9 @@ ghost use Rattle.hosts_sql.specs.Wrote.{HasOwnRow, IsHostSchema, IsWhole, hosts_
 
 use crate::rowids::{are_own_hosts, are_own_watches};
 use crate::tables::Version;
-use hosts_db::{FULL_QUOTA, HostRow, HostRows, MOST_WATCHES, MyId, StoreError, Watch};
+use hosts_db::{
+    FULL_QUOTA, HostRow, HostRows, MOST_NAME_BYTES, MOST_WATCHES, MyId, StoreError, Watch,
+};
 use sqlite::{Alter, Connection, Error, ErrorCode, Row};
 use std::alloc::Global;
 
@@ -61,7 +63,7 @@ fn host_in(row: &Row) -> Result<HostRow, StoreError>
     ) else {
         return Err(StoreError::StoreRefused);
     };
-    if name.len() > 1024 || epoch >= 2_147_483_648 || quota > FULL_QUOTA {
+    if name.len() > MOST_NAME_BYTES || epoch >= 2_147_483_648 || quota > FULL_QUOTA {
         return Err(StoreError::StoreRefused);
     }
     Ok(HostRow::new(name, epoch, seen, quota))
@@ -143,7 +145,7 @@ fn watch_of_parts(
 ) -> Result<Watch, StoreError>
     ensures { IfOk result (λ watch. watch ≡ watch_row (record { mon = mon.now; my = my_of my.now numbers.0 numbers.1 numbers.2 }, bytes.now)) }
 {
-    if mon.len() > 1024 || my.len() > 1024 || bytes.len() != 16 {
+    if mon.len() > MOST_NAME_BYTES || my.len() > MOST_NAME_BYTES || bytes.len() != 16 {
         return Err(StoreError::StoreRefused);
     }
     let (prog, vers, proc) = numbers;

@@ -1,5 +1,5 @@
 //! A store over a database.
-ghost use Rattle.std.specs.Prelude.{◌≡◌, false, IsTrue, Some, IfOk, IfErr, IfSome};
+ghost use Rattle.std.specs.Prelude.{◌≡◌, false, IsTrue, Some, Err, IfOk, IfErr, IfSome};
 ghost use Rattle.sqlite.specs.State.{HasCleanDisk, KeepsCommit, Survives};
 ghost use Rattle.sqlite.specs.Held.{state};
 ghost use Rattle.hosts_sql.specs.Own.{has_host_numbers, AllFit};
@@ -17,11 +17,10 @@ use crate::statements::{delete_watches, insert_host};
 use crate::tables::{Version, is_none, version_of};
 use definitions::own_state::next_own_state;
 use hosts_db::{HostRow, HostRows, HostStore, MyId, Note, Refusals, StoreError, Watch};
-use sqlite::{Alter, Connection};
+use sqlite::{Alter, Connection, Error};
 use std::alloc::Global;
 
 /// Hosts in a database, and the rows of its last commit in memory.
-#[derive(Drop)]
 pub struct SqlHosts<S: Alter> {
     conn: Connection<S>,
     rows: HostRows,
@@ -32,6 +31,20 @@ pub struct SqlHosts<S: Alter> {
     alloc: Global,
     ghost kept: { IsAsKept (state S.Store conn) rows },
     ghost holds: { Holds version (state S.Store conn) } by { Holds-prop version (state S.Store conn) },
+}
+
+// It is written out, so that no crate above proves again how each part of it is dropped.
+impl<S: Alter + Drop> Drop for SqlHosts<S> {
+    fn drop(self) {
+        let SqlHosts {
+            conn: _,
+            rows: _,
+            version: _,
+            is_started: _,
+            refusals: _,
+            alloc: _,
+        } = self;
+    }
 }
 
 impl<S: Alter> SqlHosts<S> {
@@ -110,8 +123,38 @@ impl<S: Alter> SqlHosts<S> {
     pub fn into_connection(self) -> Connection<S>
         ensures { result ≡ self.conn }
     {
-        let SqlHosts { conn, .. } = self;
+        let SqlHosts {
+            conn,
+            rows: _,
+            version: _,
+            is_started: _,
+            refusals: _,
+            alloc: _,
+        } = self;
         conn
+    }
+}
+
+impl<S: Alter + Drop> SqlHosts<S> {
+    /// The same of a database that had to be opened first: `StoreRefused`, too, where that failed. What isn't taken is dropped.
+    pub fn adopt_opened(
+        alloc: Global,
+        opened: Result<Connection<S>, Error>,
+    ) -> Result<SqlHosts<S>, StoreError>
+        ensures refused { IfErr opened (λ _. result ≡ Err StoreError.StoreRefused) }
+        ensures rows { IfOk result (λ s. IsAsKept (state S.Store s.conn) (⟦<SqlHosts<S> as HostStore>⟧.rows s)) }
+        ensures numbers { IfOk result (λ s. HasCleanDisk (state S.Store s.conn) → IfSome s.version (λ version. AllFit has_host_numbers (hosts_of version (state S.Store s.conn).committed))) }
+        ensures refusals { IfOk result (λ s. ⟦<SqlHosts<S> as HostStore>⟧.refusals s ≡ 0) }
+        ensures kept { IfOk opened (λ conn. IfOk result (λ s. HasCleanDisk (state S.Store s.conn) → KeepsCommit (state S.Store conn) (state S.Store s.conn))) }
+        ensures crash { IfOk opened (λ conn. IfOk result (λ s. Survives (state S.Store conn) (state S.Store s.conn) (λ _. ⊥))) }
+    {
+        let Ok(conn) = opened else {
+            return Err(StoreError::StoreRefused);
+        };
+        match SqlHosts::adopt(alloc, conn) {
+            Ok(store) => Ok(store),
+            Err((refusal, _conn)) => Err(refusal),
+        }
     }
 }
 

@@ -1,7 +1,10 @@
 //! The program: its words, and how it ends.
-ghost use Rattle.std.specs.Prelude.{◌≡◌, ◌≤◌, IfOk, IfErr};
+ghost use Rattle.std.specs.Prelude.{◌≡◌, ◌≤◌, map, string_bytes, IfOk, IfErr};
+ghost use Rattle.config.specs.Asked.{Asks};
+ghost use Rattle.config.specs.declared.settings.Config.{Config};
+ghost use Rattle.lockd_main.specs.Ends.{EndsBy};
 
-use crate::serving::{read_peers, serve_sockets};
+use crate::serving::{ServeFault, read_peers, serve_sockets};
 use crate::stores::{no_hosts, stored_hosts};
 use crate::streams::{Told, serve_stream};
 use config::{Config, ConfigFault, FilePath, ServeConfig, StreamConfig, config};
@@ -37,18 +40,20 @@ fn arguments(rt: &HostRuntime) -> io::Result<Vec<String>> {
 
 /// Prints why the words ask for nothing, or the help or the version that they ask for.
 fn refuse(rt: &HostRuntime, fault: &ConfigFault) -> ExitCode
-    ensures { result.status ≤ 2 }
+    ensures status { EndsBy fault.now result.status }
+    ensures most { result.status ≤ 2 }
 {
+    let status = fault.status();
     match fault {
         ConfigFault::Starved => end(rt, Err(Fault::Starved)),
-        ConfigFault::Refused(text) if text.use_stderr() => {
-            let _ = eprint!(rt; "{text}");
-            ExitCode::from(fault.status())
-        }
-        ConfigFault::Refused(text) => match print!(rt; "{text}") {
-            Ok(()) => ExitCode::from(fault.status()),
+        ConfigFault::Refused(text) if status == 0 => match print!(rt; "{text}") {
+            Ok(()) => ExitCode::SUCCESS,
             Err(_) => end(rt, Err(Fault::WriteFault)),
         },
+        ConfigFault::Refused(text) => {
+            let _ = eprint!(rt; "{text}");
+            ExitCode::from(status)
+        }
     }
 }
 
@@ -107,7 +112,8 @@ fn serve_over<S, R>(host: &HostRuntime, rt: &R, work: Work<'_>, store: Result<S,
 where
     S: HostStore + Drop + Send,
     R: Runtime,
-    ensures { result.status ≤ 1 }
+    ensures most { result.status ≤ 1 }
+    ensures refused { IfErr store (λ _. result.status ≡ 1) }
 {
     match work {
         Work::Stream(told, asked) => end(host, serve_stream(host, told, asked, store)),
@@ -131,7 +137,8 @@ fn serve_database<S, R>(
 where
     S: Alter + Drop + Send,
     R: Runtime,
-    ensures { result.status ≤ 1 }
+    ensures most { result.status ≤ 1 }
+    ensures refused { IfErr opened (λ _. result.status ≡ 1) }
 {
     serve_over(host, rt, work, stored_hosts(host.alloc(), opened))
 }
@@ -157,13 +164,47 @@ fn run_stream<R: Runtime>(host: &HostRuntime, rt: &R, told: Told, asked: &Stream
 }
 
 // The peers are read before the database is opened, so that none is made for a server that doesn't start.
-fn run_server<R: Runtime>(host: &HostRuntime, rt: &R, asked: &ServeConfig) -> ExitCode
-    ensures { result.status ≤ 1 }
+fn run_server<R: Runtime>(
+    host: &HostRuntime,
+    rt: &R,
+    asked: &ServeConfig,
+    peers: Result<Peers, ServeFault>,
+) -> ExitCode
+    ensures most { result.status ≤ 1 }
+    ensures refused { IfErr peers (λ _. result.status ≡ 1) }
 {
-    match read_peers(host, asked.peers.as_str()) {
+    match peers {
         Ok(peers) => serve_file(host, rt, Work::Sockets(asked, peers), &asked.db),
         Err(fault) => end(host, Err(fault)),
     }
+}
+
+/// Does what is asked, or says why nothing is.
+fn run_asked<R: Runtime>(
+    host: &HostRuntime,
+    rt: &R,
+    asked: &Result<Config, ConfigFault>,
+) -> ExitCode
+    ensures runs { IfOk asked.now (λ _. result.status ≤ 1) }
+    ensures refused { IfErr asked.now (λ fault. EndsBy fault result.status) }
+    ensures most { result.status ≤ 2 }
+{
+    match asked {
+        Ok(Config::Pipe(asked)) => run_stream(host, rt, Told::Replies, asked),
+        Ok(Config::Table(asked)) => run_stream(host, rt, Told::Table, asked),
+        Ok(Config::Serve(asked)) => {
+            run_server(host, rt, asked, read_peers(host, asked.peers.as_str()))
+        }
+        Err(fault) => refuse(host, fault),
+    }
+}
+
+/// Does what the words ask, or says why they ask for nothing.
+fn run_words<R: Runtime>(host: &HostRuntime, rt: &R, words: &[String]) -> ExitCode
+    ensures asked { (asked : Config) → Asks (map (λ w. string_bytes w) words.now) asked → result.status ≤ 1 }
+    ensures most { result.status ≤ 2 }
+{
+    run_asked(host, rt, &config(host.alloc(), words))
 }
 
 /// The whole program, with the words that it was called with. Its status is 0 where it came to the end of its input, where it
@@ -184,10 +225,5 @@ where
     let Ok(words) = arguments(host) else {
         return refuse_for(host, "the words can't be read");
     };
-    match config(host.alloc(), &words) {
-        Ok(Config::Pipe(asked)) => run_stream(host, rt, Told::Replies, &asked),
-        Ok(Config::Table(asked)) => run_stream(host, rt, Told::Table, &asked),
-        Ok(Config::Serve(asked)) => run_server(host, rt, &asked),
-        Err(fault) => refuse(host, &fault),
-    }
+    run_words(host, rt, &words)
 }

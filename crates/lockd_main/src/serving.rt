@@ -1,4 +1,5 @@
 //! A server on sockets.
+ghost use Rattle.std.specs.Prelude.{◌≡◌, Err, IfErr};
 
 use callbacks::ShortBytes;
 use config::ServeConfig;
@@ -107,6 +108,7 @@ pub(crate) fn serve_sockets<S, R>(
 where
     S: HostStore + Drop + Send,
     R: Runtime,
+    ensures { IfErr store (λ fault. result ≡ Err (ServeFault.Store fault)) }
 {
     let backed = match store {
         Ok(store) => backing_of(alloc, asked, peers, store),

@@ -1,4 +1,5 @@
 //! Where hosts are stored.
+ghost use Rattle.std.specs.Prelude.{◌≡◌, Err, IfErr};
 
 use config::FilePath;
 use hosts_db::{MemHosts, StoreError};
@@ -8,7 +9,9 @@ use pipe_loops::Fault;
 use sqlite::{Alter, Connection};
 use std::alloc::Global;
 
-fn fault_of(refusal: StoreError) -> Fault {
+fn fault_of(refusal: StoreError) -> Fault
+    ensures { refusal ≡ StoreError.StoreRefused → result ≡ Fault.StoreRefused }
+{
     match refusal {
         StoreError::Starved => Fault::Starved,
         StoreError::StoreRefused => Fault::StoreRefused,
@@ -24,12 +27,11 @@ pub(crate) fn no_hosts(alloc: Global) -> Result<MemHosts, Fault> {
 pub(crate) fn stored_hosts<S: Alter + Drop>(
     alloc: Global,
     opened: Result<Connection<S>, sqlite::Error>,
-) -> Result<Lasting<SqlHosts<S>>, Fault> {
-    let Ok(conn) = opened else {
-        return Err(Fault::StoreRefused);
-    };
-    match SqlHosts::adopt(alloc, conn) {
+) -> Result<Lasting<SqlHosts<S>>, Fault>
+    ensures { IfErr opened (λ _. result ≡ Err Fault.StoreRefused) }
+{
+    match SqlHosts::adopt_opened(alloc, opened) {
         Ok(store) => Ok(Lasting::new(store)),
-        Err((refusal, _conn)) => Err(fault_of(refusal)),
+        Err(refusal) => Err(fault_of(refusal)),
     }
 }

@@ -1,4 +1,5 @@
 //! The stream on standard input is served.
+ghost use Rattle.std.specs.Prelude.{◌≡◌, Err, IfErr};
 
 use callbacks::ShortBytes;
 use config::{Name, StreamConfig};
@@ -33,7 +34,9 @@ pub(crate) fn serve_stream<S: HostStore + Drop>(
     told: Told,
     asked: &StreamConfig,
     store: Result<S, Fault>,
-) -> Result<(), Fault> {
+) -> Result<(), Fault>
+    ensures { IfErr store (λ fault. result ≡ Err fault) }
+{
     let store = store?;
     let alloc = rt.alloc();
     let own_name = own_name(alloc, &asked.name)?;
