@@ -7,7 +7,7 @@ ghost use Rattle.nlm4_types.specs.Call.{view_of_call as view_of_nlm_call};
 ghost use Rattle.definitions.specs.Step.{Take, is_success, is_kept_kind, is_restart as restarts, kept_after};
 ghost use Rattle.kept_replies.specs.Pairs.{view_of_peer, at_key};
 ghost use Rattle.call_outcome.specs.Values.{view_of_outcome};
-ghost use Rattle.call_plans.specs.Planned.{view_of_stored, counted, told_in};
+ghost use Rattle.call_plans.specs.Planned.{view_of_stored, counted, told_in, IsForgotten};
 ghost use Rattle.record_reading.specs.Values.{view_of_call};
 ghost use Rattle.book.specs.Given.{view_of_reply};
 ghost use Rattle.book.specs.Notes.{IsStep};
@@ -20,7 +20,7 @@ use call_outcome::Outcome;
 use call_plans::Told;
 use hosts_db::HostStore;
 use kept_replies::{KeptReplies, Key, Peer};
-use lock_service::{Call, StoreAnswer, abandon, agreed, commit};
+use lock_service::{Call, Plan, StoreAnswer, World, abandon, agreed, commit};
 use nlm4_types::NlmCall;
 use nsm_types::NsmCall;
 use owner_ids::Starved;
@@ -40,8 +40,8 @@ impl<R: RangeTable, S: HostStore> Shared<R, S> {
         let Ok((plan, store)) = agreed(&mut self.world, peer.is_local, call) else {
             return starved(StoreAnswer::NotAsked, xid);
         };
-        let alloc = self.world.alloc();
-        match keep(&mut self.kept, alloc, key, xid, call, plan.told(store)) {
+        let told = plan.told(store);
+        match keep_or_abandon(&mut self.world, &mut self.kept, key, xid, call, &plan, told) {
             Ok(()) => {
                 let outcome = commit(&mut self.world, plan, store);
                 self.world.settle();
@@ -49,12 +49,38 @@ impl<R: RangeTable, S: HostStore> Shared<R, S> {
                 answers(store, xid, outcome.told, outcome.noted)
             }
             Err(Starved) => {
-                abandon(&mut self.world, &plan);
                 drop(plan);
                 starved(store, xid)
             }
         }
     }
+}
+
+// Keeps what is told of a call, where its kind is kept. Starved: nothing has changed, but that its plan is given up, so that
+// whoever was made known for it alone is known no more.
+fn keep_or_abandon<R: RangeTable, S: HostStore>(
+    world: &mut World<R, S>,
+    kept: &mut KeptReplies<KeptReply>,
+    key: Key,
+    xid: u32,
+    call: &Call<'_>,
+    plan: &Plan,
+    told: &Told,
+) -> Result<(), Starved>
+    requires { at_key key kept.old ≡ None }
+    ensures ok { OnOk result ((w : SaidWorld) → kept.new ≡ kept_after the_limits (view_of_peer key.peer) key.record xid (view_of_call call.now) (told_in told.now w) kept.old) }
+    ensures ready { OnOk result (world.new ≡ world.old) }
+
+    ensures stays { OnErr result (kept.new ≡ kept.old) }
+    ensures fed { OnErr result (is_kept_kind (view_of_call call.now) ≡ true) }
+    ensures err { OnErr result ((world.new.world ≡ world.old.world) × (world.new.refusals ≡ world.old.refusals)) }
+    ensures forgotten { OnErr result (IsForgotten plan.now world.new.world world.new) }
+{
+    let made = keep(kept, world.alloc(), key, xid, call, told);
+    if made.is_err() {
+        abandon(world, plan);
+    }
+    made
 }
 
 // Keeps what is told of a call, where its kind is kept. Nothing else takes memory. Starved: nothing has changed.

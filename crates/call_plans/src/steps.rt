@@ -7,7 +7,7 @@ ghost use Rattle.definitions.specs.Starts.{refuses};
 ghost use Rattle.call_outcome.specs.Values.{view_of_outcome};
 ghost use Rattle.callbacks.specs.Meanings.{view_of_told_my_id};
 ghost use Rattle.std.specs.Option.{option_copied};
-ghost use Rattle.lock_state.specs.Seen.{KeepsKnown};
+ghost use Rattle.lock_state.specs.Seen.{AdmitsNobody, KeepsKnown};
 ghost use Rattle.call_plans.specs.Planned.{view_of_stored, answered, view_of_asked, told_in, stored, counted};
 ghost use Rattle.call_plans.specs.Planned.{IsAnswerTo, IsCommitted, IsWithin, Fits, FitsChange, FitsAnswer, FitsDue, FitsUnder, CanAsk, CanAskFor, IsReady, IsReadyFor, MayHold};
 ghost use Rattle.call_plans.specs.Forgotten.{IsForgottenBy, IsForgottenUnder};
@@ -22,7 +22,7 @@ use owner_ids::Starved;
 use range_table::{NoRuns, RangeTable};
 
 /// Gets all memory that doing the plan takes. The world stays, and who was known is known. Starved: the plan can't be
-/// done.
+/// done, and nobody has become known.
 pub fn prepare<R: RangeTable, S: HostStore>(
     world: &mut World<R, S>,
     plan: &Plan,
@@ -31,6 +31,7 @@ pub fn prepare<R: RangeTable, S: HostStore>(
     ensures refusals { world.new.refusals ≡ world.old.refusals }
     ensures known { KeepsKnown world.old world.new }
     ensures ready { OnOk result (IsReady plan.now world.new) }
+    ensures err { OnErr result (AdmitsNobody world.old world.new) }
 {
     match plan {
         Plan::Decided(answer) => prepare_change(world, &answer.change),
@@ -38,7 +39,7 @@ pub fn prepare<R: RangeTable, S: HostStore>(
     }
 }
 
-/// Gets all memory that the change takes. The world stays, and who was known is known.
+/// Gets all memory that the change takes. The world stays, and who was known is known. Starved: nobody has become known.
 pub fn prepare_change<R: RangeTable, S: HostStore>(
     world: &mut World<R, S>,
     change: &Change,
@@ -47,6 +48,7 @@ pub fn prepare_change<R: RangeTable, S: HostStore>(
     ensures refusals { world.new.refusals ≡ world.old.refusals }
     ensures known { KeepsKnown world.old world.new }
     ensures ready { OnOk result (IsReadyFor change.now world.new) }
+    ensures err { OnErr result (AdmitsNobody world.old world.new) }
 {
     match change {
         Change::Set(range) => prepare_range(world, range),
@@ -69,6 +71,7 @@ fn prepare_range<R: RangeTable, S: HostStore>(
     ensures refusals { world.new.refusals ≡ world.old.refusals }
     ensures known { KeepsKnown world.old world.new }
     ensures ready { OnOk result (MayHold range.now world.new) }
+    ensures err { OnErr result (AdmitsNobody world.old world.new) }
 {
     match range.mode {
         Some(_) => world.admit(&range.owner),

@@ -30,4 +30,4 @@ pub use listing::{list_hosts, list_table};
 pub use local::{LinePlan, SetLine, close_file, get_lock, plan_set, set_lock};
 pub use quota::set_quota;
 pub use record_reading::Call;
-pub use steps::{agreed, answer, plan};
+pub use steps::{agreed, plan};

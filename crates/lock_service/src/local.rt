@@ -13,6 +13,7 @@ ghost use Rattle.callbacks.specs.Meanings.{view_of_local_lock};
 ghost use Rattle.held_locks.specs.Asked.{view_of_lock_holder};
 ghost use Rattle.local_ops.specs.Answers.{view_of_local_answer};
 ghost use Rattle.nlm4_types.specs.Stat.{view_of_stat};
+ghost use Rattle.lock_state.specs.Seen.{AdmitsNobody};
 ghost use Rattle.call_plans.specs.Planned.{view_of_range, FitsChange, IsForgottenIfIdle};
 ghost use Rattle.call_plans.specs.declared.plans.Change.TheVariants.{Nothing};
 ghost use Rattle.lock_service.specs.Lined.{line_planned, lock_asked, view_of_set_line};
@@ -236,7 +237,7 @@ fn unlocked_range(place: &Place, lock: &LocalLock) -> Result<Range, Starved>
 }
 
 /// Does what the line asks, and then grants what waited for it. What is answered, and the world after it, are those of the
-/// rules. Starved: the world stays.
+/// rules. Starved: the world stays, and nobody has become known.
 pub fn set_lock<R: RangeTable, S: HostStore>(
     world: &mut World<R, S>,
     line: &SetLine<'_>,
@@ -246,6 +247,7 @@ pub fn set_lock<R: RangeTable, S: HostStore>(
     ensures err { OnErr result (world.new.world ≡ world.old.world) }
     ensures refusals { world.new.refusals ≡ world.old.refusals }
     ensures forgotten { IfOk result (λ _. IsForgottenIfIdle (view_of_owner line.now.lock.now.owner) world.new.world world.new) }
+    ensures unknown { OnErr result (AdmitsNobody world.old world.new) }
 {
     let plan = plan_set(world, line)?;
     let Ok(()) = prepare_change(world, &plan.change) else {

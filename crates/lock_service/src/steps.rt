@@ -1,30 +1,26 @@
-//! A call is planned, by its procedure, and answered.
+//! A call is planned, by its procedure, and its plan prepared.
 ghost use Rattle.std.specs.Prelude.{◌≡◌, IfOk, OnErr};
 ghost use Rattle.definitions.specs.Replies.{Nlm};
-ghost use Rattle.definitions.specs.World.{the_limits, settled};
-ghost use Rattle.definitions.specs.Rulings.{ruled};
+ghost use Rattle.definitions.specs.World.{the_limits};
 ghost use Rattle.definitions.specs.Answer.{nlm_answer, ruling};
 ghost use Rattle.definitions.specs.Replay.{may_leave_row};
-ghost use Rattle.call_outcome.specs.Values.{view_of_outcome};
 ghost use Rattle.nlm4_types.specs.Call.{view_of_call as view_of_nlm_call};
 ghost use Rattle.nlm4_types.specs.Version.{view_of_version};
 ghost use Rattle.record_reading.specs.Values.{view_of_call};
 ghost use Rattle.call_plans.specs.Planned.{view_of_stored, counted, stored, AsksOnlyIf, FitsUnder, IsAnswerTo, IsPlan, IsReady, IsWithin};
+ghost use Rattle.call_plans.specs.Forgotten.{LeavesNobody};
 ghost use Rattle.lock_service.specs.MayAsk.{may_ask};
 
 use crate::lock::LockCall;
 use crate::telling::Form;
 use crate::{cancel, free_all, granted, lock, null, share, status, test, unlock, unshare};
-use call_outcome::Outcome;
-use call_plans::{Plan, StoreAnswer, agree, commit};
+use call_plans::{Plan, StoreAnswer, agree};
 use hosts_db::HostStore;
 use lock_state::World;
 use nlm4_types::{NlmCall, Version};
 use owner_ids::Starved;
 use range_table::RangeTable;
 use record_reading::Call;
-use std::alloc::Global;
-use std::sync::Arc;
 
 /// What is to be done for a call, by the rules of its procedure, whether its peer is local or not. Changes nothing.
 pub fn plan<R: RangeTable, S: HostStore>(
@@ -69,7 +65,8 @@ fn plan_nlm<R: RangeTable, S: HostStore>(
 }
 
 /// A call is planned, all memory is got for that, and the store is asked. The plan is that of the rules for the world before;
-/// since then its hosts alone have changed, as the store answered. Starved: the world stays.
+/// since then its hosts alone have changed, as the store answered. Starved: the world stays, and nobody is known for the call
+/// alone.
 pub fn agreed<R: RangeTable, S: HostStore>(
     world: &mut World<R, S>,
     local: bool,
@@ -84,6 +81,7 @@ pub fn agreed<R: RangeTable, S: HostStore>(
     ensures fits { IfOk result (λ made. FitsUnder (view_of_stored made.1) made.0 world.new.world) }
     ensures ready { IfOk result (λ made. IsReady made.0 world.new) }
     ensures err { OnErr result ((world.new.world ≡ world.old.world) × (world.new.refusals ≡ world.old.refusals)) }
+    ensures forgotten { OnErr result (LeavesNobody (ruling the_limits world.old.world local (view_of_call call.now)) world.old world.new) }
 {
     let plan = plan(world, local, call)?;
     let Ok(store) = agree(world, &plan) else {
@@ -91,21 +89,4 @@ pub fn agreed<R: RangeTable, S: HostStore>(
         return Err(Starved);
     };
     Ok((plan, store))
-}
-
-/// Answers a call, and then grants what waited for it: the plan is made and prepared, the store is asked, and the plan is
-/// done. The reply and the world after it are those of the rules under the store's answer. Starved: the world stays.
-pub fn answer<R: RangeTable, S: HostStore>(
-    world: &mut World<R, S>,
-    local: bool,
-    call: &Call<'_>,
-) -> Result<(Arc<Outcome, Global>, StoreAnswer), Starved>
-    ensures reply { IfOk result (λ told. view_of_outcome told.0.value ≡ (ruled (view_of_stored told.1) (ruling the_limits world.old.world local (view_of_call call.now))).outcome) }
-    ensures world { IfOk result (λ told. world.new.world ≡ settled the_limits (ruled (view_of_stored told.1) (ruling the_limits world.old.world local (view_of_call call.now))).world) }
-    ensures err { OnErr result (world.new.world ≡ world.old.world) }
-{
-    let (plan, store) = agreed(world, local, call)?;
-    let outcome = commit(world, plan, store);
-    world.settle();
-    Ok((outcome.told, store))
 }

@@ -20,6 +20,10 @@ Knows s x = (n : ℕ) × (named s.names n ≡ Some x)
 abbrev pub KeepsKnown : Seen → Seen → Type 0
 KeepsKnown before after = (x : Owner) → Knows before x → Knows after x
 
+-- nobody has become known
+abbrev pub AdmitsNobody : Seen → Seen → Type 0
+AdmitsNobody before after = (x : Owner) → Knows after x → Knows before x
+
 -- the owner holds nothing, and waits for nothing
 pub record IsIdle (w : World) (x : Owner) : Type 0 where
   pub holds_nothing : (file : Bytes) (byte : ℕ) → mode_at w.settings file x byte ≡ None

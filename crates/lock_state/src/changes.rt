@@ -7,7 +7,7 @@ ghost use Rattle.definitions.specs.Shares.{is_denied, has_no_room, with_share, w
 ghost use Rattle.definitions.specs.World.{with_setting, without_host_of};
 ghost use Rattle.owner_ids.specs.Views.{view_of_owner};
 ghost use Rattle.held_locks.specs.Asked.{view_of_new_setting};
-ghost use Rattle.lock_state.specs.Seen.{IsIdle, Knows, KeepsKnown};
+ghost use Rattle.lock_state.specs.Seen.{AdmitsNobody, IsIdle, Knows, KeepsKnown};
 ghost use Rattle.lock_state.specs.Whole.{IsShown};
 
 use crate::quotas::Stored;
@@ -27,6 +27,7 @@ impl<R: RangeTable, S: HostStore> World<R, S> {
         ensures refusals { self.new.refusals ≡ self.old.refusals }
         ensures known { OnOk result (Knows self.new (view_of_owner owner.now)) }
         ensures others { KeepsKnown self.old self.new }
+        ensures err { OnErr result (AdmitsNobody self.old self.new) }
     {
         self.locks.admit(owner)
     }

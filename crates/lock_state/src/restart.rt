@@ -43,8 +43,8 @@ impl<R: RangeTable, S: HostStore> World<R, S> {
         ))
     }
 
-    /// Begins anew in the next own state, with the store's rows, in grace, and these notices due. An error of the store
-    /// leaves the world as it was.
+    /// Begins anew in the next own state, with the store's rows, in grace, and these notices due. Nobody is known. An error of
+    /// the store leaves the world as it was.
     pub fn restart(&mut self, notices: Vec<Letter>) -> Result<(), StoreError>
         requires few { length notices.items ≤ 4096 }
         requires notices { notices.items ≡ map (restart_letter self.old.world.own_name (next_own self.old.world.hosts.own)) self.old.world.hosts.rows }
@@ -52,6 +52,8 @@ impl<R: RangeTable, S: HostStore> World<R, S> {
         ensures err { OnErr result (self.new.world ≡ self.old.world) }
         ensures counts { Counts result self.old.refusals self.new.refusals }
         ensures not_starved { IsNotStarved result }
+        ensures forgotten { OnOk result (self.new.names ≡ []) }
+        ensures names { OnErr result (self.new.names ≡ self.old.names) }
     {
         self.start()?;
         self.begin(notices);

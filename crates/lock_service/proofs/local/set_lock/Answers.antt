@@ -22,3 +22,6 @@ returns-clause-refusals g c = grind (arith, common_steps)
 
 pub returns-clause-forgotten : goal.returns-clause-forgotten
 returns-clause-forgotten g c = grind (arith, common_steps)
+
+pub returns-clause-unknown : goal.returns-clause-unknown
+returns-clause-unknown g c = grind (arith, common_steps)
