@@ -1,15 +1,17 @@
 -- What a call gets that is refused early, and one whose reply is kept.
-use Rattle.std.proofs.Common.{◌≡◌, ℕ, Option, Some, None, refl, sym, ◌∙◌, ap, subst}
+use Rattle.std.proofs.Common.{◌≡◌, ℕ, ◌<◌, ◌-◌, Bool, true, leb, cond, Option, Some, None, refl, sym, ◌∙◌, ap, subst, arith}
+use Rattle.std.proofs.lemmas.Bool.Decides.{nat_tests}
 use Rattle.definitions.specs.Bytes.{Bytes}
 use Rattle.definitions.specs.Hosts.{StoreAnswer, NotAsked, Yes, Refused}
-use Rattle.definitions.specs.Nlm.{Version, Stat, NlmCall, Test, Locks, Cancel, Unlock, LockMsg, ShareCall, Unshare, NmLock}
-use Rattle.definitions.specs.Answer.{Answered, gives, ruling, nlm_answer, test_unless, lock_ask, caller_row, lock_unless, cancel_unless, unlock_unless, share_unless, unshare_unless, share_told, by_reply}
-use Rattle.definitions.specs.Outgoing.{Granted}
-use Rattle.definitions.specs.Ranges.{request_of}
+use Rattle.definitions.specs.Nlm.{Version, Stat, NlmCall, Test, Locks, Cancel, Unlock, TestMsg, LockMsg, CancelMsg, UnlockMsg, ShareCall, Unshare, NmLock}
+use Rattle.definitions.specs.Answer.{Answered, gives, ruling, nlm_answer, test_unless, lock_ask, caller_row, lock_unless, cancel_unless, unlock_unless, share_unless, unshare_unless, share_told, by_reply, by_call, by_message, sent_back, to_caller, lock_letter, cancel_letter, unlock_letter}
+use Rattle.definitions.specs.Phases.{Testing}
+use Rattle.definitions.specs.Outgoing.{Letter, Granted, GrantedMsg, TestResult}
+use Rattle.definitions.specs.Ranges.{request_of, range_refusal}
 use Rattle.definitions.specs.Replies.{Call, Nlm, Success, SystemErr, TestResResult, Asks}
-use Rattle.definitions.specs.Rulings.{ruled, stays, decided}
+use Rattle.definitions.specs.Rulings.{Told, Ruling, ruled, stays, decided}
 use Rattle.definitions.specs.Shown.{shown_stat}
-use Rattle.definitions.specs.World.{World, LeavesRest, the_limits, slots_free, with_all_due}
+use Rattle.definitions.specs.World.{World, LeavesRest, the_limits, slots_free, with_all_due, settled}
 use Rattle.definitions.specs.Step.{Event, Take, Peer, Doing, Applied, Starved, Given, Replies, State, Stepped, KeptPair, applied, taken, repeated, look, step, with_row_stored, asked_unless_kept, moved_to_front}
 use Rattle.definition_laws.proofs.RepeatLaws.{repeat_law}
 use Rattle.kept_replies.specs.Pairs.{view_of_peer}
@@ -20,7 +22,7 @@ use Rattle.daemon_core.specs.Outcomes.{view_of_outcome}
 use Rattle.daemon_core.specs.Outputs.{reply_to, upshot_of}
 use Rattle.daemon_core.specs.declared.outputs.Outputs.{Outputs}
 use Rattle.daemon_core.specs.Hub.{Hub, Answers}
-use Rattle.daemon_core.specs.Told.{early_refusal, stat_in, TellsStat, RefusalIsTold, AnswersRepeat, KeptIsGivenAgain}
+use Rattle.daemon_core.specs.Told.{early_refusal, stat_in, TellsStat, RefusalIsTold, early_message_refusal, refusal_letter, CallsBack, MessageRefusalIsTold, AnswersRepeat, KeptIsGivenAgain}
 
 -- ---- an early refusal is what a call says
 
@@ -57,6 +59,50 @@ says_early w version (Unshare a) stat store e =
     subst (λ (o : Option Stat). SaysStat version stat (ruled store (decided (answer o)))) (sym e) (says_decided (answer (Some stat)) version stat store refl)
 says_early w version call stat store e = absurd cc
 
+-- ---- and of a message form what the call says that becomes due for it
+
+-- so it is answered by this call, where a place is free for it
+abbrev IsSentBack : World → Version → NlmCall → Stat → StoreAnswer → Type 0
+IsSentBack w version call stat store =
+    (letter : Letter) × (refusal_letter version call stat ≡ Some letter) × (ruled store (nlm_answer the_limits w version call) ≡ sent_back letter w)
+
+sent_back_stays : (w : World) (letter : Stat → Letter) (stat : Stat) (store : StoreAnswer) → ruled store (by_call letter (stays w stat)) ≡ sent_back (letter stat) w
+sent_back_stays w letter stat NotAsked = refl
+sent_back_stays w letter stat Yes = refl
+sent_back_stays w letter stat Refused = refl
+
+sent_back_decided : (a : Answered) (store : StoreAnswer) → ruled store (decided a) ≡ a
+sent_back_decided a NotAsked = refl
+sent_back_decided a Yes = refl
+sent_back_decided a Refused = refl
+
+-- a ruling that needs one place, where it is made by what is refused early
+sent_back_early : (w : World) (letter : Stat → Letter) (verdict : Option Stat → Ruling (Told Stat)) (refusal : Option Stat) (stat : Stat) (store : StoreAnswer) → leb 1 (slots_free the_limits w) ≡ true → refusal ≡ Some stat → verdict (Some stat) ≡ stays w stat
+    → ruled store (by_message the_limits w letter (verdict refusal)) ≡ sent_back (letter stat) w
+sent_back_early w letter verdict refusal stat store free e is =
+    ap (λ (b : Bool). ruled store (cond b (by_call letter (verdict refusal)) (decided (gives w SystemErr)))) free
+    ∙ ap (λ (o : Option Stat). ruled store (by_call letter (verdict o))) e
+    ∙ ap (λ (r : Ruling (Told Stat)). ruled store (by_call letter r)) is
+    ∙ sent_back_stays w letter stat store
+
+sent_back_as : (w : World) (version : Version) (call : NlmCall) (stat : Stat) (store : StoreAnswer) → leb 1 (slots_free the_limits w) ≡ true → early_message_refusal w call ≡ Some stat → IsSentBack w version call stat store
+sent_back_as w version (TestMsg a) stat store free e =
+    let answer : Bool → Option Stat → Ruling Answered = λ b o. cond b (decided (sent_back (to_caller a.alock (TestResult version (test_unless w version a o))) w)) (decided (gives w SystemErr)) in (
+      to_caller a.alock (TestResult version (test_unless w version a (Some stat))),
+      refl,
+      ap (λ (b : Bool). ruled store (answer b (range_refusal w Testing a.alock))) free
+          ∙ ap (λ (o : Option Stat). ruled store (answer true o)) e
+          ∙ sent_back_decided _ store,
+    )
+sent_back_as w version (LockMsg a) stat store free e =
+    let ask = lock_ask a (caller_row a) (GrantedMsg version a.exclusive a.alock) (slots_free the_limits w - 1) in
+    (lock_letter version a stat, refl, sent_back_early w (lock_letter version a) (lock_unless the_limits w ask) _ stat store free e refl)
+sent_back_as w version (CancelMsg a) stat store free e =
+    (cancel_letter version a stat, refl, sent_back_early w (cancel_letter version a) (cancel_unless w (request_of a.exclusive a.alock)) _ stat store free e refl)
+sent_back_as w version (UnlockMsg a) stat store free e =
+    (unlock_letter version a stat, refl, sent_back_early w (unlock_letter version a) (unlock_unless the_limits w a.alock) _ stat store free e refl)
+sent_back_as w version call stat store free e = absurd cc
+
 -- ---- what a step gives for a record that asks for a call
 
 module _ (s new : State) (said : Event) (u : Upshot) (h : IsStep s said u new) (peer : Peer) (asked : Bytes) (xid : ℕ) (call : Call) (is : said ≡ Take peer asked (Asks xid call)) where
@@ -69,6 +115,9 @@ module _ (s new : State) (said : Event) (u : Upshot) (h : IsStep s said u new) (
   -- where its reply is not kept
   anew : u.doing ≡ Applied → look s peer asked ≡ None → u.given ≡ Replies xid (ruled u.store (ruling the_limits s.world peer.local call)).outcome
   anew e n = (steps Applied e).0 ∙ ap (λ (o : Option KeptPair). (taken the_limits s peer asked xid call u.store o).given) n
+
+  left_anew : u.doing ≡ Applied → look s peer asked ≡ None → new.world ≡ settled the_limits (ruled u.store (ruling the_limits s.world peer.local call)).world
+  left_anew e n = ap (λ (x : State). x.world) (steps Applied e).1 ∙ ap (λ (o : Option KeptPair). (taken the_limits s peer asked xid call u.store o).state.world) n
 
   module _ (k : KeptPair) (there : look s peer asked ≡ Some k) where
     again : u.doing ≡ Applied → (u.given ≡ (repeated the_limits s k).given) × (new ≡ (repeated the_limits s k).state)
@@ -100,6 +149,20 @@ module _ (place i : ℕ) (old new : Hub) (out : Outputs) (t : Answers place i ol
     sent = sent _ (anew old.state new.state t.step.said (upshot_of out t.given) t.step.step (view_of_peer t.link.peer) t.bytes xid (Nlm version call) is applied none);
   }
 
+  pub calls_back : (xid : ℕ) (version : Version) (call : NlmCall) (stat : Stat) → t.step.said ≡ Take (view_of_peer t.link.peer) t.bytes (Asks xid (Nlm version call)) → look old.state (view_of_peer t.link.peer) t.bytes ≡ None
+      → view_of_outcome out.outcome ≡ Applied → 0 < slots_free the_limits old.state.world → early_message_refusal old.state.world call ≡ Some stat → CallsBack t.link xid version call stat old out new
+  calls_back xid version call stat is none applied free early =
+      let store = view_of_stored out.store in
+      let back = sent_back_as old.state.world version call stat store (grind (arith, nat_tests)) early in
+      let upshot = upshot_of out t.given in
+      let peer = view_of_peer t.link.peer in
+      record {
+        sent = sent _ (anew old.state new.state t.step.said upshot t.step.step peer t.bytes xid (Nlm version call) is applied none) ∙ ap (λ (a : Answered). reply_to t.link.number (Replies xid a.outcome)) back.2;
+        letter = back.0;
+        tells = back.1;
+        world = left_anew old.state new.state t.step.said upshot t.step.step peer t.bytes xid (Nlm version call) is applied none ∙ ap (λ (a : Answered). settled the_limits a.world) back.2;
+      }
+
   pub repeats : (xid : ℕ) (call : Call) (k : KeptPair) → t.step.said ≡ Take (view_of_peer t.link.peer) t.bytes (Asks xid call) → look old.state (view_of_peer t.link.peer) t.bytes ≡ Some k → AnswersRepeat t.link xid k old out new
   repeats xid call k is there = record {
     unapplied = subst (λ (s : State). LeavesRest old.state.world s.world) (sym (steps old.state new.state t.step.said (upshot_of out t.given) t.step.step (view_of_peer t.link.peer) t.bytes xid call is (view_of_outcome out.outcome) refl).1) (repeat_law the_limits old.state (view_of_peer t.link.peer) t.bytes xid call (view_of_outcome out.outcome) (view_of_stored out.store) k there);
@@ -122,6 +185,9 @@ module _ (place i : ℕ) (old new : Hub) (out : Outputs) (t : Answers place i ol
 
 pub refusal_is_told : RefusalIsTold
 refusal_is_told place i old new out taken xid version call stat is none applied early = tells place i old new out taken xid version call stat is none applied early
+
+pub message_refusal_is_told : MessageRefusalIsTold
+message_refusal_is_told place i old new out taken xid version call stat is none applied free early = calls_back place i old new out taken xid version call stat is none applied free early
 
 pub kept_is_given_again : KeptIsGivenAgain
 kept_is_given_again place i old new out taken xid call k is there = repeats place i old new out taken xid call k is there

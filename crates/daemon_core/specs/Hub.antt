@@ -9,7 +9,7 @@ use Rattle.kept_replies.specs.Pairs.{view_of_peer}
 use Rattle.call_plans.specs.declared.plans.StoreAnswer.{StoreAnswer}
 use Rattle.call_plans.specs.declared.plans.StoreAnswer.TheVariants.{NotAsked, Yes, Refused}
 use Rattle.call_plans.specs.Planned.{view_of_stored, counted}
-use Rattle.book.specs.Journal.{TakesMemory}
+use Rattle.book.specs.Journal.{Book, TakesMemory}
 use Rattle.book.specs.Notes.{Happening, Takes, SendsNext, HearsAnswer, AsksLine, FallsSilent, GraceEnds, BeginsAnew, Steps}
 use Rattle.daemon_core.specs.declared.outcome.Outcome.{Outcome}
 use Rattle.daemon_core.specs.declared.outcome.Outcome.TheVariants.{Applied, Starved, NoSegment}
@@ -29,6 +29,10 @@ pub record Hub : Type 0 where
 
 abbrev pub opening : Bytes → Hosts → ℕ → Hub
 opening name hosts refusals = record { state = opening_state name hosts; refusals = refusals; links = [] }
+
+-- what a book shows of itself, with these connections
+abbrev pub hub_of : Book → List Link → Hub
+hub_of book links = record { state = book.journal.end; refusals = book.refusals; links = links }
 
 abbrev pub with_links : Hub → List Link → Hub
 with_links hub links = record hub { links = links }

@@ -1,11 +1,13 @@
 -- What a call gets that is refused before its procedure's rules, and what one gets whose reply is kept.
-use Rattle.std.specs.Prelude.{◌≡◌, ℕ, true, false, leb, length, Option, Some, None}
+use Rattle.std.specs.Prelude.{◌≡◌, ℕ, ◌<◌, true, false, leb, length, Option, Some, None}
+use Rattle.definitions.specs.Answer.{to_caller, lock_letter, cancel_letter, unlock_letter}
+use Rattle.definitions.specs.Outgoing.{Letter, TestResult}
 use Rattle.definitions.specs.Phases.{Testing, Locking, Sharing, Cancelling, Unlocking, Unsharing}
-use Rattle.definitions.specs.Nlm.{Version, Stat, NlmCall, Test, Locks, Cancel, Unlock, ShareCall, Unshare, NmLock}
+use Rattle.definitions.specs.Nlm.{Version, Stat, NlmCall, Test, Locks, Cancel, Unlock, TestMsg, LockMsg, CancelMsg, UnlockMsg, ShareCall, Unshare, NmLock}
 use Rattle.definitions.specs.Ranges.{range_refusal, file_refusal}
-use Rattle.definitions.specs.Replies.{Call, Nlm, Outcome, Success, SystemErr, ResResult, TestResResult, ShareResult, Asks}
-use Rattle.definitions.specs.Shown.{shown_stat}
-use Rattle.definitions.specs.World.{World, LeavesRest, the_limits, slots_free, with_all_due}
+use Rattle.definitions.specs.Replies.{Call, Nlm, Outcome, Success, SystemErr, NoResult, ResResult, TestResResult, ShareResult, Asks}
+use Rattle.definitions.specs.Shown.{shown_stat, free_test}
+use Rattle.definitions.specs.World.{World, LeavesRest, the_limits, slots_free, with_due, with_all_due, settled}
 use Rattle.definitions.specs.Step.{Take, Applied, Starved, KeptPair, Replies, look, moved_to_front}
 use Rattle.kept_replies.specs.Pairs.{view_of_peer}
 use Rattle.daemon_core.specs.Link.{Link}
@@ -53,6 +55,36 @@ RefusalIsTold =
     (place i : ℕ) (old new : Hub) (out : Outputs) (taken : Answers place i old out new) (xid : ℕ) (version : Version) (call : NlmCall) (stat : Stat)
     → IsCall taken xid (Nlm version call) → kept_of taken ≡ None
     → view_of_outcome out.outcome ≡ Applied → early_refusal old.state.world call ≡ Some stat → TellsStat taken.link xid (shown_stat version stat) out
+
+-- what a message form is refused for before its procedure's own rules
+abbrev pub early_message_refusal : World → NlmCall → Option Stat
+early_message_refusal w (TestMsg a) = range_refusal w Testing a.alock
+early_message_refusal w (LockMsg a) = range_refusal w (Locking a.reclaim) a.alock
+early_message_refusal w (CancelMsg a) = range_refusal w Cancelling a.alock
+early_message_refusal w (UnlockMsg a) = range_refusal w Unlocking a.alock
+early_message_refusal w _ = None
+
+-- the call that tells the caller's host of it: its _RES, with the status as the version shows it
+abbrev pub refusal_letter : Version → NlmCall → Stat → Option Letter
+refusal_letter version (TestMsg a) stat = Some (to_caller a.alock (TestResult version (free_test version a.cookie stat)))
+refusal_letter version (LockMsg a) stat = Some (lock_letter version a stat)
+refusal_letter version (CancelMsg a) stat = Some (cancel_letter version a stat)
+refusal_letter version (UnlockMsg a) stat = Some (unlock_letter version a stat)
+refusal_letter version _ stat = None
+
+-- the client gets an empty reply, and the newest call that is due, before what waits is granted, tells the status to its host
+pub record CallsBack (link : Link) (xid : ℕ) (version : Version) (call : NlmCall) (stat : Stat) (old : Hub) (out : Outputs) (new : Hub) : Type 0 where
+  pub sent : out.sent ≡ reply_to link.number (Replies xid (Success NoResult))
+  pub letter : Letter
+  pub tells : refusal_letter version call stat ≡ Some letter
+  pub world : new.state.world ≡ settled the_limits (with_due old.state.world letter)
+
+-- a message form that is done anew while a place is free, and has an early refusal, is answered by a call of the server's own
+abbrev pub MessageRefusalIsTold : Type 0
+MessageRefusalIsTold =
+    (place i : ℕ) (old new : Hub) (out : Outputs) (taken : Answers place i old out new) (xid : ℕ) (version : Version) (call : NlmCall) (stat : Stat)
+    → IsCall taken xid (Nlm version call) → kept_of taken ≡ None → view_of_outcome out.outcome ≡ Applied → 0 < slots_free the_limits old.state.world
+    → early_message_refusal old.state.world call ≡ Some stat → CallsBack taken.link xid version call stat old out new
 
 -- the kept reply is sent again, the calls that went with it are due again, and the pair is now the newest
 pub record IsRepeated (link : Link) (k : KeptPair) (old : Hub) (out : Outputs) (new : Hub) : Type 0 where

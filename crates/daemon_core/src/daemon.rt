@@ -7,7 +7,7 @@ ghost use Rattle.daemon_core.specs.Hub.{Hub, opening, place_of, Connects, Discon
 
 use crate::connection::Connection;
 use crate::event::Event;
-use crate::noted::{has_room, note};
+use crate::noted::{note, send_next};
 use crate::outputs::{Outputs, make_quiet, make_starved, tell, tell_line, tell_posted, tell_to};
 use crate::posted::Posted;
 use crate::posting::Posting;
@@ -200,17 +200,7 @@ impl<R: RangeTable, S: HostStore> Daemon<R, S> {
     pub fn send(&mut self, posting: &mut Posting) -> Posted
         ensures { SendStep self.old (told_posted result posting.new) self.new }
     {
-        if !self.book.has_due() {
-            return Posted::Nothing;
-        }
-        if !has_room(self.alloc, &mut self.book) {
-            return Posted::NoSegment;
-        }
-        let Some((_, to, frame)) = self.book.next_call() else {
-            return Posted::Nothing;
-        };
-        posting.fill(to, frame);
-        Posted::Sent
+        send_next(self.alloc, &mut self.book, posting)
     }
 
     /// One event, and what comes of it.

@@ -2,7 +2,7 @@
 
 ghost use Rattle.daemon_core.specs.Hub.{HasOneRun};
 ghost use Rattle.daemon_core.specs.Laws.{GraceGrantsReclaimsOnly, GraceTellsOfNoGrant, RunsAreSound};
-ghost use Rattle.daemon_core.specs.Told.{KeptIsGivenAgain, RefusalIsTold};
+ghost use Rattle.daemon_core.specs.Told.{KeptIsGivenAgain, MessageRefusalIsTold, RefusalIsTold};
 
 use book::one_step;
 use record_mark::one_reading;
@@ -35,6 +35,12 @@ pub fn grace_tells_of_no_grant()
 /// so that in grace each that the phase turns away is answered DENIED_GRACE_PERIOD, in every version.
 pub fn early_refusal_is_told()
     ensures { RefusalIsTold }
+{}
+
+/// A message form that is refused so, while a place is free for the call that tells of it, has that call due: to the caller's
+/// host, by the status as its version shows it.
+pub fn early_message_refusal_is_told()
+    ensures { MessageRefusalIsTold }
 {}
 
 /// A call whose reply is kept gets it again, and is not done again.

@@ -17,8 +17,8 @@ pub use crate::connection::Connection;
 pub use crate::daemon::Daemon;
 pub use crate::event::{Event, Refusal};
 pub use crate::law::{
-    early_refusal_is_told, grace_grants_reclaims_only, grace_tells_of_no_grant,
-    kept_reply_is_given_again, one_run, runs_are_sound,
+    early_message_refusal_is_told, early_refusal_is_told, grace_grants_reclaims_only,
+    grace_tells_of_no_grant, kept_reply_is_given_again, one_run, runs_are_sound,
 };
 pub use crate::outcome::Outcome;
 pub use crate::outputs::Outputs;

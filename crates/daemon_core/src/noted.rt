@@ -1,14 +1,19 @@
 //! Events take the book, in segments of its journal.
 
-ghost use Rattle.std.specs.Prelude.{◌≡◌, ◌<◌, true, false};
+ghost use Rattle.std.specs.Prelude.{◌≡◌, ◌<◌, List, true, false};
 ghost use Rattle.definitions.specs.Hosts.{NotAsked};
 ghost use Rattle.call_plans.specs.Planned.{counted};
 ghost use Rattle.book.specs.Notes.{view_of_event, Steps};
 ghost use Rattle.book.specs.Journal.{room_of, rotated, TakesMemory};
+ghost use Rattle.daemon_core.specs.Hub.{SendStep, hub_of};
+ghost use Rattle.daemon_core.specs.Link.{Link};
 ghost use Rattle.daemon_core.specs.Outcomes.{view_of_outcome};
+ghost use Rattle.daemon_core.specs.Outputs.{told_posted};
 ghost use Rattle.daemon_core.specs.Rooms.{BeginsWhereFull};
 
 use crate::outcome::Outcome;
+use crate::posted::Posted;
+use crate::posting::Posting;
 use book::{Book, BookEvent, Segment, Upshot};
 use hosts_db::HostStore;
 use range_table::RangeTable;
@@ -29,6 +34,7 @@ pub(crate) fn note<R: RangeTable, S: HostStore>(
     // Without an entry no store is asked, and nothing changes.
     ensures unasked { result.0 ≡ Outcome.NoSegment → result.1.store ≡ NotAsked }
     ensures unchanged { result.0 ≡ Outcome.NoSegment → book.new.journal.end ≡ book.old.journal.end }
+    ensures full { result.0 ≡ Outcome.NoSegment → room_of book.old.journal ≡ 0 }
 {
     if !has_room(alloc, book) {
         return (Outcome::NoSegment, event.starved());
@@ -37,9 +43,32 @@ pub(crate) fn note<R: RangeTable, S: HostStore>(
     (Outcome::from(upshot.doing), upshot)
 }
 
+/// The call that is due first is sent to this place, which is one entry, or none is due. Where the segment is full and no fresh
+/// one can be had it is due as before.
+pub(crate) fn send_next<R: RangeTable, S: HostStore>(
+    alloc: Global,
+    book: &mut Book<R, S>,
+    posting: &mut Posting,
+) -> Posted
+    ensures sends { (links : List Link) → SendStep (hub_of book.old links) (told_posted result posting.new) (hub_of book.new links) }
+    ensures full { result ≡ Posted.NoSegment → room_of book.old.journal ≡ 0 }
+{
+    if !book.has_due() {
+        return Posted::Nothing;
+    }
+    if !has_room(alloc, book) {
+        return Posted::NoSegment;
+    }
+    let Some((_, to, frame)) = book.next_call() else {
+        return Posted::Nothing;
+    };
+    posting.fill(to, frame);
+    Posted::Sent
+}
+
 /// Whether there is room for one entry more, in the segment that stands or, where that is full, in a fresh one. That none could
 /// be had where the answer is false is the allocator's word, which no contract names.
-pub(crate) fn has_room<R: RangeTable, S: HostStore>(alloc: Global, book: &mut Book<R, S>) -> bool
+fn has_room<R: RangeTable, S: HostStore>(alloc: Global, book: &mut Book<R, S>) -> bool
     ensures room { result ≡ true → 0 < room_of book.new.journal }
     ensures full { result ≡ false → room_of book.old.journal ≡ 0 }
     ensures begins { BeginsWhereFull book.old book.new }

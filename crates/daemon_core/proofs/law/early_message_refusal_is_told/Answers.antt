@@ -1,0 +1,5 @@
+use Rattle.daemon_core.proofs.Told.{message_refusal_is_told}
+use Rattle.daemon_core.proofs.law.early_message_refusal_is_told.Goals as goal
+
+pub returns : goal.returns
+returns c = message_refusal_is_told
