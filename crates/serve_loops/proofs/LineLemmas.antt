@@ -1,6 +1,7 @@
 -- Lines go on.
-use Rattle.std.proofs.Common.{◌≡◌, ℕ, ◌+◌, ◌<◌, inl, inr, Bool, true, false, ◌||◌, eqb, List, [], ◌∷◌, ◌++◌, length, take, drop, get_or, Option, Some, None, refl, sym, ◌∙◌, ap, subst, append_assoc}
+use Rattle.std.proofs.Common.{◌≡◌, ℕ, ◌+◌, ◌<◌, Bool, true, false, ◌||◌, eqb, List, [], ◌∷◌, ◌++◌, length, take, drop, get_or, Option, Some, None, refl, sym, ◌∙◌, ap, subst, append_assoc}
 use Rattle.std.specs.Prelude.{Result, Ok, Err, IfOk, IfErr}
+use Rattle.std.specs.Option.{option_to_list}
 use Rattle.std.proofs.lemmas.Bool.{eqb-true}
 use Rattle.std.specs.Io.KnownBytes.{Appends, Consumes, Keeps}
 use Rattle.std.proofs.KnownBytes.{Consumes-nil, Consumes-trans, Consumes-kept, Appends-nil, Appends-trans, Appends-kept}
@@ -12,72 +13,83 @@ use Rattle.definitions.specs.Step.{State, Given, Starved}
 use Rattle.definitions.specs.Hosts.{NotAsked}
 use Rattle.book.specs.declared.event.BookEvent.{BookEvent}
 use Rattle.book.specs.Given.{Upshot}
-use Rattle.book.specs.Notes.{Happening, AsksLine, Steps, view_of_event}
-use Rattle.workers.specs.Holds.{Held, Notes}
-use Rattle.written.specs.Written.{WroteFront}
+use Rattle.book.specs.Notes.{Happening, AsksLine, Note, Steps, view_of_event}
+use Rattle.workers.specs.Holds.{Held, entry_of, Notes, Adds}
+use Rattle.written.specs.Written.{Wrote, WroteFront}
 use Rattle.written.specs.declared.WriteFault.{WriteFault}
 use Rattle.written.proofs.Appending.{WroteFront-whole}
 use Rattle.serve_loops.specs.declared.ending.Ending.{Ending}
 use Rattle.serve_loops.specs.declared.ending.Ending.TheVariants as ending
-use Rattle.serve_loops.specs.Lines.{IsOpen, AreOpen, ended, kept, text_of, texts, IsAnswered, AreAnswered, Serves, ServesFront, Breaks, Cuts, Ends, Turns, Takes, AnswersLine, StarvesAs, TellsOf}
+use Rattle.serve_loops.specs.Lines.{IsOpen, Answer, AreOpen, ended, kept, text_of, texts, entries, IsAnswered, AreAnswered, Asks, Trace, trace, Goes, Serves, ServesFront, Breaks, Cuts, Ends, Turns, Takes, IsSaid, AnswersLine, Finishes, StarvesAs, TellsOf}
 
 pub open-append : (xs ys : Bytes) → IsOpen xs → IsOpen ys → IsOpen (xs ++ ys)
 open-append xs ys p q = list_any-append (λ b. eqb b 10) xs ys ∙ (λ i. p i || q i)
 
-open-all : (ls ms : List Bytes) → AreOpen ls → AreOpen ms → AreOpen (ls ++ ms)
+open-all : (ls ms : List Answer) → AreOpen ls → AreOpen ms → AreOpen (ls ++ ms)
 open-all [] ms p q = q
 open-all (l ∷ ls) ms p q = (p.0, open-all ls ms p.1 q)
 
-answered-all : (c : ℕ) (ls ms : List Bytes) (gs hs : List Given) → AreAnswered c ls gs → AreAnswered c ms hs → AreAnswered c (ls ++ ms) (gs ++ hs)
-answered-all c [] ms [] hs p q = q
-answered-all c [] ms (g ∷ gs) hs p q = absurd p
-answered-all c (l ∷ ls) ms [] hs p q = absurd p
-answered-all c (l ∷ ls) ms (g ∷ gs) hs p q = (p.0, answered-all c ls ms gs hs p.1 q)
+answered-all : (c : ℕ) (ls ms : List Answer) → AreAnswered c ls → AreAnswered c ms → AreAnswered c (ls ++ ms)
+answered-all c [] ms p q = q
+answered-all c (l ∷ ls) ms p q = (p.0, answered-all c ls ms p.1 q)
+
+-- ---- what is written and noted
+
+Goes-none : (x : Trace) → Goes x x [] []
+Goes-none x = record { wrote = Appends-nil x.written; noted = sym (append-nil x.told) }
+
+Goes-trans : (x y z : Trace) (s t : Bytes) (ms ns : List Note) → Goes x y s ms → Goes y z t ns → Goes x z (s ++ t) (ms ++ ns)
+Goes-trans x y z s t ms ns g h = record {
+  wrote = Appends-trans x.written y.written z.written s t g.wrote h.wrote;
+  noted = h.noted ∙ ap (λ (l : List Note). l ++ ns) g.noted ∙ append_assoc x.told ms ns;
+}
 
 -- ---- bytes that are answered
 
-pub Serves-none : (c : ℕ) (part : Bytes) (x : Option Bytes) → IsOpen part → Serves c part [] part x x
-Serves-none c part x o = record { lines = []; givens = []; joined = append-nil part; whole = tt; unended = o; answered = tt; wrote = Appends-nil x }
+pub Serves-none : (c : ℕ) (part : Bytes) (x : Trace) → IsOpen part → Serves c part [] part x x
+Serves-none c part x o = record { answers = []; joined = append-nil part; whole = tt; unended = o; answered = tt; goes = Goes-none x }
 
-pub Serves-byte : (c : ℕ) (part : Bytes) (b : ℕ) (x : Option Bytes) → IsOpen part → eqb b 10 ≡ false → Serves c part (b ∷ []) (part ++ b ∷ []) x x
+pub Serves-byte : (c : ℕ) (part : Bytes) (b : ℕ) (x : Trace) → IsOpen part → eqb b 10 ≡ false → Serves c part (b ∷ []) (part ++ b ∷ []) x x
 Serves-byte c part b x o other =
-    record { lines = []; givens = []; joined = refl; whole = tt; unended = open-append part (b ∷ []) o (ap (λ t. t || false) other); answered = tt; wrote = Appends-nil x }
+    record { answers = []; joined = refl; whole = tt; unended = open-append part (b ∷ []) o (ap (λ t. t || false) other); answered = tt; goes = Goes-none x }
 
-pub Serves-line : (c : ℕ) (part : Bytes) (x y : Option Bytes) (given : Given) → IsOpen part → IsAnswered c (kept part) given → Appends x y (text_of given) → Serves c part (10 ∷ []) [] x y
-Serves-line c part x y given o answered wrote = record {
-  lines = part ∷ [];
-  givens = given ∷ [];
+pub Serves-line : (c : ℕ) (part : Bytes) (x y : Trace) → IsOpen part → IsSaid c (kept part) x y → Serves c part (10 ∷ []) [] x y
+Serves-line c part x y o said = record {
+  answers = record { line = part; given = said.0; entry = said.1 } ∷ [];
   joined = sym (append-nil (part ++ 10 ∷ [])) ∙ sym (append-nil ((part ++ 10 ∷ []) ++ []));
   whole = (o, tt);
   unended = refl;
-  answered = (answered, tt);
-  wrote = subst (λ bytes. Appends x y bytes) (sym (append-nil (text_of given))) wrote;
+  answered = (said.2, tt);
+  goes = record {
+    wrote = subst (λ (bytes : Bytes). Appends x.written y.written bytes) (sym (append-nil (text_of said.0))) said.3.wrote;
+    noted = said.3.noted ∙ ap (λ (l : List Note). x.told ++ l) (sym (append-nil (option_to_list said.1)));
+  };
 }
 
-pub Serves-append : (c : ℕ) (p q r : Bytes) (bs cs : Bytes) (x y z : Option Bytes) → Serves c p bs q x y → Serves c q cs r y z → Serves c p (bs ++ cs) r x z
+pub Serves-append : (c : ℕ) (p q r : Bytes) (bs cs : Bytes) (x y z : Trace) → Serves c p bs q x y → Serves c q cs r y z → Serves c p (bs ++ cs) r x z
 Serves-append c p q r bs cs x y z s t = record {
-  lines = s.lines ++ t.lines;
-  givens = s.givens ++ t.givens;
+  answers = s.answers ++ t.answers;
   joined =
-      sym (append_assoc p bs cs) ∙ ap (λ (l : Bytes). l ++ cs) s.joined ∙ append_assoc (ended s.lines) q cs
-      ∙ ap (λ (l : Bytes). ended s.lines ++ l) t.joined ∙ sym (append_assoc (ended s.lines) (ended t.lines) r)
-      ∙ ap (λ (l : Bytes). l ++ r) (sym (flat_map-append (λ (line : Bytes). line ++ 10 ∷ []) s.lines t.lines));
-  whole = open-all s.lines t.lines s.whole t.whole;
+      sym (append_assoc p bs cs) ∙ ap (λ (l : Bytes). l ++ cs) s.joined ∙ append_assoc (ended s.answers) q cs
+      ∙ ap (λ (l : Bytes). ended s.answers ++ l) t.joined ∙ sym (append_assoc (ended s.answers) (ended t.answers) r)
+      ∙ ap (λ (l : Bytes). l ++ r) (sym (flat_map-append (λ (a : Answer). a.line ++ 10 ∷ []) s.answers t.answers));
+  whole = open-all s.answers t.answers s.whole t.whole;
   unended = t.unended;
-  answered = answered-all c s.lines t.lines s.givens t.givens s.answered t.answered;
-  wrote = subst (λ bytes. Appends x z bytes) (sym (flat_map-append text_of s.givens t.givens)) (Appends-trans x y z (texts s.givens) (texts t.givens) s.wrote t.wrote);
+  answered = answered-all c s.answers t.answers s.answered t.answered;
+  goes = subst (λ (w : Bytes × List Note). Goes x z w.0 w.1) (λ i. (sym (flat_map-append (λ (a : Answer). text_of a.given) s.answers t.answers) i, sym (flat_map-append (λ (a : Answer). option_to_list a.entry) s.answers t.answers) i))
+      (Goes-trans x y z (texts s.answers) (texts t.answers) (entries s.answers) (entries t.answers) s.goes t.goes);
 }
 
 -- ---- ends
 
-pub Front-none : (c : ℕ) (part bytes : Bytes) (x : Option Bytes) → IsOpen part → ServesFront c part bytes x x
+pub Front-none : (c : ℕ) (part bytes : Bytes) (x : Trace) → IsOpen part → ServesFront c part bytes x x
 Front-none c part bytes x o = record { front = []; rest = bytes; is = refl; left = part; serves = Serves-none c part x o }
 
-pub Front-all : (c : ℕ) (part bytes left : Bytes) (x y : Option Bytes) → Serves c part bytes left x y → ServesFront c part bytes x y
+pub Front-all : (c : ℕ) (part bytes left : Bytes) (x y : Trace) → Serves c part bytes left x y → ServesFront c part bytes x y
 Front-all c part bytes left x y s = record { front = bytes; rest = []; is = sym (append-nil bytes); left = left; serves = s }
 
-module _ (c : ℕ) (p q : Bytes) (bs : Bytes) (x y : Option Bytes) (s : Serves c p bs q x y) where
-  Front-after : (cs : Bytes) (z : Option Bytes) → ServesFront c q cs y z → ServesFront c p (bs ++ cs) x z
+module _ (c : ℕ) (p q : Bytes) (bs : Bytes) (x y : Trace) (s : Serves c p bs q x y) where
+  Front-after : (cs : Bytes) (z : Trace) → ServesFront c q cs y z → ServesFront c p (bs ++ cs) x z
   Front-after cs z f = record {
     front = bs ++ f.front;
     rest = f.rest;
@@ -86,7 +98,7 @@ module _ (c : ℕ) (p q : Bytes) (bs : Bytes) (x y : Option Bytes) (s : Serves c
     serves = Serves-append c p q f.left bs f.front x y z s f.serves;
   }
 
-  Breaks-after : (cs : Bytes) (z : Option Bytes) → Breaks c q cs y z → Breaks c p (bs ++ cs) x z
+  Breaks-after : (cs : Bytes) (z : Trace) → Breaks c q cs y z → Breaks c p (bs ++ cs) x z
   Breaks-after cs z f = record {
     front = bs ++ f.front;
     rest = f.rest;
@@ -95,18 +107,19 @@ module _ (c : ℕ) (p q : Bytes) (bs : Bytes) (x y : Option Bytes) (s : Serves c
     between = f.between;
     serves = Serves-append c p q f.line bs f.front x y f.between s f.serves;
     given = f.given;
+    entry = f.entry;
     answered = f.answered;
-    wrote = f.wrote;
+    goes = f.goes;
   }
 
-  Cuts-after : (e : Ending) (cs : Bytes) (z : Option Bytes) → Cuts e c q cs y z → Cuts e c p (bs ++ cs) x z
+  Cuts-after : (e : Ending) (cs : Bytes) (z : Trace) → Cuts e c q cs y z → Cuts e c p (bs ++ cs) x z
   Cuts-after ending.Over cs z h = absurd h
   Cuts-after ending.Stopped cs z h = Front-after cs z h
   Cuts-after ending.Starved cs z h = Front-after cs z h
   Cuts-after ending.ReadFault cs z h = Front-after cs z h
   Cuts-after ending.WriteFault cs z h = Breaks-after cs z h
 
-  pub Ends-after : (u m l : Option Bytes) → Consumes u m bs → (e : Ending) (z : Option Bytes) → Ends e c q m l y z → Ends e c p u l x z
+  pub Ends-after : (u m l : Option Bytes) → Consumes u m bs → (e : Ending) (z : Trace) → Ends e c q m l y z → Ends e c p u l x z
   Ends-after u m l read ending.Over z h = (bs ++ h.0, Consumes-trans u m l bs h.0 read h.1, h.2, (h.3.0, Serves-append c p q h.3.0 bs h.0 x y z s h.3.1))
   Ends-after u m l read ending.Stopped z h = (bs ++ h.0, Consumes-trans u m l bs h.0 read h.1, Front-after h.0 z h.2)
   Ends-after u m l read ending.Starved z h = (bs ++ h.0, Consumes-trans u m l bs h.0 read h.1, Front-after h.0 z h.2)
@@ -114,7 +127,7 @@ module _ (c : ℕ) (p q : Bytes) (bs : Bytes) (x y : Option Bytes) (s : Serves c
   Ends-after u m l read ending.WriteFault z h = (bs ++ h.0, Consumes-trans u m l bs h.0 read h.1, Breaks-after h.0 z h.2)
 
 -- more bytes may stand behind those that cut it
-pub Cuts-longer : (e : Ending) (c : ℕ) (p bs cs : Bytes) (x y : Option Bytes) → Cuts e c p bs x y → Cuts e c p (bs ++ cs) x y
+pub Cuts-longer : (e : Ending) (c : ℕ) (p bs cs : Bytes) (x y : Trace) → Cuts e c p bs x y → Cuts e c p (bs ++ cs) x y
 Cuts-longer ending.Over c p bs cs x y h = absurd h
 Cuts-longer ending.Stopped c p bs cs x y h = record { front = h.front; rest = h.rest ++ cs; is = ap (λ (l : Bytes). l ++ cs) h.is ∙ append_assoc h.front h.rest cs; left = h.left; serves = h.serves }
 Cuts-longer ending.Starved c p bs cs x y h = record { front = h.front; rest = h.rest ++ cs; is = ap (λ (l : Bytes). l ++ cs) h.is ∙ append_assoc h.front h.rest cs; left = h.left; serves = h.serves }
@@ -127,21 +140,47 @@ Cuts-longer ending.WriteFault c p bs cs x y h = record {
   between = h.between;
   serves = h.serves;
   given = h.given;
+  entry = h.entry;
   answered = h.answered;
-  wrote = h.wrote;
+  goes = h.goes;
 }
 
 -- ---- a line
 
 -- the end of a line is the byte that was taken
-pub line-said : (e : Option Ending) (c : ℕ) (part line : Bytes) (x y : Option Bytes) → IsOpen part → line ≡ kept part → AnswersLine e c line x y → Takes e c part (10 ∷ []) [] x y
-line-said None c part line x y o is h = Serves-line c part x y h.0 o (subst (λ (l : Bytes). IsAnswered c l h.0) is h.1) h.2
-line-said (Some ending.Stopped) c part line x y o is h = Front-all c part (10 ∷ []) [] x y (Serves-line c part x y h.0 o (subst (λ (l : Bytes). IsAnswered c l h.0) is h.1) h.2)
-line-said (Some ending.WriteFault) c part line x y o is h =
-    record { front = []; rest = []; is = refl; line = part; between = x; serves = Serves-none c part x o; given = h.0; answered = subst (λ (l : Bytes). IsAnswered c l h.0) is h.1; wrote = h.2 }
+pub line-said : (e : Option Ending) (c : ℕ) (part line : Bytes) (x y : Trace) → IsOpen part → line ≡ kept part → AnswersLine e c line x y → Takes e c part (10 ∷ []) [] x y
+line-said None c part line x y o is h = Serves-line c part x y o (subst (λ (l : Bytes). IsSaid c l x y) is h)
+line-said (Some ending.Stopped) c part line x y o is h = Front-all c part (10 ∷ []) [] x y (Serves-line c part x y o (subst (λ (l : Bytes). IsSaid c l x y) is h))
+line-said (Some ending.WriteFault) c part line x y o is h = record {
+  front = [];
+  rest = [];
+  is = refl;
+  line = part;
+  between = x;
+  serves = Serves-none c part x o;
+  given = h.0;
+  entry = h.1;
+  answered = subst (λ (l : Bytes). IsAnswered c l h.0 h.1) is h.2;
+  goes = h.3;
+}
 line-said (Some ending.Over) c part line x y o is h = absurd h
 line-said (Some ending.Starved) c part line x y o is h = absurd h
 line-said (Some ending.ReadFault) c part line x y o is h = absurd h
+
+-- what a line was answered was written, or a front of it
+pub line-answered : (e : Option Ending) (r : Result (Unit {0}) WriteFault) (c : ℕ) (line : Bytes) (given : Given) (a b : Option Bytes) (told told' : List Note) → Asks c line given told told' → Wrote a b r (text_of given) → Finishes r e → AnswersLine e c line (trace a told) (trace b told')
+line-answered None (Ok done) c line given a b told told' asked wrote ends = (given, asked.0, asked.1, record { wrote = wrote; noted = asked.2 })
+line-answered (Some ending.Stopped) (Ok done) c line given a b told told' asked wrote ends = (given, asked.0, asked.1, record { wrote = wrote; noted = asked.2 })
+line-answered (Some ending.WriteFault) (Err fault) c line given a b told told' asked wrote ends = (given, asked.0, asked.1, record { wrote = wrote; noted = asked.2 })
+line-answered (Some ending.Over) (Ok done) c line given a b told told' asked wrote ends = absurd ends
+line-answered (Some ending.Starved) (Ok done) c line given a b told told' asked wrote ends = absurd ends
+line-answered (Some ending.ReadFault) (Ok done) c line given a b told told' asked wrote ends = absurd ends
+line-answered (Some ending.WriteFault) (Ok done) c line given a b told told' asked wrote ends = absurd ends
+line-answered None (Err fault) c line given a b told told' asked wrote ends = absurd ends
+line-answered (Some ending.Over) (Err fault) c line given a b told told' asked wrote ends = absurd ends
+line-answered (Some ending.Starved) (Err fault) c line given a b told told' asked wrote ends = absurd ends
+line-answered (Some ending.ReadFault) (Err fault) c line given a b told told' asked wrote ends = absurd ends
+line-answered (Some ending.Stopped) (Err fault) c line given a b told told' asked wrote ends = absurd ends
 
 pub flush_done : (a b d : Option Bytes) (x : Bytes) → Appends a b x → Keeps b d → Appends a d x
 flush_done a b d x p k = Appends-kept a b d x p k
@@ -152,28 +191,28 @@ flush_failed a b d x p k = WroteFront-whole a d x (Appends-kept a b d x p k)
 -- ---- a piece
 
 -- nothing was read
-pub nothing-read : (c : ℕ) (part : Bytes) (u l x : Option Bytes) → IsOpen part → Keeps u l → Turns None c part part u l x x
+pub nothing-read : (c : ℕ) (part : Bytes) (u l : Option Bytes) (x : Trace) → IsOpen part → Keeps u l → Turns None c part part u l x x
 nothing-read c part u l x o keeps = ([], Consumes-kept u u l [] (Consumes-nil u) keeps, Serves-none c part x o)
 
-pub read-failed : (c : ℕ) (part : Bytes) (u l x : Option Bytes) → IsOpen part → Keeps u l → Ends ending.ReadFault c part u l x x
+pub read-failed : (c : ℕ) (part : Bytes) (u l : Option Bytes) (x : Trace) → IsOpen part → Keeps u l → Ends ending.ReadFault c part u l x x
 read-failed c part u l x o keeps = ([], Consumes-kept u u l [] (Consumes-nil u) keeps, Front-none c part [] x o)
 
-pub unplaced : (c : ℕ) (part : Bytes) (u x : Option Bytes) → IsOpen part → Ends ending.Starved c part u u x x
+pub unplaced : (c : ℕ) (part : Bytes) (u : Option Bytes) (x : Trace) → IsOpen part → Ends ending.Starved c part u u x x
 unplaced c part u x o = ([], Consumes-nil u, Front-none c part [] x o)
 
 -- ---- a byte
 
-pub byte_ended : (e : Option Ending) (c : ℕ) (part rest : Bytes) (byte : ℕ) (t : Bool) (x y : Option Bytes) → t ≡ eqb byte 10 → t ≡ true → Takes e c part (10 ∷ []) rest x y → Takes e c part (byte ∷ []) rest x y
+pub byte_ended : (e : Option Ending) (c : ℕ) (part rest : Bytes) (byte : ℕ) (t : Bool) (x y : Trace) → t ≡ eqb byte 10 → t ≡ true → Takes e c part (10 ∷ []) rest x y → Takes e c part (byte ∷ []) rest x y
 byte_ended e c part rest byte t x y is fed h = subst (λ (b : ℕ). Takes e c part (b ∷ []) rest x y) (sym (eqb-true byte 10 (sym is ∙ fed))) h
 
-pub byte_added : (c : ℕ) (part more : Bytes) (byte : ℕ) (t : Bool) (x : Option Bytes) → IsOpen part → t ≡ eqb byte 10 → t ≡ false → more ≡ part ++ byte ∷ [] → Serves c part (byte ∷ []) more x x
+pub byte_added : (c : ℕ) (part more : Bytes) (byte : ℕ) (t : Bool) (x : Trace) → IsOpen part → t ≡ eqb byte 10 → t ≡ false → more ≡ part ++ byte ∷ [] → Serves c part (byte ∷ []) more x x
 byte_added c part more byte t x o is other added = subst (λ (l : Bytes). Serves c part (byte ∷ []) l x x) (sym added) (Serves-byte c part byte x o (sym is ∙ other))
 
-module _ (c : ℕ) (p piece : Bytes) (i d : ℕ) (q : Bytes) (x y : Option Bytes) (within : i < length piece) (s : Serves c p (take i piece) q x y) where
-  pub piece-more : (r : Bytes) (z : Option Bytes) → Serves c q (get_or piece i d ∷ []) r y z → Serves c p (take (i + 1) piece) r x z
+module _ (c : ℕ) (p piece : Bytes) (i d : ℕ) (q : Bytes) (x y : Trace) (within : i < length piece) (s : Serves c p (take i piece) q x y) where
+  pub piece-more : (r : Bytes) (z : Trace) → Serves c q (get_or piece i d ∷ []) r y z → Serves c p (take (i + 1) piece) r x z
   piece-more r z t = subst (λ (l : Bytes). Serves c p l r x z) (sym (take_more piece i d within)) (Serves-append c p q r (take i piece) (get_or piece i d ∷ []) x y z s t)
 
-  pub piece-cut : (e : Ending) (z : Option Bytes) → Cuts e c q (get_or piece i d ∷ []) y z → Cuts e c p piece x z
+  pub piece-cut : (e : Ending) (z : Trace) → Cuts e c q (get_or piece i d ∷ []) y z → Cuts e c p piece x z
   piece-cut e z h =
       let front = subst (λ (l : Bytes). Cuts e c p l x z) (sym (take_more piece i d within)) (Cuts-after c p q (take i piece) x y s e (get_or piece i d ∷ []) z h) in
       subst (λ (l : Bytes). Cuts e c p l x z) (take-append-drop (i + 1) piece) (Cuts-longer e c p (take (i + 1) piece) (drop (i + 1) piece) x z front)
@@ -183,6 +222,15 @@ module _ (c : ℕ) (p piece : Bytes) (i d : ℕ) (q : Bytes) (x y : Option Bytes
 pub starved_told : (event : Happening) (given : Given) (u : Upshot) → u.doing ≡ Starved → u.store ≡ NotAsked → ((s : State) → Steps s event u s) → given ≡ u.given → StarvesAs event given
 starved_told event given u doing store steps is = record { upshot = u; doing = doing; store = store; steps = steps; given_is = is }
 
-pub asked : (old new : Held) (c : ℕ) (line : Bytes) (event : BookEvent) (r : Result Upshot BookEvent) (given : Given) → view_of_event event ≡ AsksLine c line → IfOk r (λ u. Notes old (view_of_event event) u new) → IfErr r (λ back. back ≡ event) → TellsOf r given → IsAnswered c line given
-asked old new c line event (Ok u) given is noted none told = inl (old, new, u, subst (λ (h : Happening). Notes old h u new) is noted, sym told)
-asked old new c line event (Err back) given is noted none told = inr (subst (λ (h : Happening). StarvesAs h given) (ap view_of_event none ∙ is) told)
+module _ (old new : Held) (c : ℕ) (line : Bytes) (event : BookEvent) (told told' : List Note) (is : view_of_event event ≡ AsksLine c line) where
+  entered : (u : Upshot) (given : Given) (number : ℕ) → Notes old (view_of_event event) u new → Adds new (entry_of number (view_of_event event) u) told told' → given ≡ u.given → Asks c line given told told'
+  entered u given number notes adds gave = (
+    Some (entry_of number (view_of_event event) u),
+    record { before = old; after = new; notes = subst (λ (h : Happening). Notes old h u new) is notes; is_newest = adds.is_newest; event = is; gave = sym gave },
+    adds.added,
+  )
+
+  pub asked : (r : Result Upshot BookEvent) (given : Given) → IfOk r (λ u. Notes old (view_of_event event) u new) → IfOk r (λ u. (number : ℕ) × Adds new (entry_of number (view_of_event event) u) told told') → IfErr r (λ back. (back ≡ event) × (told' ≡ told)) → TellsOf r given → Asks c line given told told'
+  asked (Ok u) given noted adds none gave = entered u given adds.0 noted adds.1 gave
+  asked (Err back) given noted adds none starved =
+      (None, subst (λ (h : Happening). StarvesAs h given) (ap view_of_event none.0 ∙ is) starved, none.1 ∙ sym (append-nil told))

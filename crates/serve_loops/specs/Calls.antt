@@ -2,8 +2,10 @@
 use Rattle.std.specs.Prelude.{◌≡◌, ◌≤◌, ℕ, List, [], ◌∷◌, ◌++◌, Some, length}
 use Rattle.definitions.specs.Bytes.{Bytes}
 use Rattle.call_records.specs.declared.dest.Dest.{Dest}
+use Rattle.book.specs.Notes.{Note}
+use Rattle.book.specs.Receipts.{newest}
 use Rattle.workers.specs.Holds.{Held}
-use Rattle.workers.specs.Sending.{Sends}
+use Rattle.workers.specs.Sending.{Sends, IsSending}
 
 -- a call: its number, whom it is for, and its bytes
 pub record Call : Type 0 where
@@ -11,17 +13,26 @@ pub record Call : Type 0 where
   pub to : Dest
   pub bytes : Bytes
 
--- one hold sent this call, which was due first
-abbrev pub IsSent : Call → Type 0
-IsSent call = (old new : Held) × Sends old (Some (call.number, call.to, call.bytes)) new
+-- one hold sent this call, which was due first, and this is its entry
+pub record IsSent (entry : Note) (call : Call) : Type 0 where
+  pub before : Held
+  pub after : Held
+  pub sends : Sends before (Some (call.number, call.to, call.bytes)) after
+  pub is_newest : newest after.book.journal.notes ≡ Some entry
+  pub sent : IsSending entry call.number call.to call.bytes
 
-abbrev pub AreSent : List Call → Type 0
-AreSent [] = Unit {0}
-AreSent (c ∷ calls) = IsSent c × AreSent calls
+-- each entry sent its call, in order
+abbrev pub AreSent : List Note → List Call → Type 0
+AreSent [] [] = Unit {0}
+AreSent [] (c ∷ calls) = ⊥
+AreSent (n ∷ entries) [] = ⊥
+AreSent (n ∷ entries) (c ∷ calls) = IsSent n c × AreSent entries calls
 
--- what was handed over is what so many holds sent, one after another, and nothing else
-pub record Hands (most : ℕ) (old new : List Call) : Type 0 where
+-- what was handed over is what the transcript's further entries sent, one to one and in order, and nothing else
+pub record Hands (most : ℕ) (old new : List Call) (told told' : List Note) : Type 0 where
   pub calls : List Call
-  pub sent : AreSent calls
+  pub entries : List Note
+  pub sent : AreSent entries calls
   pub handed : new ≡ old ++ calls
+  pub noted : told' ≡ told ++ entries
   pub few : length calls ≤ most

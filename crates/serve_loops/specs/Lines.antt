@@ -1,6 +1,7 @@
 -- The lines of a local program, and what they are answered.
-use Rattle.std.specs.Prelude.{◌≡◌, ◌⊎◌, ℕ, false, eqb, List, [], ◌∷◌, ◌++◌, take, Option, Some, None, Result, Ok, Err}
+use Rattle.std.specs.Prelude.{◌≡◌, ℕ, false, eqb, List, [], ◌∷◌, ◌++◌, take, Option, Some, None, Result, Ok, Err}
 use Rattle.std.specs.List.{list_any, flat_map}
+use Rattle.std.specs.Option.{option_to_list}
 use Rattle.std.specs.declared.vec.Vec.{Vec}
 use Rattle.std.specs.Io.KnownBytes.{Appends, Consumes, IsAtEnd, Keeps}
 use Rattle.definitions.specs.Bytes.{Bytes}
@@ -9,7 +10,8 @@ use Rattle.definitions.specs.Step.{State, Given, Nothing, Replies, Says, Sends, 
 use Rattle.local_ops.specs.Texts.{reply_text}
 use Rattle.book.specs.declared.event.BookEvent.{BookEvent}
 use Rattle.book.specs.Given.{Upshot}
-use Rattle.book.specs.Notes.{Happening, AsksLine, Steps, view_of_event}
+use Rattle.book.specs.Notes.{Happening, AsksLine, Note, Steps, view_of_event}
+use Rattle.book.specs.Receipts.{newest}
 use Rattle.workers.specs.Holds.{Held, Notes}
 use Rattle.written.specs.declared.WriteFault.{WriteFault}
 use Rattle.written.specs.Written.{WroteFront}
@@ -20,13 +22,19 @@ use Rattle.serve_loops.specs.declared.ending.Ending.TheVariants as ending
 abbrev pub IsOpen : Bytes → Type 0
 IsOpen bytes = list_any (λ b. eqb b 10) bytes ≡ false
 
-abbrev pub AreOpen : List Bytes → Type 0
+-- a line without its line feed, what it was answered, and the entry of its hold, if there is one
+pub record Answer : Type 0 where
+  pub line : Bytes
+  pub given : Given
+  pub entry : Option Note
+
+abbrev pub AreOpen : List Answer → Type 0
 AreOpen [] = Unit {0}
-AreOpen (line ∷ lines) = IsOpen line × AreOpen lines
+AreOpen (a ∷ answers) = IsOpen a.line × AreOpen answers
 
 -- each line with its line feed
-abbrev pub ended : List Bytes → Bytes
-ended lines = flat_map (λ line. line ++ 10 ∷ []) lines
+abbrev pub ended : List Answer → Bytes
+ended answers = flat_map (λ (a : Answer). a.line ++ 10 ∷ []) answers
 
 -- what is kept of a line; one past 512 bytes is none of the protocol, and its first 513 tell so
 abbrev pub kept : Bytes → Bytes
@@ -41,12 +49,20 @@ text_of (Sends number letter) = []
 text_of IsStarved = []
 text_of IsRefused = []
 
-abbrev pub texts : List Given → Bytes
-texts givens = flat_map text_of givens
+abbrev pub texts : List Answer → Bytes
+texts answers = flat_map (λ (a : Answer). text_of a.given) answers
 
--- one hold took the line of this connection, and gave this
-abbrev pub IsEntered : ℕ → Bytes → Given → Type 0
-IsEntered connection line given = (old new : Held) × (upshot : Upshot) × Notes old (AsksLine connection line) upshot new × (upshot.given ≡ given)
+abbrev pub entries : List Answer → List Note
+entries answers = flat_map (λ (a : Answer). option_to_list a.entry) answers
+
+-- one hold took the line of this connection, and this is its entry, which gave this
+pub record IsEntered (connection : ℕ) (line : Bytes) (given : Given) (entry : Note) : Type 0 where
+  pub before : Held
+  pub after : Held
+  pub notes : Notes before (AsksLine connection line) entry.upshot after
+  pub is_newest : newest after.book.journal.notes ≡ Some entry
+  pub event : entry.event ≡ AsksLine connection line
+  pub gave : entry.upshot.given ≡ given
 
 -- what an event gives that met want of memory before it began
 pub record StarvesAs (event : Happening) (given : Given) : Type 0 where
@@ -56,28 +72,50 @@ pub record StarvesAs (event : Happening) (given : Given) : Type 0 where
   pub steps : (s : State) → Steps s event upshot s
   pub given_is : given ≡ upshot.given
 
-abbrev pub IsAnswered : ℕ → Bytes → Given → Type 0
-IsAnswered connection line given = IsEntered connection line given ⊎ StarvesAs (AsksLine connection line) given
+-- what the line's entry gave; without one, what a line gets that starved
+abbrev pub IsAnswered : ℕ → Bytes → Given → Option Note → Type 0
+IsAnswered connection line given (Some entry) = IsEntered connection line given entry
+IsAnswered connection line given None = StarvesAs (AsksLine connection line) given
 
--- each line is answered in a hold of its own, in order
-abbrev pub AreAnswered : ℕ → List Bytes → List Given → Type 0
-AreAnswered connection [] [] = Unit {0}
-AreAnswered connection [] (g ∷ givens) = ⊥
-AreAnswered connection (l ∷ lines) [] = ⊥
-AreAnswered connection (l ∷ lines) (g ∷ givens) = IsAnswered connection (kept l) g × AreAnswered connection lines givens
+-- each line is answered in a hold of its own
+abbrev pub AreAnswered : ℕ → List Answer → Type 0
+AreAnswered connection [] = Unit {0}
+AreAnswered connection (a ∷ answers) = IsAnswered connection (kept a.line) a.given a.entry × AreAnswered connection answers
 
--- behind the part of a line came these bytes: the lines that are whole then were answered, and what they were answered was written, and a part is left
-pub record Serves (connection : ℕ) (part bytes left : Bytes) (before after : Option Bytes) : Type 0 where
-  pub lines : List Bytes
-  pub givens : List Given
-  pub joined : part ++ bytes ≡ ended lines ++ left
-  pub whole : AreOpen lines
+-- the line gets this, and its entry, if there is one, stands behind those so far, and no other
+abbrev pub Asks : ℕ → Bytes → Given → List Note → List Note → Type 0
+Asks connection line given told told' = (entry : Option Note) × IsAnswered connection line given entry × (told' ≡ told ++ option_to_list entry)
+
+-- what was written so far, and the entries so far of the holds of a connection's lines
+pub record Trace : Type 0 where
+  pub written : Option Bytes
+  pub told : List Note
+
+abbrev pub trace : Option Bytes → List Note → Trace
+trace written told = record { written = written; told = told }
+
+-- this text was written and these entries were made, and nothing else
+pub record Goes (before after : Trace) (text : Bytes) (made : List Note) : Type 0 where
+  pub wrote : Appends before.written after.written text
+  pub noted : after.told ≡ before.told ++ made
+
+-- the same, of a front of the text
+pub record GoesFront (before after : Trace) (text : Bytes) (made : List Note) : Type 0 where
+  pub wrote : WroteFront before.written after.written text
+  pub noted : after.told ≡ before.told ++ made
+
+-- behind the part of a line came these bytes: the lines that are whole then were answered, in order, each with one entry, where it
+-- had room; what they were answered was written, and a part is left
+pub record Serves (connection : ℕ) (part bytes left : Bytes) (before after : Trace) : Type 0 where
+  pub answers : List Answer
+  pub joined : part ++ bytes ≡ ended answers ++ left
+  pub whole : AreOpen answers
   pub unended : IsOpen left
-  pub answered : AreAnswered connection lines givens
-  pub wrote : Appends before after (texts givens)
+  pub answered : AreAnswered connection answers
+  pub goes : Goes before after (texts answers) (entries answers)
 
 -- it ended behind a front of the bytes
-pub record ServesFront (connection : ℕ) (part bytes : Bytes) (before after : Option Bytes) : Type 0 where
+pub record ServesFront (connection : ℕ) (part bytes : Bytes) (before after : Trace) : Type 0 where
   pub front : Bytes
   pub rest : Bytes
   pub is : bytes ≡ front ++ rest
@@ -85,19 +123,20 @@ pub record ServesFront (connection : ℕ) (part bytes : Bytes) (before after : O
   pub serves : Serves connection part front left before after
 
 -- it ended within the text of a line
-pub record Breaks (connection : ℕ) (part bytes : Bytes) (before after : Option Bytes) : Type 0 where
+pub record Breaks (connection : ℕ) (part bytes : Bytes) (before after : Trace) : Type 0 where
   pub front : Bytes
   pub rest : Bytes
   pub is : bytes ≡ front ++ 10 ∷ rest
   pub line : Bytes
-  pub between : Option Bytes
+  pub between : Trace
   pub serves : Serves connection part front line before between
   pub given : Given
-  pub answered : IsAnswered connection (kept line) given
-  pub wrote : WroteFront between after (text_of given)
+  pub entry : Option Note
+  pub answered : IsAnswered connection (kept line) given entry
+  pub goes : GoesFront between after (text_of given) (option_to_list entry)
 
 -- how bytes end it
-abbrev pub Cuts : Ending → ℕ → Bytes → Bytes → Option Bytes → Option Bytes → Type 0
+abbrev pub Cuts : Ending → ℕ → Bytes → Bytes → Trace → Trace → Type 0
 Cuts ending.Over connection part bytes before after = ⊥
 Cuts ending.Stopped connection part bytes before after = ServesFront connection part bytes before after
 Cuts ending.Starved connection part bytes before after = ServesFront connection part bytes before after
@@ -105,33 +144,38 @@ Cuts ending.ReadFault connection part bytes before after = ServesFront connectio
 Cuts ending.WriteFault connection part bytes before after = Breaks connection part bytes before after
 
 -- some bytes were read. At the stream's end all their lines were answered
-abbrev pub Ends : Ending → ℕ → Bytes → Option Bytes → Option Bytes → Option Bytes → Option Bytes → Type 0
+abbrev pub Ends : Ending → ℕ → Bytes → Option Bytes → Option Bytes → Trace → Trace → Type 0
 Ends ending.Over connection part unread left before after =
     (bytes : Bytes) × Consumes unread left bytes × IsAtEnd left
     × ((rest : Bytes) × Serves connection part bytes rest before after)
 Ends e connection part unread left before after = (bytes : Bytes) × Consumes unread left bytes × Cuts e connection part bytes before after
 
 -- or it goes on
-abbrev pub Turns : Option Ending → ℕ → Bytes → Bytes → Option Bytes → Option Bytes → Option Bytes → Option Bytes → Type 0
+abbrev pub Turns : Option Ending → ℕ → Bytes → Bytes → Option Bytes → Option Bytes → Trace → Trace → Type 0
 Turns None connection part rest unread left before after = (bytes : Bytes) × Consumes unread left bytes × Serves connection part bytes rest before after
 Turns (Some e) connection part rest unread left before after = Ends e connection part unread left before after
 
 -- the same of bytes
-abbrev pub Takes : Option Ending → ℕ → Bytes → Bytes → Bytes → Option Bytes → Option Bytes → Type 0
+abbrev pub Takes : Option Ending → ℕ → Bytes → Bytes → Bytes → Trace → Trace → Type 0
 Takes None connection part bytes rest before after = Serves connection part bytes rest before after
 Takes (Some e) connection part bytes rest before after = Cuts e connection part bytes before after
 
--- a line was answered, whole or in part
-abbrev pub AnswersLine : Option Ending → ℕ → Bytes → Option Bytes → Option Bytes → Type 0
-AnswersLine None connection line before after = (given : Given) × IsAnswered connection line given × Appends before after (text_of given)
-AnswersLine (Some ending.Stopped) connection line before after = (given : Given) × IsAnswered connection line given × Appends before after (text_of given)
-AnswersLine (Some ending.WriteFault) connection line before after = (given : Given) × IsAnswered connection line given × WroteFront before after (text_of given)
+-- a line was answered
+abbrev pub IsSaid : ℕ → Bytes → Trace → Trace → Type 0
+IsSaid connection line before after = (given : Given) × (entry : Option Note) × IsAnswered connection line given entry × Goes before after (text_of given) (option_to_list entry)
+
+-- whole or in part
+abbrev pub AnswersLine : Option Ending → ℕ → Bytes → Trace → Trace → Type 0
+AnswersLine None connection line before after = IsSaid connection line before after
+AnswersLine (Some ending.Stopped) connection line before after = IsSaid connection line before after
+AnswersLine (Some ending.WriteFault) connection line before after =
+    (given : Given) × (entry : Option Note) × IsAnswered connection line given entry × GoesFront before after (text_of given) (option_to_list entry)
 AnswersLine (Some ending.Over) connection line before after = ⊥
 AnswersLine (Some ending.Starved) connection line before after = ⊥
 AnswersLine (Some ending.ReadFault) connection line before after = ⊥
 
 -- a piece that was read: none is the end
-abbrev pub Hears : Option Ending → ℕ → Bytes → Bytes → Bytes → Option Bytes → Option Bytes → Type 0
+abbrev pub Hears : Option Ending → ℕ → Bytes → Bytes → Bytes → Trace → Trace → Type 0
 Hears None connection part bytes rest before after = Serves connection part bytes rest before after
 Hears (Some ending.Over) connection part bytes rest before after = (bytes ≡ []) × Serves connection part [] rest before after
 Hears (Some ending.Stopped) connection part bytes rest before after = Cuts ending.Stopped connection part bytes before after

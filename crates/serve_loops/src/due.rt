@@ -8,7 +8,7 @@ use hosts_db::HostStore;
 use range_table::RangeTable;
 use std::sync::ledger::Ledger;
 use std::sync::{Mutex, Wait};
-use workers::{Next, Shared};
+use workers::{Next, Shared, Transcript};
 
 /// The most calls of a turn.
 pub const MOST_CALLS: usize = 64;
@@ -29,11 +29,12 @@ fn send_next<R: RangeTable, S: HostStore, L: Ledger, C: Courier, W: Wait>(
     rt: &W,
     shared: &Mutex<Shared<R, S, L>>,
     courier: &mut C,
+    transcript: &mut Transcript,
 ) -> Option<Due>
-    ensures { Hands 1 (C.handed courier.old) (C.handed courier.new) }
+    ensures { Hands 1 (C.handed courier.old) (C.handed courier.new) transcript.old transcript.new }
 {
     // The book's lock is free again behind this line.
-    let next = shared.lock(rt).next_call();
+    let next = shared.lock(rt).next_call(transcript);
     match next {
         Next::Call { number, to, frame } => {
             courier.hand(number, to, frame);
@@ -44,16 +45,18 @@ fn send_next<R: RangeTable, S: HostStore, L: Ledger, C: Courier, W: Wait>(
     }
 }
 
-/// Sends what is due, each call in a hold of its own, at most `MOST_CALLS`, and hands just these over, in order.
+/// Sends what is due, each call in a hold of its own, at most `MOST_CALLS`, and hands just these over, in order: those of the
+/// entries that the transcript has more then.
 pub fn send_due<R: RangeTable, S: HostStore, L: Ledger, C: Courier, W: Wait>(
     rt: &W,
     shared: &Mutex<Shared<R, S, L>>,
     courier: &mut C,
+    transcript: &mut Transcript,
 ) -> Due
-    ensures { Hands most_calls (C.handed courier.old) (C.handed courier.new) }
+    ensures { Hands most_calls (C.handed courier.old) (C.handed courier.new) transcript.old transcript.new }
 {
     for _ in 0..MOST_CALLS {
-        if let Some(left) = send_next(rt, shared, courier) {
+        if let Some(left) = send_next(rt, shared, courier, transcript) {
             return left;
         }
     }

@@ -2,7 +2,7 @@
 ghost use Rattle.std.specs.Prelude.{◌≡◌, ◌<◌, ◌∷◌, [], eqb, IfOk, vec_len};
 ghost use Rattle.book.specs.Given.{view_of_reply};
 ghost use Rattle.written.specs.Written.{Wrote};
-ghost use Rattle.serve_loops.specs.Lines.{AnswersLine, Ends, Finishes, Hears, IsOpen, Reads, Takes, Turns, text_of};
+ghost use Rattle.serve_loops.specs.Lines.{AnswersLine, Ends, Finishes, Hears, IsOpen, Reads, Takes, Turns, text_of, trace};
 
 use crate::clerk::{Answers, Clerk};
 use crate::ending::Ending;
@@ -15,11 +15,20 @@ use std::alloc::Global;
 use std::io::{ErrorKind, Read, Write};
 use std::sync::ledger::Ledger;
 use std::sync::{Mutex, Wait};
-use workers::Shared;
+use workers::{Shared, Transcript};
 use written::WriteFault;
 
 /// The most bytes that are read at once.
 const PIECE: usize = 4_096;
+
+/// What the lines of a local program came to.
+#[derive(Drop)]
+pub struct Served {
+    /// How its connection ended.
+    pub ending: Ending,
+    /// What the holds of its lines gave.
+    pub transcript: Transcript,
+}
 
 // A read failed.
 #[derive(Clone, Copy)]
@@ -97,7 +106,7 @@ fn answer_line<A: Answers, O: Write>(
     output: &mut O,
     line: Vec<u8>,
 ) -> Option<Ending>
-    ensures { AnswersLine result connection line.items (O.contents output.old) (O.contents output.new) }
+    ensures { AnswersLine result connection line.items (trace (O.contents output.old) (A.told clerk.old)) (trace (O.contents output.new) (A.told clerk.new)) }
 {
     let is_stop = line.as_slice() == b"stop".as_slice();
     let reply = clerk.ask(connection, line);
@@ -119,7 +128,7 @@ fn end_line<A: Answers, O: Write>(
     output: &mut O,
 ) -> Option<Ending>
     requires { IsOpen part.old }
-    ensures { Takes result connection part.old (10 ∷ []) part.new (O.contents output.old) (O.contents output.new) }
+    ensures { Takes result connection part.old (10 ∷ []) part.new (trace (O.contents output.old) (A.told clerk.old)) (trace (O.contents output.new) (A.told clerk.new)) }
 {
     match part.end() {
         Ok(line) => answer_line(clerk, connection, output, line),
@@ -137,7 +146,7 @@ fn take_byte<A: Answers, O: Write>(
     byte: u8,
 ) -> Option<Ending>
     requires { IsOpen part.old }
-    ensures { Takes result connection part.old (byte ∷ []) part.new (O.contents output.old) (O.contents output.new) }
+    ensures { Takes result connection part.old (byte ∷ []) part.new (trace (O.contents output.old) (A.told clerk.old)) (trace (O.contents output.new) (A.told clerk.new)) }
 {
     let is_end = is_feed(byte);
     if is_end {
@@ -156,7 +165,7 @@ fn take_piece<A: Answers, O: Write>(
     piece: &[u8],
 ) -> Option<Ending>
     requires { IsOpen part.old }
-    ensures { Takes result connection part.old piece.now part.new (O.contents output.old) (O.contents output.new) }
+    ensures { Takes result connection part.old piece.now part.new (trace (O.contents output.old) (A.told clerk.old)) (trace (O.contents output.new) (A.told clerk.new)) }
 {
     for byte in piece {
         match take_byte(clerk, connection, part, output, *byte) {
@@ -176,7 +185,7 @@ fn hear<A: Answers, O: Write>(
     piece: &[u8],
 ) -> Option<Ending>
     requires { IsOpen part.old }
-    ensures { Hears result connection part.old piece.now part.new (O.contents output.old) (O.contents output.new) }
+    ensures { Hears result connection part.old piece.now part.new (trace (O.contents output.old) (A.told clerk.old)) (trace (O.contents output.new) (A.told clerk.new)) }
 {
     if piece.is_empty() {
         return Some(Ending::Over);
@@ -197,7 +206,7 @@ fn turn<A: Answers, I: Read, O: Write>(
     output: &mut O,
 ) -> Option<Ending>
     requires { IsOpen part.old }
-    ensures { Turns result connection part.old part.new (I.remaining input.old) (I.remaining input.new) (O.contents output.old) (O.contents output.new) }
+    ensures { Turns result connection part.old part.new (I.remaining input.old) (I.remaining input.new) (trace (O.contents output.old) (A.told clerk.old)) (trace (O.contents output.new) (A.told clerk.new)) }
 {
     // The place is got first, so that no byte is lost.
     let Ok(place) = make_place(alloc) else {
@@ -220,7 +229,7 @@ fn serve<A: Answers, I: Read, O: Write, W: Wait>(
     mut part: Part,
 ) -> Ending
     requires { IsOpen part }
-    ensures { Ends result connection part (I.remaining input.old) (I.remaining input.new) (O.contents output.old) (O.contents output.new) }
+    ensures { Ends result connection part (I.remaining input.old) (I.remaining input.new) (trace (O.contents output.old) (A.told clerk.old)) (trace (O.contents output.new) (A.told clerk.new)) }
 {
     for _ in rt.forever() {
         match turn(alloc, clerk, connection, &mut part, input, output) {
@@ -232,9 +241,9 @@ fn serve<A: Answers, I: Read, O: Write, W: Wait>(
 }
 
 /// Answers the lines of a local program on the connection of this number, each in a hold of its own, in order, and writes what
-/// each is answered, whole, and nothing else. It ends with the stream, where the server stops, where there is no memory for
-/// a line, and where a read or a write fails. A line past 512 bytes is answered `bad`, and its first 513 stand in the
-/// journal. What the connection's lines locked stays.
+/// each is answered, whole, and nothing else. The transcript has the lines' entries: one for each that had room, and no others.
+/// It ends with the stream, where the server stops, where there is no memory for a line, and where a read or a write fails. A line
+/// past 512 bytes is answered `bad`, and its first 513 stand in the journal. What the connection's lines locked stays.
 pub fn serve_lines<R, S, L, G, I, O, W>(
     alloc: Global,
     rt: &W,
@@ -243,7 +252,7 @@ pub fn serve_lines<R, S, L, G, I, O, W>(
     connection: u64,
     input: &mut I,
     output: &mut O,
-) -> Ending
+) -> Served
 where
     R: RangeTable + Drop,
     S: HostStore + Drop,
@@ -252,11 +261,18 @@ where
     I: Read,
     O: Write,
     W: Wait,
-    ensures { Ends result connection [] (I.remaining input.old) (I.remaining input.new) (O.contents output.old) (O.contents output.new) }
+    ensures { Ends result.ending connection [] (I.remaining input.old) (I.remaining input.new) (trace (O.contents output.old) []) (trace (O.contents output.new) result.transcript) }
 {
     let Ok(part) = Part::new(alloc) else {
-        return Ending::Starved;
+        return Served {
+            ending: Ending::Starved,
+            transcript: Transcript::new(),
+        };
     };
     let mut clerk = Clerk::new(rt, shared, signals);
-    serve(alloc, rt, &mut clerk, connection, input, output, part)
+    let ending = serve(alloc, rt, &mut clerk, connection, input, output, part);
+    Served {
+        ending,
+        transcript: clerk.into_transcript(),
+    }
 }

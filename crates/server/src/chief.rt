@@ -51,7 +51,7 @@ where
     fn preside(&mut self, rt: &R) {
         self.is_told = println!(rt; "ready").is_ok();
         if self.is_told {
-            self.sender.run(self.shared, self.bells);
+            drop(self.sender.run(self.shared, self.bells));
         }
     }
 }

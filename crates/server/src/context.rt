@@ -94,7 +94,7 @@ impl<'a, P: Place, L: Ledger, T: RangeTable + Drop, S: HostStore + Drop, G: Gate
         let number = guest.connection.number();
         let mut input = guest.connection.stream();
         let mut output = Writer::new(self.alloc, rt, &guest.connection);
-        let ending = serve_lines(
+        let served = serve_lines(
             self.alloc,
             rt,
             self.shared,
@@ -104,7 +104,7 @@ impl<'a, P: Place, L: Ledger, T: RangeTable + Drop, S: HostStore + Drop, G: Gate
             &mut output,
         );
         drop(output);
-        notes::local(rt, guest.from, ending);
+        notes::local(rt, guest.from, served.ending);
         self.rosters.locals.lock(rt).leave(number);
     }
 }

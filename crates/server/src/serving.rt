@@ -26,7 +26,7 @@ use std::net::{Ipv4Addr, Net, SocketAddr, SocketAddrV4, TcpListener, TcpStream};
 use std::sync::ledger::{Blank, Book as Total, Ledger};
 use std::sync::{Mutex, Wait};
 use std::time::Clock;
-use workers::{Gate, Shared, Worker};
+use workers::{Gate, Shared, Transcript, Worker};
 
 /// The bytes of a thread's stack.
 const STACK: usize = 262_144;
@@ -202,7 +202,8 @@ fn shared_over<T: RangeTable + Drop, S: HostStore + Drop, L: Ledger>(
 fn begun_anew<T: RangeTable + Drop, S: HostStore + Drop, L: Ledger>(
     mut shared: Shared<T, S, L>,
 ) -> Result<Shared<T, S, L>, Fault> {
-    match restarted(shared.apply(BookEvent::Restart)) {
+    let mut transcript = Transcript::new();
+    match restarted(shared.apply(BookEvent::Restart, &mut transcript)) {
         Ok(()) => Ok(shared),
         Err(fault) => {
             drop(shared);

@@ -1,9 +1,10 @@
 -- What the lock keeps, and what one hold of it does.
-use Rattle.std.specs.Prelude.{◌≡◌, ◌⊎◌, ℕ, ◌+◌, Bool, true, false, cond, List, [], ◌∷◌, ◌++◌}
+use Rattle.std.specs.Prelude.{◌≡◌, ◌⊎◌, ℕ, ◌+◌, Bool, true, false, cond, Some, List, [], ◌∷◌, ◌++◌}
 use Rattle.definitions.specs.Step.{State}
 use Rattle.book.specs.Given.{Upshot}
 use Rattle.book.specs.Notes.{Happening, Takes, SendsNext, HearsAnswer, AsksLine, FallsSilent, GraceEnds, BeginsAnew, Note}
-use Rattle.book.specs.Journal.{Journal, Book, next_of, rotated, Enters}
+use Rattle.book.specs.Receipts.{newest}
+use Rattle.book.specs.Journal.{Journal, Book, next_of, room_of, rotated, Enters}
 
 -- the journals of the segments that are closed, in order, and the book with its open one; and whether closed segments are kept
 pub record Held : Type 0 where
@@ -48,14 +49,22 @@ pub record IsInStep (total : ℕ) (closed : List Journal) (last : Journal) : Typ
 abbrev pub turned : Held → Held
 turned h = record { closed = h.closed ++ h.book.journal ∷ []; book = rotated h.book; keeps = h.keeps }
 
--- nothing happened, but perhaps a segment was closed
+-- nothing happened, but perhaps a segment that was full was closed
 abbrev pub Rests : Held → Held → Type 0
-Rests old new = (new ≡ old) ⊎ (new ≡ turned old)
+Rests old new = (new ≡ old) ⊎ ((room_of old.book.journal ≡ 0) × (new ≡ turned old))
 
--- one event was one entry, the newest, and nothing else happened, but perhaps that a segment was closed before it
+-- one event was one entry, the newest, and nothing else happened, but perhaps that a full segment was closed before it
 pub record Notes (old : Held) (event : Happening) (upshot : Upshot) (new : Held) : Type 0 where
   pub before : Held
   pub rests : Rests old before
   pub closed : new.closed ≡ before.closed
   pub keeps : new.keeps ≡ before.keeps
   pub enters : Enters before.book event upshot new.book
+
+abbrev pub entry_of : ℕ → Happening → Upshot → Note
+entry_of number event upshot = record { number = number; event = event; upshot = upshot }
+
+-- this entry is the journal's newest, and a transcript has it behind those that it had, and no other
+pub record Adds (held : Held) (entry : Note) (old new : List Note) : Type 0 where
+  pub is_newest : newest held.book.journal.notes ≡ Some entry
+  pub added : new ≡ old ++ entry ∷ []

@@ -1,12 +1,19 @@
 -- What is sent next.
-use Rattle.std.specs.Prelude.{◌≡◌, Option, Some, None}
-use Rattle.definitions.specs.Outgoing.{next_due}
-use Rattle.book.specs.Journal.{IsNext}
-use Rattle.workers.specs.Holds.{Held, Rests}
+use Rattle.std.specs.Prelude.{◌≡◌, ℕ, List, Option, Some, None}
+use Rattle.definitions.specs.Bytes.{Bytes}
+use Rattle.definitions.specs.Hosts.{NotAsked}
+use Rattle.definitions.specs.Outgoing.{Letter, next_due}
+use Rattle.definitions.specs.Step as step
+use Rattle.call_records.specs.declared.dest.Dest.{Dest}
+use Rattle.call_records.specs.Dests.{view_of_dest}
+use Rattle.book.specs.Given.{comes_to, record_of}
+use Rattle.book.specs.Notes.{SendsNext, Note}
+use Rattle.book.specs.Journal.{IsNext, room_of}
+use Rattle.workers.specs.Holds.{Held, Rests, Adds}
 use Rattle.workers.specs.declared.shared.Next.{Next}
 use Rattle.workers.specs.declared.shared.Next.TheVariants.{Call, NothingDue, NoRoom}
 
--- the call that was due first has one entry, the newest, and nothing else happened, but perhaps that a segment was closed before it
+-- the call that was due first has one entry, the newest, and nothing else happened, but perhaps that a full segment was closed before it
 pub record Sends (old : Held) (next : Option _) (new : Held) : Type 0 where
   pub before : Held
   pub rests : Rests old before
@@ -14,8 +21,18 @@ pub record Sends (old : Held) (next : Option _) (new : Held) : Type 0 where
   pub keeps : new.keeps ≡ before.keeps
   pub sent : IsNext before.book next new.book
 
--- a call is sent; or none is due; or one is due, and there was no room for its entry
-abbrev pub IsNextOf : Held → Next → Held → Type 0
-IsNextOf old (Call number to bytes) new = Sends old (Some (number, to, bytes)) new
-IsNextOf old NothingDue new = (next_due old.book.journal.end.world.calls ≡ None) × Rests old new
-IsNextOf old NoRoom new = (next_due old.book.journal.end.world.calls ≡ None → ⊥) × Rests old new
+-- the entry sent the call of this number, to whom it is for, and these are its bytes
+pub record IsSending (entry : Note) (number : ℕ) (to : Dest) (bytes : Bytes) : Type 0 where
+  pub letter : Letter
+  pub event : entry.event ≡ SendsNext
+  pub upshot : entry.upshot ≡ comes_to step.Applied NotAsked (step.Sends number letter)
+  pub is_for : view_of_dest to ≡ letter.to
+  pub spells : bytes ≡ record_of (step.Sends number letter)
+
+-- a call is sent, and a transcript has its entry, too; or none is due; or one is due, and there was no room for its entry
+abbrev pub IsNextOf : Held → List Note → Next → Held → List Note → Type 0
+IsNextOf old told (Call number to bytes) new told' =
+    Sends old (Some (number, to, bytes)) new × ((entry : Note) × IsSending entry number to bytes × Adds new entry told told')
+IsNextOf old told NothingDue new told' = (next_due old.book.journal.end.world.calls ≡ None) × Rests old new × (told' ≡ told)
+IsNextOf old told NoRoom new told' =
+    (next_due old.book.journal.end.world.calls ≡ None → ⊥) × (room_of old.book.journal ≡ 0) × Rests old new × (told' ≡ told)

@@ -9,10 +9,12 @@ mod outbox;
 mod patience;
 mod reading;
 mod shared;
+mod transcript;
 mod worker;
 
 pub use audits::{AuditMismatch, audit};
 pub use outbox::{Gate, MemoryOutbox, Outbox, Parcel};
 pub use reading::{Ending, Origin, Source};
 pub use shared::{Ends, Entered, Next, Shared};
+pub use transcript::Transcript;
 pub use worker::{Leaves, Worker};

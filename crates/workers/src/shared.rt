@@ -1,19 +1,19 @@
 //! What the lock keeps: the book, its closed segments, and the number of calls taken.
-ghost use Rattle.std.specs.Prelude.{◌≡◌, ◌+◌, ◌<◌, true, false, is_some, [], ◌∷◌, ◌++◌, Some, IfOk, IfErr, IfSome};
+ghost use Rattle.std.specs.Prelude.{◌≡◌, ℕ, ◌+◌, ◌<◌, true, false, is_some, [], ◌∷◌, ◌++◌, Some, IfOk, IfErr, IfSome};
 ghost use Rattle.definitions.specs.Outgoing.{next_due};
 ghost use Rattle.book.specs.Given.{Upshot as Became};
 ghost use Rattle.book.specs.Journal.{Journal, room_of};
 ghost use Rattle.book.specs.Notes.{view_of_event};
 ghost use Rattle.book.specs.Receipts.{newest_receipt};
-ghost use Rattle.workers.specs.Holds.{is_take, takes_of, IsOneHistory, Rests, Notes};
+ghost use Rattle.workers.specs.Holds.{is_take, takes_of, entry_of, IsOneHistory, Rests, Notes, Adds};
 ghost use Rattle.workers.specs.Sending.{IsNextOf};
 ghost use Rattle.workers.specs.Answers.{view_of_taken};
 
 use crate::archive::Archive;
+use crate::transcript::Transcript;
 use book::{Book, BookEvent, Closed, Receipt, Segment, Starved, Taken, Upshot, newest_entered};
 use bytes::Bytes;
 use call_records::Dest;
-use held_locks::Locks;
 use hosts_db::HostStore;
 use range_table::RangeTable;
 use std::alloc::Global;
@@ -105,6 +105,7 @@ impl<R: RangeTable, S: HostStore, L: Ledger> Shared<R, S, L> {
     /// is room for an entry then. A fresh one is got here, once in `SEGMENT` entries, and none is kept in reserve.
     pub fn make_room(&mut self) -> bool
         ensures room { result ≡ true → 0 < room_of self.new.book.journal }
+        ensures full { result ≡ false → room_of self.old.book.journal ≡ 0 }
         ensures rests { Rests self.old self.new }
     {
         if self.book.room() > 0 {
@@ -135,6 +136,7 @@ impl<R: RangeTable, S: HostStore, L: Ledger> Shared<R, S, L> {
         ensures told { IfOk result (λ entered. (entered.receipt.event ≡ view_of_taken taken) × (share.new.amount ≡ share.old.amount + 1)) }
         ensures due { IfOk result (λ entered. entered.is_due ≡ is_some (next_due self.new.book.journal.end.world.calls)) }
         ensures none { IfErr result (λ back. (back ≡ taken) × Rests self.old self.new × (share.new.amount ≡ share.old.amount)) }
+        ensures full { IfErr result (λ _. room_of self.old.book.journal ≡ 0) }
         ensures parts { share.new.parts ≡ share.old.parts }
     {
         if !self.make_room() {
@@ -155,22 +157,31 @@ impl<R: RangeTable, S: HostStore, L: Ledger> Shared<R, S, L> {
         })
     }
 
-    /// One hold of an event that is no record: a line, an answer, a silence, the end of grace, or a restart. It is one entry. The
-    /// event comes back where there was no room for its entry, and then none was made.
-    pub fn apply(&mut self, event: BookEvent) -> Result<Upshot, BookEvent>
+    /// One hold of an event that is no record: a line, an answer, a silence, the end of grace, or a restart. It is one entry, which
+    /// the transcript has then, too. The event comes back where there was no room for its entry, and then none was made.
+    pub fn apply(
+        &mut self,
+        event: BookEvent,
+        transcript: &mut Transcript,
+    ) -> Result<Upshot, BookEvent>
         requires untaken { is_take (view_of_event event) ≡ false }
         ensures noted { IfOk result (λ upshot. Notes self.old (view_of_event event) upshot self.new) }
-        ensures none { IfErr result (λ back. (back ≡ event) × Rests self.old self.new) }
+        ensures told { IfOk result (λ upshot. (number : ℕ) × Adds self.new (entry_of number (view_of_event event) upshot) transcript.old transcript.new) }
+        ensures none { IfErr result (λ back. (back ≡ event) × Rests self.old self.new × (transcript.new ≡ transcript.old)) }
+        ensures full { IfErr result (λ _. room_of self.old.book.journal ≡ 0) }
     {
         if !self.make_room() {
             return Err(event);
         }
-        Ok(self.book.apply(event))
+        let upshot = self.book.apply(event);
+        newest_entered();
+        transcript.add(&self.book);
+        Ok(upshot)
     }
 
-    /// One hold that sends the call of the server's own that is due first, which is one entry.
-    pub fn next_call(&mut self) -> Next
-        ensures { IsNextOf self.old result self.new }
+    /// One hold that sends the call of the server's own that is due first, which is one entry. The transcript has it then, too.
+    pub fn next_call(&mut self, transcript: &mut Transcript) -> Next
+        ensures { IsNextOf self.old transcript.old result self.new transcript.new }
     {
         if !self.book.has_due() {
             return Next::NothingDue;
@@ -179,7 +190,11 @@ impl<R: RangeTable, S: HostStore, L: Ledger> Shared<R, S, L> {
             return Next::NoRoom;
         }
         match self.book.next_call() {
-            Some((number, to, frame)) => Next::Call { number, to, frame },
+            Some((number, to, frame)) => {
+                newest_entered();
+                transcript.add(&self.book);
+                Next::Call { number, to, frame }
+            }
             None => Next::NothingDue,
         }
     }
@@ -196,20 +211,6 @@ impl<R: RangeTable, S: HostStore, L: Ledger> Shared<R, S, L> {
         ensures { result ≡ self.now.book.journal.end.world.hosts.own }
     {
         self.book.store().own()
-    }
-
-    /// The locks of all owners, to be printed.
-    pub fn locks(&self) -> &Locks<R>
-        ensures { result.now.settings ≡ self.now.book.journal.end.world.settings }
-    {
-        self.book.locks()
-    }
-
-    /// The store of hosts, to be printed.
-    pub fn store(&self) -> &S
-        ensures { S.rows result.now ≡ self.now.book.journal.end.world.hosts }
-    {
-        self.book.store()
     }
 }
 

@@ -4,7 +4,7 @@ use super::peer::{Peer, Progress, TIMES};
 use bytes::Bytes;
 use mio::net::TcpStream;
 use mio::{Events, Interest, Poll, Token, Waker};
-use std::alloc::Global;
+use std::alloc::{AllocError, Global};
 use std::net::{Net, SocketAddr};
 use std::time::{Duration, Instant};
 use std::{io, mem};
@@ -196,14 +196,19 @@ impl Office {
         !self.ready.is_empty()
     }
 
-    /// Waits until a socket is ready, it is woken, or the time is up.
-    pub(crate) fn wait(&mut self, most: Duration) -> io::Result<()> {
-        self.poll.poll(&mut self.events, Some(most))?;
+    // The places of the sockets that the last wait found ready.
+    fn found(&self) -> Result<Vec<usize>, AllocError> {
         let mut places = Vec::new(self.alloc);
         for event in self.events.iter() {
             places.push(event.token().0)?;
         }
-        for place in places {
+        Ok(places)
+    }
+
+    /// Waits until a socket is ready, it is woken, or the time is up.
+    pub(crate) fn wait(&mut self, most: Duration) -> io::Result<()> {
+        self.poll.poll(&mut self.events, Some(most))?;
+        for place in self.found()? {
             self.mark(place);
         }
         Ok(())

@@ -1,5 +1,5 @@
 //! The turns of the sender.
-ghost use Rattle.std.specs.Prelude.{◌≡◌, false};
+ghost use Rattle.std.specs.Prelude.{◌≡◌, false, []};
 ghost use Rattle.book.specs.Notes.{view_of_event};
 ghost use Rattle.serve_loops.specs.Handing.{HandsOn};
 ghost use Rattle.workers.specs.Holds.{is_take};
@@ -16,7 +16,7 @@ use std::sync::ledger::Ledger;
 use std::sync::{Mutex, Wait};
 use std::thread;
 use std::time::{Clock, Duration, Instant};
-use workers::Shared;
+use workers::{Shared, Transcript};
 
 /// How long it waits where there was no memory, or nothing can be waited for, in milliseconds.
 const PAUSE_MILLIS: u64 = 10;
@@ -47,7 +47,8 @@ fn end_grace<T: RangeTable, S: HostStore, L: Ledger>(
     if held.own_state() != own_state {
         return Ended::Anew;
     }
-    match held.apply(BookEvent::GraceOver) {
+    let mut transcript = Transcript::new();
+    match held.apply(BookEvent::GraceOver, &mut transcript) {
         Ok(_) => Ended::Told,
         Err(_) => Ended::NoRoom,
     }
@@ -93,7 +94,9 @@ impl<'a, R: Net + Clock + Wait, D: Locals> Sender<'a, R, D> {
     ) -> bool
         ensures { self.new ≡ self.old }
     {
-        let applied = shared.lock(self.rt).apply(untaken.event);
+        // It sends no call, so its entry is let go.
+        let mut transcript = Transcript::new();
+        let applied = shared.lock(self.rt).apply(untaken.event, &mut transcript);
         match applied {
             Ok(upshot) => {
                 drop(upshot);
@@ -156,10 +159,11 @@ impl<'a, R: Net + Clock + Wait, D: Locals> Sender<'a, R, D> {
     fn send<T: RangeTable, S: HostStore, L: Ledger>(
         &mut self,
         shared: &Mutex<Shared<T, S, L>>,
+        transcript: &mut Transcript,
     ) -> Due
-        ensures { HandsOn self.old self.new }
+        ensures { HandsOn self.old self.new transcript.old transcript.new }
     {
-        send_due(self.rt, shared, self)
+        send_due(self.rt, shared, self, transcript)
     }
 
     // The same, where there was room and there are connections for it.
@@ -167,11 +171,12 @@ impl<'a, R: Net + Clock + Wait, D: Locals> Sender<'a, R, D> {
         &mut self,
         shared: &Mutex<Shared<T, S, L>>,
         is_room: bool,
+        transcript: &mut Transcript,
     ) -> Due
-        ensures { HandsOn self.old self.new }
+        ensures { HandsOn self.old self.new transcript.old transcript.new }
     {
         if is_room && !self.office.is_busy(self.now) {
-            self.send(shared)
+            self.send(shared, transcript)
         } else {
             Due::NoRoom
         }
@@ -221,22 +226,25 @@ impl<'a, R: Net + Clock + Wait, D: Locals> Sender<'a, R, D> {
         &mut self,
         shared: &Mutex<Shared<T, S, L>>,
         watch: &mut Watch,
+        transcript: &mut Transcript,
     )
-        ensures { HandsOn self.old self.new }
+        ensures { HandsOn self.old self.new transcript.old transcript.new }
     {
         let is_room = self.tell_all(shared, watch);
-        let due = self.send_if(shared, is_room);
+        let due = self.send_if(shared, is_room, transcript);
         self.exchange(due, watch);
     }
 
-    /// Makes the server's own calls until the server stops: those that holds of the book's lock gave, in order, and no others.
+    /// Makes the server's own calls until the server stops: those that holds of the book's lock gave, in order, and no others. It
+    /// gives the entries of these holds.
     pub fn run<T: RangeTable, S: HostStore, L: Ledger, G: Signals>(
         &mut self,
         shared: &Mutex<Shared<T, S, L>>,
         signals: &G,
-    )
-        ensures { HandsOn self.old self.new }
+    ) -> Transcript
+        ensures { HandsOn self.old self.new [] result }
     {
+        let mut transcript = Transcript::new();
         self.tick();
         let own_state = shared.lock(self.rt).own_state();
         let mut watch = Watch::new(self.settings.grace, own_state, self.now);
@@ -244,7 +252,8 @@ impl<'a, R: Net + Clock + Wait, D: Locals> Sender<'a, R, D> {
             if signals.is_stopping() {
                 break;
             }
-            self.turn(shared, &mut watch);
+            self.turn(shared, &mut watch, &mut transcript);
         }
+        transcript
     }
 }

@@ -43,7 +43,8 @@ impl Talk<'_> {
             held: Vec::new(alloc),
             room: self.room,
         };
-        let ending = serve_lines(alloc, rt, shared, &bells, 7, &mut input, &mut output);
+        let served = serve_lines(alloc, rt, shared, &bells, 7, &mut input, &mut output);
+        let ending = served.ending;
         ending == self.ending
             && output.held.as_slice() == self.answers.as_bytes()
             && bells.is_stopping.load(Ordering::SeqCst) == (ending == Ending::Stopped)

@@ -20,7 +20,7 @@ use std::sync::ledger::{Blank, Ledger};
 use std::sync::{Mutex, Wait};
 use std::thread::Threads;
 use std::time::Clock;
-use workers::{Shared, Worker};
+use workers::{Shared, Transcript, Worker};
 
 /// How many workers there are, and whether what they do is kept for the audit.
 #[derive(Clone, Copy)]
@@ -57,7 +57,8 @@ fn ended<P: Place, L: Ledger>(
 fn enters<L: Ledger>(shared: &mut Kept<L>, event: BookEvent) -> bool
     requires { is_take (view_of_event event) ≡ false }
 {
-    match shared.apply(event) {
+    let mut transcript = Transcript::new();
+    match shared.apply(event, &mut transcript) {
         Ok(upshot) => {
             drop(upshot);
             true

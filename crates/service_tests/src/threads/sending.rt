@@ -6,6 +6,7 @@ use serve_loops::{Due, MemoryCourier, Parcel, send_due};
 use std::alloc::{AllocError, Global};
 use std::sync::ledger::Ledger;
 use std::sync::{Mutex, Wait};
+use workers::Transcript;
 
 /// What a turn leaves, and how many calls and lines it hands over.
 type Turn = (Due, usize);
@@ -57,7 +58,8 @@ fn is_turn<L: Ledger, R: Wait>(
     turn: Turn,
 ) -> bool {
     let mut courier = MemoryCourier::new(alloc);
-    let due = send_due(rt, shared, &mut courier);
+    let mut transcript = Transcript::new();
+    let due = send_due(rt, shared, &mut courier, &mut transcript);
     due == turn.0 && put_all(log, courier.kept()) == Some(turn.1)
 }
 

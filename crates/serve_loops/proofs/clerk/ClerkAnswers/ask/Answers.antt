@@ -4,4 +4,5 @@ use Rattle.serve_loops.proofs.LineLemmas.{asked}
 use Rattle.serve_loops.proofs.clerk.ClerkAnswers.ask.Goals as goal
 
 pub returns : goal.returns
-returns g c = asked _ _ c.args.connection c.args.line.items (Local c.args.connection c.args.line) _ _ refl c.apply-done.ensures.noted c.apply-done.ensures.none c.told.ensures
+returns g c =
+    asked _ _ c.args.connection c.args.line.items (Local c.args.connection c.args.line) _ _ refl _ _ c.apply-done.ensures.noted c.apply-done.ensures.told c.apply-done.ensures.none c.told.ensures
