@@ -33,6 +33,6 @@ def units_agree():
 
 @test
 def unit_gives_what_serve_needs():
-    serve_rules = re.split(r"^with_own_ports a", COMMANDS.read_text(), flags=re.MULTILINE)[1]
+    serve_rules = re.split(r"^serve_rules =", COMMANDS.read_text(), flags=re.MULTILINE)[1]
     needed = re.findall(r'needed_rule \(codes "([a-z-]+)"\)', serve_rules)
     equal(sorted(command("lockd.service", "ExecStart")), sorted("--" + name for name in needed))
