@@ -7,7 +7,6 @@ use Rattle.definitions.specs.Step.{State, Event, Send, Doing, Applied, Starved, 
 use Rattle.book.specs.Given.{comes_to}
 use Rattle.book.specs.Notes.{IsStep}
 use Rattle.call_plans.specs.Planned.{view_of_stored}
-use Rattle.daemon_core.specs.declared.outcome.Outcome.TheVariants as outcome
 use Rattle.daemon_core.specs.Outcomes.{view_of_outcome}
 use Rattle.daemon_core.specs.declared.outputs.Outputs.{Outputs}
 use Rattle.daemon_core.specs.Sending.{Sending as Sent}

@@ -4,3 +4,4 @@ pub mod PipeLemmas
 pub mod AnsweredLemmas
 pub mod Beginnings
 mod TableLemmas
+mod Bounded

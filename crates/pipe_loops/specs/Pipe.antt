@@ -220,3 +220,13 @@ IsServed bound result left left' after after' old new =
 
 abbrev pub PipeEnds : List Event → Hub → ℕ → Result (Unit {0}) Fault → Option (List ℕ) → Option (List ℕ) → Option (List ℕ) → Option (List ℕ) → Type 0
 PipeEnds events start bound result unread left before after = (end : Hub) × StreamEnds events start bound result unread left before after end
+
+-- what was read came as so many pieces at most
+abbrev pub ComesWithin : ℕ → Option (List ℕ) → Option (List ℕ) → Type 0
+ComesWithin bound unread left = (pieces : List (List ℕ)) × (length pieces ≤ bound) × Consumes unread left (joined pieces)
+
+-- however a stream ends, it came as at most `bound` pieces
+abbrev pub ReadsAreBounded : Type 0
+ReadsAreBounded =
+    (events : List Event) (start : Hub) (bound : ℕ) (result : Result (Unit {0}) Fault) (unread left before after : Option (List ℕ)) (end : Hub)
+    → StreamEnds events start bound result unread left before after end → ComesWithin bound unread left
