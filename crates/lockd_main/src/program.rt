@@ -1,11 +1,11 @@
 //! The program: its words, and how it ends.
-ghost use Rattle.std.specs.Prelude.{◌≡◌, ◌≤◌, map, string_bytes, IfOk, IfErr};
+ghost use Rattle.std.specs.Prelude.{◌≡◌, ◌≤◌, map, string_bytes, IfOk, IfErr, IfSome};
 ghost use Rattle.config.specs.Asked.{Asks};
 ghost use Rattle.config.specs.declared.settings.Config.{Config};
 ghost use Rattle.lockd_main.specs.Ends.{EndsBy};
 
 use crate::serving::{ServeFault, read_peers, serve_sockets};
-use crate::stores::{no_hosts, stored_hosts};
+use crate::stores::hosts_of;
 use crate::streams::{Told, serve_stream};
 use config::{Config, ConfigFault, FilePath, ServeConfig, StreamConfig, config};
 use hosts_db::HostStore;
@@ -98,7 +98,7 @@ fn end_server<F: Display + Drop>(
     }
 }
 
-/// What is served, over hosts that a file stores.
+/// What is served.
 #[derive(Drop)]
 enum Work<'a> {
     /// The stream on standard input.
@@ -132,35 +132,32 @@ fn serve_database<S, R>(
     host: &HostRuntime,
     rt: &R,
     work: Work<'_>,
-    opened: Result<Connection<S>, sqlite::Error>,
+    opened: Option<Result<Connection<S>, sqlite::Error>>,
 ) -> ExitCode
 where
     S: Alter + Drop + Send,
     R: Runtime,
     ensures most { result.status ≤ 1 }
-    ensures refused { IfErr opened (λ _. result.status ≡ 1) }
+    ensures refused { IfSome opened (λ tried. IfErr tried (λ _. result.status ≡ 1)) }
 {
-    serve_over(host, rt, work, stored_hosts(host.alloc(), opened))
+    serve_over(host, rt, work, hosts_of(host.alloc(), opened))
 }
 
-/// Does the work with the hosts of the file, which is made where it isn't there. It opens for streams and sockets, since each
-/// function that has a database over a real file in hand is a dear proof.
-fn serve_file<R: Runtime>(host: &HostRuntime, rt: &R, work: Work<'_>, path: &FilePath) -> ExitCode
+/// Does the work with the hosts of the file, which is made where it isn't there, or of no file. It opens for streams and
+/// sockets, since each function that has a database over a real file in hand is a dear proof.
+fn serve_file<R: Runtime>(
+    host: &HostRuntime,
+    rt: &R,
+    work: Work<'_>,
+    path: Option<&FilePath>,
+) -> ExitCode
     ensures { result.status ≤ 1 }
 {
-    serve_database(host, rt, work, Connection::open(host, path.as_str()))
-}
-
-fn run_stream<R: Runtime>(host: &HostRuntime, rt: &R, told: Told, asked: &StreamConfig) -> ExitCode
-    ensures { result.status ≤ 1 }
-{
-    match &asked.db {
-        None => end(
-            host,
-            serve_stream(host, told, asked, no_hosts(host.alloc())),
-        ),
-        Some(path) => serve_file(host, rt, Work::Stream(told, asked), path),
-    }
+    let opened = match path {
+        Some(path) => Some(Connection::open(host, path.as_str())),
+        None => None,
+    };
+    serve_database(host, rt, work, opened)
 }
 
 // The peers are read before the database is opened, so that none is made for a server that doesn't start.
@@ -174,7 +171,7 @@ fn run_server<R: Runtime>(
     ensures refused { IfErr peers (λ _. result.status ≡ 1) }
 {
     match peers {
-        Ok(peers) => serve_file(host, rt, Work::Sockets(asked, peers), &asked.db),
+        Ok(peers) => serve_file(host, rt, Work::Sockets(asked, peers), Some(&asked.db)),
         Err(fault) => end(host, Err(fault)),
     }
 }
@@ -190,8 +187,22 @@ fn run_asked<R: Runtime>(
     ensures most { result.status ≤ 2 }
 {
     match asked {
-        Ok(Config::Pipe(asked)) => run_stream(host, rt, Told::Replies, asked),
-        Ok(Config::Table(asked)) => run_stream(host, rt, Told::Table, asked),
+        Ok(Config::Pipe(asked)) => {
+            serve_file(
+                host,
+                rt,
+                Work::Stream(Told::Replies, asked),
+                asked.db.as_ref(),
+            )
+        }
+        Ok(Config::Table(asked)) => {
+            serve_file(
+                host,
+                rt,
+                Work::Stream(Told::Table, asked),
+                asked.db.as_ref(),
+            )
+        }
         Ok(Config::Serve(asked)) => {
             run_server(host, rt, asked, read_peers(host, asked.peers.as_str()))
         }

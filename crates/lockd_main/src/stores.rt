@@ -1,13 +1,16 @@
 //! Where hosts are stored.
-ghost use Rattle.std.specs.Prelude.{◌≡◌, Err, IfErr};
+ghost use Rattle.std.specs.Prelude.{◌≡◌, Err, Some, IfErr, IfSome};
 
 use config::FilePath;
 use hosts_db::{MemHosts, StoreError};
-use hosts_lasting::Lasting;
+use hosts_lasting::{KeptHosts, Lasting};
 use hosts_sql::SqlHosts;
 use pipe_loops::Fault;
 use sqlite::{Alter, Connection};
 use std::alloc::Global;
+
+/// The hosts of the program: in memory, or in a database. All that it serves stands over this one type.
+pub(crate) type Hosts<S> = Lasting<KeptHosts<MemHosts, SqlHosts<S>>>;
 
 fn fault_of(refusal: StoreError) -> Fault
     ensures { refusal ≡ StoreError.StoreRefused → result ≡ Fault.StoreRefused }
@@ -18,20 +21,36 @@ fn fault_of(refusal: StoreError) -> Fault
     }
 }
 
-/// A store of no hosts, in memory.
-pub(crate) fn no_hosts(alloc: Global) -> Result<MemHosts, Fault> {
-    MemHosts::new(alloc, 0, Vec::new(alloc), Vec::new(alloc)).map_err(fault_of)
+// No hosts, in memory.
+fn no_hosts<S: Alter + Drop>(alloc: Global) -> Result<Hosts<S>, Fault> {
+    match MemHosts::new(alloc, 0, Vec::new(alloc), Vec::new(alloc)) {
+        Ok(hosts) => Ok(Lasting::new(KeptHosts::InMemory(hosts))),
+        Err(refusal) => Err(fault_of(refusal)),
+    }
 }
 
-/// The hosts that a database stores, where it could be opened. What is no database of hosts is left as it was.
-pub(crate) fn stored_hosts<S: Alter + Drop>(
+// The hosts that a database stores, where it could be opened. What is no database of hosts is left as it was.
+fn stored_hosts<S: Alter + Drop>(
     alloc: Global,
     opened: Result<Connection<S>, sqlite::Error>,
-) -> Result<Lasting<SqlHosts<S>>, Fault>
+) -> Result<Hosts<S>, Fault>
     ensures { IfErr opened (λ _. result ≡ Err Fault.StoreRefused) }
 {
     match SqlHosts::adopt_opened(alloc, opened) {
-        Ok(store) => Ok(Lasting::new(store)),
+        Ok(store) => Ok(Lasting::new(KeptHosts::Stored(store))),
         Err(refusal) => Err(fault_of(refusal)),
+    }
+}
+
+/// The hosts of a database, where one was opened, and else none, in memory.
+pub(crate) fn hosts_of<S: Alter + Drop>(
+    alloc: Global,
+    opened: Option<Result<Connection<S>, sqlite::Error>>,
+) -> Result<Hosts<S>, Fault>
+    ensures { IfSome opened (λ tried. IfErr tried (λ _. result ≡ Err Fault.StoreRefused)) }
+{
+    match opened {
+        Some(tried) => stored_hosts(alloc, tried),
+        None => no_hosts(alloc),
     }
 }

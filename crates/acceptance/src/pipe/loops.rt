@@ -4,6 +4,7 @@ ghost use Rattle.std.specs.Prelude.{◌≡◌, [], IfOk};
 use callbacks::ShortBytes;
 use daemon_scripts::{Pace, Sink, Source, put_plain};
 use hosts_db::{FULL_QUOTA, HostRow, MemHosts};
+use hosts_lent::Lent;
 use pipe_loops::{Fault, Server, pipe_loop, table_loop};
 use range_table::FlatTable;
 use std::alloc::Global;
@@ -79,14 +80,17 @@ fn store(alloc: Global, which: Loop) -> Result<MemHosts, Fault> {
     }
 }
 
-// It is named `server`.
-fn server(alloc: Global, which: Loop) -> Result<Server<FlatTable, MemHosts>, Fault>
+// It is named `server`. Its store is lent, since the compiler builds a daemon of its own for each kind of store.
+fn server<'a>(
+    alloc: Global,
+    which: Loop,
+    store: Lent<'a, MemHosts>,
+) -> Result<Server<FlatTable, Lent<'a, MemHosts>>, Fault>
     ensures { IfOk result (λ server. server.table ≡ []) }
 {
     let Ok(own_name) = ShortBytes::copy_of(alloc, b"server") else {
         return Err(Fault::Starved);
     };
-    let store = store(alloc, which)?;
     let table = FlatTable::new(alloc)?;
     Ok(Server {
         table,
@@ -102,7 +106,9 @@ fn serve(
     source: &mut Source<'_>,
     sink: &mut Sink,
 ) -> Result<(), Fault> {
-    let server = server(alloc, which)?;
+    let mut store = store(alloc, which)?;
+    let mut writes = 0;
+    let server = server(alloc, which, Lent::new(&mut store, &mut writes))?;
     if which == Loop::Table {
         table_loop(alloc, server, source, sink, MOST_READS)
     } else {
