@@ -49,7 +49,7 @@ impl<R: RangeTable, S: HostStore> Shared<R, S> {
                 answers(store, xid, outcome.told, outcome.noted)
             }
             Err(Starved) => {
-                drop(plan);
+                plan.let_go();
                 starved(store, xid)
             }
         }

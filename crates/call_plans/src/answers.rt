@@ -89,12 +89,7 @@ fn succeeded<R: RangeTable, S: HostStore>(
         // GRANTED_RES answers it.
         Message::GrantedMsg { .. } => {}
         Message::Notify { .. } => return noticed(world, xid, number),
-        Message::GrantedLine { .. }
-        | Message::TestResult { .. }
-        | Message::LockResult { .. }
-        | Message::CancelResult { .. }
-        | Message::UnlockResult { .. }
-        | Message::Status { .. } => ended(world, xid),
+        _ => ended(world, xid),
     }
     StoreAnswer::NotAsked
 }

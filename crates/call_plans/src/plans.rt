@@ -122,6 +122,14 @@ pub enum Plan {
     },
 }
 
+impl Plan {
+    /// Lets go of a plan that isn't to be done. It stands here, so that no crate above proves again how each part of one is
+    /// dropped.
+    pub fn let_go(self) {
+        drop(self);
+    }
+}
+
 /// What the store answered.
 #[derive(Clone, Copy, PartialEq, Eq)]
 pub enum StoreAnswer {

@@ -7,11 +7,12 @@ ghost use Rattle.definitions.specs.Starts.{refuses};
 ghost use Rattle.call_outcome.specs.Values.{view_of_outcome};
 ghost use Rattle.callbacks.specs.Meanings.{view_of_told_my_id};
 ghost use Rattle.std.specs.Option.{option_copied};
+ghost use Rattle.owner_ids.specs.Views.{view_of_owner};
 ghost use Rattle.lock_state.specs.Seen.{AdmitsNobody, KeepsKnown};
 ghost use Rattle.call_plans.specs.Planned.{view_of_stored, answered, view_of_asked, told_in, stored, counted};
 ghost use Rattle.call_plans.specs.Planned.{IsAnswerTo, IsCommitted, IsWithin, Fits, FitsChange, FitsAnswer, FitsDue, FitsUnder, CanAsk, CanAskFor, IsReady, IsReadyFor, MayHold};
 ghost use Rattle.call_plans.specs.Forgotten.{IsForgottenBy, IsForgottenUnder};
-ghost use Rattle.call_plans.specs.Planned.{IsForgotten, IsForgottenFor, KeepsOthers, KeepsOthersFor, changed, view_of_range};
+ghost use Rattle.call_plans.specs.Planned.{IsForgotten, IsForgottenFor, KeepsOthers, KeepsOthersFor, IsForgottenIfIdle, changed, view_of_range};
 
 use crate::answers::granted_res;
 use crate::plans::{Answer, Asked, Change, Plan, Range, Shared, StoreAnswer, Told};
@@ -53,13 +54,8 @@ pub fn prepare_change<R: RangeTable, S: HostStore>(
     match change {
         Change::Set(range) => prepare_range(world, range),
         Change::Wait(wanted, _) => world.admit(&wanted.owner),
-        Change::Nothing
-        | Change::Cancel(_)
-        | Change::Share(_)
-        | Change::Unshare(_)
-        | Change::DropHost(_)
-        | Change::GrantAnswered { .. }
-        | Change::Restart(_) => Ok(()),
+        // All else takes none.
+        _ => Ok(()),
     }
 }
 
@@ -247,14 +243,20 @@ fn tell<R: RangeTable, S: HostStore>(world: &mut World<R, S>, told: Told) -> Sha
     told.outcome
 }
 
+// Whoever is to hold nothing there any more is forgotten, unless he holds a lock or waits.
 fn set<R: RangeTable, S: HostStore>(world: &mut World<R, S>, range: &Range) -> Result<(), NoRuns>
     requires { MayHold range.now world.old }
     ensures refused { IsErr result ↔ IsTrue (refuses 65536 world.old.world.settings (view_of_range range.now)) }
     ensures ok { OnOk result (world.new.world ≡ with_setting world.old.world (view_of_range range.now)) }
     ensures err { OnErr result (world.new.world ≡ world.old.world) }
     ensures refusals { world.new.refusals ≡ world.old.refusals }
+    ensures forgotten { OnOk result (IsForgottenIfIdle (view_of_owner range.now.owner) world.new.world world.new) }
 {
-    world.set(&range.setting())
+    let done = world.set(&range.setting());
+    if range.mode.is_none() {
+        world.forget_idle(&range.owner);
+    }
+    done
 }
 
 /// Makes the change, without memory. No waiter is granted yet.
@@ -265,25 +267,34 @@ pub fn make_change<R: RangeTable, S: HostStore>(world: &mut World<R, S>, change:
     ensures refusals { world.new.refusals ≡ world.old.refusals }
     ensures forgotten { IsForgottenBy change world.old.world.calls world.new }
 {
+    // What ends is dropped by a call: in place, each of its parts is proved here.
     match change {
         Change::Nothing => {}
         Change::Set(range) => {
             let _ = set(world, &range);
-            if range.mode.is_none() {
-                world.forget_idle(&range.owner);
-            }
+            drop(range);
         }
-        Change::Wait(wanted, letter) => world.wait(&wanted.request(), letter),
+        Change::Wait(wanted, letter) => {
+            world.wait(&wanted.request(), letter);
+            drop(wanted);
+        }
         Change::Cancel(wanted) => {
             let _ = world.cancel(&wanted.request());
             world.forget_idle(&wanted.owner);
+            drop(wanted);
         }
         Change::Share(share) => {
             let _ = world.share(share);
         }
-        Change::Unshare(share) => world.unshare(&share),
+        Change::Unshare(share) => {
+            world.unshare(&share);
+            drop(share);
+        }
         Change::DropHost(name) => world.drop_host(&name),
-        Change::GrantAnswered { cookie, stat } => granted_res(world, cookie.as_slice(), stat),
+        Change::GrantAnswered { cookie, stat } => {
+            granted_res(world, cookie.as_slice(), stat);
+            drop(cookie);
+        }
         Change::Restart(notices) => world.begin(notices),
     }
 }

@@ -35,6 +35,7 @@ pub(crate) fn lock_rules<R: RangeTable, S: HostStore>(
         return kept_out(world, ask);
     }
     if world.lacks_room(&ask.wanted.request()) {
+        drop(ask.wanted);
         return Ok(Verdict::of_stat(Stat::DeniedNolocks));
     }
     let change = Change::Set(ask.wanted.into_range());
@@ -50,6 +51,7 @@ fn kept_out<R: RangeTable, S: HostStore>(
     ensures asks { IfOk result (OnlyAsksIf (is_some ask.entry.row)) }
 {
     if ask.reclaim || !ask.block {
+        drop(ask.wanted);
         return Ok(Verdict::of_stat(Stat::Denied));
     }
     blocked(world, ask)
@@ -64,15 +66,21 @@ fn blocked<R: RangeTable, S: HostStore>(
     ensures asks { IfOk result (OnlyAsksIf (is_some ask.entry.row)) }
 {
     if world.is_waiting(&ask.wanted.request()) {
+        drop(ask.wanted);
         return behind_row(world, ask.row, Stat::Blocked, Change::Nothing);
     }
     if world.closes_cycle(&ask.wanted.request()) {
+        drop(ask.wanted);
         return Ok(Verdict::of_stat(Stat::Deadlck));
     }
     if world.free_slots() <= ask.reserved {
+        drop(ask.wanted);
         return Ok(Verdict::of_stat(Stat::DeniedNolocks));
     }
-    let letter = ask.grant.letter(world.alloc())?;
+    let Ok(letter) = ask.grant.letter(world.alloc()) else {
+        drop(ask.wanted);
+        return Err(Starved);
+    };
     behind_row(
         world,
         ask.row,

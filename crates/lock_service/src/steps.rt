@@ -85,7 +85,7 @@ pub fn agreed<R: RangeTable, S: HostStore>(
 {
     let plan = plan(world, local, call)?;
     let Ok(store) = agree(world, &plan) else {
-        drop(plan);
+        plan.let_go();
         return Err(Starved);
     };
     Ok((plan, store))

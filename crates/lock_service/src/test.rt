@@ -86,7 +86,10 @@ fn test_res<R: RangeTable, S: HostStore>(
         Ok(place) => place,
         Err(stat) => return unheld(alloc, version, cookie, stat),
     };
-    let owner = owner_of(alloc, &args.alock)?;
+    let Ok(owner) = owner_of(alloc, &args.alock) else {
+        drop(cookie);
+        return Err(Starved);
+    };
     let wanted = held_locks::Request {
         file: place.file,
         owner: &owner,
@@ -94,17 +97,23 @@ fn test_res<R: RangeTable, S: HostStore>(
         last: place.last,
         mode: mode_of(args.exclusive),
     };
-    match world.first_conflict(&wanted) {
+    let res = match world.first_conflict(&wanted) {
         None => unheld(alloc, version, cookie, Stat::Granted),
-        Some(found) => {
-            let holder = holder_of(alloc, version, &found)?;
-            Ok(TestRes {
+        Some(found) => match holder_of(alloc, version, &found) {
+            Ok(holder) => Ok(TestRes {
                 cookie,
                 stat: Stat::Denied,
                 holder: Some(holder),
-            })
-        }
-    }
+            }),
+            Err(starved) => {
+                drop(cookie);
+                Err(starved)
+            }
+        },
+    };
+    // By a call: in place, each kind of owner would be proved to be dropped in each arm.
+    drop(owner);
+    res
 }
 
 // A status without a run in the way. Where the version shows it as a denial, nobody is its holder.

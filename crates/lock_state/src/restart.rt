@@ -13,6 +13,7 @@ use grace::Phase;
 use hosts_db::{HostRow, HostStore, StoreError};
 use owner_ids::Starved;
 use range_table::RangeTable;
+use std::alloc::{AllocError, Global};
 
 impl<R: RangeTable, S: HostStore> World<R, S> {
     /// What a restart tells each stored host, in order of name: the own name, and the own state that comes next (XNFS,
@@ -25,22 +26,9 @@ impl<R: RangeTable, S: HostStore> World<R, S> {
         let own = next_own_state(self.store.own());
         let mut letters = Vec::with_capacity(self.alloc, rows.len())?;
         for row in rows {
-            letters.push_reserved(self.notice(own, row)?);
+            letters.push_reserved(notice(self.alloc, &self.own_name, own, row)?);
         }
         Ok(letters)
-    }
-
-    fn notice(&self, own: u32, row: &HostRow) -> Result<Letter, Starved>
-        requires { own < 2147483648 }
-        ensures { IfOk result (λ letter. letter ≡ restart_letter self.now.world.own_name own row.now) }
-    {
-        Ok(Letter::new(
-            Destination::Host(ShortBytes::copy_of(self.alloc, row.name())?),
-            Message::Notify {
-                name: ShortBytes::copy_of(self.alloc, self.own_name.as_slice())?,
-                state: own as i32,
-            },
-        ))
     }
 
     /// Begins anew in the next own state, with the store's rows, in grace, and these notices due. Nobody is known. An error of
@@ -122,5 +110,28 @@ impl<R: RangeTable, S: HostStore> World<R, S> {
         let _ = self.slots.take(1);
         self.calls.make_due(self.next, letter);
         self.next = self.next.wrapping_add(1);
+    }
+}
+
+// What tells a host of the restart. It takes the names alone, so that its proof knows no table and no store.
+fn notice(
+    alloc: Global,
+    own_name: &ShortBytes,
+    own: u32,
+    row: &HostRow,
+) -> Result<Letter, AllocError>
+    requires { own < 2147483648 }
+    ensures { IfOk result (λ letter. letter ≡ restart_letter own_name.now own row.now) }
+{
+    let host = ShortBytes::copy_of(alloc, row.name())?;
+    match ShortBytes::copy_of(alloc, own_name.as_slice()) {
+        Ok(name) => Ok(Letter::new(
+            Destination::Host(host),
+            Message::Notify {
+                name,
+                state: own as i32,
+            },
+        )),
+        Err(refused) => Err(refused),
     }
 }

@@ -29,7 +29,8 @@ pub(crate) fn plan<R: RangeTable, S: HostStore>(
     }
 }
 
-// The store is asked to keep the state, and then the host is dropped. It needs a place for each who watches the host.
+// The store is asked to keep the state, and then the host is dropped. It needs a place for each who watches the host. What
+// is deepest to drop is got last, or dropped by a call: in place, each of its parts is proved here.
 fn dropped<R: RangeTable, S: HostStore>(
     world: &World<R, S>,
     name: &Name<'_>,
@@ -41,17 +42,25 @@ fn dropped<R: RangeTable, S: HostStore>(
     if world.watch_count(name.bytes) > world.free_slots() {
         return stat::failed(world);
     }
-    let outcome = Shared::of(alloc, Outcome::Success(CallResult::Nothing))?;
-    let due = world.status_letters(name.bytes, state)?;
-    let asked = seen(alloc, name, state)?;
     let gone = Vec::from_slice(alloc, name.bytes)?;
-    let refused = Told::reply(alloc, Outcome::SystemErr)?;
+    let due = world.status_letters(name.bytes, state)?;
+    let outcome = Shared::of(alloc, Outcome::Success(CallResult::Nothing))?;
+    let agreed = Answer {
+        told: Told { outcome, due },
+        change: Change::DropHost(gone),
+    };
+    let Ok(refused) = Told::reply(alloc, Outcome::SystemErr) else {
+        drop(agreed);
+        return Err(Starved);
+    };
+    let Ok(asked) = seen(alloc, name, state) else {
+        drop(agreed);
+        drop(refused);
+        return Err(Starved);
+    };
     Ok(Plan::AfterStore {
         asked,
-        agreed: Answer {
-            told: Told { outcome, due },
-            change: Change::DropHost(gone),
-        },
+        agreed,
         refused,
     })
 }

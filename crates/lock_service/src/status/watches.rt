@@ -31,8 +31,15 @@ pub(crate) fn mon<R: RangeTable, S: HostStore>(
         return stat::plan(world, MonitorRes::Fail);
     }
     let told = stat::monitored(world, MonitorRes::Succ)?;
-    let refused = stat::monitored(world, MonitorRes::Fail)?;
-    let asked = watched(world.alloc(), args)?;
+    let Ok(refused) = stat::monitored(world, MonitorRes::Fail) else {
+        drop(told);
+        return Err(Starved);
+    };
+    let Ok(asked) = watched(world.alloc(), args) else {
+        drop(told);
+        drop(refused);
+        return Err(Starved);
+    };
     Ok(Plan::AfterStore {
         asked,
         agreed: Answer {
@@ -96,11 +103,22 @@ fn unwatched<R: RangeTable, S: HostStore>(
 ) -> Result<Plan, Starved>
     ensures { IfOk result (λ made. IsPlan (stored world.now.world (Unwatched mon_name (view_of_my_id my_id.now)) gives_state (gives world.now.world SystemErr)) world.now.world made) }
 {
-    let my_id = copy_of(world.alloc(), my_id)?;
-    let told = stat::own(world)?;
-    let refused = Told::reply(world.alloc(), Outcome::SystemErr)?;
+    let Ok(my_id) = copy_of(world.alloc(), my_id) else {
+        drop(mon_name);
+        return Err(Starved);
+    };
+    let asked = Asked::Unwatched { mon_name, my_id };
+    let Ok(told) = stat::own(world) else {
+        drop(asked);
+        return Err(Starved);
+    };
+    let Ok(refused) = Told::reply(world.alloc(), Outcome::SystemErr) else {
+        drop(asked);
+        drop(told);
+        return Err(Starved);
+    };
     Ok(Plan::AfterStore {
-        asked: Asked::Unwatched { mon_name, my_id },
+        asked,
         agreed: Answer {
             told,
             change: Change::Nothing,

@@ -21,8 +21,10 @@ loop-row-preserved g c =
     let u = c.loop-row-test.true in
     let f = restart_letter c.args.self.now.world.own_name c.next_own_state-own.result in
     let e = c.push_reserved.ensures in
+    let own_name = ap (λ (s : Seen). s.world.own_name) c.self.view_is in
+    let letter = c.in_ok-notice.ensures ∙ ap (λ n. restart_letter n c.next_own_state-own.result c.row-item.result) own_name in
     record {
-      letters = e.items ∙ ap (λ xs. xs ++ c.in_ok-notice.field-0 ∷ []) k.letters ∙ ap (λ y. map f (take c.loop-row.row-index c.hosts-rows.result.now) ++ y ∷ []) c.in_ok-notice.ensures ∙ sym (mapped_more f c.hosts-rows.result.now c.loop-row.row-index c.row-item.result u c.row-item.is);
+      letters = e.items ∙ ap (λ xs. xs ++ c.in_ok-notice.field-0 ∷ []) k.letters ∙ ap (λ y. map f (take c.loop-row.row-index c.hosts-rows.result.now) ++ y ∷ []) letter ∙ sym (mapped_more f c.hosts-rows.result.now c.loop-row.row-index c.row-item.result u c.row-item.is);
       within = omega arith;
       len = e.len ∙ ap (λ n. n + 1) k.len;
       room = rw e.capacity k.room;
