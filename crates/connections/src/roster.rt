@@ -1,5 +1,5 @@
 //! The connections that are open.
-ghost use Rattle.std.specs.Prelude.{◌≡◌, ◌≤◌, ◌<◌, IfSome};
+ghost use Rattle.std.specs.Prelude.{◌≡◌, ◌≤◌, ◌<◌, IfSome, length};
 
 use crate::connection::Connection;
 use std::alloc::{AllocError, Global};
@@ -37,16 +37,37 @@ impl<K> Model for Roster<K> {
     ghost view = { λ r. r.next };
 }
 
+// The connection, twice: for its place, and for whoever serves it.
 fn open(
     alloc: Global,
     number: u64,
     stream: TcpStream,
     idle: Option<Duration>,
-) -> Option<Arc<Connection, Global>>
-    ensures { IfSome result (λ c. c.value ≡ number) }
+) -> Option<(Arc<Connection, Global>, Arc<Connection, Global>)>
+    ensures { IfSome result (λ c. (c.0.value ≡ number) × (c.1.value ≡ number)) }
 {
-    let connection = Connection::new(number, stream, idle).ok()?;
-    Arc::new(alloc, connection).ok()
+    let Ok(connection) = Connection::new(number, stream, idle) else {
+        return None;
+    };
+    let ours = Arc::new(alloc, connection).ok()?;
+    match Arc::try_clone(&ours) {
+        Ok(theirs) => Some((ours, theirs)),
+        Err(_) => None,
+    }
+}
+
+// The first place that is free, the number that a connection has there, and the least one that a further connection can have.
+fn find_free<K>(places: &[Place<K>], next: u64) -> Option<(usize, u64, u64)>
+    ensures place { IfSome result (λ free. free.0 < length places.now) }
+    ensures numbers { IfSome result (λ free. (next ≤ free.1) × (free.1 < free.2)) }
+{
+    let Some(place) = places.iter().position(|p| p.connection.is_none()) else {
+        return None;
+    };
+    match next.checked_add(places.len() as u64) {
+        Some(later) => Some((place, next + place as u64, later)),
+        None => None,
+    }
 }
 
 impl<K: Drop> Roster<K> {
@@ -83,18 +104,23 @@ impl<K: Drop> Roster<K> {
         ensures fresh { IfSome result (λ c. (self.old ≤ c.value) × (c.value < self.new)) }
         ensures later { self.old ≤ self.new }
     {
-        if self.is_closed {
+        let free = if self.is_closed {
+            None
+        } else {
+            find_free(&self.places, self.next)
+        };
+        let Some((place, number, next)) = free else {
+            drop(stream);
             return None;
+        };
+        match open(self.alloc, number, stream, idle) {
+            Some((ours, theirs)) => {
+                self.next = next;
+                self.places[place].connection = Some(ours);
+                Some(theirs)
+            }
+            None => None,
         }
-        let size = self.places.len() as u64;
-        let place = self.places.iter().position(|p| p.connection.is_none())?;
-        let next = self.next.checked_add(size)?;
-        let number = self.next + place as u64;
-        let ours = open(self.alloc, number, stream, idle)?;
-        let theirs = Arc::try_clone(&ours).ok()?;
-        self.next = next;
-        self.places[place].connection = Some(ours);
-        Some(theirs)
     }
 
     // The place of the connection of this number.

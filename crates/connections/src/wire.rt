@@ -86,7 +86,9 @@ impl<'a, 'h, K: Drop, R: Wait> Wire<'a, 'h, K, R> {
     }
 
     fn append(&mut self, record: &[u8]) -> Result<(), AllocError> {
-        let size = u16::try_from(record.len()).map_err(|_| AllocError)?;
+        let Ok(size) = u16::try_from(record.len()) else {
+            return Err(AllocError);
+        };
         self.joined.extend_from_slice(&last_mark(u32::from(size)))?;
         self.joined.extend_from_slice(record)
     }

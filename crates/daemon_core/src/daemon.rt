@@ -87,7 +87,10 @@ impl<R: RangeTable, S: HostStore> Daemon<R, S> {
             .push(Connection::new(self.alloc, number, peer))
         {
             Ok(()) => make_quiet(),
-            Err(_) => make_starved(),
+            Err(refused) => {
+                drop(refused.value);
+                make_starved()
+            }
         }
     }
 
@@ -95,7 +98,7 @@ impl<R: RangeTable, S: HostStore> Daemon<R, S> {
         ensures { Disconnects (place_of number self.old.links) self.old result self.new }
     {
         if let Some(place) = find(&self.connections, number) {
-            self.connections.remove(place);
+            drop(self.connections.remove(place));
         }
         make_quiet()
     }

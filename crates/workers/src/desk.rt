@@ -86,7 +86,10 @@ impl<L: Ledger> Desk<L> {
             receipt,
             is_due,
             over,
-        } = got?;
+        } = match got {
+            Ok(entered) => entered,
+            Err(back) => return Err(back),
+        };
         post(outbox, connection, receipt.reply());
         self.receipts.add(receipt);
         drop(over);

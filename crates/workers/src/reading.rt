@@ -222,14 +222,19 @@ impl<P: Place, L: Ledger> Worker<P, L> {
         ensures back { result ≡ false → (self.new ≡ self.old) × (origin.new ≡ origin.old) }
     {
         let Some(next) = origin.put.checked_add(1) else {
+            drop(asked);
             return false;
         };
         let job = Job::new(origin.connection, origin.peer, origin.put, asked);
-        let put = self.put(rt, channel, job);
-        if put.is_err() {
-            return false;
+        match self.put(rt, channel, job) {
+            Ok(()) => {
+                origin.put = next;
+                true
+            }
+            Err(closed) => {
+                drop(closed.job);
+                false
+            }
         }
-        origin.put = next;
-        true
     }
 }

@@ -4,11 +4,11 @@ use Rattle.workers.proofs.desk.Desk.take.Goals as goal
 
 pub returns-clause-taken : goal.returns-clause-taken
 returns-clause-taken g c = (
-  c.in_ok-receipt.field-0.receipt,
+  c.in-Ok-got.entered.receipt,
   view_of_reply c.reply.result.now,
-  c.in_ok-receipt.ensures.told.0,
+  c.in-Ok-got.ensures.told.0,
   c.reply.ensures,
-  c.add.ensures.all ∙ ap (λ l. l ++ c.in_ok-receipt.field-0.receipt ∷ []) c.prepare.ensures.all,
+  c.add.ensures.all ∙ ap (λ l. l ++ c.in-Ok-got.entered.receipt ∷ []) c.prepare.ensures.all,
   c.post.ensures,
 )
 

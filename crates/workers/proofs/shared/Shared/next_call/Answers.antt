@@ -1,5 +1,38 @@
+use Rattle.std.proofs.Common.{arith, rules, refl, ap, ◌∙◌, ◌++◌, is_some}
+use Rattle.std.proofs.lemmas.Grind.{common_steps}
+use Rattle.std.specs.Option.{option_to_list}
 use Rattle.workers.proofs.Holding.{next_in_step}
+use Rattle.workers.proofs.shared.Shared.next_call.Goals.{in-Some, in-None}
 use Rattle.workers.proofs.shared.Shared.next_call.Goals as goal
 
 pub invariant_of-self : goal.invariant_of-self
 invariant_of-self g c = next_in_step _ _ _ _ _ c.next_call.ensures.sends c.self-2.invariant
+
+pub returns-then-not-make_room : goal.returns-then-not-make_room
+returns-then-not-make_room g c = grind (arith, common_steps)
+
+pub returns : goal.returns
+returns g c = elim c.match-next_call.branch [
+  | in-Some w ↦
+      let sends = w.in-Some.ensures.sends in
+      let newest = w.newest_entered.ensures _ _ _ _ sends.3 in
+      let held = c.self-2.inside in
+      rw (w.result-is, w.transcript-is) (
+        record {
+          before = record { closed = held.archive.all.items; book = held.book; keeps = is_some held.archive.kept };
+          rests = rw c.self-2.view_is c.make_room.ensures.rests;
+          closed = refl;
+          keeps = refl;
+          sent = sends;
+        },
+        (
+          _,
+          record { letter = sends.0; event = refl; upshot = refl; is_for = sends.1; spells = sends.2 },
+          record {
+            is_newest = newest;
+            added = w.add.ensures ∙ ap (λ entry. c.args.transcript.now ++ option_to_list entry) newest;
+          },
+        ),
+      )
+  | in-None w ↦ rw (w.result-is, w.transcript-is) (search rules)
+]

@@ -1,3 +1,5 @@
+use Rattle.std.proofs.KnownBytes.{Consumes-nil}
+use Rattle.workers.specs.declared.reading.Ending.TheVariants.{Failed}
 use Rattle.workers.proofs.ReadingLemmas.{unread, SoFar-none, stops, ended_so, not_ended}
 use Rattle.workers.proofs.worker.Worker.read.Goals as goal
 
@@ -19,3 +21,6 @@ loop-preserved g c = (
   not_ended _ _ _ _ _ _ _ _ _ _ c.loop.invariant.0 _ c.in-Ok-read.ensures.ok.1 c.read.new.self _ _ _ _ _ c.help.ensures.worked _ _ _ c.ended.ensures c.in-None.is c.in-Ok-read.ensures.ok.2 c.put_all-is_put.ensures,
   c.loop.invariant.1,
 )
+
+pub returns : goal.returns
+returns g c = stops _ _ _ _ _ _ _ _ _ _ c.loop.invariant.0 Failed (Consumes-nil _) tt

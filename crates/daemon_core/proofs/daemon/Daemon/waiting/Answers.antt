@@ -1,0 +1,17 @@
+use Rattle.std.proofs.Common.{◌≡◌, Some, sym, ◌∙◌}
+use Rattle.daemon_core.specs.Hub.{place_of}
+use Rattle.daemon_core.proofs.HubLemmas.{place_of-below, get-there}
+use Rattle.daemon_core.proofs.daemon.Daemon.waiting.Goals as goal
+
+pub returns-in-Some : goal.returns-in-Some
+returns-in-Some g c =
+    let links = c.self.inside.connections.items in
+    let place : place_of c.args.number links ≡ Some c.in-Some.place = rw (← c.deref.ensures.value) (sym c.find.ensures ∙ c.in-Some.is) in
+    rw (← c.self.view_is)
+    (rw place (record {
+      link = c.index.result.now;
+      there = get-there links c.in-Some.place _ (place_of-below _ _ _ place) c.index.ensures;
+      records = c.waiting.ensures.0;
+      are = c.waiting.ensures.1;
+      counted = c.waiting.ensures.2;
+    }))
