@@ -6,15 +6,15 @@ use crate::threads::parts::{begun, null};
 use book::{Book, BookEvent, Closed, Peer, Receipt, SEGMENT, Segment, Taken, newest_entered};
 use bytes::Bytes;
 use hosts_db::{HostStore, MemHosts};
-use range_table::FlatTable;
+use range_arena::ArenaTable;
 use std::alloc::Global;
 use std::test::*;
 use xdr_core::Frame;
 
 /// A book over memory, and a segment of one.
-pub(crate) type MemBook = Book<FlatTable, MemHosts>;
+pub(crate) type MemBook = Book<ArenaTable, MemHosts>;
 
-pub(crate) type MemSegment = Closed<FlatTable, MemHosts>;
+pub(crate) type MemSegment = Closed<ArenaTable, MemHosts>;
 
 // Whether the receipt has a SUCCESS of this xid.
 fn is_success(receipt: &Receipt, xid: u32) -> bool {

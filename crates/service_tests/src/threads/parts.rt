@@ -8,7 +8,7 @@ use callbacks::ShortBytes;
 use hosts_db::MemHosts;
 use jobs::{Channel, Job, Place};
 use kept_replies::Peer;
-use range_table::FlatTable;
+use range_arena::ArenaTable;
 use std::alloc::Global;
 use std::sync::Wait;
 use std::sync::ledger::Ledger;
@@ -27,14 +27,14 @@ impl Gate for Open {
 }
 
 /// What the book's lock keeps.
-pub(crate) type Kept<L> = Shared<FlatTable, MemHosts, L>;
+pub(crate) type Kept<L> = Shared<ArenaTable, MemHosts, L>;
 
 /// The book of a server named `server`, over a table without runs and no hosts. None where there is no memory.
-pub(crate) fn begun(alloc: Global) -> Option<Book<FlatTable, MemHosts>>
+pub(crate) fn begun(alloc: Global) -> Option<Book<ArenaTable, MemHosts>>
     ensures { IfSome result (λ book. (book.journal.notes ≡ []) × (book.journal.first ≡ 1)) }
 {
     let name = ShortBytes::copy_of(alloc, b"server").ok()?;
-    let table = FlatTable::new(alloc).ok()?;
+    let table = ArenaTable::new(alloc).ok()?;
     let store = MemHosts::new(alloc, 0, Vec::new(alloc), Vec::new(alloc)).ok()?;
     Book::new(alloc, table, store, name).ok()
 }

@@ -12,7 +12,7 @@ use super::reading::Reading;
 use book::{Book, BookEvent};
 use hosts_db::MemHosts;
 use jobs::{Channel, Keeper, Opened, Place};
-use range_table::FlatTable;
+use range_arena::ArenaTable;
 use server::staff::{Cutter, Gatherer};
 use std::alloc::Global;
 use std::marker::Brand;
@@ -119,7 +119,7 @@ fn staff<P: Place + Send + Sync, L: Ledger + Send + Sync, R: Threads + Wait + Cl
     channel: &Channel<P>,
     keeper: Keeper<P>,
     blank: Blank,
-    book: Book<FlatTable, MemHosts>,
+    book: Book<ArenaTable, MemHosts>,
     crew: Crew,
     turn: Turn<'_>,
 ) -> Option<u64>
@@ -140,7 +140,7 @@ fn play<P: Place + Send + Sync, L: Ledger + Send + Sync, R: Threads + Wait + Clo
     alloc: Global,
     opened: Opened,
     blank: Blank,
-    book: Book<FlatTable, MemHosts>,
+    book: Book<ArenaTable, MemHosts>,
     crew: Crew,
     turn: Turn<'_>,
 ) -> Option<u64>
