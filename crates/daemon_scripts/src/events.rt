@@ -77,10 +77,7 @@ impl<'a> Page<'a> {
         match verb {
             "restart" => Some(Event::Restart),
             "grace-over" => Some(Event::GraceOver),
-            "connect" => Some(Event::Connect {
-                connection: CONNECTION,
-                peer: peer(rest),
-            }),
+            "connect" => connect(rest),
             "disconnect" => Some(Event::Disconnect {
                 connection: CONNECTION,
             }),
@@ -107,7 +104,7 @@ impl<'a> Page<'a> {
         })
     }
 
-    fn put_line(&mut self, line: &str) -> Option<()> {
+    pub(crate) fn put_line(&mut self, line: &str) -> Option<()> {
         self.whom = "local";
         for byte in line.bytes() {
             self.told
@@ -147,12 +144,20 @@ impl<'a> Page<'a> {
     }
 }
 
-// The program at the pipe, or a peer that isn't local.
-fn peer(name: &str) -> Peer {
-    Peer {
-        is_local: name == "pipe",
-        ..Peer::PIPE
+// Of the program at the pipe, or of a peer that isn't local.
+fn connect(name: &str) -> Option<Event> {
+    let is_local = name == "pipe";
+    if !is_local && name != "afar" {
+        return None;
     }
+    let peer = Peer {
+        is_local,
+        ..Peer::PIPE
+    };
+    Some(Event::Connect {
+        connection: CONNECTION,
+        peer,
+    })
 }
 
 // The own state, and the number of the call under it.

@@ -22,6 +22,9 @@ pub struct Page<'a> {
     /// What is to be sent, and to whom: to the `client`, the `local` program, or a host.
     pub(crate) told: Vec<u8>,
     pub(crate) whom: &'a str,
+    /// What is to be sent instead where the store refuses, if that is another.
+    told_instead: Vec<u8>,
+    has_instead: bool,
     /// The refusal that the stream's last piece is to get.
     pub(crate) fault: Option<Refusal>,
     /// What is sent, whether all of it to whom it should, and the refusal of what came last.
@@ -47,6 +50,8 @@ impl<'a> Page<'a> {
             most,
             told: Vec::new(alloc),
             whom: "client",
+            told_instead: Vec::new(alloc),
+            has_instead: false,
             fault: None,
             sent: Vec::new(alloc),
             is_theirs: true,
@@ -71,7 +76,40 @@ impl<'a> Page<'a> {
 
     /// Whether just that was sent that should be, and nothing was refused.
     pub(crate) fn is_right(&self) -> bool {
-        self.is_theirs && self.refusal.is_none() && self.sent.as_slice() == self.told.as_slice()
+        self.is_sent() && self.refusal.is_none()
+    }
+
+    fn is_sent(&self) -> bool {
+        let told = if self.has_instead && self.store == StoreAnswer::Refused {
+            &self.told_instead
+        } else {
+            &self.told
+        };
+        self.is_theirs && self.sent.as_slice() == told.as_slice()
+    }
+
+    /// Takes in what is to be sent where the store refuses: a local program's answer, or the reply to the call under this xid.
+    pub(crate) fn tell_refusal(&mut self, verb: &str, text: &str) -> Option<()> {
+        if verb == "local" {
+            self.put_line(text)?;
+        } else {
+            put_message(&mut self.told, read_xid(verb)?, text)?;
+        }
+        mem::swap(&mut self.told, &mut self.told_instead);
+        self.has_instead = true;
+        Some(())
+    }
+
+    /// Whether just that was sent that should be, and nothing was refused but, by the store, what nobody is answered.
+    pub(crate) fn is_right_by_store(&self) -> bool {
+        let is_heard = match self.refusal {
+            None => true,
+            Some(Refusal::StoreRefused) => {
+                self.store == StoreAnswer::Refused && self.sent.is_empty()
+            }
+            Some(_) => false,
+        };
+        is_heard && self.is_sent()
     }
 
     fn is_for(&self, to: Addressee<'_>) -> bool {

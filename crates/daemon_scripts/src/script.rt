@@ -48,15 +48,24 @@ fn comes<T: RangeTable, S: HostStore>(
     Some(page.sent.is_empty() && page.refusal == page.fault)
 }
 
-/// The stream comes, and all its records are taken, and one more, which isn't there. Whether the pieces were as they should.
+/// The stream comes, and all its records are taken, and so many more, which aren't there. Whether the pieces were as they should.
+pub(crate) fn taken<T: RangeTable, S: HostStore>(
+    daemon: &mut Daemon<T, S>,
+    page: &mut Page<'_>,
+    more: usize,
+) -> Option<bool> {
+    let came = comes(daemon, page)?;
+    let takes = page.takes(daemon.waiting(CONNECTION).saturating_add(more))?;
+    happens(daemon, page, takes)?;
+    Some(came)
+}
+
+/// The same with one more.
 pub fn streams<T: RangeTable, S: HostStore>(
     daemon: &mut Daemon<T, S>,
     page: &mut Page<'_>,
 ) -> Option<bool> {
-    let came = comes(daemon, page)?;
-    let takes = page.takes(daemon.waiting(CONNECTION).saturating_add(1))?;
-    happens(daemon, page, takes)?;
-    Some(came)
+    taken(daemon, page, 1)
 }
 
 /// Whether the stream of the last lines is answered as it should, if there is one.

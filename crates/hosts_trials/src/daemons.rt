@@ -2,11 +2,11 @@
 //! that begins anew over them.
 use crate::stops::{Stop, Trial, after_crash, are_met, stopping};
 use crate::visits::{Trials, Work, visit_files};
-use daemon_core::{Daemon, Frame};
-use hosts_db::HostStore;
-use hosts_scripts::{
-    Deed, Line, are_rows_after, goes, notifies, parted, played, shown, with_daemon,
+use daemon_core::Daemon;
+use daemon_scripts::{
+    Deed, Line, are_rows_after, goes_well, lines_done, notifies, parted, shown, with_daemon,
 };
+use hosts_db::HostStore;
 use range_table::RangeTable;
 use std::alloc::Global;
 use std::test::*;
@@ -21,8 +21,8 @@ struct Play<'a> {
 }
 
 impl Deed for Play<'_> {
-    fn act<T: RangeTable, S: HostStore>(&mut self, daemon: &mut Daemon<T, S>, room: &mut Frame) {
-        self.done = played(self.alloc, daemon, room, self.script);
+    fn act<T: RangeTable, S: HostStore>(&mut self, daemon: &mut Daemon<T, S>) {
+        self.done = lines_done(self.alloc, daemon, self.script);
     }
 }
 
@@ -54,37 +54,27 @@ impl Anew<'_> {
     }
 
     // Whether a host whose lock was granted, or waited, has a row, and who had one granted is granted it again.
-    fn stands<T: RangeTable, S: HostStore>(
-        &self,
-        daemon: &mut Daemon<T, S>,
-        room: &mut Frame,
-        line: &str,
-    ) -> bool {
-        let Line { event, answer, .. } = parted(line);
-        let is_granted = answer.ends_with(" granted");
-        if !is_granted && !answer.ends_with(" blocked") {
+    fn stands<T: RangeTable, S: HostStore>(&self, daemon: &mut Daemon<T, S>, line: &str) -> bool {
+        let Line { event, .. } = parted(line);
+        let is_granted = event.ends_with(" = granted");
+        if !is_granted && !event.ends_with(" = blocked") {
             return true;
         }
-        let (_, behind) = event.split_once("-").unwrap_or((event, ""));
-        let (name, _) = behind.split_once(" ").unwrap_or((behind, ""));
+        let name = event.split_whitespace().nth(2).unwrap_or("");
         daemon.store().host(name.as_bytes()).is_some()
             && (!is_granted
-                || goes(self.alloc, daemon, room, "9 reclaim-a 0 10 = 9 granted") == Some(true))
+                || goes_well(self.alloc, daemon, "9 reclaim a 0 10 = granted") == Some(true))
     }
 
     // Whether the daemon begins anew, tells just the stored hosts of it, and leaves whoever had a lock its row and its lock.
-    fn begins<T: RangeTable, S: HostStore>(
-        &self,
-        daemon: &mut Daemon<T, S>,
-        room: &mut Frame,
-    ) -> bool {
-        if played(self.alloc, daemon, room, "restart\nconnect") != Some(2)
-            || !notifies(self.alloc, daemon, room)
+    fn begins<T: RangeTable, S: HostStore>(&self, daemon: &mut Daemon<T, S>) -> bool {
+        if lines_done(self.alloc, daemon, "restart\nconnect pipe") != Some(2)
+            || !notifies(self.alloc, daemon)
         {
             return false;
         }
         for line in self.script.lines().take(self.done) {
-            if !self.stands(daemon, room, line) {
+            if !self.stands(daemon, line) {
                 return false;
             }
         }
@@ -93,8 +83,8 @@ impl Anew<'_> {
 }
 
 impl Deed for Anew<'_> {
-    fn act<T: RangeTable, S: HostStore>(&mut self, daemon: &mut Daemon<T, S>, room: &mut Frame) {
-        self.is_so = self.begins(daemon, room);
+    fn act<T: RangeTable, S: HostStore>(&mut self, daemon: &mut Daemon<T, S>) {
+        self.is_so = self.begins(daemon);
     }
 }
 
@@ -167,84 +157,84 @@ const RESTART: &str = "restart -> 1;\nrestart -> 3;";
 
 const LOCK: &str = "\
 restart -> 1;
-over
-connect
-2 lock-a 0 10 = 2 granted or 2 no-locks -> 1; a 1 3 65536;
+grace-over
+connect pipe
+2 lock a 0 10 = granted or no-locks -> 1; a 1 3 65536;
 ";
 
 const BLOCKED_LOCK: &str = "\
 restart -> 1;
-over
-connect
-2 lock-a 0 10 = 2 granted or 2 no-locks -> 1; a 1 3 65536;
-3 block-b 0 10 = 3 blocked or 3 no-locks -> 1; a 1 3 65536; b 1 3 65536;
+grace-over
+connect pipe
+2 lock a 0 10 = granted or no-locks -> 1; a 1 3 65536;
+3 block b 0 10 = blocked or no-locks -> 1; a 1 3 65536; b 1 3 65536;
 ";
 
 const NOTIFY: &str = "\
 restart -> 1;
-over
-connect
-2 lock-a 0 10 = 2 granted or 2 no-locks -> 1; a 1 3 65536;
-3 notify-a 5 = 3 done or 3 system-err -> 1; a 1 5 65536;
+grace-over
+connect pipe
+2 lock a 0 10 = granted or no-locks -> 1; a 1 3 65536;
+3 notify a 5 = done or system-err -> 1; a 1 5 65536;
 ";
 
 /// The host has its lock again when it answers.
 const NOTICE_ANSWERED: &str = "\
 restart -> 1;
-over
-connect
-2 lock-a 0 10 = 2 granted or 2 no-locks -> 1; a 1 3 65536;
+grace-over
+connect pipe
+2 lock a 0 10 = granted or no-locks -> 1; a 1 3 65536;
 restart -> 3; a 1 3 65536;
-connect
-3 reclaim-a 0 10 = 3 granted
-send a = 1 notice 3
-answer 1 agreed -> 3; a 3 3 65536;
+connect pipe
+3 reclaim a 0 10 = granted
+sends a 1 notice 3
+answer 1 done -> 3; a 3 3 65536;
 ";
 
 const MON: &str = "\
 restart -> 1;
-connect
-2 mon-a = 2 monitored 1 or 2 not-monitored 1 -> 1; a 1 0 65536; a server 200000 1 1 000102030405060708090a0b0c0d0e0f;
+connect pipe
+2 mon a 1 = monitored 1 or not-monitored 1 -> 1; a 1 0 65536; a server 200000 1 1 000102030405060708090a0b0c0d0e0f;
 ";
 
 /// Of a host that has a row.
 const MON_OF_STORED: &str = "\
 restart -> 1;
-over
-connect
-2 lock-a 0 10 = 2 granted or 2 no-locks -> 1; a 1 3 65536;
-3 mon-a = 3 monitored 1 or 3 not-monitored 1 -> 1; a 1 3 65536; a server 200000 1 1 000102030405060708090a0b0c0d0e0f;
+grace-over
+connect pipe
+2 lock a 0 10 = granted or no-locks -> 1; a 1 3 65536;
+3 mon a 1 = monitored 1 or not-monitored 1 -> 1; a 1 3 65536; a server 200000 1 1 000102030405060708090a0b0c0d0e0f;
 ";
 
 const UNMON: &str = "\
 restart -> 1;
-connect
-2 mon-a = 2 monitored 1 or 2 not-monitored 1 -> 1; a 1 0 65536; a server 200000 1 1 000102030405060708090a0b0c0d0e0f;
-3 unmon-a = 3 state 1 or 3 system-err -> 1; a 1 0 65536;
+connect pipe
+2 mon a 1 = monitored 1 or not-monitored 1 -> 1; a 1 0 65536; a server 200000 1 1 000102030405060708090a0b0c0d0e0f;
+3 unmon a 1 = state 1 or system-err -> 1; a 1 0 65536;
 ";
 
 const UNMON_ALL: &str = "\
 restart -> 1;
-connect
-2 mon-a = 2 monitored 1 or 2 not-monitored 1 -> 1; a 1 0 65536; a server 200000 1 1 000102030405060708090a0b0c0d0e0f;
-3 mon-b = 3 monitored 1 or 3 not-monitored 1 -> 1; a 1 0 65536; b 1 0 65536; a server 200000 1 1 000102030405060708090a0b0c0d0e0f; b server 200000 1 1 000102030405060708090a0b0c0d0e0f;
-4 unmon-all = 4 state 1 or 4 system-err -> 1; a 1 0 65536; b 1 0 65536;
+connect pipe
+2 mon a 1 = monitored 1 or not-monitored 1 -> 1; a 1 0 65536; a server 200000 1 1 000102030405060708090a0b0c0d0e0f;
+3 mon b 1 = monitored 1 or not-monitored 1 -> 1; a 1 0 65536; b 1 0 65536; a server 200000 1 1 000102030405060708090a0b0c0d0e0f; b server 200000 1 1 000102030405060708090a0b0c0d0e0f;
+4 unmon-all 1 = state 1 or system-err -> 1; a 1 0 65536; b 1 0 65536;
 ";
 
 const QUOTA: &str = "\
 restart -> 1;
-over
-connect
-2 lock-a 0 10 = 2 granted or 2 no-locks -> 1; a 1 3 65536;
-local quota 61 5 = ok or refused -> 1; a 1 3 5;
+grace-over
+connect pipe
+2 lock a 0 10 = granted or no-locks -> 1; a 1 3 65536;
+local |quota 61 5| ok or refused -> 1; a 1 3 5;
 ";
 
 const CRASH: &str = "\
 restart -> 1;
-over
-connect
-2 lock-a 0 10 = 2 granted or 2 no-locks -> 1; a 1 3 65536;
-3 crash = 3 done or 3 system-err -> 3; a 1 3 65536;
+grace-over
+connect pipe
+2 lock a 0 10 = granted or no-locks -> 1; a 1 3 65536;
+3 crash = done or system-err -> 3; a 1 3 65536;
 ";
 
 const SCRIPTS: &[&str] = &[

@@ -2,9 +2,9 @@
 //! and holds then, and how often it is asked to write in all.
 use crate::tables::SECOND;
 use crate::visits::{Work, fresh, visit_files};
-use daemon_core::{Daemon, Frame};
+use daemon_core::Daemon;
+use daemon_scripts::{Deed, Server, first_wrong, parted, with_daemon};
 use hosts_db::HostStore;
-use hosts_scripts::{Deed, Server, parted, with_daemon, wrong_line};
 use range_table::RangeTable;
 use std::alloc::Global;
 use std::test::*;
@@ -18,8 +18,8 @@ struct Play {
 }
 
 impl Deed for Play {
-    fn act<T: RangeTable, S: HostStore>(&mut self, daemon: &mut Daemon<T, S>, room: &mut Frame) {
-        self.wrong = wrong_line(self.alloc, daemon, room, self.server);
+    fn act<T: RangeTable, S: HostStore>(&mut self, daemon: &mut Daemon<T, S>) {
+        self.wrong = first_wrong(self.alloc, daemon, self.server);
     }
 }
 
@@ -68,122 +68,122 @@ impl Work for Servers<'_> {
 
 const GRACE: &str = "\
 restart -> 1;
-connect
-30 lock-a 0 10 = 30 in-grace
-31 reclaim-a 0 10 = 31 granted -> 1; a 1 3 65536;
-32 test-b = 32 in-grace
-over
-33 reclaim-a 0 10 = 33 in-grace
+connect pipe
+30 lock a 0 10 = in-grace
+31 reclaim a 0 10 = granted -> 1; a 1 3 65536;
+32 test b 0 0 = in-grace
+grace-over
+33 reclaim a 0 10 = in-grace
 ";
 
 const SHARE_CONFLICT: &str = "\
 restart -> 1;
-over
-connect
-46 share-a 2 1 = 46 shared
-47 share-b 0 2 = 47 not-shared
+grace-over
+connect pipe
+46 share a 2 1 = shared
+47 share b 0 2 = not-shared
 ";
 
 /// Only who asks by a blocking LOCK gets a row, and he has one place. Who is freed waits no longer.
 const ROWS_OF_WAITERS: &str = "\
 restart -> 1;
-over
-connect
-133 lock-a 0 1 = 133 granted -> 1; a 1 3 65536;
-134 nm-block-b 0 1 = 134 blocked
-135 block-b 0 1 = 135 blocked -> 1; a 1 3 65536; b 1 3 65536;
-136 free-all-b = 136 done
-137 test-b = 137 held-a 0 1
-138 unlock-a 0 1 = 138 granted
-send
+grace-over
+connect pipe
+133 lock a 0 1 = granted -> 1; a 1 3 65536;
+134 nm-block b 0 1 = blocked
+135 block b 0 1 = blocked -> 1; a 1 3 65536; b 1 3 65536;
+136 free-all b = done
+137 test b 0 0 = held a 0 1
+138 unlock a 0 1 = granted
+quiet
 ";
 
 /// The result is told, and once the server begins anew each host is told of that.
 const MESSAGE_LOCK_AND_RESTART: &str = "\
 restart -> 1;
-over
-connect
-7 lock-msg-a 0 10 = 7 done -> 1; a 1 3 65536;
-send a = 1 lock-res 7 0
-send
-8 lock-b 20 1 = 8 granted -> 1; a 1 3 65536; b 1 3 65536;
+grace-over
+connect pipe
+7 lock-msg a 0 10 = done -> 1; a 1 3 65536;
+sends a 1 lock-res 7 0
+quiet
+8 lock b 20 1 = granted -> 1; a 1 3 65536; b 1 3 65536;
 restart -> 3; a 1 3 65536; b 1 3 65536;
-connect
-send a = 1 notice 3
-send b = 2 notice 3
-send
+connect pipe
+sends a 1 notice 3
+sends b 2 notice 3
+quiet
 ";
 
 /// A state that was seen changes nothing; another drops the host, once.
 const NOTIFY: &str = "\
 restart -> 1;
-over
-connect
-34 lock-a 0 10 = 34 granted -> 1; a 1 3 65536;
-35 block-b 0 10 = 35 blocked -> 1; a 1 3 65536; b 1 3 65536;
-200 notify-a 3 = 200 done
-201 test-c = 201 held-a 0 10
-send
-202 notify-a 5 = 202 done -> 1; a 1 5 65536; b 1 3 65536;
-send b = 1 grant-b 1 0 10
-203 notify-a 5 = 203 done
-204 test-c = 204 held-b 0 10
-send
+grace-over
+connect pipe
+34 lock a 0 10 = granted -> 1; a 1 3 65536;
+35 block b 0 10 = blocked -> 1; a 1 3 65536; b 1 3 65536;
+200 notify a 3 = done
+201 test c 0 0 = held a 0 10
+quiet
+202 notify a 5 = done -> 1; a 1 5 65536; b 1 3 65536;
+sends b 1 grant b 1 0 10
+203 notify a 5 = done
+204 test c 0 0 = held b 0 10
+quiet
 ";
 
 /// Only a local peer may have a host watched and the server begin anew, which keeps the connections.
 const MONITOR_AND_SIMULATED_CRASH: &str = "\
 restart -> 1;
-over
-connect
+grace-over
+connect pipe
 disconnect
 connect afar
-130 mon-a = 130 not-monitored 1
+130 mon a 1 = not-monitored 1
 disconnect
-connect
-131 mon-a = 131 monitored 1 -> 1; a 1 0 65536; a server 200000 1 1 000102030405060708090a0b0c0d0e0f;
-205 notify-a 5 = 205 done -> 1; a 1 5 65536; a server 200000 1 1 000102030405060708090a0b0c0d0e0f;
-send server = 1 status-a 5
-206 unmon-a = 206 state 1 -> 1; a 1 5 65536;
-207 notify-a 7 = 207 done -> 1; a 1 7 65536;
-send
+connect pipe
+131 mon a 1 = monitored 1 -> 1; a 1 0 65536; a server 200000 1 1 000102030405060708090a0b0c0d0e0f;
+205 notify a 5 = done -> 1; a 1 5 65536; a server 200000 1 1 000102030405060708090a0b0c0d0e0f;
+sends server 1 status a 1 5
+206 unmon a 1 = state 1 -> 1; a 1 5 65536;
+207 notify a 7 = done -> 1; a 1 7 65536;
+quiet
 disconnect
 connect afar
-210 crash = 210 done
-211 stat-a = 211 monitored 1
+210 crash = done
+211 stat a = monitored 1
 disconnect
-connect
-208 crash = 208 done -> 3; a 1 7 65536;
-209 stat-a = 209 monitored 3
-send a = 1 notice 3
-send
-132 lock-a 0 1 = 132 in-grace
+connect pipe
+208 crash = done -> 3; a 1 7 65536;
+209 stat a = monitored 3
+sends a 1 notice 3
+quiet
+132 lock a 0 1 = in-grace
 ";
 
 /// Who acknowledges a notice has the own state that it told as its epoch.
 const EPOCH_NOTED: &str = "\
 restart -> 1;
-over
-connect
-2 lock-a 0 10 = 2 granted -> 1; a 1 3 65536;
-3 lock-b 20 1 = 3 granted -> 1; a 1 3 65536; b 1 3 65536;
+grace-over
+connect pipe
+2 lock a 0 10 = granted -> 1; a 1 3 65536;
+3 lock b 20 1 = granted -> 1; a 1 3 65536; b 1 3 65536;
 restart -> 3; a 1 3 65536; b 1 3 65536;
-connect
-send a = 1 notice 3
-answer 1 agreed -> 3; a 3 3 65536; b 1 3 65536;
-send b = 2 notice 3
-send
+connect pipe
+sends a 1 notice 3
+answer 1 done -> 3; a 3 3 65536; b 1 3 65536;
+sends b 2 notice 3
+quiet
 ";
 
 /// An answer to no call, one of 3 bytes, and the silence of a call that isn't there: nothing, three times.
 const STRAY_ANSWERS: &str = "\
 restart -> 1;
-over
-connect
-answer 9 agreed
-answer-cut 9 agreed
+grace-over
+connect pipe
+answer 9 done
+answer-cut 9 done
 silent 1 9
-send
+quiet
 ";
 
 /// A row of `a`, and the watch of it.
@@ -201,76 +201,76 @@ const HIGHEST_ROWS: &str =
 
 const STATE_WRAPS: &str = "\
 restart -> 1; a 1 3 65536; a server 200000 1 1 07070707070707070707070707070707;
-over
-connect
-12 stat-a = 12 monitored 1
+grace-over
+connect pipe
+12 stat a = monitored 1
 ";
 
 /// A database that was not started since refuses each row, and nothing changes but what asks for none.
 const ROWS_REFUSED: &str = "\
-over
-connect
-48 lock-b 0 1 = 48 no-locks -> refused
-49 test-c = 49 granted
-50 notify-a 5 = 50 system-err -> refused
-51 unmon-a = 51 system-err -> refused
-52 mon-b = 52 not-monitored 1 -> refused
-53 lock-a 0 1 = 53 granted
-send
+grace-over
+connect pipe
+48 lock b 0 1 = no-locks -> refused
+49 test c 0 0 = granted
+50 notify a 5 = system-err -> refused
+51 unmon a 1 = system-err -> refused
+52 mon b 1 = not-monitored 1 -> refused
+53 lock a 0 1 = granted
+quiet
 ";
 
 const QUOTA_REFUSED: &str = "\
-over
-local quota 61 5 = refused -> refused
-local quota 62 5 = absent
+grace-over
+local |quota 61 5| refused -> refused
+local |quota 62 5| absent
 ";
 
 /// Where the row of a new host is refused, its LOCK changes nothing; an NM_LOCK asks for no row.
 const HOST_REFUSED: &str = "\
-over
-connect
-48 lock-b 0 1 = 48 no-locks -> refused
-49 test-a = 49 granted
-50 nm-lock-b 0 1 = 50 granted
-51 lock-a 0 1 = 51 denied
+grace-over
+connect pipe
+48 lock b 0 1 = no-locks -> refused
+49 test a 0 0 = granted
+50 nm-lock b 0 1 = granted
+51 lock a 0 1 = denied
 ";
 
 /// The first LOCK of a host stores its row, and no other call does.
 const FIRST_HOST: &str = "\
 restart -> 1;
-over
-connect
-2 lock-a 0 10 = 2 granted -> 1; a 1 3 65536;
-3 lock-a 20 1 = 3 granted
-4 nm-lock-b 30 1 = 4 granted
-5 lock-b 0 1 = 5 denied
+grace-over
+connect pipe
+2 lock a 0 10 = granted -> 1; a 1 3 65536;
+3 lock a 20 1 = granted
+4 nm-lock b 30 1 = granted
+5 lock b 0 1 = denied
 ";
 
 /// After a restart the first host is still known, and the locks are gone.
 const SECOND_HOST: &str = "\
 restart -> 3; a 1 3 65536;
-over
-connect
-6 test-b = 6 granted
-7 lock-a 0 10 = 7 granted
-8 lock-b 10 1 = 8 granted -> 3; a 1 3 65536; b 3 3 65536;
+grace-over
+connect pipe
+6 test b 0 0 = granted
+7 lock a 0 10 = granted
+8 lock b 10 1 = granted -> 3; a 1 3 65536; b 3 3 65536;
 ";
 
 /// Both, of one server that begins anew.
 const BOTH_HOSTS: &str = "\
 restart -> 1;
-over
-connect
-2 lock-a 0 10 = 2 granted -> 1; a 1 3 65536;
-3 lock-a 20 1 = 3 granted
-4 nm-lock-b 30 1 = 4 granted
-5 lock-b 0 1 = 5 denied
+grace-over
+connect pipe
+2 lock a 0 10 = granted -> 1; a 1 3 65536;
+3 lock a 20 1 = granted
+4 nm-lock b 30 1 = granted
+5 lock b 0 1 = denied
 restart -> 3; a 1 3 65536;
-over
-connect
-6 test-b = 6 granted
-7 lock-a 0 10 = 7 granted
-8 lock-b 10 1 = 8 granted -> 3; a 1 3 65536; b 3 3 65536;
+grace-over
+connect pipe
+6 test b 0 0 = granted
+7 lock a 0 10 = granted
+8 lock b 10 1 = granted -> 3; a 1 3 65536; b 3 3 65536;
 ";
 
 const FRESH: [&str; 2] = ["", ""];

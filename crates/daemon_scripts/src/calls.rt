@@ -8,18 +8,18 @@ use std::str::SplitWhitespace;
 
 /// The words of a line. One that isn't there is empty.
 #[derive(Clone, Copy)]
-pub(crate) struct Words<'a> {
-    pub(crate) call: &'a str,
-    pub(crate) first: &'a str,
-    pub(crate) second: &'a str,
-    pub(crate) third: &'a str,
+struct Words<'a> {
+    call: &'a str,
+    first: &'a str,
+    second: &'a str,
+    third: &'a str,
 }
 
 fn next<'a>(words: &mut SplitWhitespace<'a>) -> &'a str {
     words.next().unwrap_or("")
 }
 
-pub(crate) fn words_of(line: &str) -> Words<'_> {
+fn words_of(line: &str) -> Words<'_> {
     let mut words = line.split_whitespace();
     Words {
         call: next(&mut words),
