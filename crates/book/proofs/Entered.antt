@@ -1,5 +1,5 @@
 -- What a book keeps, with one entry more.
-use Rattle.std.proofs.Common.{arith, map, subst, ◌≡◌, ℕ, ◌<◌, List, ◌∷◌, [], ◌+◌, ◌-◌, ◌++◌, length, refl, sym, ap}
+use Rattle.std.proofs.Common.{arith, map, subst, ◌≡◌, ℕ, ◌<◌, List, ◌∷◌, [], ◌+◌, ◌-◌, ◌^◌, ◌++◌, length, refl, sym, ap}
 use Rattle.std.specs.Prelude.{vec_len, vec_capacity}
 use Rattle.std.specs.declared.vec.Vec.{Vec}
 use Rattle.std.proofs.lemmas.Grind.{common_steps}
@@ -9,9 +9,28 @@ use Rattle.book.specs.declared.entry.TheConstants.{SEGMENT}
 use Rattle.book.specs.declared.entry.Entry.{Entry}
 use Rattle.book.specs.Given.{Upshot}
 use Rattle.book.specs.Notes.{Happening, Note, view_of_entry, Steps}
-use Rattle.book.specs.Journal.{IsLegal, next_of, noted}
+use Rattle.book.specs.Journal.{IsLegal, next_of, noted, room_of}
 use Rattle.book.specs.Kept.{journal_of, IsKept}
 use Rattle.book.proofs.Journals.{legal_grows, same_journal}
+
+-- where there is room for one entry more, the segment is not full, and the next number fits
+module _ {Z : Type 0} (newest : ℕ) (base s : State) (entries : Vec Entry Z) where
+  pub room_left : 0 < room_of (journal_of newest base entries s) → vec_len entries < SEGMENT
+  room_left room =
+      let same = length-map entries.items view_of_entry in
+      grind (arith, common_steps, room, same)
+
+  pub place_left : IsKept newest base entries s → 0 < room_of (journal_of newest base entries s) → vec_len entries < vec_capacity entries
+  place_left kept room =
+      let r = kept.room in
+      let left = room_left room in
+      omega arith
+
+  pub number_left : IsKept newest base entries s → 0 < room_of (journal_of newest base entries s) → newest < 2 ^ 64 - 1
+  number_left kept room =
+      let k = kept.numbers in
+      let same = length-map entries.items view_of_entry in
+      grind (arith, common_steps, k, room, same)
 
 module _ {Z : Type 0} (newest : ℕ) (base s new : State) (entries more : Vec Entry Z) (e : Entry) (event : Happening) (upshot : Upshot) where
   abbrev note : Note

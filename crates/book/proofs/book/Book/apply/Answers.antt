@@ -1,12 +1,9 @@
-use Rattle.std.proofs.Common.{arith, ◌≡◌, ◌+◌, ◌<◌, sym, ap, ◌∙◌}
-use Rattle.std.specs.Prelude.{vec_len}
-use Rattle.std.proofs.lemmas.Grind.{common_steps}
+use Rattle.std.proofs.Common.{◌≡◌, ◌+◌, sym, ap, ◌∙◌}
 use Rattle.call_plans.specs.Planned.{view_of_stored}
-use Rattle.book.specs.declared.entry.TheConstants.{SEGMENT}
 use Rattle.book.specs.Given.{Upshot, comes_to, view_of_doing}
 use Rattle.book.specs.Notes.{Note, given_in, view_of_event}
 use Rattle.book.specs.Kept.{IsKept}
-use Rattle.book.proofs.Entered.{kept_grows}
+use Rattle.book.proofs.Entered.{kept_grows, noted_as, room_left, place_left, number_left}
 use Rattle.book.proofs.book.Book.apply.Goals as goal
 
 -- the entry notes what the event came to
@@ -20,10 +17,29 @@ kept : (g : _) (c : goal.After-enter g) → IsKept c.enter.new.newest c.self.ins
 kept g c =
     let i = c.self.inside in
     let r = rw (← c.self.view_is) at c.requires in
-    let room : vec_len i.entries < SEGMENT = grind (arith, common_steps, r) in
+    let room = room_left i.newest i.base.value.state i.shared.state i.entries r in
     let note = ap (λ (u : Upshot). let n : Note = record { number = i.newest + 1; event = view_of_event c.args.event; upshot = u } in n) (noted g c) in
     rw c.enter.ensures.newest
     (kept_grows i.newest i.base.value.state i.shared.state c.apply-upshot.new.self.state i.entries c.enter.new.entries _ (view_of_event c.args.event) c.apply-upshot.result.0 c.self.invariant room c.enter.ensures.entries c.enter.ensures.room (rw c.apply-upshot.ensures.event note) c.apply-upshot.ensures.step)
+
+pub enter-requires-clause-room : goal.enter-requires-clause-room
+enter-requires-clause-room g c =
+    let i = c.self.inside in
+    let r = rw (← c.self.view_is) at c.requires in
+    place_left i.newest i.base.value.state i.shared.state i.entries c.self.invariant r
+
+pub enter-requires-clause-number : goal.enter-requires-clause-number
+enter-requires-clause-number g c =
+    let i = c.self.inside in
+    let r = rw (← c.self.view_is) at c.requires in
+    number_left i.newest i.base.value.state i.shared.state i.entries c.self.invariant r
+
+pub returns-clause-enters : goal.returns-clause-enters
+returns-clause-enters g c =
+    let i = c.self.inside in
+    let note = ap (λ (u : Upshot). let n : Note = record { number = i.newest + 1; event = view_of_event c.args.event; upshot = u } in n) (noted g c) in
+    let journal = noted_as i.newest i.base.value.state i.shared.state c.apply-upshot.new.self.state i.entries c.enter.new.entries _ (view_of_event c.args.event) c.apply-upshot.result.0 c.self.invariant c.enter.ensures.entries (rw c.apply-upshot.ensures.event note) in
+    rw (← c.self.view_is, c.enter.ensures.newest) (record { steps = c.apply-upshot.ensures.step; journal = journal; refusals = c.apply-upshot.ensures.counts; fed = c.apply-upshot.ensures.fed })
 
 pub invariant_of-self : goal.invariant_of-self
 invariant_of-self g c = kept g c

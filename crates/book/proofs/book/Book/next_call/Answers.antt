@@ -1,13 +1,10 @@
-use Rattle.std.proofs.Common.{arith, ◌<◌, refl}
-use Rattle.std.specs.Prelude.{vec_len}
-use Rattle.std.proofs.lemmas.Grind.{common_steps}
+use Rattle.std.proofs.Common.{refl}
 use Rattle.definitions.specs.Hosts.{NotAsked}
 use Rattle.definitions.specs.Step.{Send, Applied, Sends}
-use Rattle.book.specs.declared.entry.TheConstants.{SEGMENT}
 use Rattle.book.specs.Given.{comes_to}
 use Rattle.book.specs.Notes.{SendsNext, Steps}
 use Rattle.book.specs.Kept.{IsKept}
-use Rattle.book.proofs.Entered.{kept_grows, noted_as}
+use Rattle.book.proofs.Entered.{kept_grows, noted_as, room_left, place_left, number_left}
 use Rattle.book.proofs.book.Book.next_call.Goals as goal
 
 step : (g : _) (c : goal.After-sending-2-1 g) → Steps c.self.inside.shared.state SendsNext (comes_to Applied NotAsked (Sends c.in_ok-sending.sending.number c.in_ok-sending.sending.letter.value)) c.send.new.self.state
@@ -17,9 +14,21 @@ kept : (g : _) (c : goal.After-sending-2-1 g) → IsKept c.enter.new.newest c.se
 kept g c =
     let s = c.in_ok-sending.sending in
     let r = rw (← c.self.view_is) at c.requires in
-    let room : vec_len c.self.inside.entries < SEGMENT = grind (arith, common_steps, r) in
+    let room = room_left c.self.inside.newest c.self.inside.base.value.state c.self.inside.shared.state c.self.inside.entries r in
     rw c.enter.ensures.newest
     (kept_grows c.self.inside.newest c.self.inside.base.value.state c.self.inside.shared.state c.send.new.self.state c.self.inside.entries c.enter.new.entries _ SendsNext (comes_to Applied NotAsked (Sends s.number s.letter.value)) c.self.invariant room c.enter.ensures.entries c.enter.ensures.room refl (step g c))
+
+pub enter-requires-clause-room : goal.enter-requires-clause-room
+enter-requires-clause-room g c =
+    let i = c.self.inside in
+    let r = rw (← c.self.view_is) at c.requires in
+    place_left i.newest i.base.value.state i.shared.state i.entries c.self.invariant r
+
+pub enter-requires-clause-number : goal.enter-requires-clause-number
+enter-requires-clause-number g c =
+    let i = c.self.inside in
+    let r = rw (← c.self.view_is) at c.requires in
+    number_left i.newest i.base.value.state i.shared.state i.entries c.self.invariant r
 
 pub returns-clause-sends : goal.returns-clause-sends
 returns-clause-sends g c =
