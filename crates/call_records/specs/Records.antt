@@ -7,9 +7,10 @@ use Rattle.definitions.specs.Nsm.{MyId}
 use Rattle.definitions.specs.Outgoing.{Message, Granted, GrantedMsg, GrantedLine, TestResult, LockResult, CancelResult, UnlockResult, Status, Notify}
 use Rattle.rpc_msg.specs.Grammar.{written_call}
 use Rattle.local_ops.specs.Texts.{granted_line}
-use Rattle.nlm4_types.specs.Version.{version_number}
+use Rattle.nlm4_types.specs.Version.{program as nlm_program, version_number}
 use Rattle.nlm4_types.specs.Messages.{grant_bytes, testres_bytes}
 use Rattle.nlm4_types.specs.Results.{res}
+use Rattle.nsm_types.specs.Call as nsm_call
 use Rattle.nsm_types.specs.Arguments.{stat_chge, status}
 use Rattle.call_records.specs.declared.callee.Callee.{Callee}
 
@@ -19,11 +20,11 @@ record_to number to arguments = written_call (number % 2 ^ 32) to.program to.ver
 
 -- a procedure of a client's lock manager, in the version of the call that it belongs to
 abbrev pub lock_manager : Version → ℕ → Callee
-lock_manager version procedure = record { program = 100021; version = version_number version; procedure = procedure }
+lock_manager version procedure = record { program = nlm_program; version = version_number version; procedure = procedure }
 
 -- SM_NOTIFY of a client's status monitor
 abbrev pub status_monitor : Callee
-status_monitor = record { program = 100024; version = 1; procedure = 6 }
+status_monitor = record { program = nsm_call.program; version = nsm_call.version; procedure = 6 }
 
 -- the program, version and procedure that a watcher named, as words
 abbrev pub watcher : MyId → Callee

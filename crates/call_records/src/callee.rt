@@ -6,19 +6,12 @@ ghost use Rattle.call_records.specs.Records.{lock_manager, record_to, status_mon
 ghost use Rattle.call_records.specs.Parts.{arguments_bytes};
 
 use callbacks::MyId;
-use nlm4_types::{NlmMessage, Version};
-use nsm_types::NsmMessage;
+use nlm4_types::{NlmMessage, PROGRAM as NLM_PROGRAM, Version};
+use nsm_types::{NsmMessage, PROGRAM as NSM_PROGRAM, VERSION as NSM_VERSION};
 use rpc_msg::put_call;
 use xdr_core::{Frame, FrameFull};
 
-/// The lock manager's program (XNFS; RFC 1813, appendix II).
-const NLM_PROGRAM: u32 = 100_021;
-
-/// The status monitor's program (XNFS), its only version, and the procedure that tells it of a restart.
-const NSM_PROGRAM: u32 = 100_024;
-
-const NSM_VERSION: u32 = 1;
-
+/// The procedure that tells a status monitor of a restart (XNFS).
 const SM_NOTIFY: u32 = 6;
 
 /// A procedure of a program's version (RFC 5531, section 8.1).

@@ -4,6 +4,10 @@ use Rattle.definitions.specs.Nlm as nlm
 use Rattle.nlm4_types.specs.declared.version.Version.{Version}
 use Rattle.nlm4_types.specs.declared.version.Version.TheVariants.{V1, V3, V4}
 
+-- the lock manager's program
+abbrev pub program : ℕ
+program = 100021
+
 abbrev pub view_of_version : Version → nlm.Version
 view_of_version V1 = nlm.V1
 view_of_version V3 = nlm.V3

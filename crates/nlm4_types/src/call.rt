@@ -1,18 +1,17 @@
 ghost use Rattle.std.specs.Prelude.{◌≡◌, ◌==◌, ◌++◌, List, ℕ, true, false, Err, IfOk, OnErr, ◌↔◌};
 ghost use Rattle.xdr_core.specs.Codec.{Front, Gives};
-ghost use Rattle.nlm4_types.specs.declared.error.CallError.TheVariants.{Starved, NoSuchProc, GarbageArgs};
+ghost use Rattle.xdr_core.specs.declared.error.CallError.TheVariants.{Starved, NoSuchProc, GarbageArgs};
 ghost use Rattle.definitions.specs.Nlm as nlm;
 ghost use Rattle.nlm4_types.specs.Version.{view_of_version, is_wide};
 ghost use Rattle.nlm4_types.specs.Call.{view_of_call, is_known_in, call_of, call};
 
 use crate::arguments::{CancelArgs, LockArgs, TestArgs, UnlockArgs};
-use crate::error::CallError;
 use crate::notify::Notify;
 use crate::offset::{NARROW, WIDE};
 use crate::results::Res;
 use crate::shares::ShareArgs;
 use crate::version::Version;
-use xdr_core::{Cursor, Wire, XdrError};
+use xdr_core::{CallError, Cursor, Wire, XdrError};
 
 /// A call of a procedure that the server answers, whatever its version. It borrows from the record.
 #[derive(Clone, Copy)]

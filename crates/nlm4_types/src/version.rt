@@ -2,6 +2,9 @@ ghost use Rattle.std.specs.Prelude.{◌≡◌};
 ghost use Rattle.std.specs.Option.{option_map};
 ghost use Rattle.nlm4_types.specs.Version.{view_of_version, version_number, numbered_version};
 
+/// The lock manager's program (XNFS; RFC 1813, appendix II).
+pub const PROGRAM: u32 = 100_021;
+
 /// A version of the protocol that is served (XNFS; RFC 1813, appendix II).
 #[derive(Clone, Copy, PartialEq, Eq)]
 pub enum Version {

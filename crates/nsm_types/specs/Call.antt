@@ -7,6 +7,13 @@ use Rattle.nsm_types.specs.declared.call.NsmCall.{NsmCall}
 use Rattle.nsm_types.specs.declared.call.NsmCall.TheVariants.{Null, Stat, Mon, Unmon, UnmonAll, SimuCrash, Notify}
 use Rattle.nsm_types.specs.Arguments.{MonArgs, MonIdArgs, StatChgeArgs, view_of_my_id, name, my_id, mon_id, mon, stat_chge}
 
+-- the status monitor's program, and its only version
+abbrev pub program : ℕ
+program = 100024
+
+abbrev pub version : ℕ
+version = 1
+
 abbrev pub view_of_call : NsmCall → nsm.NsmCall
 view_of_call Null = nsm.SmNull
 view_of_call (Stat a) = nsm.SmStat a.bytes.now

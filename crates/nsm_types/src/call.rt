@@ -1,12 +1,17 @@
 ghost use Rattle.std.specs.Prelude.{◌≡◌, ◌++◌, ◌↔◌, List, ℕ, false, Err, IfOk, OnErr};
 ghost use Rattle.definitions.specs.Nsm as nsm;
 ghost use Rattle.xdr_core.specs.Codec.{Front, Gives};
-ghost use Rattle.nsm_types.specs.declared.error.CallError.TheVariants.{Starved, NoSuchProc, GarbageArgs};
+ghost use Rattle.xdr_core.specs.declared.error.CallError.TheVariants.{Starved, NoSuchProc, GarbageArgs};
 ghost use Rattle.nsm_types.specs.Call.{view_of_call, is_known_number, arguments_of, call};
 
 use crate::arguments::{Mon, MonId, MyId, Name, StatChge};
-use crate::error::CallError;
-use xdr_core::{Cursor, Wire, XdrError};
+use xdr_core::{CallError, Cursor, Wire, XdrError};
+
+/// The status monitor's program (XNFS).
+pub const PROGRAM: u32 = 100_024;
+
+/// Its only version.
+pub const VERSION: u32 = 1;
 
 /// A call of the status monitor (XNFS, the status monitor). It borrows from the record.
 #[derive(Clone, Copy)]

@@ -3,12 +3,11 @@
 
 mod arguments;
 mod call;
-mod error;
 mod messages;
 mod results;
 
 pub use arguments::{Mon, MonId, MyId, Name, StatChge, Status};
-pub use call::{NsmCall, is_known, one_call};
-pub use error::CallError;
+pub use call::{NsmCall, PROGRAM, VERSION, is_known, one_call};
 pub use messages::{NsmMessage, NsmResult};
 pub use results::{MonitorRes, SmStat, SmStatRes};
+pub use xdr_core::CallError;

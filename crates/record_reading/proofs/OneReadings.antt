@@ -7,7 +7,7 @@ use Rattle.definitions.specs.Replies.{Call, Nlm, Nsm, Reading, Asks}
 use Rattle.rpc_msg.specs.declared.header.Header.{Header}
 use Rattle.rpc_msg.proofs.OneVerdict.{has_one_verdict}
 use Rattle.nlm4_types.specs.Call as nlm_call
-use Rattle.nlm4_types.specs.Version.{numbered_version}
+use Rattle.nlm4_types.specs.Version.{program as nlm_program, numbered_version}
 use Rattle.nsm_types.specs.Call as nsm_call
 use Rattle.record_reading.specs.Readings.{view_of_header_error, IsArguments, IsNlmAsked, IsAsked, in_version, OneReading}
 
@@ -32,10 +32,10 @@ one_of_nlm None xid procedure x a b p q = p ∙ sym q
 
 one_asked : (h : Header) (x : List ℕ) (a b : Reading) → IsAsked h x a → IsAsked h x b → a ≡ b
 one_asked h x a b =
-    one_in_version (h.prog == 100021) _ _ _ _
+    one_in_version (h.prog == nlm_program) _ _ _ _
     (one_of_nlm (numbered_version h.vers) h.xid h.proc x a b)
-    (one_in_version (h.prog == 100024) _ _ _ _
-    (one_in_version (h.vers == 1) _ _ _ _ (one_of_arguments (nsm_call.is_known_number h.proc) (nsm_call.call h.proc) Nsm h.xid x a b) (λ p q. p ∙ sym q))
+    (one_in_version (h.prog == nsm_call.program) _ _ _ _
+    (one_in_version (h.vers == nsm_call.version) _ _ _ _ (one_of_arguments (nsm_call.is_known_number h.proc) (nsm_call.call h.proc) Nsm h.xid x a b) (λ p q. p ∙ sym q))
     (λ p q. p ∙ sym q))
 
 pub one_of_record : OneReading

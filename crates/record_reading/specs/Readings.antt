@@ -8,7 +8,7 @@ use Rattle.rpc_msg.specs.declared.header.HeaderError.{HeaderError}
 use Rattle.rpc_msg.specs.declared.header.HeaderError.TheVariants.{NotACall, BadHeader, RpcVersion, BadCred}
 use Rattle.rpc_msg.specs.Verdict.{Asks as HeaderAsks, IsRefusal, NoFront}
 use Rattle.nlm4_types.specs.Call as nlm_call
-use Rattle.nlm4_types.specs.Version.{numbered_version}
+use Rattle.nlm4_types.specs.Version.{program as nlm_program, numbered_version}
 use Rattle.nsm_types.specs.Call as nsm_call
 
 -- what is no call, or has no header, is ignored
@@ -56,10 +56,10 @@ in_version false served other = other
 -- a call with a header: its program, its version, its procedure
 abbrev pub IsAsked : Header → List ℕ → Reading → Type 0
 IsAsked h arguments said =
-    in_version (h.prog == 100021)
+    in_version (h.prog == nlm_program)
     (IsNlmAsked (numbered_version h.vers) h.xid h.proc arguments said)
-    (in_version (h.prog == 100024)
-    (in_version (h.vers == 1) (IsNsmAsked h.xid h.proc arguments said) (said ≡ mismatch h.xid 1 1))
+    (in_version (h.prog == nsm_call.program)
+    (in_version (h.vers == nsm_call.version) (IsNsmAsked h.xid h.proc arguments said) (said ≡ mismatch h.xid nsm_call.version nsm_call.version))
     (said ≡ Turned h.xid ProgUnavail))
 
 pub record IsCalled (record' : List ℕ) (said : Reading) : Type 0 where

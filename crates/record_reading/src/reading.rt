@@ -5,23 +5,15 @@ ghost use Rattle.nlm4_types.specs.Version.{view_of_version};
 ghost use Rattle.record_reading.specs.Readings.{IsReading, IsAsked, IsNlmAsked, IsNsmAsked, mismatch, view_of_header_error};
 
 use crate::call::{Call, Refusal};
-use nlm4_types::{CallError as NlmError, NlmCall, Version};
-use nsm_types::{CallError as NsmError, NsmCall};
+use nlm4_types::{NlmCall, PROGRAM as NLM_PROGRAM, Version};
+use nsm_types::{NsmCall, PROGRAM as NSM_PROGRAM, VERSION as NSM_VERSION};
 use rpc_msg::{Header, HeaderError};
-use xdr_core::Cursor;
+use xdr_core::{CallError, Cursor};
 
-/// The lock manager's program (XNFS; RFC 1813, appendix II).
-const NLM_PROGRAM: u32 = 100_021;
-
-/// The lowest and the highest of its versions that are served; 2 is not.
+/// The lowest and the highest version of the lock manager that is served; 2 is not.
 const LOWEST_NLM_VERSION: u32 = 1;
 
 const HIGHEST_NLM_VERSION: u32 = 4;
-
-/// The status monitor's program (XNFS).
-const NSM_PROGRAM: u32 = 100_024;
-
-const NSM_VERSION: u32 = 1;
 
 /// What a record says.
 #[derive(Clone, Copy)]
@@ -98,7 +90,7 @@ fn nlm<'r>(xid: u32, version: Version, procedure: u32, arguments: &mut Cursor<'r
             xid,
             call: Call::Nlm(version, call),
         },
-        Err(NlmError::NoSuchProc) => Reading::Turned {
+        Err(CallError::NoSuchProc) => Reading::Turned {
             xid,
             refusal: Refusal::ProcUnavail,
         },
@@ -117,7 +109,7 @@ fn nsm<'r>(xid: u32, procedure: u32, arguments: &mut Cursor<'r>) -> Reading<'r>
             xid,
             call: Call::Nsm(call),
         },
-        Err(NsmError::NoSuchProc) => Reading::Turned {
+        Err(CallError::NoSuchProc) => Reading::Turned {
             xid,
             refusal: Refusal::ProcUnavail,
         },

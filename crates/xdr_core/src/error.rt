@@ -22,6 +22,20 @@ pub enum XdrError {
     TooLong,
 }
 
+/// Why bytes are not the arguments of a call that a program answers (RFC 5531, section 9). The cursor stands where it stood.
+#[derive(Clone, Copy, Debug, PartialEq, Eq, Error)]
+pub enum CallError {
+    /// Want of memory. No reading answers it, since what is read borrows from the bytes.
+    #[error("1 Starved")]
+    Starved,
+    /// The program has no such procedure in the call's version (PROC_UNAVAIL).
+    #[error("11 NoSuchProc")]
+    NoSuchProc,
+    /// No front of the bytes is the procedure's arguments (GARBAGE_ARGS).
+    #[error("12 GarbageArgs")]
+    GarbageArgs,
+}
+
 /// The bytes do not fit into the frame, which is unchanged.
 #[derive(Clone, Copy, Debug, PartialEq, Eq, Error)]
 #[error("25 FrameFull")]

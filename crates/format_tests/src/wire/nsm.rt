@@ -1,5 +1,5 @@
 //! The status monitor's calls, results and messages (XNFS).
-use crate::words::{is_round, is_words, reads, words};
+use crate::words::{is_round, is_words, words};
 use nsm_types::{
     CallError, Mon, MonId, MonitorRes, MyId, NsmCall, NsmMessage, NsmResult, SmStat, SmStatRes,
     StatChge, Status, is_known, one_call,
@@ -167,22 +167,6 @@ fn what_is_answered() -> Result<(), &'static str> {
     ] {
         if !is_answered(answer, text) {
             return Err(text);
-        }
-    }
-    Ok(())
-}
-
-const FAULTS: &[(CallError, &str)] = &[
-    (CallError::Starved, "1 Starved"),
-    (CallError::NoSuchProc, "11 NoSuchProc"),
-    (CallError::GarbageArgs, "12 GarbageArgs"),
-];
-
-#[test]
-fn faults_read(rt: HostRuntime) -> Result<(), &'static str> {
-    for (fault, text) in FAULTS {
-        if !reads(rt.alloc(), *fault, text) {
-            return Err(*text);
         }
     }
     Ok(())

@@ -1,8 +1,8 @@
 //! The items of XDR (RFC 4506, sections 4.1 to 4.11), and frames.
 use crate::words::{reads, round};
 use xdr_core::{
-    Below, Cursor, Fixed, Frame, FrameFull, Opaque, Wire, Words, XdrError, one_front, read,
-    written_is_read,
+    Below, CallError, Cursor, Fixed, Frame, FrameFull, Opaque, Wire, Words, XdrError, one_front,
+    read, written_is_read,
 };
 
 fn numbers_are_read() -> bool {
@@ -62,6 +62,12 @@ const ERRORS: &[(XdrError, &str)] = &[
     (XdrError::TooLong, "5 TooLong"),
 ];
 
+const FAULTS: &[(CallError, &str)] = &[
+    (CallError::Starved, "1 Starved"),
+    (CallError::NoSuchProc, "11 NoSuchProc"),
+    (CallError::GarbageArgs, "12 GarbageArgs"),
+];
+
 #[test]
 fn refusals(rt: HostRuntime) {
     assert!(rt; refused_stays());
@@ -73,6 +79,11 @@ fn refusals(rt: HostRuntime) {
 fn errors_read(rt: HostRuntime) -> Result<(), &'static str> {
     for (error, text) in ERRORS {
         if !reads(rt.alloc(), *error, text) {
+            return Err(*text);
+        }
+    }
+    for (fault, text) in FAULTS {
+        if !reads(rt.alloc(), *fault, text) {
             return Err(*text);
         }
     }

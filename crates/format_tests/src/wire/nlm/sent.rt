@@ -1,9 +1,9 @@
 //! What versions show of holders and statuses, and what is sent and answered.
 use super::{GRANTED_CALL, TEST_REPLY};
-use crate::words::{is_words, reads};
+use crate::words::is_words;
 use nlm4_types::{
-    CallError, Grant, Holder, Lock, NARROW, NlmMessage, Res, ShareRes, Stat, TOP, TestRes, Version,
-    WIDE, shown_holder_is_spelled,
+    Grant, Holder, Lock, NARROW, NlmMessage, Res, ShareRes, Stat, TOP, TestRes, Version, WIDE,
+    shown_holder_is_spelled,
 };
 use xdr_core::{Frame, Opaque};
 
@@ -173,20 +173,8 @@ fn stale_share_is_answered(text: &str) -> bool {
     share.put_result(&mut f).is_ok() && is_words(&f, text)
 }
 
-const FAULTS: &[(CallError, &str)] = &[
-    (CallError::Starved, "1 Starved"),
-    (CallError::NoSuchProc, "11 NoSuchProc"),
-    (CallError::GarbageArgs, "12 GarbageArgs"),
-];
-
 #[test]
-fn what_is_answered(rt: HostRuntime) -> Result<(), &'static str> {
+fn what_is_answered(rt: HostRuntime) {
     assert!(rt; stale_is_answered("4 3 7"));
     assert!(rt; stale_share_is_answered("4 3 7 0"));
-    for (fault, text) in FAULTS {
-        if !reads(rt.alloc(), *fault, text) {
-            return Err(*text);
-        }
-    }
-    Ok(())
 }
