@@ -9,7 +9,7 @@ use Rattle.std.proofs.KnownBytes.{Appends-nil, Appends-trans}
 use Rattle.hex.specs.Hex.{encode_with}
 use Rattle.written.specs.Written.{WroteFront, Wrote}
 use Rattle.written.proofs.Appending.{WroteFront-longer, Wrote-after}
-use Rattle.local_ops.proofs.Writing.{encode_with-append}
+use Rattle.local_ops.proofs.Writing.{encode_with-append, parts-around}
 use Rattle.table_text.specs.Blocks.{WroteAllBut, Passed}
 
 -- ---- bytes behind bytes
@@ -93,13 +93,6 @@ parts-next f (x ∷ xs) (suc i) d h = append_assoc (f x) (flat_map f (take i xs)
 next_place : (i : ℕ) → suc i ≡ i + 1
 next_place i = omega arith
 
-parts-around : {X : Type 0} (f : X → List ℕ) (xs : List X) (i : ℕ) (d : X) → i < length xs
-    → flat_map f (take i xs) ++ (f (get_or xs i d) ++ flat_map f (drop (suc i) xs)) ≡ flat_map f xs
-parts-around f [] i d h = absurd (omega arith)
-parts-around f (x ∷ xs) zero d h = refl
-parts-around f (x ∷ xs) (suc i) d h =
-    append_assoc (f x) (flat_map f (take i xs)) (f (get_or xs i d) ++ flat_map f (drop (suc i) xs)) ∙ ap (λ (t : List ℕ). f x ++ t) (parts-around f xs i d (omega arith))
-
 pub WroteAllBut-part : {X : Type 0} (a b e : Option (List ℕ)) (p q s : List ℕ) (f : X → List ℕ) (xs : List X) (i : ℕ) (d : X) → i < length xs
     → WroteAllBut a b q (p ++ flat_map f (take i xs)) → WroteAllBut b e s (q ++ f (get_or xs i d)) → WroteAllBut a e s (p ++ flat_map f (take (i + 1) xs))
 WroteAllBut-part a b e p q s f xs i d h v w =
@@ -108,7 +101,8 @@ WroteAllBut-part a b e p q s f xs i d h v w =
 pub failed-part : {X E : Type 0} (a b e : Option (List ℕ)) (r : Result (Unit {0}) E) (p q s : List ℕ) (f : X → List ℕ) (xs : List X) (i : ℕ) (d : X) → i < length xs → IsErr r
     → WroteAllBut a b q (p ++ flat_map f (take i xs)) → WroteFront b e (q ++ f (get_or xs i d)) → Passed a e r s (p ++ flat_map f xs)
 failed-part a b e r p q s f xs i d h failed v w =
-    failed-then a b e r p (flat_map f (take i xs)) q (f (get_or xs i d)) (flat_map f (drop (suc i) xs)) s (flat_map f xs) (parts-around f xs i d h) failed v w
+    failed-then a b e r p (flat_map f (take i xs)) q (f (get_or xs i d)) (flat_map f (drop (suc i) xs)) s (flat_map f xs)
+    (sym (append_assoc (flat_map f (take i xs)) (f (get_or xs i d)) (flat_map f (drop (suc i) xs))) ∙ parts-around f xs i d h) failed v w
 
 -- ---- bytes in hexadecimal
 
