@@ -15,12 +15,13 @@ use Rattle.book.specs.declared.event.BookEvent.{BookEvent}
 use Rattle.book.specs.Given.{Upshot}
 use Rattle.book.specs.Notes.{Happening, AsksLine, Note, Steps, view_of_event}
 use Rattle.workers.specs.Holds.{Held, entry_of, Notes, Adds}
+use Rattle.workers.specs.Answers.{StarvesAs}
 use Rattle.written.specs.Written.{Wrote, WroteFront}
 use Rattle.written.specs.declared.WriteFault.{WriteFault}
 use Rattle.written.proofs.Appending.{WroteFront-whole}
 use Rattle.serve_loops.specs.declared.ending.Ending.{Ending}
 use Rattle.serve_loops.specs.declared.ending.Ending.TheVariants as ending
-use Rattle.serve_loops.specs.Lines.{IsOpen, Answer, AreOpen, ended, kept, text_of, texts, entries, IsAnswered, AreAnswered, Asks, Trace, trace, Goes, Serves, ServesFront, Breaks, Cuts, Ends, Turns, Takes, IsSaid, AnswersLine, Finishes, StarvesAs, TellsOf}
+use Rattle.serve_loops.specs.Lines.{IsOpen, Answer, AreOpen, ended, kept, text_of, texts, entries, IsAnswered, AreAnswered, Asks, Trace, trace, Goes, Serves, ServesFront, Breaks, Cuts, Ends, Turns, Takes, IsSaid, AnswersLine, Finishes, TellsOf}
 
 pub open-append : (xs ys : Bytes) → IsOpen xs → IsOpen ys → IsOpen (xs ++ ys)
 open-append xs ys p q = list_any-append (λ b. eqb b 10) xs ys ∙ (λ i. p i || q i)
@@ -220,7 +221,7 @@ module _ (c : ℕ) (p piece : Bytes) (i d : ℕ) (q : Bytes) (x y : Trace) (with
 -- ---- what a hold gave
 
 pub starved_told : (event : Happening) (given : Given) (u : Upshot) → u.doing ≡ Starved → u.store ≡ NotAsked → ((s : State) → Steps s event u s) → given ≡ u.given → StarvesAs event given
-starved_told event given u doing store steps is = record { upshot = u; doing = doing; store = store; steps = steps; given_is = is }
+starved_told event given u doing store steps is = λ s. subst (λ (u : Upshot). Steps s event u s) (λ i. record { doing = doing i; store = store i; given = sym is i }) (steps s)
 
 module _ (old new : Held) (c : ℕ) (line : Bytes) (event : BookEvent) (told told' : List Note) (is : view_of_event event ≡ AsksLine c line) where
   entered : (u : Upshot) (given : Given) (number : ℕ) → Notes old (view_of_event event) u new → Adds new (entry_of number (view_of_event event) u) told told' → given ≡ u.given → Asks c line given told told'

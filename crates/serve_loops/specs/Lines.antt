@@ -5,14 +5,14 @@ use Rattle.std.specs.Option.{option_to_list}
 use Rattle.std.specs.declared.vec.Vec.{Vec}
 use Rattle.std.specs.Io.KnownBytes.{Appends, Consumes, IsAtEnd, Keeps}
 use Rattle.definitions.specs.Bytes.{Bytes}
-use Rattle.definitions.specs.Hosts.{NotAsked}
-use Rattle.definitions.specs.Step.{State, Given, Nothing, Replies, Says, Sends, IsStarved, IsRefused, Starved}
+use Rattle.definitions.specs.Step.{Given, Nothing, Replies, Says, Sends, IsStarved, IsRefused}
 use Rattle.local_ops.specs.Texts.{reply_text}
 use Rattle.book.specs.declared.event.BookEvent.{BookEvent}
 use Rattle.book.specs.Given.{Upshot}
-use Rattle.book.specs.Notes.{Happening, AsksLine, Note, Steps, view_of_event}
+use Rattle.book.specs.Notes.{AsksLine, Note, view_of_event}
 use Rattle.book.specs.Receipts.{newest}
 use Rattle.workers.specs.Holds.{Held, Notes}
+use Rattle.workers.specs.Answers.{StarvesAs}
 use Rattle.written.specs.declared.WriteFault.{WriteFault}
 use Rattle.written.specs.Written.{WroteFront}
 use Rattle.serve_loops.specs.declared.ending.Ending.{Ending}
@@ -63,14 +63,6 @@ pub record IsEntered (connection : ℕ) (line : Bytes) (given : Given) (entry : 
   pub is_newest : newest after.book.journal.notes ≡ Some entry
   pub event : entry.event ≡ AsksLine connection line
   pub gave : entry.upshot.given ≡ given
-
--- what an event gives that met want of memory before it began
-pub record StarvesAs (event : Happening) (given : Given) : Type 0 where
-  pub upshot : Upshot
-  pub doing : upshot.doing ≡ Starved
-  pub store : upshot.store ≡ NotAsked
-  pub steps : (s : State) → Steps s event upshot s
-  pub given_is : given ≡ upshot.given
 
 -- what the line's entry gave; without one, what a line gets that starved
 abbrev pub IsAnswered : ℕ → Bytes → Given → Option Note → Type 0

@@ -39,9 +39,9 @@ TakesCall taken connection receipts receipts' sent sent' =
     (receipt : Receipt) × (given : Given) × (receipt.event ≡ view_of_taken taken) × (record_of given ≡ receipt.reply)
     × (receipts' ≡ receipts ++ receipt ∷ []) × (sent' ≡ sent ++ posted connection given)
 
--- what a call gets that met want of memory before it began: SYSTEM_ERR, or nothing where its record is ignored
-abbrev pub StarvesAs : Task → Given → Type 0
-StarvesAs job given = (s : State) → Steps s (asks job) (comes_to Starved NotAsked given) s
+-- what an event gives that met want of memory before it began: a call SYSTEM_ERR, or nothing where its record is ignored
+abbrev pub StarvesAs : Happening → Given → Type 0
+StarvesAs event given = (s : State) → Steps s event (comes_to Starved NotAsked given) s
 
 -- a job that was taken, the receipt of its entry, if there is one, and what it was given
 pub record Answer : Type 0 where
@@ -52,7 +52,7 @@ pub record Answer : Type 0 where
 -- the receipt is of this job's peer and record, and it was given the receipt's reply; without an entry, what a starved call gets
 abbrev pub IsMet : Answer → Option Receipt → Type 0
 IsMet a (Some r) = (r.event ≡ asks a.job) × (record_of a.given ≡ r.reply)
-IsMet a None = StarvesAs a.job a.given
+IsMet a None = StarvesAs (asks a.job) a.given
 
 abbrev pub AreMet : List Answer → Type 0
 AreMet [] = Unit {0}
