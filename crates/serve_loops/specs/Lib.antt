@@ -1,3 +1,4 @@
 pub mod Calls
 pub mod Lines
 pub mod Handing
+pub mod SentCalls

@@ -19,7 +19,7 @@ pub trait Courier {
 
 /// A call that was handed over.
 #[derive(Drop)]
-pub struct Parcel {
+pub struct SentCall {
     pub number: u64,
     pub to: Dest,
     pub bytes: Frame,
@@ -28,8 +28,8 @@ pub struct Parcel {
 /// A courier that keeps calls in memory, as many as it finds memory for, and tells of all that it was handed.
 #[derive(Drop)]
 pub struct MemoryCourier {
-    kept: Vec<Parcel>,
-    all: History<Parcel>,
+    kept: Vec<SentCall>,
+    all: History<SentCall>,
 }
 
 impl MemoryCourier {
@@ -43,21 +43,19 @@ impl MemoryCourier {
     }
 
     /// The calls that it kept, the oldest first.
-    pub fn kept(&self) -> &[Parcel] {
+    pub fn kept(&self) -> &[SentCall] {
         &self.kept
     }
 }
 
 impl Courier for MemoryCourier {
-    ghost use Rattle.std.specs.Prelude.{map};
-    ghost use Rattle.serve_loops.specs.Calls.{Call};
-    ghost use Rattle.serve_loops.specs.declared.courier.Parcel.{Parcel as Packed};
+    ghost use Rattle.serve_loops.specs.SentCalls.{view_of_sent};
 
-    ghost handed = { λ c. map (λ (p : Packed). record { number = p.number; to = p.to; bytes = p.bytes }) c.all.items };
+    ghost handed = { λ c. view_of_sent c.all.items };
 
     fn hand(&mut self, number: u64, to: Dest, bytes: Frame) {
-        let parcel = Parcel { number, to, bytes };
-        self.all = self.all.and(&parcel);
-        let _ = self.kept.push(parcel);
+        let sent = SentCall { number, to, bytes };
+        self.all = self.all.and(&sent);
+        let _ = self.kept.push(sent);
     }
 }

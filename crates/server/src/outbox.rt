@@ -7,7 +7,7 @@ use history::History;
 use serve_loops::Signals;
 use std::alloc::Global;
 use std::sync::{Arc, Mutex, Wait};
-use workers::{Outbox, Parcel};
+use workers::{Outbox, SentReply};
 use xdr_core::Frame;
 
 /// Joins the replies of one connection, and writes them to its socket.
@@ -16,8 +16,8 @@ pub(crate) struct SocketOutbox<'a, 'h, K, Q, R> {
     wire: Wire<'a, 'h, K, R>,
     signals: &'a Q,
     // The place of each reply's record in turn.
-    parcel: Parcel,
-    all: History<Parcel>,
+    sent: SentReply,
+    all: History<SentReply>,
 }
 
 impl<'a, 'h, K: Drop, Q: Signals, R: Wait> SocketOutbox<'a, 'h, K, Q, R> {
@@ -30,34 +30,32 @@ impl<'a, 'h, K: Drop, Q: Signals, R: Wait> SocketOutbox<'a, 'h, K, Q, R> {
         signals: &'a Q,
     ) -> SocketOutbox<'a, 'h, K, Q, R> {
         let record = Frame::new();
-        let parcel = Parcel {
+        let sent = SentReply {
             connection: 0,
             record,
         };
         SocketOutbox {
             wire: Wire::new(alloc, rt, callers, home),
             signals,
-            parcel,
+            sent,
             all: History::new(),
         }
     }
 }
 
 impl<'a, 'h, K: Drop, Q: Signals, R: Wait> Outbox for SocketOutbox<'a, 'h, K, Q, R> {
-    ghost use Rattle.std.specs.Prelude.{map};
-    ghost use Rattle.workers.specs.Answers.{Sent};
-    ghost use Rattle.workers.specs.declared.outbox.Parcel.{Parcel as Packed};
+    ghost use Rattle.workers.specs.SentReplies.{view_of_sent};
 
-    ghost handed = { λ o. map (λ (p : Packed). record { connection = p.connection; reply = p.«record» }) o.all.items };
+    ghost handed = { λ o. view_of_sent o.all.items };
 
     fn hand(&mut self, connection: u64, reply: &Reply) {
-        self.parcel.connection = connection;
-        self.parcel.record.truncate(0);
+        self.sent.connection = connection;
+        self.sent.record.truncate(0);
         // An empty frame has room for each reply.
-        let _ = reply.put(&mut self.parcel.record);
-        self.all = self.all.and(&self.parcel);
+        let _ = reply.put(&mut self.sent.record);
+        self.all = self.all.and(&self.sent);
         self.wire.turn_to(connection);
-        self.wire.join(&self.parcel.record);
+        self.wire.join(&self.sent.record);
     }
 
     fn turn_to(&mut self, connection: u64) {

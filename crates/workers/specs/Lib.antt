@@ -4,3 +4,4 @@ pub mod Audits
 pub mod Places
 pub mod Sending
 pub mod Reading
+pub mod SentReplies

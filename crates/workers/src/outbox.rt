@@ -64,9 +64,9 @@ pub(crate) fn post_last<O: Outbox>(outbox: &mut O, connection: u64, reply: Reply
     post(outbox, connection, &reply);
 }
 
-/// A record for a connection.
+/// A reply's record, for a connection.
 #[derive(Drop)]
-pub struct Parcel {
+pub struct SentReply {
     pub connection: u64,
     pub record: Frame,
 }
@@ -74,8 +74,8 @@ pub struct Parcel {
 /// An outbox that keeps records in memory, as many as it finds memory for, and tells of all that it was handed.
 #[derive(Drop)]
 pub struct MemoryOutbox {
-    kept: Vec<Parcel>,
-    all: History<Parcel>,
+    kept: Vec<SentReply>,
+    all: History<SentReply>,
 }
 
 impl MemoryOutbox {
@@ -89,25 +89,23 @@ impl MemoryOutbox {
     }
 
     /// The records that it kept, the oldest first.
-    pub fn kept(&self) -> &[Parcel] {
+    pub fn kept(&self) -> &[SentReply] {
         &self.kept
     }
 }
 
 impl Outbox for MemoryOutbox {
-    ghost use Rattle.std.specs.Prelude.{map};
-    ghost use Rattle.workers.specs.Answers.{Sent};
-    ghost use Rattle.workers.specs.declared.outbox.Parcel.{Parcel as Packed};
+    ghost use Rattle.workers.specs.SentReplies.{view_of_sent};
 
-    ghost handed = { λ o. map (λ (p : Packed). record { connection = p.connection; reply = p.«record» }) o.all.items };
+    ghost handed = { λ o. view_of_sent o.all.items };
 
     fn hand(&mut self, connection: u64, reply: &Reply) {
         let mut record = Frame::new();
         // An empty frame has room for each reply.
         let _ = reply.put(&mut record);
-        let parcel = Parcel { connection, record };
-        self.all = self.all.and(&parcel);
-        let _ = self.kept.push(parcel);
+        let sent = SentReply { connection, record };
+        self.all = self.all.and(&sent);
+        let _ = self.kept.push(sent);
     }
 
     fn turn_to(&mut self, _connection: u64) {}

@@ -6,7 +6,7 @@ use super::locals::Locals;
 use super::office::Office;
 use super::settings::Settings;
 use super::turn::Untaken;
-use crate::{Courier, Parcel};
+use crate::{Courier, SentCall};
 use book::Dest;
 use history::History;
 use mio::Waker;
@@ -29,7 +29,7 @@ pub struct Sender<'a, R, D> {
     pub(crate) awaited: Awaited,
     pub(crate) kept: Option<Untaken>,
     pub(crate) now: Instant,
-    all: History<Parcel>,
+    all: History<SentCall>,
 }
 
 // It is written out, so that no crate above proves again how each part is dropped.
@@ -50,13 +50,13 @@ impl<'a, R, D> Drop for Sender<'a, R, D> {
 }
 
 impl<'a, R, D> Model for Sender<'a, R, D> {
-    ghost use Rattle.std.specs.Prelude.{List, map};
+    ghost use Rattle.std.specs.Prelude.{List};
     ghost use Rattle.serve_loops.specs.Calls.{Call};
-    ghost use Rattle.serve_loops.specs.declared.courier.Parcel.{Parcel as Packed};
+    ghost use Rattle.serve_loops.specs.SentCalls.{view_of_sent};
 
     ghost Value = { List Call };
 
-    ghost view = { λ s. map (λ (p : Packed). record { number = p.number; to = p.to; bytes = p.bytes }) s.all.items };
+    ghost view = { λ s. view_of_sent s.all.items };
 }
 
 impl<'a, R: Net + Clock, D: Locals> Sender<'a, R, D> {
@@ -118,14 +118,14 @@ impl<'a, R: Net + Clock, D: Locals> Sender<'a, R, D> {
         }
     }
 
-    fn dispatch(&mut self, parcel: &Parcel)
+    fn dispatch(&mut self, sent: &SentCall)
         ensures { self.new ≡ self.old }
     {
-        match &parcel.to {
-            Dest::Host(name) => self.call(parcel.number, name.as_slice(), parcel.bytes.as_slice()),
+        match &sent.to {
+            Dest::Host(name) => self.call(sent.number, name.as_slice(), sent.bytes.as_slice()),
             Dest::Connection(connection) => {
                 // Where the connection has ended the line is thrown away.
-                let _ = self.locals.tell(*connection, parcel.bytes.as_slice());
+                let _ = self.locals.tell(*connection, sent.bytes.as_slice());
             }
         }
     }
@@ -135,8 +135,8 @@ impl<'a, R: Net + Clock, D: Locals> Courier for Sender<'a, R, D> {
     ghost handed = { λ s. s };
 
     fn hand(&mut self, number: u64, to: Dest, bytes: Frame) {
-        let parcel = Parcel { number, to, bytes };
-        self.dispatch(&parcel);
-        self.all = self.all.and(&parcel);
+        let sent = SentCall { number, to, bytes };
+        self.dispatch(&sent);
+        self.all = self.all.and(&sent);
     }
 }

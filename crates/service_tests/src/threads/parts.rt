@@ -12,7 +12,7 @@ use range_arena::ArenaTable;
 use std::alloc::Global;
 use std::sync::Wait;
 use std::sync::ledger::Ledger;
-use workers::{Gate, Parcel, Shared, Worker};
+use workers::{Gate, SentReply, Shared, Worker};
 
 /// Holds nobody.
 #[derive(Drop)]
@@ -65,11 +65,11 @@ pub(crate) fn sent<P: Place, L: Ledger, R: Wait>(
 
 /// Whether these are the replies, in order: in the words, two with the number of its connection stand before each. Where there
 /// is no memory they are not.
-pub(crate) fn are_replies(alloc: Global, parcels: &[Parcel], words: &str) -> bool {
+pub(crate) fn are_replies(alloc: Global, sent: &[SentReply], words: &str) -> bool {
     let mut all = Vec::new(alloc);
-    for parcel in parcels {
-        let _ = all.extend_from_slice(parcel.connection.to_be_bytes().as_slice());
-        let _ = all.extend_from_slice(parcel.record.as_slice());
+    for reply in sent {
+        let _ = all.extend_from_slice(reply.connection.to_be_bytes().as_slice());
+        let _ = all.extend_from_slice(reply.record.as_slice());
     }
     are(alloc, all.as_slice(), "", words)
 }

@@ -2,7 +2,7 @@
 use super::parts::Kept;
 use crate::words::are;
 use book::Dest;
-use serve_loops::{Due, MemoryCourier, Parcel, send_due};
+use serve_loops::{Due, MemoryCourier, SentCall, send_due};
 use std::alloc::{AllocError, Global};
 use std::sync::ledger::Ledger;
 use std::sync::{Mutex, Wait};
@@ -29,8 +29,8 @@ pub(crate) const NOTHING: Sent<'static> = Sent {
 };
 
 // To whom, and the bytes.
-fn put(log: &mut Vec<u8>, parcel: &Parcel) -> Result<(), AllocError> {
-    match &parcel.to {
+fn put(log: &mut Vec<u8>, call: &SentCall) -> Result<(), AllocError> {
+    match &call.to {
         Dest::Connection(7) => log.extend_from_slice(b"7: ")?,
         Dest::Host(host) => {
             log.extend_from_slice(host.as_slice())?;
@@ -38,15 +38,15 @@ fn put(log: &mut Vec<u8>, parcel: &Parcel) -> Result<(), AllocError> {
         }
         _ => log.extend_from_slice(b"another: ")?,
     }
-    log.extend_from_slice(parcel.bytes.as_slice())
+    log.extend_from_slice(call.bytes.as_slice())
 }
 
-// How many parcels there are, if all are in the log.
-fn put_all(log: &mut Vec<u8>, parcels: &[Parcel]) -> Option<usize> {
-    for parcel in parcels {
-        put(log, parcel).ok()?;
+// How many calls there are, if all are in the log.
+fn put_all(log: &mut Vec<u8>, calls: &[SentCall]) -> Option<usize> {
+    for call in calls {
+        put(log, call).ok()?;
     }
-    Some(parcels.len())
+    Some(calls.len())
 }
 
 // Whether one turn is this. What it hands over is in the log then.
