@@ -4,6 +4,7 @@
 
 mod connection;
 mod door;
+mod law;
 mod roster;
 mod threads;
 mod wire;
@@ -11,6 +12,7 @@ mod writer;
 
 pub use connection::{Connection, Lost};
 pub use door::{Door, Latch};
+pub use law::{left_place_is_free, place_is_kept};
 pub use roster::{PLACES, Roster};
 pub use threads::{Chief, Guest, NoThread, Service, Side, Staff, run};
 pub use wire::Wire;

@@ -3,7 +3,7 @@ use crate::fault::Fault;
 use crate::staff::{Cutter, Gatherer};
 use connections::{PLACES, Roster};
 use jobs::{Channel, Place};
-use std::alloc::Global;
+use std::alloc::{AllocError, Global};
 use std::sync::ledger::Ledger;
 use workers::Worker;
 
@@ -13,20 +13,17 @@ pub(crate) fn callers<P: Place, L: Ledger>(
     cutter: &mut Cutter<P, L>,
     channel: &Channel<P>,
 ) -> Result<Roster<Worker<P, L>>, Fault> {
-    let mut roster = Roster::new(alloc);
-    for _ in 0..PLACES {
-        roster.add_place(cutter.cut(channel)?)?;
-    }
-    Ok(roster)
+    let workers = cutter.cut_all(channel, PLACES as u16)?;
+    Ok(Roster::new(alloc, workers)?)
 }
 
-/// A roster of local programs.
-pub(crate) fn locals(alloc: Global) -> Result<Roster<()>, Fault> {
-    let mut roster = Roster::new(alloc);
+/// A roster of local programs, whose places lend nothing that they need. Refused: there is no memory for it.
+pub(crate) fn locals(alloc: Global) -> Result<Roster<()>, AllocError> {
+    let mut nothing = Vec::new(alloc);
     for _ in 0..PLACES {
-        roster.add_place(())?;
+        nothing.push(())?;
     }
-    Ok(roster)
+    Roster::new(alloc, nothing)
 }
 
 /// Takes back what the places lent, once nobody serves.

@@ -1,0 +1,16 @@
+//! What is true of every roster.
+ghost use Rattle.connections.specs.Seats.{IsKeptAtCome, IsKeptAtLeave, IsKeptAtLend, IsKeptAtClose, IsFreeOnceLeft};
+
+/// A connection keeps its place, at which its number finds it, until it leaves: while others come and leave, whatever the places
+/// lend, and once no more are taken in.
+pub fn place_is_kept<K>()
+    ensures come { IsKeptAtCome K }
+    ensures leave { IsKeptAtLeave K }
+    ensures lend { IsKeptAtLend K }
+    ensures close { IsKeptAtClose K }
+{}
+
+/// The place that a connection leaves is free.
+pub fn left_place_is_free<K>()
+    ensures { IsFreeOnceLeft K }
+{}
