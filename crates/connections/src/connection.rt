@@ -1,5 +1,7 @@
 //! A connection that is open.
-ghost use Rattle.std.specs.Prelude.{◌≡◌, IfOk};
+ghost use Rattle.std.specs.Prelude.{◌≡◌, ◌≤◌, length, take, IfOk, OnErr};
+ghost use Rattle.std.specs.Io.KnownBytes.{Appends, Keeps};
+ghost use Rattle.written.specs.Written.{Wrote};
 
 use std::io::{self, ErrorKind, Write};
 use std::marker::Model;
@@ -45,16 +47,26 @@ impl Model for Connection {
     ghost view = { λ c. c.number };
 }
 
-// Writes all. Each turn ends by the stream's own write timeout, so this ends, whatever the peer does.
-fn write_in_turns(stream: &TcpStream, bytes: &[u8]) -> Result<(), Lost> {
-    let mut to = stream;
+// One turn: how many bytes were taken, of those at the front; none where it was interrupted.
+fn write_turn<W: Write>(to: &mut W, bytes: &[u8]) -> Result<usize, Lost>
+    ensures ok { IfOk result (λ count. (count ≤ length bytes.now) × Appends (W.contents to.old) (W.contents to.new) (take count bytes.now)) }
+    ensures err { OnErr result (Keeps (W.contents to.old) (W.contents to.new)) }
+{
+    match to.write(bytes) {
+        Ok(count) => Ok(count),
+        Err(error) if error.kind() == ErrorKind::Interrupted => Ok(0),
+        Err(_) => Err(Lost),
+    }
+}
+
+// Writes all, or a front of it. Each turn ends by the stream's own write timeout, so this ends, whatever the peer does.
+fn write_in_turns<W: Write>(to: &mut W, bytes: &[u8]) -> Result<(), Lost>
+    ensures { Wrote (W.contents to.old) (W.contents to.new) result bytes.now }
+{
     let mut rest = bytes;
     for _ in 0..TURNS {
-        match to.write(rest) {
-            Ok(count) => rest = rest.get(count..).ok_or(Lost)?,
-            Err(error) if error.kind() == ErrorKind::Interrupted => {}
-            Err(_) => return Err(Lost),
-        }
+        let count = write_turn(to, rest)?;
+        rest = &rest[count..];
         if rest.is_empty() {
             return Ok(());
         }
@@ -109,7 +121,8 @@ impl Connection {
         if outgoing.is_lost {
             return Err(Lost);
         }
-        let written = write_in_turns(&self.stream, bytes);
+        let mut to = &self.stream;
+        let written = write_in_turns(&mut to, bytes);
         if written.is_err() {
             outgoing.is_lost = true;
             self.shut();

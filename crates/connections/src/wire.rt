@@ -1,4 +1,7 @@
 //! Replies on their way to their connections.
+ghost use Rattle.std.specs.Prelude.{◌≡◌, ◌++◌, IfOk};
+ghost use Rattle.record_mark.specs.Sent.{marked};
+
 use crate::JOINED;
 use crate::connection::Connection;
 use crate::roster::Roster;
@@ -85,12 +88,15 @@ impl<'a, 'h, K: Drop, R: Wait> Wire<'a, 'h, K, R> {
         self.joined.clear();
     }
 
-    fn append(&mut self, record: &[u8]) -> Result<(), AllocError> {
-        let Ok(size) = u16::try_from(record.len()) else {
+    // The message goes behind its mark and all that is joined.
+    fn append(&mut self, message: &[u8]) -> Result<(), AllocError>
+        ensures { IfOk result (λ _. self.new.joined.items ≡ self.old.joined.items ++ marked message.now) }
+    {
+        let Ok(size) = u16::try_from(message.len()) else {
             return Err(AllocError);
         };
         self.joined.extend_from_slice(&last_mark(u32::from(size)))?;
-        self.joined.extend_from_slice(record)
+        self.joined.extend_from_slice(message)
     }
 
     /// Joins a record, behind its mark (RFC 5531, section 11). Where there is no memory for it the connection is shut.
