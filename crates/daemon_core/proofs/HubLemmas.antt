@@ -1,5 +1,5 @@
 -- A take at a place.
-use Rattle.std.proofs.Common.{◌≡◌, ℕ, zero, suc, ◌<◌, ◌≤◌, inl, inr, List, [], ◌∷◌, ◌++◌, subst, length, Some, slice_get, slice_set, slice_index_or, refl, sym, ◌∙◌, ap, arith}
+use Rattle.std.proofs.Common.{◌≡◌, ℕ, Bool, true, zero, suc, ◌<◌, ◌≤◌, inl, inr, List, [], ◌∷◌, ◌++◌, subst, length, Some, slice_get, slice_set, slice_index_or, refl, sym, ◌∙◌, ap, arith}
 use Rattle.std.proofs.lemmas.Bool.Decides.{nat_tests}
 use Rattle.definitions.specs.Hosts.{NotAsked}
 use Rattle.definitions.specs.Step.{Given, State}
@@ -12,9 +12,10 @@ use Rattle.book.specs.Journal.{TakesMemory}
 use Rattle.book.specs.Notes.{Happening, Takes, BeginsAnew, Steps}
 use Rattle.daemon_core.specs.declared.outcome.Outcome.{Outcome}
 use Rattle.daemon_core.specs.declared.outcome.Outcome.TheVariants.{Starved, NoSegment}
-use Rattle.daemon_core.specs.Outcomes.{view_of_outcome, NeedsEntry}
+use Rattle.daemon_core.specs.Outcomes.{view_of_outcome, needs_entry}
 use Rattle.daemon_core.specs.declared.outputs.Outputs.{Outputs}
 use Rattle.daemon_core.specs.Outputs.{quiet, upshot_of, told_to}
+use Rattle.daemon_core.specs.Rooms.{Room, RoomAfter}
 use Rattle.daemon_core.specs.Untaken.{AreRecords, untaken}
 use Rattle.daemon_core.specs.Link.{Link, with_taken}
 use Rattle.daemon_core.specs.declared.event.Event.{Event}
@@ -49,12 +50,12 @@ TakesAt-none old out place i link link' there none is =
       quiet = (hub-is old _ (ap (λ l. slice_set old.links place l) none.0 ∙ set-same old.links place link there), is);
     })
 
-pub TakesAt-some : (old : Hub) (state : State) (refusals : ℕ) (out : Outputs) (place i : ℕ) (link link' : Link) (bytes : List ℕ) (given : Given) → slice_get old.links place ≡ Some link
+pub TakesAt-some : (old : Hub) (state : State) (refusals : ℕ) (room : Room) (out : Outputs) (place i : ℕ) (link link' : Link) (bytes : List ℕ) (given : Given) → slice_get old.links place ≡ Some link
     → (records : List (List ℕ)) × AreRecords link.received records × (slice_get (untaken records link.taken) i ≡ Some bytes) × (link' ≡ with_taken link i)
     → Steps old.state (Takes (view_of_peer link.peer) bytes) (upshot_of out given) state → refusals ≡ counted (view_of_stored out.store) old.refusals
-    → (out.outcome ≡ NoSegment → IsUnnoted (Takes (view_of_peer link.peer) bytes) old.state out state) → out ≡ told_to link.number out.outcome out.store given
-    → TakesAt (Some place) i old out (record { state = state; refusals = refusals; links = slice_set old.links place link' })
-TakesAt-some old state refusals out place i link link' bytes given there some step counts unnoted outputs =
+    → (out.outcome ≡ NoSegment → IsUnnoted (Takes (view_of_peer link.peer) bytes) old.state out state) → RoomAfter out.outcome true old.room room → out ≡ told_to link.number out.outcome out.store given
+    → TakesAt (Some place) i old out (record { state = state; refusals = refusals; room = room; links = slice_set old.links place link' })
+TakesAt-some old state refusals room out place i link link' bytes given there some step counts unnoted takes outputs =
     inl (record {
       link = link;
       there = there;
@@ -66,6 +67,7 @@ TakesAt-some old state refusals out place i link link' bytes given there some st
       step = step;
       refusals = counts;
       unnoted = unnoted;
+      room = takes;
       links = ap (λ l. slice_set old.links place l) some.3;
       outputs = outputs;
     })
@@ -88,19 +90,24 @@ module _ (out : Outputs) (outcome : Outcome) (upshot : Upshot) (is : out.outcome
   upshot_of-told =
       let became : view_of_outcome out.outcome ≡ upshot.doing = ap view_of_outcome is ∙ doing in λ i. record { doing = became i; store = store i; given = upshot.given }
 
-  module _ (event : Happening) (old new : State) (unasked : outcome ≡ NoSegment → upshot.store ≡ NotAsked) (unchanged : outcome ≡ NoSegment → new ≡ old) (needed : NeedsEntry event old) where
+  pub room-told : (needed : Bool) (room after : Room) → RoomAfter outcome needed room after → RoomAfter out.outcome needed room after
+  room-told needed room after takes = subst (λ (o : Outcome). RoomAfter o needed room after) (sym is) takes
+
+  module _ (event : Happening) (old new : State) (unasked : outcome ≡ NoSegment → upshot.store ≡ NotAsked) (unchanged : outcome ≡ NoSegment → new ≡ old) (needed : needs_entry event old ≡ true) where
     pub unnoted : out.outcome ≡ NoSegment → IsUnnoted event old out new
     unnoted none = let same = sym is ∙ none in record { needed = needed; unasked = not_asked out.store (store ∙ unasked same); unchanged = unchanged same }
 
-    pub Happens-noted : (tell : Outcome → Told → Given → Outputs) (refusals counts : ℕ) (links more : List Link) → Steps old event upshot new → counts ≡ counted upshot.store refusals → (outcome ≡ Starved → TakesMemory event)
+    pub Happens-noted : (tell : Outcome → Told → Given → Outputs) (refusals counts : ℕ) (room after : Room) (links more : List Link) → Steps old event upshot new → counts ≡ counted upshot.store refusals → (outcome ≡ Starved → TakesMemory event)
+        → RoomAfter outcome (needs_entry event old) room after
         → more ≡ links_after event out.store links → out ≡ tell out.outcome out.store upshot.given
-        → Happens tell event (record { state = old; refusals = refusals; links = links }) out (record { state = new; refusals = counts; links = more })
-    Happens-noted tell refusals counts links more steps counted_is fed links_is outputs = record {
+        → Happens tell event (record { state = old; refusals = refusals; room = room; links = links }) out (record { state = new; refusals = counts; room = after; links = more })
+    Happens-noted tell refusals counts room after links more steps counted_is fed takes links_is outputs = record {
       given = upshot.given;
       step = subst (λ (u : Upshot). Steps old event u new) (sym upshot_of-told) steps;
       refusals = rw store counted_is;
       fed = λ met. fed (sym is ∙ met);
       unnoted = unnoted;
+      room = room-told (needs_entry event old) room after takes;
       links = links_is;
       outputs = outputs;
     }

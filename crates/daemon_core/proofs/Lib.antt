@@ -1,4 +1,5 @@
 pub mod UntakenLemmas
+pub mod RoomLemmas
 pub mod HubLemmas
 pub mod Sends
 pub mod SameRun

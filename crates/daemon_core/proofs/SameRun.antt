@@ -13,8 +13,9 @@ use Rattle.daemon_core.specs.declared.event.Event.TheVariants.{Connect, Piece, D
 use Rattle.daemon_core.specs.declared.outcome.Outcome.{Outcome}
 use Rattle.daemon_core.specs.declared.outcome.Outcome.TheVariants.{Applied, Starved, NoSegment}
 use Rattle.daemon_core.specs.declared.outputs.Outputs.{Outputs}
-use Rattle.daemon_core.specs.Outcomes.{view_of_outcome}
+use Rattle.daemon_core.specs.Outcomes.{view_of_outcome, needs_entry}
 use Rattle.daemon_core.specs.Outputs.{marked_by, told, told_call, told_line, told_to}
+use Rattle.daemon_core.specs.Rooms.{Room, TakesIfNeeded, RoomAfter}
 use Rattle.daemon_core.specs.Untaken.{AreRecords, untaken}
 use Rattle.daemon_core.specs.Link.{Link, Hears, Receives, with_taken}
 use Rattle.daemon_core.specs.Hub.{Hub, with_links, place_of, IsQuiet, Connects, Disconnects, Pieces, Answers, HasNone, TakesAt, links_after, Happens, HubStep, Run, HasOneRun}
@@ -22,8 +23,23 @@ use Rattle.daemon_core.specs.Hub.{Hub, with_links, place_of, IsQuiet, Connects, 
 abbrev Same : Outputs → Outputs → Hub → Hub → Type 0
 Same out out' new new' = (out ≡ out') × (new ≡ new')
 
-same-hub : (new end : Hub) → new.state ≡ end.state → new.refusals ≡ end.refusals → new.links ≡ end.links → new ≡ end
-same-hub new end s r l = λ i. record { state = s i; refusals = r i; links = l i }
+same-hub : (new end : Hub) → new.state ≡ end.state → new.refusals ≡ end.refusals → new.room ≡ end.room → new.links ≡ end.links → new ≡ end
+same-hub new end s r m l = λ i. record { state = s i; refusals = r i; room = m i; links = l i }
+
+-- the room after an event
+taken-same : (needed : Bool) (old new end : Room) → TakesIfNeeded needed old new → TakesIfNeeded needed old end → new ≡ end
+taken-same true old new end h h' =
+    let left : new.left ≡ end.left = omega (arith, h.0, h'.0) in
+    let next : new.next ≡ end.next = h.1 ∙ sym h'.1 in λ i. record { left = left i; next = next i }
+taken-same false old new end h h' = h ∙ sym h'
+
+room-same : (o p : Outcome) (needed : Bool) (old new end : Room) → o ≡ p → RoomAfter o needed old new → RoomAfter p needed old end → new ≡ end
+room-same o p needed old new end e h h' = go o h (subst (λ (q : Outcome). RoomAfter q needed old end) (sym e) h')
+  where
+    go : (q : Outcome) → RoomAfter q needed old new → RoomAfter q needed old end → new ≡ end
+    go NoSegment k k' = k.1 ∙ sym k'.1
+    go Applied k k' = taken-same needed old new end k k'
+    go Starved k k' = taken-same needed old new end k k'
 
 -- what the events gave, and the states after them
 same-step : OneStep → (old new end : State) (event : Happening) (o p : Outcome) (a b : StoreAnswer) (given other : Given) → o ≡ p → a ≡ b → Steps old event (comes_to (view_of_outcome o) (view_of_stored a) given) new
@@ -105,14 +121,14 @@ Answers-same one step place i old new new' out out' e f h h' =
     let same = same-step step old.state new.state new'.state (Takes (view_of_peer h.link.peer) h.bytes) out.outcome out'.outcome out.store out'.store h.given h'.given e f h.step step' in
     let links : new.links ≡ new'.links = h.links ∙ (ap (λ (l : Link). slice_set old.links place (with_taken l i)) (sym link) ∙ sym h'.links) in (
       h.outputs ∙ ap (λ (o : Outcome). told_to h.link.number o out.store h.given) e ∙ ap (λ (a : StoreAnswer). told_to h.link.number out'.outcome a h.given) f ∙ ap (λ (x : Given). told_to h.link.number out'.outcome out'.store x) same.0 ∙ ap (λ (l : Link). told_to l.number out'.outcome out'.store h'.given) (sym link) ∙ sym h'.outputs,
-      same-hub new new' same.1 (h.refusals ∙ ap (λ (a : StoreAnswer). counted (view_of_stored a) old.refusals) f ∙ sym h'.refusals) links,
+      same-hub new new' same.1 (h.refusals ∙ ap (λ (a : StoreAnswer). counted (view_of_stored a) old.refusals) f ∙ sym h'.refusals) (room-same out.outcome out'.outcome true old.room new.room new'.room e h.room h'.room) links,
     )
 
 Happens-same : OneStep → (tell : Outcome → StoreAnswer → Given → Outputs) (event : Happening) (old new new' : Hub) (out out' : Outputs) → out.outcome ≡ out'.outcome → out.store ≡ out'.store → Happens tell event old out new → Happens tell event old out' new' → Same out out' new new'
 Happens-same step tell event old new new' out out' e f h h' =
     let same = same-step step old.state new.state new'.state event out.outcome out'.outcome out.store out'.store h.given h'.given e f h.step h'.step in (
       h.outputs ∙ ap (λ (o : Outcome). tell o out.store h.given) e ∙ ap (λ (a : StoreAnswer). tell out'.outcome a h.given) f ∙ ap (λ (x : Given). tell out'.outcome out'.store x) same.0 ∙ sym h'.outputs,
-      same-hub new new' same.1 (h.refusals ∙ ap (λ (a : StoreAnswer). counted (view_of_stored a) old.refusals) f ∙ sym h'.refusals) (h.links ∙ ap (λ (a : StoreAnswer). links_after event a old.links) f ∙ sym h'.links),
+      same-hub new new' same.1 (h.refusals ∙ ap (λ (a : StoreAnswer). counted (view_of_stored a) old.refusals) f ∙ sym h'.refusals) (room-same out.outcome out'.outcome (needs_entry event old.state) old.room new.room new'.room e h.room h'.room) (h.links ∙ ap (λ (a : StoreAnswer). links_after event a old.links) f ∙ sym h'.links),
     )
 
 none-not : HasOneReading → (place i : ℕ) (old new new' : Hub) (out out' : Outputs) → Answers place i old out new → HasNone place i old out' new' → ⊥

@@ -1,5 +1,5 @@
 -- The shared state, the connections, and what they are answered, as a fold over events.
-use Rattle.std.specs.Prelude.{◌≡◌, ℕ, ◌≤◌, ◌⊎◌, ◌==◌, List, [], ◌∷◌, ◌++◌, length, flat_map, Option, Some, None, slice_get, slice_set}
+use Rattle.std.specs.Prelude.{◌≡◌, ℕ, ◌≤◌, ◌⊎◌, ◌==◌, true, List, [], ◌∷◌, ◌++◌, length, flat_map, Option, Some, None, slice_get, slice_set}
 use Rattle.std.specs.List.{position, remove}
 use Rattle.definitions.specs.Bytes.{Bytes}
 use Rattle.definitions.specs.Hosts.{Hosts}
@@ -16,23 +16,25 @@ use Rattle.daemon_core.specs.declared.outcome.Outcome.TheVariants.{Applied, Star
 use Rattle.daemon_core.specs.declared.event.Event.{Event}
 use Rattle.daemon_core.specs.declared.event.Event.TheVariants.{Connect, Piece, Disconnect, Take, Send, Answer, Local, Silent, GraceOver, Restart}
 use Rattle.daemon_core.specs.declared.outputs.Outputs.{Outputs}
-use Rattle.daemon_core.specs.Outcomes.{NeedsEntry}
+use Rattle.daemon_core.specs.Outcomes.{needs_entry}
 use Rattle.daemon_core.specs.Outputs.{quiet, starved, upshot_of, told, told_call, told_line, told_to, bytes_sent}
+use Rattle.daemon_core.specs.Rooms.{Room, room_of_journal, RoomAfter}
 use Rattle.daemon_core.specs.Untaken.{AreRecords, untaken}
 use Rattle.daemon_core.specs.Link.{Link, fresh, with_taken, Receives}
 
--- the shared state, how often the store has refused, and the connections, each with all that came on it
+-- the shared state, how often the store has refused, the room of the journal, and the connections, each with all that came on it
 pub record Hub : Type 0 where
   pub state : State
   pub refusals : ℕ
+  pub room : Room
   pub links : List Link
 
 abbrev pub opening : Bytes → Hosts → ℕ → Hub
-opening name hosts refusals = record { state = opening_state name hosts; refusals = refusals; links = [] }
+opening name hosts refusals = record { state = opening_state name hosts; refusals = refusals; room = record { left = 1024; next = 1 }; links = [] }
 
 -- what a book shows of itself, with these connections
 abbrev pub hub_of : Book → List Link → Hub
-hub_of book links = record { state = book.journal.end; refusals = book.refusals; links = links }
+hub_of book links = record { state = book.journal.end; refusals = book.refusals; room = room_of_journal book.journal; links = links }
 
 abbrev pub with_links : Hub → List Link → Hub
 with_links hub links = record hub { links = links }
@@ -69,7 +71,7 @@ Pieces (Some place) bytes old out new = Brings place bytes old out new
 
 -- an event that needs an entry has none: no store is asked, and nothing changes
 pub record IsUnnoted (event : Happening) (old : State) (out : Outputs) (new : State) : Type 0 where
-  pub needed : NeedsEntry event old
+  pub needed : needs_entry event old ≡ true
   pub unasked : out.store ≡ NotAsked
   pub unchanged : new ≡ old
 
@@ -85,6 +87,7 @@ pub record Answers (place i : ℕ) (old : Hub) (out : Outputs) (new : Hub) : Typ
   pub step : Steps old.state (Takes (view_of_peer link.peer) bytes) (upshot_of out given) new.state
   pub refusals : new.refusals ≡ counted (view_of_stored out.store) old.refusals
   pub unnoted : out.outcome ≡ NoSegment → IsUnnoted (Takes (view_of_peer link.peer) bytes) old.state out new.state
+  pub room : RoomAfter out.outcome true old.room new.room
   pub links : new.links ≡ slice_set old.links place (with_taken link i)
   pub outputs : out ≡ told_to link.number out.outcome out.store given
 
@@ -126,13 +129,14 @@ links_after (FallsSilent number) store links = links
 links_after GraceEnds store links = links
 
 -- an event of the shared state, and what is told of it: a sending, an answer, a silence and the end of grace starve only where
--- there is no segment for their entry
+-- the segment that stands is full and there is no other for their entry
 pub record Happens (tell : Outcome → StoreAnswer → Given → Outputs) (event : Happening) (old : Hub) (out : Outputs) (new : Hub) : Type 0 where
   pub given : Given
   pub step : Steps old.state event (upshot_of out given) new.state
   pub refusals : new.refusals ≡ counted (view_of_stored out.store) old.refusals
   pub fed : out.outcome ≡ Starved → TakesMemory event
   pub unnoted : out.outcome ≡ NoSegment → IsUnnoted event old.state out new.state
+  pub room : RoomAfter out.outcome (needs_entry event old.state) old.room new.room
   pub links : new.links ≡ links_after event out.store old.links
   pub outputs : out ≡ tell out.outcome out.store given
 

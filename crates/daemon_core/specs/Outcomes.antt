@@ -1,5 +1,5 @@
 -- What became of an event, as the definitions have it.
-use Rattle.std.specs.Prelude.{IsSome}
+use Rattle.std.specs.Prelude.{Bool, true, is_some}
 use Rattle.definitions.specs.Outgoing.{next_due}
 use Rattle.definitions.specs.Step.{State, Doing, Applied, Starved}
 use Rattle.book.specs.declared.upshot.Doing.{Doing as Became}
@@ -20,11 +20,11 @@ noted_as doing.Applied = outcome.Applied
 noted_as doing.Starved = outcome.Starved
 
 -- a sending has an entry where a call is due, and each other event has one
-abbrev pub NeedsEntry : Happening → State → Type 0
-NeedsEntry SendsNext s = IsSome (next_due s.world.calls)
-NeedsEntry (Takes peer bytes) s = Unit {0}
-NeedsEntry (HearsAnswer bytes) s = Unit {0}
-NeedsEntry (AsksLine l line) s = Unit {0}
-NeedsEntry (FallsSilent number) s = Unit {0}
-NeedsEntry GraceEnds s = Unit {0}
-NeedsEntry BeginsAnew s = Unit {0}
+abbrev pub needs_entry : Happening → State → Bool
+needs_entry SendsNext s = is_some (next_due s.world.calls)
+needs_entry (Takes peer bytes) s = true
+needs_entry (HearsAnswer bytes) s = true
+needs_entry (AsksLine l line) s = true
+needs_entry (FallsSilent number) s = true
+needs_entry GraceEnds s = true
+needs_entry BeginsAnew s = true

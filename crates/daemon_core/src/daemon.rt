@@ -21,8 +21,8 @@ use range_table::RangeTable;
 use std::alloc::Global;
 use std::marker::Model;
 
-/// Contracts see the shared state, how often the store has refused, and of each connection all that came on it, and which
-/// of its records were taken.
+/// Contracts see the shared state, how often the store has refused, the room of the journal, and of each connection all that
+/// came on it, and which of its records were taken.
 pub struct Daemon<R: RangeTable, S: HostStore> {
     alloc: Global,
     book: Book<R, S>,
@@ -34,7 +34,9 @@ impl<R: RangeTable, S: HostStore> Model for Daemon<R, S> {
 
     ghost Value = { Hub };
 
-    ghost view = { λ d. record { state = d.book.journal.end; refusals = d.book.refusals; links = d.connections.items } };
+    ghost use Rattle.daemon_core.specs.Rooms.{room_of_journal};
+
+    ghost view = { λ d. record { state = d.book.journal.end; refusals = d.book.refusals; room = room_of_journal d.book.journal; links = d.connections.items } };
 }
 
 // It is written out, so that no crate above proves again how each part of a daemon is dropped.

@@ -9,7 +9,7 @@ ghost use Rattle.daemon_core.specs.Hub.{SendStep, hub_of};
 ghost use Rattle.daemon_core.specs.Link.{Link};
 ghost use Rattle.daemon_core.specs.Outcomes.{view_of_outcome};
 ghost use Rattle.daemon_core.specs.Outputs.{told_posted};
-ghost use Rattle.daemon_core.specs.Rooms.{BeginsWhereFull};
+ghost use Rattle.daemon_core.specs.Rooms.{BeginsWhereFull, RoomAfter, room_of_journal};
 
 use crate::outcome::Outcome;
 use crate::posted::Posted;
@@ -30,11 +30,11 @@ pub(crate) fn note<R: RangeTable, S: HostStore>(
     ensures step { Steps book.old.journal.end (view_of_event event) result.1 book.new.journal.end }
     ensures counts { book.new.refusals ≡ counted result.1.store book.old.refusals }
     ensures fed { result.0 ≡ Outcome.Starved → TakesMemory (view_of_event event) }
+    ensures room { RoomAfter result.0 true (room_of_journal book.old.journal) (room_of_journal book.new.journal) }
 
     // Without an entry no store is asked, and nothing changes.
     ensures unasked { result.0 ≡ Outcome.NoSegment → result.1.store ≡ NotAsked }
     ensures unchanged { result.0 ≡ Outcome.NoSegment → book.new.journal.end ≡ book.old.journal.end }
-    ensures full { result.0 ≡ Outcome.NoSegment → room_of book.old.journal ≡ 0 }
 {
     if !has_room(alloc, book) {
         return (Outcome::NoSegment, event.starved());
@@ -50,8 +50,7 @@ pub(crate) fn send_next<R: RangeTable, S: HostStore>(
     book: &mut Book<R, S>,
     posting: &mut Posting,
 ) -> Posted
-    ensures sends { (links : List Link) → SendStep (hub_of book.old links) (told_posted result posting.new) (hub_of book.new links) }
-    ensures full { result ≡ Posted.NoSegment → room_of book.old.journal ≡ 0 }
+    ensures { (links : List Link) → SendStep (hub_of book.old links) (told_posted result posting.new) (hub_of book.new links) }
 {
     if !book.has_due() {
         return Posted::Nothing;
@@ -71,6 +70,7 @@ pub(crate) fn send_next<R: RangeTable, S: HostStore>(
 fn has_room<R: RangeTable, S: HostStore>(alloc: Global, book: &mut Book<R, S>) -> bool
     ensures room { result ≡ true → 0 < room_of book.new.journal }
     ensures full { result ≡ false → room_of book.old.journal ≡ 0 }
+    ensures stays { result ≡ false → room_of_journal book.new.journal ≡ room_of_journal book.old.journal }
     ensures begins { BeginsWhereFull book.old book.new }
     ensures end { book.new.journal.end ≡ book.old.journal.end }
     ensures refusals { book.new.refusals ≡ book.old.refusals }

@@ -54,6 +54,10 @@ pub record SendStarves (old new : Hub) : Type 0 where
   pub step : SendStep old out new
   pub met : out.outcome ≡ NoSegment
 
+-- which is so only where the segment that stands is full
+abbrev pub StarvesWhereFull : Type 0
+StarvesWhereFull = (old new : Hub) → SendStarves old new → old.room.left ≡ 0
+
 -- what ends it while this was sent: a write fails, and a front of what was sent is written; or there is no segment for the entry
 -- of the next sending, and all is
 abbrev pub Breaks : Fault → Hub → Hub → Option (List ℕ) → Option (List ℕ) → List Outputs → Type 0

@@ -9,4 +9,4 @@ returns g c =
     let note = c.note-outcome in
     let told = c.tell_line in
     rw (← c.self.view_is)
-    (Happens-noted told.result note.result.0 note.result.1 told.ensures.outcome told.ensures.store note.ensures.outcome (AsksLine c.args.connection c.args.line.items) _ _ note.ensures.unasked note.ensures.unchanged tt (told_line c.args.connection) _ _ _ _ note.ensures.step note.ensures.counts note.ensures.fed refl told.ensures.told)
+    (Happens-noted told.result note.result.0 note.result.1 told.ensures.outcome told.ensures.store note.ensures.outcome (AsksLine c.args.connection c.args.line.items) _ _ note.ensures.unasked note.ensures.unchanged refl (told_line c.args.connection) _ _ _ _ _ _ note.ensures.step note.ensures.counts note.ensures.fed note.ensures.room refl told.ensures.told)
