@@ -1,5 +1,6 @@
 //! What is left at the end.
-ghost use Rattle.std.specs.Prelude.{◌≡◌, ◌+◌};
+ghost use Rattle.std.specs.Prelude.{◌≡◌, ◌+◌, ◌++◌, [], IfOk, IfNone, IfSome};
+ghost use Rattle.server.specs.Gathered.{Audited, Settles, left_by, left_by_all};
 
 use super::fault::StaffFault;
 use book::Receipt;
@@ -7,6 +8,7 @@ use hosts_db::HostStore;
 use jobs::{Channel, Keeper, Place};
 use range_table::RangeTable;
 use std::alloc::Global;
+use std::marker::Model;
 use std::sync::ledger::{Ledger, Share};
 use workers::{Ends, Leaves, Shared, Worker, audit};
 
@@ -38,7 +40,7 @@ impl<L: Ledger> Back<L> {
     }
 }
 
-/// Gathers what those who answered jobs leave.
+/// Gathers what those who answered jobs leave. Contracts see the receipts that were kept.
 #[derive(Drop)]
 pub struct Gatherer<P: Place, L: Ledger> {
     keeper: Keeper<P>,
@@ -46,8 +48,19 @@ pub struct Gatherer<P: Place, L: Ledger> {
     receipts: Vec<Receipt>,
 }
 
+impl<P: Place, L: Ledger> Model for Gatherer<P, L> {
+    ghost use Rattle.std.specs.Prelude.{List};
+    ghost use Rattle.book.specs.Receipts.{Receipt};
+
+    ghost Value = { List Receipt };
+
+    ghost view = { λ g. g.receipts.items };
+}
+
 impl<P: Place, L: Ledger> Gatherer<P, L> {
-    pub(crate) fn new(alloc: Global, keeper: Keeper<P>, back: Back<L>) -> Gatherer<P, L> {
+    pub(crate) fn new(alloc: Global, keeper: Keeper<P>, back: Back<L>) -> Gatherer<P, L>
+        ensures { result ≡ [] }
+    {
         Gatherer {
             keeper,
             back,
@@ -56,7 +69,9 @@ impl<P: Place, L: Ledger> Gatherer<P, L> {
     }
 
     /// Takes the next one back, in the order in which they were cut.
-    pub fn take(&mut self, channel: &Channel<P>, worker: Worker<P, L>) -> Result<(), StaffFault> {
+    pub fn take(&mut self, channel: &Channel<P>, worker: Worker<P, L>) -> Result<(), StaffFault>
+        ensures { IfOk result (λ _. self.new ≡ self.old ++ left_by worker) }
+    {
         let Leaves {
             seat,
             share,
@@ -71,7 +86,10 @@ impl<P: Place, L: Ledger> Gatherer<P, L> {
         }
     }
 
-    fn keep(&mut self, receipts: Option<Vec<Receipt>>) -> Result<(), StaffFault> {
+    fn keep(&mut self, receipts: Option<Vec<Receipt>>) -> Result<(), StaffFault>
+        ensures some { IfOk result (λ _. IfSome receipts (λ kept. self.new ≡ self.old ++ kept.items)) }
+        ensures none { IfNone receipts (self.new ≡ self.old) }
+    {
         if let Some(mut receipts) = receipts {
             self.receipts.append(&mut receipts)?;
         }
@@ -83,7 +101,9 @@ impl<P: Place, L: Ledger> Gatherer<P, L> {
         &mut self,
         channel: &Channel<P>,
         workers: Vec<Worker<P, L>>,
-    ) -> Result<(), StaffFault> {
+    ) -> Result<(), StaffFault>
+        ensures { IfOk result (λ _. self.new ≡ self.old ++ left_by_all workers.items) }
+    {
         for worker in workers {
             self.take(channel, worker)?;
         }
@@ -99,6 +119,7 @@ impl<P: Place, L: Ledger> Gatherer<P, L> {
         parts: u64,
     ) -> Result<u64, StaffFault>
         requires { parts ≡ L.parts }
+        ensures { IfOk result (λ calls. Settles shared.keeps self calls) }
     {
         let Gatherer {
             mut keeper,
@@ -119,7 +140,10 @@ impl<P: Place, L: Ledger> Gatherer<P, L> {
 fn audited<T: RangeTable + Drop, S: HostStore + Drop>(
     ends: Ends<T, S>,
     mut receipts: Vec<Receipt>,
-) -> Result<u64, StaffFault> {
+) -> Result<u64, StaffFault>
+    ensures none { IfNone ends.segments (IfOk result (λ calls. calls ≡ 0)) }
+    ensures some { IfSome ends.segments (λ segments. IfOk result (λ calls. Audited segments.items receipts.items calls)) }
+{
     let Ends { segments } = ends;
     match segments {
         None => Ok(0),
