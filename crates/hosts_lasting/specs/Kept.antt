@@ -2,6 +2,11 @@
 use Rattle.hosts_lasting.specs.declared.kept.KeptHosts.{KeptHosts}
 use Rattle.hosts_lasting.specs.declared.kept.KeptHosts.TheVariants.{InMemory, Stored}
 
+-- a store keeps them
+abbrev pub IsStored : {M S : Type 0} → KeptHosts M S → Type 0
+IsStored (InMemory hosts) = ⊥
+IsStored (Stored hosts) = Unit {0}
+
 -- as those in memory show it, or the store
 abbrev pub in_either : {M S X : Type 0} → (M → X) → (S → X) → KeptHosts M S → X
 in_either of_memory of_store (InMemory hosts) = of_memory hosts

@@ -1,5 +1,5 @@
 //! The program: its words, and how it ends.
-ghost use Rattle.std.specs.Prelude.{◌≡◌, ◌≤◌, map, string_bytes, IfOk, IfErr, IfSome};
+ghost use Rattle.std.specs.Prelude.{◌≡◌, ◌≤◌, map, string_bytes, Err, IfOk, IfErr, IfSome};
 ghost use Rattle.config.specs.Asked.{Asks};
 ghost use Rattle.config.specs.declared.settings.Config.{Config};
 ghost use Rattle.lockd_main.specs.Ends.{EndsBy};
@@ -9,6 +9,7 @@ use crate::stores::hosts_of;
 use crate::streams::{Told, serve_stream};
 use config::{Config, ConfigFault, FilePath, ServeConfig, StreamConfig, config};
 use hosts_db::HostStore;
+use hosts_lasting::Lasting;
 use log::Log;
 use peers::Peers;
 use pipe_loops::Fault;
@@ -107,6 +108,16 @@ enum Work<'a> {
     Sockets(&'a ServeConfig, Peers),
 }
 
+// The store, whose rows outlive a crash once the server began.
+fn lasting<S: HostStore>(store: Result<S, Fault>) -> Result<Lasting<S>, Fault>
+    ensures { IfErr store (λ fault. result ≡ Err fault) }
+{
+    match store {
+        Ok(store) => Ok(Lasting::new(store)),
+        Err(fault) => Err(fault),
+    }
+}
+
 // Serves over the store, where it could be had.
 fn serve_over<S, R>(host: &HostRuntime, rt: &R, work: Work<'_>, store: Result<S, Fault>) -> ExitCode
 where
@@ -115,6 +126,7 @@ where
     ensures most { result.status ≤ 1 }
     ensures refused { IfErr store (λ _. result.status ≡ 1) }
 {
+    let store = lasting(store);
     match work {
         Work::Stream(told, asked) => end(host, serve_stream(host, told, asked, store)),
         Work::Sockets(asked, peers) => {
