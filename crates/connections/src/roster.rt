@@ -1,5 +1,5 @@
 //! The connections that are open.
-ghost use Rattle.std.specs.Prelude.{◌≡◌, ◌≤◌, ◌<◌, ◌+◌, ◌^◌, ◌⊎◌, [], true, false, length, map, position, IfOk, IfSome, IfNone};
+ghost use Rattle.std.specs.Prelude.{◌≡◌, ◌≤◌, ◌<◌, ◌+◌, ◌^◌, ◌⊎◌, true, false, length, map, position, IfOk, IfSome, IfNone};
 ghost use Rattle.connections.specs.Seats.{is_free, is_of, lends, with_lent, taken_by, left_by, with_place, lent_at, place_of, HasPlace, with_one, closed, admitted};
 
 use crate::connection::Connection;

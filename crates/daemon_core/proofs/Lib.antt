@@ -1,7 +1,6 @@
 pub mod UntakenLemmas
 pub mod RoomLemmas
 pub mod HubLemmas
-pub mod Sends
 pub mod SameRun
 pub mod Replays
 pub mod Told

@@ -1,13 +1,12 @@
 -- A restart and an SM_SIMU_CRASH that the store agreed to lead to one state.
-use Rattle.std.proofs.Common.{◌≡◌, ℕ, Bool, true, false, cond, List, [], ◌∷◌, ◌%◌, map, refl, sym, ap, subst, ◌∙◌, Option, Some, None}
+use Rattle.std.proofs.Common.{◌≡◌, ℕ, Bool, true, false, cond, List, [], ◌%◌, map, refl, sym, ap, subst, ◌∙◌, Option, Some, None}
 use Rattle.std.proofs.lemmas.Bool.{true≢false}
 use Rattle.definitions.specs.Bytes.{Bytes}
 use Rattle.definitions.specs.Hosts.{Hosts, Begin, StoreAnswer, NotAsked, Yes, Refused, after_store}
 use Rattle.definitions.specs.Nsm.{NsmCall, SmNull, SmStat, SmMon, SmUnmon, SmUnmonAll, SmSimuCrash, SmNotify}
 use Rattle.definitions.specs.Settings.{Setting}
 use Rattle.definitions.specs.Replies.{Call, Nlm, Nsm, Ignored, Turned, Asks}
-use Rattle.definitions.specs.World.{World, the_limits, opening, restart_letter, restarted, settled, with_all_due, with_due}
-use Rattle.definitions.specs.Outgoing.{Letter}
+use Rattle.definitions.specs.World.{World, the_limits, opening, restart_letter, restarted, settled}
 use Rattle.definitions.specs.Rulings.{ruled}
 use Rattle.definitions.specs.Answer.{ruling}
 use Rattle.definition_laws.specs.Numbers.{is_beginning}

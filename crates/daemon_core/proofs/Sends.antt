@@ -1,1 +1,0 @@
--- The server's own call that is due first is sent, or none is due, or there is no room to note it.
