@@ -1,5 +1,6 @@
 //! Calls that wait for their answers, and the answers that came.
-use super::settings::{ends_with_reply, xid_of};
+use super::settings::ends_with_reply;
+use rpc_msg::Answer;
 use std::alloc::{AllocError, Global};
 use std::collections::VecDeque;
 use std::time::Instant;
@@ -88,10 +89,11 @@ impl Awaited {
         }
     }
 
-    /// A record came from this peer. It is kept where a call waits for it, and there is memory: else the call falls silent at its
-    /// time.
+    /// A record came from this peer. It is kept where it is an answer that a call waits for, and there is memory: else the call
+    /// may be answered yet, and falls silent at its time.
     pub(crate) fn hear(&mut self, peer: usize, record: &[u8]) -> Option<()> {
-        let xid = xid_of(record)?;
+        let answer = Answer::read(record)?;
+        let xid = answer.xid;
         let place = self.calls.iter().position(|c| c.is_answer(peer, xid))?;
         let copy = Vec::from_slice(self.alloc, record).ok()?;
         self.heard.push_back(copy).ok()?;

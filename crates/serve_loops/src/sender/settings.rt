@@ -1,11 +1,7 @@
 //! What the sender is told at the start.
+use nlm4_types::PROGRAM as NLM_PROGRAM;
+use nsm_types::PROGRAM as NSM_PROGRAM;
 use std::time::Duration;
-
-/// The lock manager's program (XNFS; RFC 1813, appendix II).
-const NLM_PROGRAM: u32 = 100_021;
-
-/// The status monitor's program (XNFS).
-const NSM_PROGRAM: u32 = 100_024;
 
 /// The ports that peers listen on, and how long the sender waits.
 #[derive(Clone, Copy)]
@@ -27,11 +23,6 @@ fn word(record: &[u8], at: usize) -> Option<u32> {
     let (_, behind) = record.split_at_checked(at)?;
     let bytes = behind.first_chunk::<4>()?;
     Some(u32::from_be_bytes(*bytes))
-}
-
-/// The xid of a record (RFC 5531, section 9), which comes first.
-pub(crate) fn xid_of(record: &[u8]) -> Option<u32> {
-    word(record, 0)
 }
 
 /// The procedure of a GRANTED_MSG, whose answer is a call of its own.
