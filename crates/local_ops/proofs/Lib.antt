@@ -1,7 +1,6 @@
 pub mod Parts
 pub mod Writing
 pub mod Numbers
-pub mod Cuts
 pub mod Spaces
 pub mod Fieldwise
 pub mod Wholes

@@ -1,6 +1,6 @@
 -- Fields hold no space, so a line is cut into them.
 use Rattle.std.proofs.Common.{◌≡◌, ℕ, ◌<◌, ◌^◌, List, [], ◌∷◌, Bool, true, false, inl, inr, refl, ap, ◌∙◌, arith}
-use Rattle.std.specs.Prelude.{not, ◌&&◌, Ok}
+use Rattle.std.specs.Prelude.{not, ◌&&◌, eqb, Ok}
 use Rattle.std.specs.Fmt.{decimal}
 use Rattle.std.specs.List.{All, AllPass}
 use Rattle.std.specs.Str.Parse.{AllDigits}
@@ -14,7 +14,10 @@ use Rattle.definitions.specs.Bytes.{Bytes}
 use Rattle.hex.specs.Hex.{decode_of, is_hex_digit}
 use Rattle.hex.proofs.HexLemmas.{decode_of-ok}
 use Rattle.local_ops.specs.Texts.{spaced}
-use Rattle.local_ops.specs.Reading.{is_space, fields_of}
+use Rattle.local_ops.specs.Reading.{fields_of}
+
+abbrev is_space : ℕ → Bool
+is_space byte = eqb byte 32
 
 abbrev pub spaceless : Bytes → Bool
 spaceless [] = true

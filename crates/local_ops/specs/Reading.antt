@@ -1,8 +1,6 @@
 -- How a line is read, field by field.
-use Rattle.std.specs.Prelude.{◌≡◌, ℕ, ◌^◌, Bool, cond, ◌&&◌, eqb, leb, ltb, List, [], ◌∷◌, length, codes, Option, Some, None, Result, Ok, Err, bytes_eq}
-use Rattle.std.specs.Borrow.{Bor}
+use Rattle.std.specs.Prelude.{◌≡◌, ℕ, ◌^◌, cond, ◌&&◌, eqb, leb, ltb, List, [], ◌∷◌, length, codes, Option, Some, None, Result, Ok, Err, bytes_eq}
 use Rattle.std.specs.Fmt.{decimal}
-use Rattle.std.specs.List.{slice_split}
 use Rattle.std.specs.Option.{option_map, option_and_then}
 use Rattle.std.specs.Result.{result_ok}
 use Rattle.std.specs.Str.Parse.{digits_value}
@@ -11,6 +9,7 @@ use Rattle.definitions.specs.Owners.{Owner, Process, Description}
 use Rattle.definitions.specs.Settings.{Mode, Shared, Exclusive}
 use Rattle.definitions.specs.Outgoing.{LocalLock}
 use Rattle.hex.specs.Hex.{decode_of}
+use Rattle.byte_parts.specs.Parts.{parts_at}
 
 -- what was returned is what reading gives
 abbrev pub Gives : {X Y E : Type 0} → (X → Y) → Result X E → Option Y → Type 0
@@ -22,16 +21,9 @@ abbrev pub GivesRest : {X Y E : Type 0} → (X → Y) → Result X E → List By
 GivesRest view (Ok x) rest read = read ≡ Some (view x, rest)
 GivesRest view (Err e) rest read = read ≡ None
 
-abbrev pub is_space : ℕ → Bool
-is_space byte = eqb byte 32
-
+-- a line is cut at its spaces
 abbrev pub fields_of : Bytes → List Bytes
-fields_of line = slice_split is_space line
-
--- behind the last space
-abbrev pub fields_left : Option (Bor Bytes) → List Bytes
-fields_left None = []
-fields_left (Some line) = fields_of line.now
+fields_of line = parts_at 32 line
 
 -- ---- one field
 

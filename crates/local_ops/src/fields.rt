@@ -1,16 +1,16 @@
 //! The fields of a line, one after the other.
 
 ghost use Rattle.std.specs.Prelude.{◌≡◌, ◌≤◌, ◌↔◌, [], ◌∷◌, length, true, IfOk, IsOk, MatchResult};
-ghost use Rattle.std.specs.List.{position};
 ghost use Rattle.std.specs.Option.{option_and_then};
 ghost use Rattle.callbacks.specs.Locals.{is_local};
 ghost use Rattle.owner_ids.specs.Views.{view_of_owner};
 ghost use Rattle.range_table.specs.Modes.{view_of_held_mode};
-ghost use Rattle.local_ops.specs.Reading.{Gives, GivesRest, is_space, fields_of, fields_left, first_field, number_in, owner_in, hex_in, change_in, process_of, runs_of, runs_in, owned_in, quota_in, lock_in};
+ghost use Rattle.local_ops.specs.Reading.{Gives, GivesRest, fields_of, first_field, number_in, owner_in, hex_in, change_in, process_of, runs_of, runs_in, owned_in, quota_in, lock_in};
 ghost use Rattle.callbacks.specs.Meanings.{view_of_local_lock};
 ghost use Rattle.local_ops.specs.Words.{word_in};
 
 use crate::host_name::HostName;
+use byte_parts::split_once;
 use callbacks::LocalLock;
 use itoa::Buffer;
 use owner_ids::Owner;
@@ -35,23 +35,6 @@ pub(crate) enum Word {
     Hosts,
     Quota,
     Stop,
-}
-
-/// The place of the first space.
-fn first_space(line: &[u8]) -> Option<usize>
-    ensures { result ≡ position is_space line.now }
-{
-    line.iter().position(|byte| *byte == b' ')
-}
-
-/// The first field, and what is behind its space.
-fn split_field(line: &[u8]) -> (&[u8], Option<&[u8]>)
-    ensures { fields_of line.now ≡ result.0.now ∷ fields_left result.1 }
-{
-    match first_space(line) {
-        Some(end) => (&line[..end], Some(&line[end + 1..])),
-        None => (line, None),
-    }
 }
 
 /// A number with no leading zeros.
@@ -193,11 +176,11 @@ pub(crate) struct Fields<'a> {
 
 impl<'a> Model for Fields<'a> {
     ghost use Rattle.std.specs.Prelude.{List, ℕ};
-    ghost use Rattle.local_ops.specs.Reading.{fields_left};
+    ghost use Rattle.byte_parts.specs.Parts.{parts_left};
 
     ghost Value = { List (List ℕ) };
 
-    ghost view = { λ f. fields_left f.rest };
+    ghost view = { λ f. parts_left 32 f.rest };
 }
 
 impl<'a> Fields<'a> {
@@ -212,7 +195,7 @@ impl<'a> Fields<'a> {
     {
         match self.rest {
             Some(line) => {
-                let (field, rest) = split_field(line);
+                let (field, rest) = split_once(line, b' ');
                 self.rest = rest;
                 Ok(field)
             }

@@ -1,19 +1,16 @@
 -- The file of peers, as bytes: a line for each, which is a name, a space and an IP address.
 use Rattle.std.specs.Prelude.{◌≡◌, ◌≤◌, ◌+◌, ℕ, Bool, true, not, ◌&&◌, eqb, leb, List, [], ◌∷◌, ◌++◌, length, Option, None, bytes_eq}
-use Rattle.std.specs.List.{find, list_any, slice_split}
+use Rattle.std.specs.List.{find, list_any}
 use Rattle.std.specs.Option.{option_map}
 use Rattle.std.specs.Net.Grammar.{IsIpText}
 use Rattle.std.specs.declared.net.ip_addr.IpAddr.{IpAddr}
+use Rattle.byte_parts.specs.Parts.{parts_at}
 
 pub record Peer : Type 0 where
   pub name : List ℕ
   pub address : IpAddr
 
 -- ---- lines
-
--- what stands before, between and behind these bytes
-abbrev pub parts_at : ℕ → List ℕ → List (List ℕ)
-parts_at byte bytes = slice_split (λ b. eqb b byte) bytes
 
 -- the last part is a line, too, where it isn't empty
 abbrev pub whole_lines : List (List ℕ) → List (List ℕ)

@@ -4,12 +4,7 @@ use Rattle.std.specs.Borrow.{Bor}
 use Rattle.std.specs.declared.net.ip_addr.IpAddr.{IpAddr}
 use Rattle.peers.specs.declared.fault.PeersFault.{PeersFault}
 use Rattle.peers.specs.declared.fault.PeersFault.TheVariants as fault
-use Rattle.peers.specs.File.{Peer, Spells, ArePeers, IsBadLine, lines_of, parts_at, address_of}
-
--- behind the last of these bytes
-abbrev pub parts_left : ℕ → Option (Bor (List ℕ)) → List (List ℕ)
-parts_left byte None = []
-parts_left byte (Some bytes) = parts_at byte bytes.now
+use Rattle.peers.specs.File.{Peer, Spells, ArePeers, IsBadLine, lines_of, address_of}
 
 abbrev pub ReadsLine : List ℕ → Option (Bor (List ℕ) × IpAddr) → Type 0
 ReadsLine line (Some (name, address)) = Spells line (record { name = name.now; address = address })

@@ -1,35 +1,19 @@
 //! The lines of a file of peers.
 
-ghost use Rattle.std.specs.Prelude.{◌≡◌, ◌<◌, ◌∷◌, eqb, length, position};
+ghost use Rattle.std.specs.Prelude.{◌≡◌, ◌<◌, ◌∷◌, eqb, length};
 ghost use Rattle.std.specs.List.{list_any};
-ghost use Rattle.peers.specs.File.{is_name, lines_of, parts_at};
-ghost use Rattle.peers.specs.Readings.{parts_left, ReadsLine};
+ghost use Rattle.peers.specs.File.{is_name, lines_of};
+ghost use Rattle.peers.specs.Readings.{ReadsLine};
 
+use byte_parts::split_once;
 use std::net::IpAddr;
-
-/// The place of the first of these bytes.
-fn first_at(bytes: &[u8], wanted: u8) -> Option<usize>
-    ensures { result ≡ position (λ b. eqb b wanted) bytes.now }
-{
-    bytes.iter().position(|byte| *byte == wanted)
-}
-
-/// What stands before the first of these bytes, and what behind it.
-fn cut(bytes: &[u8], at: u8) -> (&[u8], Option<&[u8]>)
-    ensures { parts_at at bytes.now ≡ result.0.now ∷ parts_left at result.1 }
-{
-    match first_at(bytes, at) {
-        Some(end) => (&bytes[..end], Some(&bytes[end + 1..])),
-        None => (bytes, None),
-    }
-}
 
 /// The first line, without its line feed, and what is behind it.
 pub(crate) fn split_line(bytes: &[u8]) -> (&[u8], &[u8])
     requires { 0 < length bytes.now }
     ensures { lines_of bytes.now ≡ result.0.now ∷ lines_of result.1.now }
 {
-    let (line, behind) = cut(bytes, b'\n');
+    let (line, behind) = split_once(bytes, b'\n');
     match behind {
         Some(behind) => (line, behind),
         None => (line, &[]),
@@ -53,11 +37,11 @@ fn is_name(name: &[u8]) -> bool
 pub(crate) fn read_line(line: &[u8]) -> Option<(&[u8], IpAddr)>
     ensures { ReadsLine line.now result }
 {
-    let (name, behind) = cut(line, b' ');
+    let (name, behind) = split_once(line, b' ');
     let Some(text) = behind else {
         return None;
     };
-    let (_, more) = cut(text, b' ');
+    let (_, more) = split_once(text, b' ');
     if more.is_some() || !is_name(name) {
         return None;
     }
