@@ -1,4 +1,4 @@
-//! Calls, word for word.
+//! Calls, and what a peer says to one of the server's own, word for word.
 use crate::words::put_header;
 use daemon_scripts::put_plain;
 use std::alloc::AllocError;
@@ -43,6 +43,36 @@ pub(crate) fn put_call(to: &mut Vec<u8>, xid: u32, call: &Call) -> Result<(), Al
     to.extend_from_slice(call.mark.to_be_bytes().as_slice())?;
     put_header(to, xid, call.procedure)?;
     if put_plain(to, call.arguments) {
+        Ok(())
+    } else {
+        Err(AllocError)
+    }
+}
+
+/// What is said to a call: its mark, and its words behind the xid.
+#[derive(Clone, Copy)]
+pub(crate) struct Answer {
+    mark: u32,
+    words: &'static str,
+}
+
+/// Its reply_stat is neither MSG_ACCEPTED nor MSG_DENIED, so it is no reply (RFC 5531, section 9).
+pub(crate) const NO_REPLY: Answer = Answer {
+    mark: 0x8000_000c,
+    words: "1 2",
+};
+
+/// The call was done, and the status is NLM4_DENIED (RFC 1813, appendix II). The cookie is empty.
+pub(crate) const DENIED: Answer = Answer {
+    mark: 0x8000_0020,
+    words: "1 0 0 0 0 0 1",
+};
+
+/// Appends what is said to the call of this xid, behind its mark.
+pub(crate) fn put_answer(to: &mut Vec<u8>, xid: &[u8], answer: &Answer) -> Result<(), AllocError> {
+    to.extend_from_slice(answer.mark.to_be_bytes().as_slice())?;
+    to.extend_from_slice(xid)?;
+    if put_plain(to, answer.words) {
         Ok(())
     } else {
         Err(AllocError)

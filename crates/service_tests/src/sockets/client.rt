@@ -1,5 +1,5 @@
 //! Who asks.
-use super::calls::{Call, put_call};
+use super::calls::{Answer, Call, put_answer, put_call};
 use super::servers::loopback;
 use std::alloc::Global;
 use std::io::{self, ErrorKind, Read, Write};
@@ -40,6 +40,18 @@ pub(crate) fn write(mut to: &TcpStream, bytes: &[u8]) -> io::Result<()> {
 pub(crate) fn ask(to: &TcpStream, alloc: Global, xid: u32, call: &Call) -> io::Result<()> {
     let mut record = Vec::new(alloc);
     put_call(&mut record, xid, call)?;
+    write(to, &record)
+}
+
+/// Says this to the call that begins so, its mark in front.
+pub(crate) fn answer(
+    to: &TcpStream,
+    alloc: Global,
+    call: &[u8],
+    answer: &Answer,
+) -> io::Result<()> {
+    let mut record = Vec::new(alloc);
+    put_answer(&mut record, call.get(4..8).unwrap_or_default(), answer)?;
     write(to, &record)
 }
 

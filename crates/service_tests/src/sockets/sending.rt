@@ -1,11 +1,11 @@
-//! A GRANTED that reaches its peer.
+//! A GRANTED that reaches its peer, and what the peer says to it.
 use super::servers::served_to;
 use super::talks::{Talk, Told};
 use std::test::*;
 
 const GRANTED: Told = Told {
     answered: 3,
-    statuses: [0, 3, 0],
+    statuses: [0, 3, 0, 0],
     procedure: 5,
 };
 
@@ -13,5 +13,13 @@ const GRANTED: Told = Told {
 #[test]
 fn granted_goes_to_its_peer(rt: HostRuntime) {
     let served = served_to(&rt, rt.alloc(), 2, 0, Talk::Granting);
+    assert!(rt; matches!(served, Some((_, told, _)) if told == GRANTED));
+}
+
+// What is no reply ends no wait for one: the denial behind it is heard, so the second loses the lock that it was granted, and the
+// first, who waited for it, has it.
+#[test]
+fn no_reply_leaves_its_call_waiting(rt: HostRuntime) {
+    let served = served_to(&rt, rt.alloc(), 2, 0, Talk::Denying);
     assert!(rt; matches!(served, Some((_, told, _)) if told == GRANTED));
 }

@@ -1,6 +1,8 @@
 //! What is said to a server.
-use super::calls::{Call, LOCK_BY_FIRST, LOCK_BY_SECOND, NULL, UNLOCK_BY_FIRST, put_call};
-use super::client::{ask, dial, read, stop, write};
+use super::calls::{
+    Call, DENIED, LOCK_BY_FIRST, LOCK_BY_SECOND, NO_REPLY, NULL, UNLOCK_BY_FIRST, put_call,
+};
+use super::client::{answer, ask, dial, read, stop, write};
 use super::servers::{Ports, loopback};
 use crate::hall::Hall;
 use std::alloc::Global;
@@ -14,11 +16,17 @@ const REPLY: usize = 28;
 /// The bytes of a reply to LOCK and to UNLOCK with a cookie of one byte, with its mark.
 const LOCK_REPLY: usize = 40;
 
+/// The bytes of a call of the server's own up to its procedure, with its mark.
+const CALLED: usize = 28;
+
+/// The status of a lock that waits.
+const BLOCKED: u8 = 3;
+
 /// The status of a call that comes in the grace period.
 const GRACE: u8 = 4;
 
-/// How often a lock is asked for until the grace period is over.
-const TRIES: u32 = 1_000;
+/// How often a lock is asked for until it is told otherwise.
+const TRIES: u32 = 900;
 
 /// A talk, which is to stop the server.
 #[derive(Clone, Copy)]
@@ -31,13 +39,16 @@ pub(crate) enum Talk {
     AtOnce(u32),
     // One owner locks, another waits, the first unlocks: the second is granted.
     Granting,
+    // Then its peer sends what is no reply, and denies the grant: the first has the lock again.
+    Denying,
 }
 
-/// How many calls were answered, and of a grant the statuses of the replies and the procedure of the call that came.
+/// How many calls were answered, and of a grant the statuses of the replies, 0 where there were fewer, and the procedure of the
+/// call that came.
 #[derive(Clone, Copy, PartialEq, Eq)]
 pub(crate) struct Told {
     pub(crate) answered: u32,
-    pub(crate) statuses: [u8; 3],
+    pub(crate) statuses: [u8; 4],
     pub(crate) procedure: u8,
 }
 
@@ -46,7 +57,7 @@ impl Told {
     pub(crate) fn of(answered: u32) -> Told {
         Told {
             answered,
-            statuses: [0; 3],
+            statuses: [0; 4],
             procedure: 0,
         }
     }
@@ -155,51 +166,67 @@ fn answered(connection: &TcpStream, alloc: Global, xid: u32, call: &Call) -> io:
     Ok(reply[LOCK_REPLY - 1])
 }
 
-// Asks until the grace period is over.
-fn lock_first<R: Clock>(rt: &R, alloc: Global, connection: &TcpStream) -> io::Result<u8> {
-    for xid in 100..TRIES {
+// Asks for the first owner's lock, under the xids from this one on, until the status is another one than this.
+fn lock_first<R: Clock>(
+    rt: &R,
+    alloc: Global,
+    connection: &TcpStream,
+    from: u32,
+    passed: u8,
+) -> io::Result<u8> {
+    for xid in from..from.saturating_add(TRIES) {
         let told = answered(connection, alloc, xid, &LOCK_BY_FIRST)?;
-        if told != GRACE {
+        if told != passed {
             return Ok(told);
         }
         thread::sleep(rt, Duration::from_millis(10));
     }
-    Ok(GRACE)
+    Ok(passed)
 }
 
 // One owner locks, another waits, the first unlocks.
 fn lock_both<R: Clock>(rt: &R, alloc: Global, connection: &TcpStream) -> io::Result<[u8; 3]> {
-    let held = lock_first(rt, alloc, connection)?;
+    let held = lock_first(rt, alloc, connection, 100, GRACE)?;
     let waits = answered(connection, alloc, 2, &LOCK_BY_SECOND)?;
     let freed = answered(connection, alloc, 3, &UNLOCK_BY_FIRST)?;
     Ok([held, waits, freed])
 }
 
-// The procedure of the call that comes to the peer. Then the server stops.
-fn called<R>(rt: &R, ports: Ports, peer: &TcpListener) -> io::Result<u8>
-where
-    R: Net<Listener = TcpListener, Stream = TcpStream> + Clock,
-{
-    let (granting, _) = peer.accept()?;
-    // Its mark, and its words up to the procedure.
-    let call = read::<28>(&granting)?;
-    let _ = stop(rt, ports.local)?;
-    Ok(call[27])
+// The peer sends what is no reply to its call, and then denies the grant. The status of the first owner's lock, once it doesn't
+// wait.
+fn deny<R: Clock>(
+    rt: &R,
+    alloc: Global,
+    connection: &TcpStream,
+    peer: &TcpStream,
+    call: &[u8; CALLED],
+) -> io::Result<u8> {
+    answer(peer, alloc, call, &NO_REPLY)?;
+    answer(peer, alloc, call, &DENIED)?;
+    lock_first(rt, alloc, connection, 1_000, BLOCKED)
 }
 
-// The second owner is granted.
-fn grant<R>(rt: &R, alloc: Global, ports: Ports) -> io::Result<Told>
+// The second owner is granted, and its peer may deny it.
+fn grant<R>(rt: &R, alloc: Global, ports: Ports, is_denied: bool) -> io::Result<Told>
 where
     R: Net<Listener = TcpListener, Stream = TcpStream> + Clock,
 {
-    let peer = TcpListener::bind(rt, loopback(ports.peer))?;
+    let listener = TcpListener::bind(rt, loopback(ports.peer))?;
     let connection = dial(rt, ports.rpc)?;
-    let statuses = lock_both(rt, alloc, &connection)?;
-    let procedure = called(rt, ports, &peer)?;
+    let [held, waits, freed] = lock_both(rt, alloc, &connection)?;
+    let (peer, _) = listener.accept()?;
+    // Its mark, and its words up to the procedure.
+    let call = read::<CALLED>(&peer)?;
+    let again = if is_denied {
+        deny(rt, alloc, &connection, &peer, &call)?
+    } else {
+        0
+    };
+    let _ = stop(rt, ports.local)?;
     Ok(Told {
         answered: 3,
-        statuses,
-        procedure,
+        statuses: [held, waits, freed, again],
+        procedure: call[27],
     })
 }
 
@@ -218,7 +245,8 @@ impl Talk {
             Talk::Sixteen => ask_sixteen(rt, alloc, ports, hall),
             Talk::One(calls) => ask_all(rt, alloc, ports, calls),
             Talk::AtOnce(calls) => ask_at_once(rt, alloc, ports, calls),
-            Talk::Granting => grant(rt, alloc, ports),
+            Talk::Granting => grant(rt, alloc, ports, false),
+            Talk::Denying => grant(rt, alloc, ports, true),
         }
     }
 }
