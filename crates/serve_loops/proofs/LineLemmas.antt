@@ -1,5 +1,5 @@
 -- Lines go on.
-use Rattle.std.proofs.Common.{◌≡◌, ℕ, ◌+◌, ◌<◌, Bool, true, false, ◌||◌, eqb, List, [], ◌∷◌, ◌++◌, length, take, drop, get_or, Option, Some, None, refl, sym, ◌∙◌, ap, subst, append_assoc}
+use Rattle.std.proofs.Common.{◌≡◌, ℕ, ◌+◌, ◌<◌, Bool, true, eqb, List, [], ◌∷◌, ◌++◌, length, take, drop, get_or, Option, Some, None, refl, sym, ◌∙◌, ap, subst, append_assoc}
 use Rattle.std.specs.Prelude.{Result, Ok, Err, IfOk, IfErr}
 use Rattle.std.specs.Option.{option_to_list}
 use Rattle.std.proofs.lemmas.Bool.{eqb-true}
@@ -7,7 +7,6 @@ use Rattle.std.specs.Io.KnownBytes.{Appends, Consumes, Keeps}
 use Rattle.std.proofs.KnownBytes.{Consumes-nil, Consumes-trans, Consumes-kept, Appends-nil, Appends-trans, Appends-kept}
 use Rattle.std.proofs.lemmas.Grind.{flat_map-append}
 use Rattle.std.proofs.lemmas.List.{append-nil, take_more, take-append-drop}
-use Rattle.std.proofs.lemmas.List.Folds.{list_any-append}
 use Rattle.definitions.specs.Bytes.{Bytes}
 use Rattle.definitions.specs.Step.{State, Given, Starved}
 use Rattle.definitions.specs.Hosts.{NotAsked}
@@ -22,9 +21,6 @@ use Rattle.written.proofs.Appending.{WroteFront-whole}
 use Rattle.serve_loops.specs.declared.ending.Ending.{Ending}
 use Rattle.serve_loops.specs.declared.ending.Ending.TheVariants as ending
 use Rattle.serve_loops.specs.Lines.{IsOpen, Answer, AreOpen, ended, kept, text_of, texts, entries, IsAnswered, AreAnswered, Asks, Trace, trace, Goes, Serves, ServesFront, Breaks, Cuts, Ends, Turns, Takes, IsSaid, AnswersLine, Finishes, TellsOf}
-
-pub open-append : (xs ys : Bytes) → IsOpen xs → IsOpen ys → IsOpen (xs ++ ys)
-open-append xs ys p q = list_any-append (λ b. eqb b 10) xs ys ∙ (λ i. p i || q i)
 
 open-all : (ls ms : List Answer) → AreOpen ls → AreOpen ms → AreOpen (ls ++ ms)
 open-all [] ms p q = q
@@ -49,10 +45,6 @@ Goes-trans x y z s t ms ns g h = record {
 
 pub Serves-none : (c : ℕ) (part : Bytes) (x : Trace) → IsOpen part → Serves c part [] part x x
 Serves-none c part x o = record { answers = []; joined = append-nil part; whole = tt; unended = o; answered = tt; goes = Goes-none x }
-
-pub Serves-byte : (c : ℕ) (part : Bytes) (b : ℕ) (x : Trace) → IsOpen part → eqb b 10 ≡ false → Serves c part (b ∷ []) (part ++ b ∷ []) x x
-Serves-byte c part b x o other =
-    record { answers = []; joined = refl; whole = tt; unended = open-append part (b ∷ []) o (ap (λ t. t || false) other); answered = tt; goes = Goes-none x }
 
 pub Serves-line : (c : ℕ) (part : Bytes) (x y : Trace) → IsOpen part → IsSaid c (kept part) x y → Serves c part (10 ∷ []) [] x y
 Serves-line c part x y o said = record {
@@ -206,8 +198,8 @@ unplaced c part u x o = ([], Consumes-nil u, Front-none c part [] x o)
 pub byte_ended : (e : Option Ending) (c : ℕ) (part rest : Bytes) (byte : ℕ) (t : Bool) (x y : Trace) → t ≡ eqb byte 10 → t ≡ true → Takes e c part (10 ∷ []) rest x y → Takes e c part (byte ∷ []) rest x y
 byte_ended e c part rest byte t x y is fed h = subst (λ (b : ℕ). Takes e c part (b ∷ []) rest x y) (sym (eqb-true byte 10 (sym is ∙ fed))) h
 
-pub byte_added : (c : ℕ) (part more : Bytes) (byte : ℕ) (t : Bool) (x : Trace) → IsOpen part → t ≡ eqb byte 10 → t ≡ false → more ≡ part ++ byte ∷ [] → Serves c part (byte ∷ []) more x x
-byte_added c part more byte t x o is other added = subst (λ (l : Bytes). Serves c part (byte ∷ []) l x x) (sym added) (Serves-byte c part byte x o (sym is ∙ other))
+pub byte_added : (c : ℕ) (part more : Bytes) (byte : ℕ) (x : Trace) → IsOpen more → more ≡ part ++ byte ∷ [] → Serves c part (byte ∷ []) more x x
+byte_added c part more byte x o added = record { answers = []; joined = sym added; whole = tt; unended = o; answered = tt; goes = Goes-none x }
 
 module _ (c : ℕ) (p piece : Bytes) (i d : ℕ) (q : Bytes) (x y : Trace) (within : i < length piece) (s : Serves c p (take i piece) q x y) where
   pub piece-more : (r : Bytes) (z : Trace) → Serves c q (get_or piece i d ∷ []) r y z → Serves c p (take (i + 1) piece) r x z

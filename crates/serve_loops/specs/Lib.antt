@@ -2,3 +2,4 @@ pub mod Calls
 pub mod Lines
 pub mod Handing
 pub mod SentCalls
+pub mod Waits

@@ -2,7 +2,7 @@
 ghost use Rattle.std.specs.Prelude.{◌≡◌, ◌<◌, ◌∷◌, [], eqb, IfOk, vec_len};
 ghost use Rattle.book.specs.Given.{view_of_reply};
 ghost use Rattle.written.specs.Written.{Wrote};
-ghost use Rattle.serve_loops.specs.Lines.{AnswersLine, Ends, Finishes, Hears, IsOpen, Reads, Takes, Turns, text_of, trace};
+ghost use Rattle.serve_loops.specs.Lines.{AnswersLine, Ends, Finishes, Hears, Reads, Takes, Turns, text_of, trace};
 
 use crate::clerk::{Answers, Clerk};
 use crate::ending::Ending;
@@ -127,7 +127,6 @@ fn end_line<A: Answers, O: Write>(
     part: &mut Part,
     output: &mut O,
 ) -> Option<Ending>
-    requires { IsOpen part.old }
     ensures { Takes result connection part.old (10 ∷ []) part.new (trace (O.contents output.old) (A.told clerk.old)) (trace (O.contents output.new) (A.told clerk.new)) }
 {
     match part.end() {
@@ -145,7 +144,6 @@ fn take_byte<A: Answers, O: Write>(
     output: &mut O,
     byte: u8,
 ) -> Option<Ending>
-    requires { IsOpen part.old }
     ensures { Takes result connection part.old (byte ∷ []) part.new (trace (O.contents output.old) (A.told clerk.old)) (trace (O.contents output.new) (A.told clerk.new)) }
 {
     let is_end = is_feed(byte);
@@ -164,9 +162,9 @@ fn take_piece<A: Answers, O: Write>(
     output: &mut O,
     piece: &[u8],
 ) -> Option<Ending>
-    requires { IsOpen part.old }
     ensures { Takes result connection part.old piece.now part.new (trace (O.contents output.old) (A.told clerk.old)) (trace (O.contents output.new) (A.told clerk.new)) }
 {
+    part.has_no_feed();
     for byte in piece {
         match take_byte(clerk, connection, part, output, *byte) {
             Some(ending) => return Some(ending),
@@ -184,9 +182,9 @@ fn hear<A: Answers, O: Write>(
     output: &mut O,
     piece: &[u8],
 ) -> Option<Ending>
-    requires { IsOpen part.old }
     ensures { Hears result connection part.old piece.now part.new (trace (O.contents output.old) (A.told clerk.old)) (trace (O.contents output.new) (A.told clerk.new)) }
 {
+    part.has_no_feed();
     if piece.is_empty() {
         return Some(Ending::Over);
     }
@@ -205,9 +203,9 @@ fn turn<A: Answers, I: Read, O: Write>(
     input: &mut I,
     output: &mut O,
 ) -> Option<Ending>
-    requires { IsOpen part.old }
     ensures { Turns result connection part.old part.new (I.remaining input.old) (I.remaining input.new) (trace (O.contents output.old) (A.told clerk.old)) (trace (O.contents output.new) (A.told clerk.new)) }
 {
+    part.has_no_feed();
     // The place is got first, so that no byte is lost.
     let Ok(place) = make_place(alloc) else {
         return Some(Ending::Starved);
@@ -219,6 +217,7 @@ fn turn<A: Answers, I: Read, O: Write>(
     }
 }
 
+// Answers the lines of a stream, from its start.
 fn serve<A: Answers, I: Read, O: Write, W: Wait>(
     alloc: Global,
     rt: &W,
@@ -226,11 +225,12 @@ fn serve<A: Answers, I: Read, O: Write, W: Wait>(
     connection: u64,
     input: &mut I,
     output: &mut O,
-    mut part: Part,
 ) -> Ending
-    requires { IsOpen part }
-    ensures { Ends result connection part (I.remaining input.old) (I.remaining input.new) (trace (O.contents output.old) (A.told clerk.old)) (trace (O.contents output.new) (A.told clerk.new)) }
+    ensures { Ends result connection [] (I.remaining input.old) (I.remaining input.new) (trace (O.contents output.old) (A.told clerk.old)) (trace (O.contents output.new) (A.told clerk.new)) }
 {
+    let Ok(mut part) = Part::new(alloc) else {
+        return Ending::Starved;
+    };
     for _ in rt.forever() {
         match turn(alloc, clerk, connection, &mut part, input, output) {
             Some(ending) => return ending,
@@ -263,14 +263,8 @@ where
     W: Wait,
     ensures { Ends result.ending connection [] (I.remaining input.old) (I.remaining input.new) (trace (O.contents output.old) []) (trace (O.contents output.new) result.transcript) }
 {
-    let Ok(part) = Part::new(alloc) else {
-        return Served {
-            ending: Ending::Starved,
-            transcript: Transcript::new(),
-        };
-    };
     let mut clerk = Clerk::new(rt, shared, signals);
-    let ending = serve(alloc, rt, &mut clerk, connection, input, output, part);
+    let ending = serve(alloc, rt, &mut clerk, connection, input, output);
     Served {
         ending,
         transcript: clerk.into_transcript(),

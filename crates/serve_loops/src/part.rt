@@ -1,5 +1,6 @@
 //! A line that comes in.
-ghost use Rattle.std.specs.Prelude.{◌≡◌, ◌≤◌, ◌<◌, ◌++◌, ◌∷◌, [], length, take, vec_capacity, IfOk, OnOk, OnErr};
+ghost use Rattle.std.specs.Prelude.{◌≡◌, ◌≢◌, ◌≤◌, ◌<◌, ◌++◌, ◌∷◌, [], length, take, vec_capacity, IfOk, OnOk, OnErr};
+ghost use Rattle.serve_loops.specs.Lines.{IsOpen};
 
 use book::Starved;
 use history::History;
@@ -10,7 +11,7 @@ use std::mem;
 /// The most bytes that are kept of a line: one more than a line of the protocol has at most.
 const KEPT: usize = 513;
 
-/// What has come of a line so far. Contracts see all of it; its first bytes alone are kept.
+/// What has come of a line so far, without a line feed. Contracts see all of it; its first bytes alone are kept.
 #[derive(Drop)]
 pub(crate) struct Part {
     alloc: Global,
@@ -20,12 +21,13 @@ pub(crate) struct Part {
 
 impl Model for Part {
     ghost use Rattle.std.specs.Prelude.{◌≡◌, ◌≤◌, ℕ, List, take, vec_capacity};
+    ghost use Rattle.serve_loops.specs.Lines.{IsOpen};
 
     ghost Value = { List ℕ };
 
     ghost view = { λ p. p.all.items };
 
-    ghost invariant = { λ p. (p.kept.items ≡ take 513 p.all.items) × (513 ≤ vec_capacity p.kept) };
+    ghost invariant = { λ p. (p.kept.items ≡ take 513 p.all.items) × (513 ≤ vec_capacity p.kept) × IsOpen p.all.items };
 }
 
 // The byte is kept, if there are not as many yet.
@@ -52,10 +54,19 @@ impl Part {
         })
     }
 
-    /// One byte more.
+    /// It has no line feed: a proof learns that here.
+    pub(crate) fn has_no_feed(&self)
+        ensures { IsOpen self.now }
+    {
+        let _kept = &self.kept;
+    }
+
+    /// One byte more, which is no line feed.
     #[tactic(auto, using(crate::proofs::PartLemmas::kept_more))]
     pub(crate) fn add(&mut self, byte: u8)
-        ensures { self.new ≡ self.old ++ byte ∷ [] }
+        requires { byte ≢ 10 }
+        ensures more { self.new ≡ self.old ++ byte ∷ [] }
+        ensures no_feed { IsOpen self.new }
     {
         keep(&mut self.kept, byte);
         self.all = self.all.and(&byte);
@@ -66,6 +77,7 @@ impl Part {
         ensures line { IfOk result (λ line. line.items ≡ take 513 self.old) }
         ensures next { OnOk result (self.new ≡ []) }
         ensures stays { OnErr result (self.new ≡ self.old) }
+        ensures no_feed { IsOpen self.old }
     {
         let fresh = Vec::with_capacity(self.alloc, KEPT)?;
         self.all = History::new();

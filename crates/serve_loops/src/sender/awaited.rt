@@ -1,8 +1,13 @@
 //! Calls that wait for their answers, and the answers that came.
+ghost use Rattle.std.specs.Prelude.{◌≡◌, ◌≢◌, [], ◌∷◌, true, false, if◌then◌else◌, IfOk, OnErr, IfSome, IfNone, position, option_map};
+ghost use Rattle.rpc_msg.specs.Answered.{IsNoAnswer};
+ghost use Rattle.serve_loops.specs.Waits.{no_waits, ends_with_reply, is_numbered, is_up, awaits, IsReplyTo, NobodyAwaits, AddsCall, HearsReply, TakesCall};
+
 use super::settings::ends_with_reply;
 use rpc_msg::Answer;
 use std::alloc::{AllocError, Global};
 use std::collections::VecDeque;
+use std::marker::Model;
 use std::time::Instant;
 
 /// So many calls have a place at the start. The server has no more of its own.
@@ -27,27 +32,33 @@ impl Waiting {
     /// A call of this record, which is sent now.
     pub(crate) fn new(
         number: u64,
-        record: &[u8],
+        bytes: &[u8],
         peer: Option<usize>,
         now: Instant,
         until: Instant,
-    ) -> Waiting {
+    ) -> Waiting
+        ensures { result ≡ record { number = number; peer = peer; sent = now; until = until; ends_with_reply = ends_with_reply bytes.now; is_answered = false } }
+    {
         Waiting {
             number,
             peer,
             sent: now,
             until,
-            ends_with_reply: ends_with_reply(record),
+            ends_with_reply: ends_with_reply(bytes),
             is_answered: false,
         }
     }
 
-    pub(crate) fn number(&self) -> u64 {
+    pub(crate) fn number(&self) -> u64
+        ensures { result ≡ self.now.number }
+    {
         self.number
     }
 
     /// The peer from which nothing came since it was sent, and when that was.
-    pub(crate) fn mute_peer(&self) -> Option<(usize, Instant)> {
+    pub(crate) fn mute_peer(&self) -> Option<(usize, Instant)>
+        ensures { result ≡ (if self.now.is_answered then None else option_map (λ place. (place, self.now.sent)) self.now.peer) }
+    {
         if self.is_answered {
             return None;
         }
@@ -55,12 +66,20 @@ impl Waiting {
         Some((peer, self.sent))
     }
 
-    fn is_answer(&self, peer: usize, xid: u32) -> bool {
+    fn is_up(&self, now: Instant) -> bool
+        ensures { result ≡ is_up now self.now }
+    {
+        now.checked_duration_since(self.until).is_some()
+    }
+
+    fn awaits(&self, peer: usize, xid: u32) -> bool
+        ensures { result ≡ awaits peer xid self.now }
+    {
         !self.is_answered && self.peer == Some(peer) && self.number & 0xffff_ffff == u64::from(xid)
     }
 }
 
-/// The calls that wait for their answers, in no order, and the answers that came, the oldest first.
+/// The calls that wait for their answers, in no order, and the answers that came, the oldest first. Contracts see both lists.
 #[derive(Drop)]
 pub(crate) struct Awaited {
     alloc: Global,
@@ -68,8 +87,51 @@ pub(crate) struct Awaited {
     heard: VecDeque<Vec<u8>>,
 }
 
+impl Model for Awaited {
+    ghost use Rattle.std.specs.Prelude.{map, ◌≤◌, vec_capacity};
+    ghost use Rattle.serve_loops.specs.Waits.{Waits};
+
+    ghost Value = { Waits };
+
+    ghost view = { λ a. record { calls = a.calls.items; heard = map (λ v. v.items) a.heard.items } };
+
+    ghost invariant = { λ a. 8192 ≤ vec_capacity a.calls };
+}
+
+// Where the call of this number stands.
+fn place_of(calls: &[Waiting], number: u64) -> Option<usize>
+    ensures { result ≡ position (is_numbered number) calls.now }
+{
+    calls.iter().position(|call| call.number == number)
+}
+
+// Where the first call stands that awaits the answer of this xid.
+fn awaiting(calls: &[Waiting], peer: usize, xid: u32) -> Option<usize>
+    ensures { result ≡ position (awaits peer xid) calls.now }
+{
+    calls.iter().position(|call| call.awaits(peer, xid))
+}
+
+// Where the first call stands whose time is up.
+fn silent(calls: &[Waiting], now: Instant) -> Option<usize>
+    ensures { result ≡ position (is_up now) calls.now }
+{
+    calls.iter().position(|call| call.is_up(now))
+}
+
+// The xid of the call that this record is a reply to.
+fn replied_xid(bytes: &[u8]) -> Option<u32>
+    ensures some { IfSome result (λ xid. IsReplyTo xid bytes.now) }
+    ensures none { IfNone result (IsNoAnswer bytes.now) }
+{
+    let answer = Answer::read(bytes)?;
+    Some(answer.xid)
+}
+
 impl Awaited {
-    pub(crate) fn new(alloc: Global) -> Result<Awaited, AllocError> {
+    pub(crate) fn new(alloc: Global) -> Result<Awaited, AllocError>
+        ensures { IfOk result (λ a. a ≡ no_waits) }
+    {
         Ok(Awaited {
             alloc,
             calls: Vec::with_capacity(alloc, PLACES)?,
@@ -78,9 +140,10 @@ impl Awaited {
     }
 
     /// The call waits. Where it does so since it was sent before, it waits anew.
-    pub(crate) fn add(&mut self, call: Waiting) {
-        let place = self.calls.iter().position(|c| c.number == call.number);
-        match place {
+    pub(crate) fn add(&mut self, call: Waiting)
+        ensures { AddsCall PLACES call self.old self.new }
+    {
+        match place_of(&self.calls, call.number) {
             Some(place) => self.calls[place] = call,
             None => {
                 // There is a place for each call of the server.
@@ -89,35 +152,52 @@ impl Awaited {
         }
     }
 
-    /// A record came from this peer. It is kept where it is an answer that a call waits for, and there is memory: else the call
-    /// may be answered yet, and falls silent at its time.
-    pub(crate) fn hear(&mut self, peer: usize, record: &[u8]) -> Option<()> {
-        let answer = Answer::read(record)?;
-        let xid = answer.xid;
-        let place = self.calls.iter().position(|c| c.is_answer(peer, xid))?;
-        let copy = Vec::from_slice(self.alloc, record).ok()?;
-        self.heard.push_back(copy).ok()?;
+    /// A record came from this peer. It is kept where it is an answer that a call waits for, and tells whether it is. Refused:
+    /// there is no memory to keep it, and nothing changed, so the call may be answered yet, and falls silent at its time.
+    pub(crate) fn hear(&mut self, peer: usize, bytes: &[u8]) -> Result<bool, AllocError>
+        ensures kept { result ≡ Ok true → HearsReply peer bytes.now self.old self.new }
+        ensures other { result ≡ Ok false → (self.new ≡ self.old) × NobodyAwaits peer bytes.now self.old.calls }
+        ensures stays { OnErr result (self.new ≡ self.old) }
+    {
+        let Some(xid) = replied_xid(bytes) else {
+            return Ok(false);
+        };
+        let Some(place) = awaiting(&self.calls, peer, xid) else {
+            return Ok(false);
+        };
+        let copy = Vec::from_slice(self.alloc, bytes)?;
+        self.heard.push_back(copy)?;
         if self.calls[place].ends_with_reply {
             self.calls.swap_remove(place);
         } else {
             self.calls[place].is_answered = true;
         }
-        Some(())
+        Ok(true)
     }
 
     /// Takes the answer that came first.
-    pub(crate) fn take_heard(&mut self) -> Option<Vec<u8>> {
+    pub(crate) fn take_heard(&mut self) -> Option<Vec<u8>>
+        ensures some { IfSome result (λ first. self.old ≡ record self.new { heard = first.items ∷ self.new.heard }) }
+        ensures none { IfNone result ((self.new ≡ self.old) × (self.old.heard ≡ [])) }
+    {
         self.heard.pop_front()
     }
 
     /// Takes a call whose time is up, if there is one.
-    pub(crate) fn take_silent(&mut self, now: Instant) -> Option<Waiting> {
-        let place = self.calls.iter().position(|c| c.until <= now)?;
+    pub(crate) fn take_silent(&mut self, now: Instant) -> Option<Waiting>
+        ensures some { IfSome result (λ call. TakesCall call self.old self.new) }
+        ensures up { IfSome result (λ call. is_up now call ≡ true) }
+        ensures none { IfNone result ((self.new ≡ self.old) × (position (is_up now) self.old.calls ≡ None)) }
+    {
+        let place = silent(&self.calls, now)?;
         Some(self.calls.swap_remove(place))
     }
 
     /// When there is something to take.
-    pub(crate) fn next(&self, now: Instant) -> Option<Instant> {
+    pub(crate) fn next(&self, now: Instant) -> Option<Instant>
+        ensures heard { self.now.heard ≢ [] → result ≡ Some now }
+        ensures none { IfNone result (self.now ≡ no_waits) }
+    {
         if !self.heard.is_empty() {
             return Some(now);
         }
@@ -125,7 +205,9 @@ impl Awaited {
     }
 
     /// Nothing is awaited any more.
-    pub(crate) fn clear(&mut self) {
+    pub(crate) fn clear(&mut self)
+        ensures { self.new ≡ no_waits }
+    {
         self.calls.clear();
         self.heard.clear();
     }

@@ -1,4 +1,7 @@
 //! What the sender is told at the start.
+ghost use Rattle.std.specs.Prelude.{◌≡◌};
+ghost use Rattle.serve_loops.specs.Waits.{word_at, ends_with_reply};
+
 use nlm4_types::PROGRAM as NLM_PROGRAM;
 use nsm_types::PROGRAM as NSM_PROGRAM;
 use std::time::Duration;
@@ -19,18 +22,22 @@ pub struct Settings {
 }
 
 // The word at this place of a record.
-fn word(record: &[u8], at: usize) -> Option<u32> {
-    let (_, behind) = record.split_at_checked(at)?;
-    let bytes = behind.first_chunk::<4>()?;
-    Some(u32::from_be_bytes(*bytes))
+fn word(bytes: &[u8], at: usize) -> Option<u32>
+    ensures { result ≡ word_at at bytes.now }
+{
+    let (_, behind) = bytes.split_at_checked(at)?;
+    let word = behind.first_chunk::<4>()?;
+    Some(u32::from_be_bytes(*word))
 }
 
 /// The procedure of a GRANTED_MSG, whose answer is a call of its own.
 const GRANTED_MSG: u32 = 10;
 
 /// Whether the call of this record is over once it has its reply: a GRANTED_MSG waits for a GRANTED_RES.
-pub(crate) fn ends_with_reply(record: &[u8]) -> bool {
-    word(record, 12) != Some(NLM_PROGRAM) || word(record, 20) != Some(GRANTED_MSG)
+pub(crate) fn ends_with_reply(bytes: &[u8]) -> bool
+    ensures { result ≡ ends_with_reply bytes.now }
+{
+    word(bytes, 12) != Some(NLM_PROGRAM) || word(bytes, 20) != Some(GRANTED_MSG)
 }
 
 impl Settings {

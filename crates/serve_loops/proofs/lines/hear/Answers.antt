@@ -6,7 +6,7 @@ use Rattle.serve_loops.proofs.lines.hear.Goals as goal
 pub returns-then-is_empty : goal.returns-then-is_empty
 returns-then-is_empty g c =
     let none : c.args.piece.now ≡ [] = grind (arith, common_steps) in
-    (none, Serves-none _ _ _ c.requires)
+    (none, Serves-none _ _ _ c.has_no_feed.ensures)
 
 pub returns-then-is_stopping : goal.returns-then-is_stopping
-returns-then-is_stopping g c = Front-none _ _ _ _ c.requires
+returns-then-is_stopping g c = Front-none _ _ _ _ c.has_no_feed.ensures

@@ -1,13 +1,13 @@
-use Rattle.std.proofs.Common.{[], ◌++◌}
+use Rattle.std.proofs.Common.{[], ◌++◌, refl}
 use Rattle.std.proofs.KnownBytes.{Consumes-nil, Consumes-trans}
-use Rattle.serve_loops.proofs.LineLemmas.{Serves-none, Serves-append, Ends-after, Front-all}
+use Rattle.serve_loops.proofs.LineLemmas.{Serves-none, Serves-append, Ends-after, Front-all, unplaced}
 use Rattle.serve_loops.proofs.lines.serve.Goals as goal
 
-pub loop-init : goal.loop-init
-loop-init g c = ([], Consumes-nil _, Serves-none _ _ _ c.requires)
+pub returns-in_default : goal.returns-in_default
+returns-in_default g c = unplaced _ _ _ _ refl
 
-pub turn-requires : goal.turn-requires
-turn-requires g c = c.loop.invariant.2.unended
+pub loop-init : goal.loop-init
+loop-init g c = ([], Consumes-nil _, rw c.in-Ok.ensures (Serves-none _ [] _ refl))
 
 pub returns-in-Some-turn : goal.returns-in-Some-turn
 returns-in-Some-turn g c = let i = c.loop.invariant in Ends-after _ _ _ i.0 _ _ i.2 _ _ _ i.1 c.in-Some-turn.ending _ c.in-Some-turn.ensures

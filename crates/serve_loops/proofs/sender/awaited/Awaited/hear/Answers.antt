@@ -1,0 +1,12 @@
+use Rattle.std.proofs.Common.{refl, arith}
+use Rattle.std.proofs.lemmas.Grind.{common_steps}
+use Rattle.serve_loops.proofs.WaitLemmas.{HearsReply-ended, HearsReply-answered}
+use Rattle.serve_loops.proofs.sender.awaited.Awaited.hear.Goals as goal
+
+pub returns-then-index-clause-kept : goal.returns-then-index-clause-kept
+returns-then-index-clause-kept c =
+    λ _. rw (← c.self.view_is) (HearsReply-ended _ _ c.in-Some.xid c.in-Some.ensures.some _ _ c.in-Some-awaiting.place (grind (arith, common_steps)) c.index.result.now c.swap_remove.result c.index.ensures c.swap_remove.ensures.value (grind (arith, common_steps)) c.if-index.true c.swap_remove.ensures.items)
+
+pub returns-else-index-clause-kept : goal.returns-else-index-clause-kept
+returns-else-index-clause-kept c =
+    λ _. rw (← c.self.view_is) (HearsReply-answered _ _ c.in-Some.xid c.in-Some.ensures.some _ _ c.in-Some-awaiting.place (grind (arith, common_steps)) c.index.result.now c.index_mut.result.now c.index.ensures c.index_mut.ensures.value (grind (arith, common_steps)) c.if-index.false refl)
