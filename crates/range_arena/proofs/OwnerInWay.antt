@@ -32,7 +32,7 @@ any_same test xs ys h =
 
 -- ---- two runs of one owner
 
-ordered_in : (rs : List Run) (r : Run) → IsRunList rs → IsIn r rs → r.first ≤ r.last
+pub ordered_in : (rs : List Run) (r : Run) → IsRunList rs → IsIn r rs → r.first ≤ r.last
 ordered_in [] r h i = absurd i
 ordered_in (x ∷ xs) r h (inl e) = subst (λ s. s.first ≤ s.last) (sym e) h.0
 ordered_in (x ∷ xs) r h (inr i) = ordered_in xs r h.1.1 i

@@ -147,6 +147,33 @@ IsRunList-remove [] (suc at) h = tt
 IsRunList-remove (r ∷ rs) zero h = h.1.1
 IsRunList-remove (r ∷ rs) (suc at) h = (h.0, (all_remove (Follows r) rs at h.1.0, IsRunList-remove rs at h.1.1))
 
+-- a run that ends earlier stays behind those in front of it, and in front of those behind it
+end_follows : (r x : Run) (last : ℕ) → Follows r x → Follows r (record x { last = last })
+end_follows r x last h = record { order = h.order; apart = h.apart; whole = h.whole }
+
+ends_follow : (r x : Run) (last : ℕ) (rs : List Run) (at : ℕ) → at < length rs → x ≡ get_or rs at x → AllByRecursion (Follows r) rs → AllByRecursion (Follows r) (set rs at (record x { last = last }))
+ends_follow r x last [] at l e h = absurd (omega arith)
+ends_follow r x last (s ∷ ss) zero l e h = (end_follows r x last (subst (Follows r) (sym e) h.0), h.1)
+ends_follow r x last (s ∷ ss) (suc at) l e h = (h.0, ends_follow r x last ss at (omega arith) e h.1)
+
+follows_end : (x s : Run) (last : ℕ) → last ≤ x.last → Follows x s → Follows (record x { last = last }) s
+follows_end x s last u h = record {
+  order = h.order;
+  apart = λ o. let a = h.apart o in omega arith;
+  whole = λ o m. let a = h.whole o m in omega arith;
+}
+
+follow_end : (x : Run) (last : ℕ) (rs : List Run) → last ≤ x.last → AllByRecursion (Follows x) rs → AllByRecursion (Follows (record x { last = last })) rs
+follow_end x last [] u h = tt
+follow_end x last (s ∷ ss) u h = (follows_end x s last u h.0, follow_end x last ss u h.1)
+
+pub IsRunList-end : (rs : List Run) (at : ℕ) (x : Run) (last : ℕ) → at < length rs → x ≡ get_or rs at x → x.first ≤ last → last ≤ x.last → IsRunList rs → IsRunList (set rs at (record x { last = last }))
+IsRunList-end [] at x last l e f u h = absurd (omega arith)
+IsRunList-end (r ∷ rs) zero x last l e f u h =
+    let k = subst (λ y. IsRunList (y ∷ rs)) (sym e) h in
+    (f, (follow_end x last rs u k.1.0, k.1.1))
+IsRunList-end (r ∷ rs) (suc at) x last l e f u h = (h.0, (ends_follow r x last rs at (omega arith) e h.1.0, IsRunList-end rs at x last (omega arith) e f u h.1.1))
+
 pub kept_by : (c : Setting) (rs : List Run) → map (trim c) (filter (stays c) rs) ≡ kept c rs
 kept_by c [] = refl
 kept_by c (r ∷ rs) =

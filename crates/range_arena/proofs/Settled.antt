@@ -1,5 +1,5 @@
 -- What is set in place holds what the setting says.
-use Rattle.std.proofs.Common.{◌≡◌, ℕ, ◌≤◌, cond, List, [], ◌∷◌, ◌++◌, Option, Some, refl, sym, ap, subst, ◌∙◌, arith, length}
+use Rattle.std.proofs.Common.{◌≡◌, ℕ, ◌≤◌, cond, List, [], ◌∷◌, ◌++◌, Option, Some, refl, sym, ap, ◌∙◌, arith, length}
 use Rattle.range_table.specs.File.{File}
 use Rattle.range_table.specs.Settings.{covers, IsIn}
 use Rattle.range_table.specs.Runs.{mode_in, set_mode, set_runs, IsRunList}
@@ -11,7 +11,7 @@ use Rattle.range_table.proofs.Tests.{by_test}
 use Rattle.range_table.proofs.Files.{file_tests}
 use Rattle.range_table.proofs.RunFacts.{in_is_run}
 use Rattle.range_table.proofs.Tables.{mode_at-append}
-use Rattle.range_table.proofs.Sets.{IsRunList-set, mode_in-set}
+use Rattle.range_table.proofs.Sets.{mode_in-set}
 use Rattle.range_arena.specs.Quick.{HoldsAll, AreSet}
 
 -- where an owner holds the range in the mode already, the runs stay
@@ -24,13 +24,12 @@ held_already c m rs r h i k f o b =
     (λ t. rw t refl)
 
 pub set_already : (c : Setting) (m : Mode) (rs : List Run) (r : Run) → IsRunList rs → length rs ≤ 65536 → IsIn r rs → HoldsAll c m r → AreSet (Some m) c rs rs
-set_already c m rs r h l i k = record { listed = h; held = held_already c m rs r h i k; few = l }
+set_already c m rs r h l i k = record { held = held_already c m rs r h i k; few = l }
 
 pub set_anew : (mode : Option Mode) (c : Setting) (rs new : List Run) → c.mode ≡ mode → c.first ≤ c.last → IsRunList rs → new ≡ set_mode mode c rs → length new ≤ 65536 → AreSet mode c rs new
 set_anew mode c rs new k w h e l =
     let s : set_runs c rs ≡ new = ap (λ x. set_mode x c rs) k ∙ sym e in
     record {
-      listed = subst IsRunList s (IsRunList-set c rs w h);
       held = λ f o b. ap (λ xs. mode_in xs f o b) (sym s) ∙ mode_in-set c rs f o b w h ∙ ap (λ x. cond (covers c f o b) x (mode_in rs f o b)) k;
       few = l;
     }
@@ -38,7 +37,6 @@ set_anew mode c rs new k w h e l =
 -- and so the new runs keep one setting more
 pub kept_after : (s : Setting) (old new : List Run) (ss : List Setting) → KeepSettings old ss → AreSet s.mode s old new → KeepSettings new (ss ++ s ∷ [])
 kept_after s old new ss k e = record {
-  listed = e.listed;
   held = λ f o b. e.held f o b ∙ ap (λ m. cond (covers s f o b) s.mode m) (k.held f o b) ∙ sym (mode_at-append ss s f o b);
   few = e.few;
 }

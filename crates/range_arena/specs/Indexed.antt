@@ -36,6 +36,6 @@ pub record AreSame (xs ys : List Run) : Type 0 where
 
 pub record IsIndexed (t : Inside) : Type 0 where
   pub sorted : IsSortedBy owned_cmp t.owned
-  pub same : AreSame t.list t.owned
-  pub long : length t.owned ≡ length t.list
-  pub vouched : AreVouched t.stretches.items.items t.stretches.count t.list
+  pub same : AreSame t.runs.list t.owned
+  pub long : length t.owned ≡ length t.runs.list
+  pub vouched : AreVouched t.stretches.items.items t.stretches.count t.runs.list

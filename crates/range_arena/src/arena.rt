@@ -36,7 +36,7 @@ impl Model for ArenaTable {
 
     ghost view = { λ t. t.history.items };
 
-    ghost invariant = { λ t. KeepSettings t.runs t.history.items };
+    ghost invariant = { λ t. KeepSettings t.runs.list t.history.items };
 }
 
 impl ArenaTable {
@@ -81,15 +81,15 @@ impl RangeTable for ArenaTable {
     }
 
     fn used(&self) -> u32 {
-        self.runs.list().len() as u32
+        self.runs.sorted().list.len() as u32
     }
 
     fn runs<O: OwnerOrder>(&self, owners: &O, i: u32) -> Run {
-        ordered::run_at(self.runs.list(), owners, i as usize)
+        ordered::run_at(self.runs.sorted(), owners, i as usize)
     }
 
     fn copy_runs(&self, list: &mut Vec<Run>) {
-        self.runs.list().copy_to(list);
+        self.runs.sorted().list.copy_to(list);
     }
 
     fn first_conflict<O: OwnerOrder>(&self, owners: &O, wanted: &Wanted) -> Option<Run> {
@@ -116,7 +116,7 @@ impl RangeTable for ArenaTable {
     }
 
     fn used_of<H: Host>(&self, host: &H) -> u32 {
-        sorted::used_of(self.runs.list(), host)
+        sorted::used_of(&self.runs.sorted().list, host)
     }
 
     fn used_after(

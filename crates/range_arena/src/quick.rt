@@ -2,7 +2,7 @@
 ghost use Rattle.std.specs.Prelude.{OnOk, OnErr, IsErr, IsTrue, IfSome, ◌↔◌, ◌≡◌, ◌+◌, ◌≤◌, length, map, not, Some};
 ghost use Rattle.std.specs.List.{filter};
 ghost use Rattle.range_table.specs.Settings.{IsIn};
-ghost use Rattle.range_table.specs.Runs.{starts_in, trim, kept, right, cut, low, high, widened, joined, set_runs, is_split, is_full, IsRunList};
+ghost use Rattle.range_table.specs.Runs.{starts_in, trim, kept, right, cut, low, high, widened, joined, set_runs, is_split, is_full};
 ghost use Rattle.range_table.specs.Parts.{last_started};
 ghost use Rattle.range_arena.specs.Quick.{HoldsAll, AreSet};
 
@@ -20,9 +20,8 @@ fn holds_all(run: &Run, range: &Setting, mode: Mode) -> bool
 
 // The last run of the range's owner that starts before it.
 fn last_before(runs: &Indexed, range: &Setting) -> Option<Run>
-    requires { IsRunList runs.now }
-    ensures last { result ≡ last_started range.now range.now.first runs.now }
-    ensures stands { IfSome result (λ r. IsIn r runs.now) }
+    ensures last { result ≡ last_started range.now range.now.first runs.now.list }
+    ensures stands { IfSome result (λ r. IsIn r runs.now.list) }
 {
     if range.first == 0 {
         return None;
@@ -31,8 +30,7 @@ fn last_before(runs: &Indexed, range: &Setting) -> Option<Run>
 }
 
 fn low(runs: &Indexed, range: &Setting, mode: Mode) -> u64
-    requires { IsRunList runs.now }
-    ensures { result ≡ low range.now mode runs.now }
+    ensures { result ≡ low range.now mode runs.now.list }
 {
     match last_before(runs, range) {
         Some(run) => run.low_beside(range, mode),
@@ -41,8 +39,7 @@ fn low(runs: &Indexed, range: &Setting, mode: Mode) -> u64
 }
 
 fn high(runs: &Indexed, range: &Ranged, mode: Mode) -> u64
-    requires listed { IsRunList runs.now }
-    ensures { result ≡ high range.now.setting mode runs.now }
+    ensures { result ≡ high range.now.setting mode runs.now.list }
 {
     match runs.last_upto(&range.setting, range.setting.last + 1) {
         Some(run) => run.high_beside(&range.setting, mode),
@@ -52,8 +49,7 @@ fn high(runs: &Indexed, range: &Ranged, mode: Mode) -> u64
 
 // The range with the runs of the mode that it meets.
 fn widened(runs: &Indexed, range: &Ranged, mode: Mode) -> Setting
-    requires listed { IsRunList runs.now }
-    ensures { result ≡ widened range.now.setting mode runs.now }
+    ensures { result ≡ widened range.now.setting mode runs.now.list }
 {
     Setting {
         first: low(runs, &range.setting, mode),
@@ -63,8 +59,7 @@ fn widened(runs: &Indexed, range: &Ranged, mode: Mode) -> Setting
 }
 
 fn is_split(runs: &Indexed, range: &Ranged) -> bool
-    requires listed { IsRunList runs.now }
-    ensures { result ≡ is_split range.now.setting runs.now }
+    ensures { result ≡ is_split range.now.setting runs.now.list }
 {
     match last_before(runs, &range.setting) {
         Some(run) => run.splits(&range.setting),
@@ -74,8 +69,7 @@ fn is_split(runs: &Indexed, range: &Ranged) -> bool
 
 // Leaves of the run that reaches the range what is in front of it.
 fn trim(runs: &mut Indexed, range: &Setting)
-    requires { IsRunList runs.old }
-    ensures { runs.new ≡ map (trim range.now) runs.old }
+    ensures { runs.new.list ≡ map (trim range.now) runs.old.list }
 {
     if let Some(run) = last_before(runs, range) {
         let mut left = run;
@@ -89,10 +83,9 @@ fn trim(runs: &mut Indexed, range: &Setting)
 // The owner's runs that start in the range go: one by one from the last one back, and after many, all that are left in one pass.
 // To take one out costs about what it costs to go over some dozens, so this stays near the cheaper way.
 fn take_started(runs: &mut Indexed, range: &Setting)
-    requires { IsRunList runs.old }
-    ensures { runs.new ≡ filter (λ r. not (starts_in range.now r)) runs.old }
+    ensures { runs.new.list ≡ filter (λ r. not (starts_in range.now r)) runs.old.list }
 {
-    for _ in 0..runs.list().len() / 32 + 32 {
+    for _ in 0..runs.sorted().list.len() / 32 + 32 {
         let Some(run) = runs.last_upto(range, range.last) else {
             return;
         };
@@ -105,8 +98,7 @@ fn take_started(runs: &mut Indexed, range: &Setting)
 }
 
 fn keep(runs: &mut Indexed, range: &Setting)
-    requires { IsRunList runs.old }
-    ensures { runs.new ≡ kept range.now runs.old }
+    ensures { runs.new.list ≡ kept range.now runs.old.list }
 {
     take_started(runs, range);
     trim(runs, range);
@@ -114,11 +106,10 @@ fn keep(runs: &mut Indexed, range: &Setting)
 
 // Cuts the range out, of which this is left behind it.
 fn cut_to(runs: &mut Indexed, range: &Setting, rest: Option<Run>)
-    requires listed { IsRunList runs.old }
     requires ordered { range.now.first ≤ range.now.last }
-    requires rest { rest ≡ right range.now runs.old }
-    requires room { length (cut range.now runs.old) ≤ MOST_RUNS }
-    ensures { runs.new ≡ cut range.now runs.old }
+    requires rest { rest ≡ right range.now runs.old.list }
+    requires room { length (cut range.now runs.old.list) ≤ MOST_RUNS }
+    ensures { runs.new.list ≡ cut range.now runs.old.list }
 {
     keep(runs, range);
     if let Some(run) = rest {
@@ -127,10 +118,9 @@ fn cut_to(runs: &mut Indexed, range: &Setting, rest: Option<Run>)
 }
 
 fn cut(runs: &mut Indexed, range: &Setting)
-    requires listed { IsRunList runs.old }
     requires ordered { range.now.first ≤ range.now.last }
-    requires room { length (cut range.now runs.old) ≤ MOST_RUNS }
-    ensures { runs.new ≡ cut range.now runs.old }
+    requires room { length (cut range.now runs.old.list) ≤ MOST_RUNS }
+    ensures { runs.new.list ≡ cut range.now runs.old.list }
 {
     // Where the owner has nothing up to the range's end, nothing more is searched.
     let Some(run) = runs.last_upto(range, range.last) else {
@@ -146,9 +136,8 @@ fn cut(runs: &mut Indexed, range: &Setting)
 
 // Where the owner may have runs beside the range.
 fn join_beside(runs: &mut Indexed, range: &Ranged, mode: Mode)
-    requires listed { IsRunList runs.old }
-    requires room { length (joined range.now.setting mode runs.old) ≤ MOST_RUNS }
-    ensures { runs.new ≡ joined range.now.setting mode runs.old }
+    requires room { length (joined range.now.setting mode runs.old.list) ≤ MOST_RUNS }
+    ensures { runs.new.list ≡ joined range.now.setting mode runs.old.list }
 {
     let wide = widened(runs, range, mode);
     cut(runs, &wide);
@@ -157,12 +146,11 @@ fn join_beside(runs: &mut Indexed, range: &Ranged, mode: Mode)
 
 // Where the owner has a run that starts up to the byte behind the range: this one, the last of them.
 fn join_last(runs: &mut Indexed, range: &Ranged, mode: Mode, last: &Run)
-    requires listed { IsRunList runs.old }
     requires mode { range.now.setting.mode ≡ Some mode }
-    requires few { length runs.old ≤ MOST_RUNS }
-    requires room { length (joined range.now.setting mode runs.old) ≤ MOST_RUNS }
-    requires stands { IsIn last.now runs.old }
-    ensures { AreSet (Some mode) range.now.setting runs.old runs.new }
+    requires few { length runs.old.list ≤ MOST_RUNS }
+    requires room { length (joined range.now.setting mode runs.old.list) ≤ MOST_RUNS }
+    requires stands { IsIn last.now runs.old.list }
+    ensures { AreSet (Some mode) range.now.setting runs.old.list runs.new.list }
 {
     // What is held already isn't taken out to be put in again.
     if !holds_all(last, &range.setting, mode) {
@@ -171,11 +159,10 @@ fn join_last(runs: &mut Indexed, range: &Ranged, mode: Mode, last: &Run)
 }
 
 fn join(runs: &mut Indexed, range: &Ranged, mode: Mode)
-    requires listed { IsRunList runs.old }
     requires mode { range.now.setting.mode ≡ Some mode }
-    requires few { length runs.old ≤ MOST_RUNS }
-    requires room { length (joined range.now.setting mode runs.old) ≤ MOST_RUNS }
-    ensures { AreSet (Some mode) range.now.setting runs.old runs.new }
+    requires few { length runs.old.list ≤ MOST_RUNS }
+    requires room { length (joined range.now.setting mode runs.old.list) ≤ MOST_RUNS }
+    ensures { AreSet (Some mode) range.now.setting runs.old.list runs.new.list }
 {
     match runs.last_upto(&range.setting, range.setting.last + 1) {
         Some(last) => join_last(runs, range, mode, &last),
@@ -184,10 +171,9 @@ fn join(runs: &mut Indexed, range: &Ranged, mode: Mode)
 }
 
 pub(crate) fn is_full(runs: &Indexed, range: &Ranged) -> bool
-    requires listed { IsRunList runs.now }
-    ensures { result ≡ is_full range.now.setting runs.now }
+    ensures { result ≡ is_full range.now.setting runs.now.list }
 {
-    if runs.list().len() + 2 <= MOST_RUNS {
+    if runs.sorted().list.len() + 2 <= MOST_RUNS {
         return false;
     }
     range.setting.mode.is_some() || is_split(runs, range)
@@ -195,10 +181,9 @@ pub(crate) fn is_full(runs: &Indexed, range: &Ranged) -> bool
 
 /// In place, in room that is there.
 pub(crate) fn set(runs: &mut Indexed, range: &Ranged) -> Result<(), NoRuns>
-    requires listed { IsRunList runs.old }
-    requires few { length runs.old ≤ MOST_RUNS }
-    ensures refused { IsErr result ↔ IsTrue (is_full range.now.setting runs.old) }
-    ensures ok { OnOk result (AreSet range.now.setting.mode range.now.setting runs.old runs.new) }
+    requires few { length runs.old.list ≤ MOST_RUNS }
+    ensures refused { IsErr result ↔ IsTrue (is_full range.now.setting runs.old.list) }
+    ensures ok { OnOk result (AreSet range.now.setting.mode range.now.setting runs.old.list runs.new.list) }
     ensures err { OnErr result (runs.new ≡ runs.old) }
 {
     if is_full(runs, range) {
@@ -213,8 +198,7 @@ pub(crate) fn set(runs: &mut Indexed, range: &Ranged) -> Result<(), NoRuns>
 
 // What is left of the run that reaches beyond the range's end.
 fn rest(runs: &Indexed, range: &Setting) -> Option<Run>
-    requires { IsRunList runs.now }
-    ensures { result ≡ right range.now runs.now }
+    ensures { result ≡ right range.now runs.now.list }
 {
     match runs.last_upto(range, range.last) {
         Some(run) => run.rest(range),
@@ -224,19 +208,17 @@ fn rest(runs: &Indexed, range: &Setting) -> Option<Run>
 
 // How many runs start outside the range.
 fn used_beside(runs: &Indexed, range: &Setting) -> u32
-    requires listed { IsRunList runs.now }
-    requires few { length runs.now ≤ MOST_RUNS }
-    ensures count { result ≡ length (filter (λ r. not (starts_in range.now r)) runs.now) }
+    requires few { length runs.now.list ≤ MOST_RUNS }
+    ensures count { result ≡ length (filter (λ r. not (starts_in range.now r)) runs.now.list) }
     ensures few { result ≤ MOST_RUNS }
 {
-    (runs.list().len() - runs.started(range)) as u32
+    (runs.sorted().list.len() - runs.started(range)) as u32
 }
 
 // How many there are without the range.
 fn used_cut(runs: &Indexed, range: &Setting) -> u32
-    requires listed { IsRunList runs.now }
-    requires few { length runs.now ≤ MOST_RUNS }
-    ensures count { result ≡ length (cut range.now runs.now) }
+    requires few { length runs.now.list ≤ MOST_RUNS }
+    ensures count { result ≡ length (cut range.now runs.now.list) }
     ensures few { result ≤ MOST_RUNS + 1 }
 {
     sorted::used_with(used_beside(runs, range), rest(runs, range))
@@ -244,9 +226,8 @@ fn used_cut(runs: &Indexed, range: &Setting) -> u32
 
 /// How many runs there would be after a setting.
 pub(crate) fn used_after(runs: &Indexed, range: &Ranged) -> u32
-    requires listed { IsRunList runs.now }
-    requires few { length runs.now ≤ MOST_RUNS }
-    ensures { result ≡ length (set_runs range.now.setting runs.now) }
+    requires few { length runs.now.list ≤ MOST_RUNS }
+    ensures { result ≡ length (set_runs range.now.setting runs.now.list) }
 {
     match range.setting.mode {
         Some(mode) => used_cut(runs, &widened(runs, range, mode)) + 1,

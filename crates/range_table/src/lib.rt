@@ -10,6 +10,8 @@ mod ranged;
 pub mod run;
 pub mod run_list;
 pub mod sorted;
+pub mod sorted_runs;
+pub mod sweeps;
 mod table;
 mod wanted;
 mod words;

@@ -9,6 +9,6 @@ use Rattle.range_arena.proofs.indexed.seat.Goals as goal
 pub returns : goal.returns
 returns c =
     let test : Run → Bool = λ s. run_before s c.args.run.now in
-    let rs = c.args.runs.now in
+    let rs = c.args.runs.now.list in
     place_whole test rs c.len.result c.partition_point.result c.len.ensures.len
-    (c.partition_point.ensures.place test (λ x b k. search rules) (parted_whole test rs c.len.result c.len.ensures.len (before_parted first_cmp first_total c.args.run.now rs (sorted_list rs c.requires))))
+    (c.partition_point.ensures.place test (λ x b k. search rules) (parted_whole test rs c.len.result c.len.ensures.len (before_parted first_cmp first_total c.args.run.now rs (sorted_list rs c.args.runs.now.sorted))))

@@ -20,16 +20,16 @@ pub insert-requires-clause-fits : goal.insert-requires-clause-fits
 insert-requires-clause-fits c =
     let range = c.args.range.now.setting in
     subst IsRunList
-    (sym (alone range c.args.mode c.args.runs.now c.run.result c.args.range.now.ordered (sym c.last_upto.ensures.last ∙ c.in-None.is) c.run.ensures))
-    (IsRunList-joined range c.args.mode c.args.runs.now c.args.range.now.ordered c.requires.listed)
+    (sym (alone range c.args.mode c.args.runs.now.list c.run.result c.args.range.now.ordered (sym c.last_upto.ensures.last ∙ c.in-None.is) c.run.ensures))
+    (IsRunList-joined range c.args.mode c.args.runs.now.list c.args.range.now.ordered c.args.runs.now.sorted)
 
 pub insert-requires-clause-room : goal.insert-requires-clause-room
 insert-requires-clause-room c =
-    let e = alone c.args.range.now.setting c.args.mode c.args.runs.now c.run.result c.args.range.now.ordered (sym c.last_upto.ensures.last ∙ c.in-None.is) c.run.ensures in
-    omega (arith, length-insert_run c.run.result c.args.runs.now, c.requires.room, ap length e)
+    let e = alone c.args.range.now.setting c.args.mode c.args.runs.now.list c.run.result c.args.range.now.ordered (sym c.last_upto.ensures.last ∙ c.in-None.is) c.run.ensures in
+    omega (arith, length-insert_run c.run.result c.args.runs.now.list, c.requires.room, ap length e)
 
 pub returns-in-None : goal.returns-in-None
 returns-in-None c =
     let range = c.args.range.now.setting in
-    let e = c.insert.ensures ∙ alone range c.args.mode c.args.runs.now c.run.result c.args.range.now.ordered (sym c.last_upto.ensures.last ∙ c.in-None.is) c.run.ensures in
-    set_anew (Some c.args.mode) range c.args.runs.now c.insert.new.self c.requires.mode c.args.range.now.ordered c.requires.listed e (omega (arith, ap length e, c.requires.room))
+    let e = c.insert.ensures ∙ alone range c.args.mode c.args.runs.now.list c.run.result c.args.range.now.ordered (sym c.last_upto.ensures.last ∙ c.in-None.is) c.run.ensures in
+    set_anew (Some c.args.mode) range c.args.runs.now.list c.insert.new.self.list c.requires.mode c.args.range.now.ordered c.args.runs.now.sorted e (omega (arith, ap length e, c.requires.room))

@@ -8,7 +8,7 @@ pub returns-clause-place : goal.returns-clause-place
 returns-clause-place c =
     let begin = c.args.begin in
     let end = c.args.end in
-    let rs = c.args.runs.now in
+    let rs = c.args.runs.now.list in
     let size = c.partition_point-size.result in
     let test = upto_place c.args.file.now c.args.byte in
     let r = c.requires in
@@ -17,4 +17,4 @@ returns-clause-place c =
     let n = length-part begin (end - begin) rs (omega arith) in
     let b = c.partition_point-size.ensures.bound in
     parts.place_between test rs begin end size o w r.front r.behind (omega arith)
-    (c.partition_point-size.ensures.place test (λ x b k. search rules) (upto_parted c.args.file.now c.args.byte (part begin (end - begin) rs) (IsRunList-take _ (end - begin) (IsRunList-drop rs begin r.listed))))
+    (c.partition_point-size.ensures.place test (λ x b k. search rules) (upto_parted c.args.file.now c.args.byte (part begin (end - begin) rs) (IsRunList-take _ (end - begin) (IsRunList-drop rs begin c.args.runs.now.sorted))))

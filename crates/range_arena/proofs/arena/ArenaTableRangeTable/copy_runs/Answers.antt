@@ -1,11 +1,12 @@
 use Rattle.std.proofs.Common.{◌≡◌, ◌++◌, length, ap, subst, arith}
 use Rattle.range_table.proofs.Kept.{count_kept, AreRuns-kept}
+use Rattle.range_table.specs.declared.sorted_runs.SortedRuns.{SortedRuns}
 use Rattle.range_arena.proofs.arena.ArenaTableRangeTable.copy_runs.Goals as goal
 
 pub copy_to-requires : goal.copy_to-requires
 copy_to-requires c =
-    let n = count_kept c.self.inside.runs c.self.inside.history.items c.self.invariant c.requires.room.0 (rw (← c.self.view_is) at c.requires.room.1) in
-    record { room = omega (arith, n, c.requires.room.2, ap length c.list.ensures) }
+    let n = count_kept c.self.inside.runs.list c.self.inside.history.items c.self.invariant c.self.inside.runs.sorted c.requires.room.0 (rw (← c.self.view_is) at c.requires.room.1) in
+    record { room = omega (arith, n, c.requires.room.2, ap (λ (s : SortedRuns). length s.list) c.sorted.ensures) }
 
 pub returns : goal.returns
-returns c = (c.self.inside.runs, rw (← c.self.view_is) (AreRuns-kept c.self.inside.runs c.self.inside.history.items c.self.invariant), subst (λ ys. c.copy_to.new.list.items ≡ c.args.list.now.items ++ ys) c.list.ensures c.copy_to.ensures)
+returns c = (c.self.inside.runs.list, rw (← c.self.view_is) (AreRuns-kept c.self.inside.runs.list c.self.inside.history.items c.self.invariant c.self.inside.runs.sorted), subst (λ (s : SortedRuns). c.copy_to.new.list.items ≡ c.args.list.now.items ++ s.list) c.sorted.ensures c.copy_to.ensures)

@@ -8,5 +8,5 @@ use Rattle.range_arena.proofs.arena.ArenaTableRangeTable.drop_owner_on_file.Goal
 
 pub invariant_of-self : goal.invariant_of-self
 invariant_of-self c =
-    let e : c.drop_owner_on_file.new.self ≡ filter (λ r. not (is_of r c.args.file.now c.args.owner)) c.self.inside.runs = c.drop_owner_on_file.ensures ∙ ap (λ (s : Setting). filter (λ r. not (is_of r s.file s.owner)) c.self.inside.runs) c.new-range.ensures in
-    rw (e, c.after-self-inside.ensures) (KeepSettings-filter c.self.inside.runs c.self.inside.history.items c.self.invariant (λ f o. same_file f c.args.file.now && (o == c.args.owner)))
+    let e : c.drop_owner_on_file.new.self.list ≡ filter (λ r. not (is_of r c.args.file.now c.args.owner)) c.self.inside.runs.list = c.drop_owner_on_file.ensures ∙ ap (λ (s : Setting). filter (λ r. not (is_of r s.file s.owner)) c.self.inside.runs.list) c.new-range.ensures in
+    rw (e, c.after-self-inside.ensures) (KeepSettings-filter c.self.inside.runs.list c.self.inside.history.items c.self.invariant (λ f o. same_file f c.args.file.now && (o == c.args.owner)))

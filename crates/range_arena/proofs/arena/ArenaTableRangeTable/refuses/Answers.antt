@@ -3,4 +3,4 @@ use Rattle.range_table.proofs.Kept.{refused_kept}
 use Rattle.range_arena.proofs.arena.ArenaTableRangeTable.refuses.Goals as goal
 
 pub returns : goal.returns
-returns c = rw (← c.self.view_is, c.is_full.ensures, c.new-setting.ensures) (refused_kept c.self.inside.runs c.self.inside.history.items c.self.invariant (setting c.args.file.now c.args.owner c.args.first c.args.last c.args.mode) c.requires.ordered)
+returns c = rw (← c.self.view_is, c.is_full.ensures, c.new-setting.ensures) (refused_kept c.self.inside.runs.list c.self.inside.history.items c.self.invariant c.self.inside.runs.sorted (setting c.args.file.now c.args.owner c.args.first c.args.last c.args.mode) c.requires.ordered)

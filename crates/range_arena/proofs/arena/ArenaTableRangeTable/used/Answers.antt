@@ -4,5 +4,5 @@ use Rattle.range_arena.proofs.arena.ArenaTableRangeTable.used.Goals as goal
 
 pub returns : goal.returns
 returns c =
-    let l : length c.self.inside.runs ≡ c.len.result = search rules in
-    rw (← c.self.view_is, ← l) (used_kept c.self.inside.runs c.self.inside.history.items c.self.invariant)
+    let l : length c.self.inside.runs.list ≡ c.len.result = search rules in
+    rw (← c.self.view_is, ← l) (used_kept c.self.inside.runs.list c.self.inside.history.items c.self.invariant c.self.inside.runs.sorted)

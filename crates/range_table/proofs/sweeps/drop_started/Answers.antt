@@ -2,7 +2,7 @@ use Rattle.std.proofs.Common.{ap, ◌∙◌, arith}
 use Rattle.std.proofs.lemmas.List.{take_all}
 use Rattle.std.specs.List.{filter}
 use Rattle.range_table.proofs.Edits.{stays}
-use Rattle.range_table.proofs.sorted.drop_started.Goals as goal
+use Rattle.range_table.proofs.sweeps.drop_started.Goals as goal
 
 pub returns : goal.returns
 returns c =

@@ -1,6 +1,0 @@
-use Rattle.std.proofs.Common.{◌-◌}
-use Rattle.range_arena.proofs.OwnerInWay.{IsClearFrom}
-use Rattle.range_arena.proofs.indexed.is_owner_in_way.Given as goal
-
-abbrev pub invariant-loop-passed : goal.invariant-loop-passed
-invariant-loop-passed l = IsClearFrom l.owner l.wanted l.runs (l.place - l.passed)
