@@ -27,21 +27,26 @@ module _ (peer : ℕ) (bytes : Bytes) (xid : ℕ) (is : IsReplyTo xid bytes) (ol
   same : again ≡ call
   same = same-read old.calls i again call within at-again at
 
-  pub HearsReply-ended : call.ends_with_reply ≡ true → new.calls ≡ swap_remove old.calls i again → HearsReply peer bytes old new
-  HearsReply-ended ends left =
-      let others = swap_remove old.calls i call in
-      let stay : new.calls ≡ others = left ∙ ap (swap_remove old.calls i) same in
-      let over : after_reply call ≡ [] = ap (λ (b : Bool). if b then [] else (record call { is_answered = true } ∷ [])) ends in
+  -- this is left of the call, and the others wait on
+  hears : (others left : List Waiting) → after_reply call ≡ left → IsPermutation old.calls (call ∷ others) → IsPermutation new.calls (left ++ others) → HearsReply peer bytes old new
+  hears others left is-left waited wait =
       record {
         xid = xid;
         is_reply = is;
         call = call;
         is_awaited = is-awaited;
         others = others;
-        waited = IsPermutation-swap_remove old.calls i call within at;
-        wait = subst (λ l. IsPermutation new.calls (l ++ others)) (sym over) (subst (λ l. IsPermutation l others) (sym stay) (IsPermutation-refl others));
+        waited = waited;
+        wait = subst (λ l. IsPermutation new.calls (l ++ others)) (sym is-left) wait;
         heard = heard;
       }
+
+  pub HearsReply-ended : call.ends_with_reply ≡ true → new.calls ≡ swap_remove old.calls i again → HearsReply peer bytes old new
+  HearsReply-ended ends left =
+      let others = swap_remove old.calls i call in
+      let stay : new.calls ≡ others = left ∙ ap (swap_remove old.calls i) same in
+      let over : after_reply call ≡ [] = ap (λ (b : Bool). if b then [] else (record call { is_answered = true } ∷ [])) ends in
+      hears others [] over (IsPermutation-swap_remove old.calls i call within at) (subst (λ l. IsPermutation l others) (sym stay) (IsPermutation-refl others))
 
   pub HearsReply-answered : call.ends_with_reply ≡ false → new.calls ≡ set old.calls i (record again { is_answered = true }) → HearsReply peer bytes old new
   HearsReply-answered goes-on left =
@@ -49,16 +54,7 @@ module _ (peer : ℕ) (bytes : Bytes) (xid : ℕ) (is : IsReplyTo xid bytes) (ol
       let answered : Waiting = record call { is_answered = true } in
       let stay : new.calls ≡ set old.calls i answered = left ∙ ap (λ (w : Waiting). set old.calls i (record w { is_answered = true })) same in
       let waits : after_reply call ≡ answered ∷ [] = ap (λ (b : Bool). if b then [] else (answered ∷ [])) goes-on in
-      record {
-        xid = xid;
-        is_reply = is;
-        call = call;
-        is_awaited = is-awaited;
-        others = others;
-        waited = IsPermutation-remove old.calls i call within at;
-        wait = subst (λ l. IsPermutation new.calls (l ++ others)) (sym waits) (subst (λ l. IsPermutation l (answered ∷ others)) (sym stay) (IsPermutation-set old.calls i answered within));
-        heard = heard;
-      }
+      hears others (answered ∷ []) waits (IsPermutation-remove old.calls i call within at) (subst (λ l. IsPermutation l (answered ∷ others)) (sym stay) (IsPermutation-set old.calls i answered within))
 
 -- the call at a place is taken out
 pub TakesCall-at : (old new : Waits) (test : Waiting → Bool) (i : ℕ) (call : Waiting) → position test old.calls ≡ Some i → call ≡ get_or old.calls i call → new.calls ≡ swap_remove old.calls i call → new.heard ≡ old.heard → TakesCall call old new
