@@ -1,8 +1,11 @@
-//! Tests of formats: what goes over the wire, and what messages say. There is nothing in it but tests.
+//! Tests of formats: what goes over the wire, what messages say, and texts that are printed and read. There is nothing in it but
+//! tests.
 #![tactic(auto)]
 
 #[cfg(test)]
 mod messages;
+#[cfg(test)]
+mod texts;
 #[cfg(test)]
 mod wire;
 #[cfg(test)]

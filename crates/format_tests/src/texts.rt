@@ -1,0 +1,7 @@
+//! Texts: what is printed of locks and hosts, also into writers that fail, and what is read of the command line and of the file of
+//! peers.
+mod command_line;
+mod lines;
+mod peer_files;
+mod printed;
+mod rows;
