@@ -1,7 +1,7 @@
 //! Workers that are inside at once.
 use super::parts::{Kept, null, sent};
 use super::rounds::{Crew, Turn, audited};
-use crate::hall::{Hall, LONG};
+use crate::service::hall::{Hall, LONG};
 use jobs::{Channel, Place};
 use std::alloc::Global;
 use std::sync::atomic::{AtomicU64, Ordering};

@@ -1,6 +1,6 @@
 //! The audit, of segments and receipts that belong together and of others.
-use crate::rotation::{MemBook, MemSegment, is_noted};
-use crate::threads::parts::begun;
+use super::rotation::{MemBook, MemSegment, is_noted};
+use super::threads::parts::begun;
 use book::Receipt;
 use std::alloc::Global;
 use std::test::*;

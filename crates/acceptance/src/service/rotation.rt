@@ -2,7 +2,7 @@
 ghost use Rattle.std.specs.Prelude.{◌≡◌, ◌<◌};
 ghost use Rattle.book.specs.Journal.{room_of};
 
-use crate::threads::parts::{begun, null};
+use super::threads::parts::{begun, null};
 use book::{Book, BookEvent, Closed, Peer, Receipt, SEGMENT, Segment, Taken, newest_entered};
 use bytes::Bytes;
 use hosts_db::{HostStore, MemHosts};

@@ -1,6 +1,6 @@
 //! The turns of the sender: calls that are due are handed over.
 use super::parts::Kept;
-use crate::words::are;
+use crate::service::words::are;
 use book::Dest;
 use serve_loops::{Due, MemoryCourier, SentCall, send_due};
 use std::alloc::{AllocError, Global};
