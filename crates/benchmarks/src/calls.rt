@@ -19,6 +19,15 @@ impl Cell {
             _ => None,
         }
     }
+
+    // What a connection calls by turns.
+    fn procedures(self) -> (Procedure, Procedure) {
+        match self {
+            Cell::Null => (Procedure::Null, Procedure::Null),
+            Cell::Test => (Procedure::Test, Procedure::Test),
+            Cell::Lock => (Procedure::Lock, Procedure::Unlock),
+        }
+    }
 }
 
 /// The records that a connection sends by turns, each behind its mark.
@@ -28,16 +37,24 @@ pub(crate) struct Calls {
     odd: Vec<u8>,
 }
 
-// The record of a call of version 4 without credentials.
-fn record(alloc: Global, procedure: u32, body: &[u8]) -> Result<Vec<u8>, AllocError> {
-    let size = u32::try_from(body.len()).map_err(|_| AllocError)?;
-    let mark = size.wrapping_add(40) | 0x8000_0000;
-    let mut all = Vec::new(alloc);
-    for word in [mark, 0, 0, 2, 100_021, 4, procedure, 0, 0, 0, 0] {
-        all.extend_from_slice(word.to_be_bytes().as_slice())?;
+/// A procedure of version 4 that is called.
+#[derive(Clone, Copy)]
+enum Procedure {
+    Null,
+    Test,
+    Lock,
+    Unlock,
+}
+
+impl Procedure {
+    fn number(self) -> u32 {
+        match self {
+            Procedure::Null => 0,
+            Procedure::Test => 1,
+            Procedure::Lock => 2,
+            Procedure::Unlock => 4,
+        }
     }
-    all.extend_from_slice(body)?;
-    Ok(all)
 }
 
 // The byte of this number of a file, exclusive, for the owner of the same number on the host `load`.
@@ -50,26 +67,52 @@ fn put_lock(to: &mut Vec<u8>, number: u32) -> Result<(), AllocError> {
 }
 
 // The arguments of a call with this cookie, these flags, and this behind the lock.
-fn arguments(alloc: Global, flags: &[u8], number: u32, tail: &[u8]) -> Result<Vec<u8>, AllocError> {
-    let mut body = Vec::new(alloc);
-    body.extend_from_slice(b"\0\0\0\x04load")?;
-    body.extend_from_slice(flags)?;
-    put_lock(&mut body, number)?;
-    body.extend_from_slice(tail)?;
-    Ok(body)
+fn put_arguments(
+    to: &mut Vec<u8>,
+    flags: &[u8],
+    number: u32,
+    tail: &[u8],
+) -> Result<(), AllocError> {
+    to.extend_from_slice(b"\0\0\0\x04load")?;
+    to.extend_from_slice(flags)?;
+    put_lock(to, number)?;
+    to.extend_from_slice(tail)
+}
+
+// A call without credentials, behind four bytes for its mark.
+fn put_call(to: &mut Vec<u8>, procedure: Procedure, number: u32) -> Result<(), AllocError> {
+    for word in [0, 0, 0, 2, 100_021, 4, procedure.number(), 0, 0, 0, 0] {
+        to.extend_from_slice(word.to_be_bytes().as_slice())?;
+    }
+    match procedure {
+        Procedure::Null => Ok(()),
+        Procedure::Test => put_arguments(to, &[0, 0, 0, 1], number, &[]),
+        Procedure::Lock => put_arguments(to, &[0, 0, 0, 0, 0, 0, 0, 1], number, &[0; 8]),
+        Procedure::Unlock => put_arguments(to, &[], number, &[]),
+    }
+}
+
+// Sets the mark of a record of one fragment, in the first four bytes.
+fn set_mark(record: &mut [u8]) {
+    let size = u32::try_from(record.len().saturating_sub(4)).unwrap_or(0);
+    if let Some(place) = record.get_mut(..4) {
+        place.copy_from_slice(&(size | 0x8000_0000).to_be_bytes());
+    }
+}
+
+fn record(alloc: Global, procedure: Procedure, number: u32) -> Result<Vec<u8>, AllocError> {
+    let mut record = Vec::new(alloc);
+    put_call(&mut record, procedure, number)?;
+    set_mark(record.as_mut_slice());
+    Ok(record)
 }
 
 impl Calls {
     /// The calls of the connection of this number.
     pub(crate) fn new(alloc: Global, cell: Cell, number: u32) -> Result<Calls, AllocError> {
-        let test = arguments(alloc, &[0, 0, 0, 1], number, &[])?;
-        let lock = arguments(alloc, &[0, 0, 0, 0, 0, 0, 0, 1], number, &[0; 8])?;
-        let unlock = arguments(alloc, &[], number, &[])?;
-        let (even, odd) = match cell {
-            Cell::Null => (record(alloc, 0, &[])?, record(alloc, 0, &[])?),
-            Cell::Test => (record(alloc, 1, &test)?, record(alloc, 1, &test)?),
-            Cell::Lock => (record(alloc, 2, &lock)?, record(alloc, 4, &unlock)?),
-        };
+        let (even, odd) = cell.procedures();
+        let even = record(alloc, even, number)?;
+        let odd = record(alloc, odd, number)?;
         Ok(Calls { even, odd })
     }
 

@@ -16,7 +16,7 @@ mod mute;
 use anyhow::{Result, bail};
 use asking::{Plan, ask_all};
 use calls::Cell;
-use std::alloc::Global;
+use std::alloc::{AllocError, Global};
 use std::env;
 use std::io::Print;
 use std::net::{Net, TcpListener, TcpStream};
@@ -76,19 +76,31 @@ where
     Ok(mute::ask(rt, alloc, port, connections)?)
 }
 
+fn run<R>(rt: &R, alloc: Global, words: &[&str]) -> Result<()>
+where
+    R: Net<Listener = TcpListener, Stream = TcpStream> + Threads + Wait + Clock + Print + Sync,
+{
+    match words {
+        ["floor", port] => serve_floor(rt, alloc, port),
+        ["mute", port, connections] => ask_mute(rt, alloc, port, connections),
+        all => measure(rt, alloc, all),
+    }
+}
+
+fn words_of(alloc: Global, arguments: &[String]) -> Result<Vec<&str>, AllocError> {
+    let mut words = Vec::new(alloc);
+    for word in arguments {
+        words.push(word.as_str())?;
+    }
+    Ok(words)
+}
+
 fn main(rt: HostRuntime) -> Result<()> {
     let alloc = rt.alloc();
     let mut arguments = Vec::new(alloc);
     for word in env::args(&rt)?.skip(1) {
         arguments.push(word)?;
     }
-    let mut words = Vec::new(alloc);
-    for word in &arguments {
-        words.push(word.as_str())?;
-    }
-    match words.as_slice() {
-        ["floor", port] => serve_floor(&rt, alloc, port),
-        ["mute", port, connections] => ask_mute(&rt, alloc, port, connections),
-        all => measure(&rt, alloc, all),
-    }
+    let words = words_of(alloc, arguments.as_slice())?;
+    run(&rt, alloc, words.as_slice())
 }
