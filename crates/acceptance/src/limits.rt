@@ -2,9 +2,8 @@
 ghost use Rattle.std.specs.Prelude.{◌≡◌, []};
 
 use daemon_core::Daemon;
-use daemon_scripts::{Page, Terms, happens, memory, opened, put_terms, streams};
+use daemon_scripts::{Lent, Page, Terms, happens, memory, opened, put_terms, streams};
 use hosts_db::HostStore;
-use hosts_lent::Lent;
 use range_arena::ArenaTable;
 use range_table::{FlatTable, RangeTable};
 use std::alloc::Global;

@@ -1,5 +1,6 @@
 //! Scripts whose lines may starve, each once: what starves leaves all as it was but, perhaps, a host's row, and goes right when it is
 //! made again; all else goes as with ample memory.
+use crate::lent::Lent;
 use crate::messages::put_message;
 use crate::page::{Page, read_xid};
 use crate::script::{goes, is_answered};
@@ -7,7 +8,6 @@ use crate::servers::{Misplayed, PIECE, memory, play_over, told};
 use crate::state::known;
 use daemon_core::Daemon;
 use hosts_db::{HostStore, MemHosts};
-use hosts_lent::Lent;
 use range_table::RangeTable;
 use std::alloc::{AllocError, Global};
 

@@ -6,6 +6,7 @@
 mod calls;
 mod events;
 mod growths;
+mod lent;
 mod messages;
 mod page;
 mod plays;
@@ -19,6 +20,7 @@ mod words;
 
 pub use calls::{answers, call, run};
 pub use growths::play_in_want;
+pub use lent::Lent;
 pub use messages::{put_message, put_terms};
 pub use page::{Page, read_xid};
 pub use plays::{

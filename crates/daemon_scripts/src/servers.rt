@@ -3,12 +3,12 @@
 ghost use Rattle.std.specs.Prelude.{◌≡◌, ◌<◌, []};
 
 use crate::growths::play_in_room;
+use crate::lent::Lent;
 use crate::page::Page;
 use crate::script::wrong_line;
 use callbacks::ShortBytes;
 use daemon_core::Daemon;
 use hosts_db::{FULL_QUOTA, HostRow, HostStore, MemHosts};
-use hosts_lent::Lent;
 use range_arena::ArenaTable;
 use range_table::RangeTable;
 use std::alloc::Global;

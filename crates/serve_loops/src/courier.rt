@@ -3,8 +3,6 @@ ghost use Rattle.std.specs.Prelude.{◌≡◌, List, [], ◌∷◌, ◌++◌};
 ghost use Rattle.serve_loops.specs.Calls.{Call};
 
 use book::Dest;
-use history::History;
-use std::alloc::Global;
 use xdr_core::Frame;
 
 /// Takes the server's own calls to whom they are for. Contracts see all that it was handed. Whether a call reaches anybody is not
@@ -23,39 +21,4 @@ pub struct SentCall {
     pub number: u64,
     pub to: Dest,
     pub bytes: Frame,
-}
-
-/// A courier that keeps calls in memory, as many as it finds memory for, and tells of all that it was handed.
-#[derive(Drop)]
-pub struct MemoryCourier {
-    kept: Vec<SentCall>,
-    all: History<SentCall>,
-}
-
-impl MemoryCourier {
-    pub fn new(alloc: Global) -> MemoryCourier
-        ensures { result.all.items ≡ [] }
-    {
-        MemoryCourier {
-            kept: Vec::new(alloc),
-            all: History::new(),
-        }
-    }
-
-    /// The calls that it kept, the oldest first.
-    pub fn kept(&self) -> &[SentCall] {
-        &self.kept
-    }
-}
-
-impl Courier for MemoryCourier {
-    ghost use Rattle.serve_loops.specs.SentCalls.{view_of_sent};
-
-    ghost handed = { λ c. view_of_sent c.all.items };
-
-    fn hand(&mut self, number: u64, to: Dest, bytes: Frame) {
-        let sent = SentCall { number, to, bytes };
-        self.all = self.all.and(&sent);
-        let _ = self.kept.push(sent);
-    }
 }

@@ -11,7 +11,7 @@ mod part;
 pub mod sender;
 mod signals;
 
-pub use courier::{Courier, MemoryCourier, SentCall};
+pub use courier::{Courier, SentCall};
 pub use due::{Due, MOST_CALLS, send_due};
 pub use ending::Ending;
 pub use lines::{Served, serve_lines};

@@ -13,7 +13,7 @@ mod transcript;
 mod worker;
 
 pub use audits::{AuditMismatch, audit};
-pub use outbox::{Gate, MemoryOutbox, Outbox, SentReply};
+pub use outbox::{Gate, Outbox, SentReply};
 pub use reading::{Ending, Origin, Source};
 pub use shared::{Ends, Entered, Next, Shared};
 pub use transcript::Transcript;

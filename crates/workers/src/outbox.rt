@@ -4,9 +4,7 @@ ghost use Rattle.book.specs.Given.{view_of_reply, record_of};
 ghost use Rattle.workers.specs.Answers.{Sent, posted};
 
 use book::Reply;
-use history::History;
 use jobs::Job;
-use std::alloc::Global;
 use xdr_core::Frame;
 
 /// Runs before a worker takes the book's lock.
@@ -69,52 +67,4 @@ pub(crate) fn post_last<O: Outbox>(outbox: &mut O, connection: u64, reply: Reply
 pub struct SentReply {
     pub connection: u64,
     pub record: Frame,
-}
-
-/// An outbox that keeps records in memory, as many as it finds memory for, and tells of all that it was handed.
-#[derive(Drop)]
-pub struct MemoryOutbox {
-    kept: Vec<SentReply>,
-    all: History<SentReply>,
-}
-
-impl MemoryOutbox {
-    pub fn new(alloc: Global) -> MemoryOutbox
-        ensures { result.all.items ≡ [] }
-    {
-        MemoryOutbox {
-            kept: Vec::new(alloc),
-            all: History::new(),
-        }
-    }
-
-    /// The records that it kept, the oldest first.
-    pub fn kept(&self) -> &[SentReply] {
-        &self.kept
-    }
-}
-
-impl Outbox for MemoryOutbox {
-    ghost use Rattle.workers.specs.SentReplies.{view_of_sent};
-
-    ghost handed = { λ o. view_of_sent o.all.items };
-
-    fn hand(&mut self, connection: u64, reply: &Reply) {
-        let mut record = Frame::new();
-        // An empty frame has room for each reply.
-        let _ = reply.put(&mut record);
-        let sent = SentReply { connection, record };
-        self.all = self.all.and(&sent);
-        let _ = self.kept.push(sent);
-    }
-
-    fn turn_to(&mut self, _connection: u64) {}
-
-    fn will_write(&self, _connection: u64) -> bool {
-        false
-    }
-
-    fn done(&mut self, _connection: u64, _is_due: bool) {}
-
-    fn flush(&mut self) {}
 }

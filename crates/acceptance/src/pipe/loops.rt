@@ -2,9 +2,8 @@
 ghost use Rattle.std.specs.Prelude.{◌≡◌, [], IfOk};
 
 use callbacks::ShortBytes;
-use daemon_scripts::{Pace, Sink, Source, put_plain};
+use daemon_scripts::{Lent, Pace, Sink, Source, put_plain};
 use hosts_db::{FULL_QUOTA, HostRow, MemHosts};
-use hosts_lent::Lent;
 use pipe_loops::{Fault, Server, pipe_loop, table_loop};
 use range_table::FlatTable;
 use std::alloc::Global;

@@ -2,6 +2,7 @@
 mod answering;
 mod bells;
 mod local;
+mod memory;
 mod overlapping;
 pub(crate) mod parts;
 mod reading;

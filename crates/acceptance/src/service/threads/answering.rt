@@ -1,4 +1,5 @@
 //! A worker that answers what waits in a closed channel, and the sender's turns behind it.
+use super::memory::MemoryOutbox;
 use super::parts::{Kept, Open, are_replies, null, sent};
 use super::rounds::{Crew, Turn, audited};
 use super::sending::{NOTHING, Sent};
@@ -12,7 +13,7 @@ use std::sync::{Mutex, Wait};
 use std::test::*;
 use std::thread::Threads;
 use std::time::Clock;
-use workers::{MemoryOutbox, Worker};
+use workers::Worker;
 
 /// The first call of a connection, by its words.
 #[derive(Clone, Copy)]

@@ -1,4 +1,5 @@
 //! Workers that are inside at once.
+use super::memory::MemoryOutbox;
 use super::parts::{Kept, null, sent};
 use super::rounds::{Crew, Turn, audited};
 use crate::service::hall::{Hall, LONG};
@@ -11,7 +12,7 @@ use std::test::*;
 use std::thread;
 use std::thread::Threads;
 use std::time::Clock;
-use workers::{MemoryOutbox, Worker};
+use workers::Worker;
 
 /// The connection of all jobs.
 const CONNECTION: u64 = 7;

@@ -1,4 +1,5 @@
 //! A connection's own thread over memory.
+use super::memory::MemoryOutbox;
 use super::parts::{Kept, Open, are_replies};
 use super::rounds::{Crew, Turn, audited};
 use daemon_scripts::{Pace, Source, put_plain};
@@ -10,7 +11,7 @@ use std::sync::{Mutex, Wait};
 use std::test::*;
 use std::thread::Threads;
 use std::time::Clock;
-use workers::{Ending, MemoryOutbox, Origin, Worker};
+use workers::{Ending, Origin, Worker};
 
 /// The connection that is read.
 const CONNECTION: u64 = 300;

@@ -1,8 +1,9 @@
 //! The turns of the sender: calls that are due are handed over.
+use super::memory::MemoryCourier;
 use super::parts::Kept;
 use crate::service::words::are;
 use book::Dest;
-use serve_loops::{Due, MemoryCourier, SentCall, send_due};
+use serve_loops::{Due, SentCall, send_due};
 use std::alloc::{AllocError, Global};
 use std::sync::ledger::Ledger;
 use std::sync::{Mutex, Wait};

@@ -1,6 +1,4 @@
 //! A store that is lent to a server, so that its rows can be read when the server is gone, and how often it was asked to write.
-#![tactic(auto)]
-
 ghost use Rattle.std.specs.Prelude.{◌≡◌};
 
 use hosts_db::{HostRow, HostStore, MyId, StoreError, Watch};

@@ -1,0 +1,86 @@
+//! Where replies and the server's own calls are handed to in memory.
+use book::{Dest, Reply};
+use history::History;
+use serve_loops::{Courier, SentCall};
+use std::alloc::Global;
+use workers::{Outbox, SentReply};
+use xdr_core::Frame;
+
+/// An outbox that keeps records, as many as it finds memory for, and tells of all that it was handed.
+#[derive(Drop)]
+pub(crate) struct MemoryOutbox {
+    kept: Vec<SentReply>,
+    all: History<SentReply>,
+}
+
+impl MemoryOutbox {
+    pub(crate) fn new(alloc: Global) -> MemoryOutbox {
+        MemoryOutbox {
+            kept: Vec::new(alloc),
+            all: History::new(),
+        }
+    }
+
+    /// The records that it kept, the oldest first.
+    pub(crate) fn kept(&self) -> &[SentReply] {
+        &self.kept
+    }
+}
+
+impl Outbox for MemoryOutbox {
+    ghost use Rattle.workers.specs.SentReplies.{view_of_sent};
+
+    ghost handed = { λ o. view_of_sent o.all.items };
+
+    fn hand(&mut self, connection: u64, reply: &Reply) {
+        let mut record = Frame::new();
+        // An empty frame has room for each reply.
+        let _ = reply.put(&mut record);
+        let sent = SentReply { connection, record };
+        self.all = self.all.and(&sent);
+        let _ = self.kept.push(sent);
+    }
+
+    fn turn_to(&mut self, _connection: u64) {}
+
+    fn will_write(&self, _connection: u64) -> bool {
+        false
+    }
+
+    fn done(&mut self, _connection: u64, _is_due: bool) {}
+
+    fn flush(&mut self) {}
+}
+
+/// A courier that keeps calls, as many as it finds memory for, and tells of all that it was handed.
+#[derive(Drop)]
+pub(crate) struct MemoryCourier {
+    kept: Vec<SentCall>,
+    all: History<SentCall>,
+}
+
+impl MemoryCourier {
+    pub(crate) fn new(alloc: Global) -> MemoryCourier {
+        MemoryCourier {
+            kept: Vec::new(alloc),
+            all: History::new(),
+        }
+    }
+
+    /// The calls that it kept, the oldest first.
+    pub(crate) fn kept(&self) -> &[SentCall] {
+        &self.kept
+    }
+}
+
+impl Courier for MemoryCourier {
+    ghost use Rattle.serve_loops.specs.SentCalls.{view_of_sent};
+
+    ghost handed = { λ c. view_of_sent c.all.items };
+
+    fn hand(&mut self, number: u64, to: Dest, bytes: Frame) {
+        let sent = SentCall { number, to, bytes };
+        self.all = self.all.and(&sent);
+        let _ = self.kept.push(sent);
+    }
+}
