@@ -8,11 +8,13 @@ mod cycles;
 mod grants;
 pub mod laws;
 mod quotas;
+mod settling;
 mod slots;
 mod waiter;
 
 pub use callbacks::MOST_SLOTS;
 pub use owner_ids::Starved;
 pub use quotas::{FULL_QUOTA, Limit, Quotas, limit_of};
+pub use settling::{Grantor, settle};
 pub use slots::{NoSlots, NotWaiting, Slots};
 pub use waiter::Waiter;

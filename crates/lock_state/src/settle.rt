@@ -1,5 +1,5 @@
 //! Who waits is granted once nothing is in the way.
-ghost use Rattle.std.specs.Prelude.{◌≡◌, ◌<◌, true, false, length, IfSome};
+ghost use Rattle.std.specs.Prelude.{◌≡◌, ◌<◌, length, IfSome};
 ghost use Rattle.definitions.specs.World.{settled, the_limits, is_ready_in};
 ghost use Rattle.definitions.specs.First.{IsFirstPlace};
 ghost use Rattle.definitions.specs.Owners.{Owner as SaidOwner};
@@ -9,6 +9,7 @@ use crate::quotas::{Stored, is_limited};
 use crate::unsettled::Unsettled;
 use crate::world::World;
 use blocked_list::laws::setting_frees_own_file;
+use blocked_list::{Grantor, settle};
 use hosts_db::HostStore;
 use range_table::RangeTable;
 
@@ -21,33 +22,7 @@ impl<R: RangeTable, S: HostStore> World<R, S> {
         ensures names { self.new.names ≡ self.old.names }
         ensures idle { (x : SaidOwner) → IsIdle self.new.world x → IsIdle self.old.world x }
     {
-        while self.grant_next() {}
-    }
-
-    // Grants the first waiter that can be granted. Whether there was one.
-    fn grant_next(&mut self) -> bool
-        ensures same { settled the_limits self.new.world ≡ settled the_limits self.old.world }
-        ensures done { result ≡ false → self.new.world ≡ settled the_limits self.new.world }
-        ensures idle { (x : SaidOwner) → IsIdle self.new.world x → IsIdle self.old.world x }
-        ensures fewer { result ≡ true → length self.new.world.waiters < length self.old.world.waiters }
-        ensures refusals { self.new.refusals ≡ self.old.refusals }
-        ensures names { self.new.names ≡ self.old.names }
-    {
-        let Some(place) = self.next_place() else {
-            self.unsettled = Unsettled::Nowhere;
-            return false;
-        };
-        setting_frees_own_file();
-        let _free = self.slots.free();
-        let waiter = self.slots.grant(place);
-        let wanted = waiter.wanted();
-        let quotas = Stored { store: &self.store };
-        let was_held = is_limited(&quotas, self.locks.owner(wanted.owner));
-        self.unsettled = self.unsettled.after_grant(was_held);
-        let _ = self.locks.set_run(waiter.asked());
-        self.calls.make_due(self.next, waiter.into_letter());
-        self.next = self.next.wrapping_add(1);
-        true
+        settle(self);
     }
 
     // Where the first waiter stands that can be granted. Nobody is looked at who can't be.
@@ -67,5 +42,35 @@ impl<R: RangeTable, S: HostStore> World<R, S> {
                 .slots
                 .next_grantable(table, owners, &self.locks, &quotas),
         }
+    }
+}
+
+impl<R: RangeTable, S: HostStore> Grantor for World<R, S> {
+    ghost use Rattle.lock_state.specs.Seen.{IsIdle};
+
+    ghost world = { λ w. w.world };
+
+    ghost names = { λ w. w.names };
+
+    ghost refusals = { λ w. w.refusals };
+
+    ghost Idle = { λ w x. IsIdle w.world x };
+
+    fn grant_next(&mut self) -> bool {
+        let Some(place) = self.next_place() else {
+            self.unsettled = Unsettled::Nowhere;
+            return false;
+        };
+        setting_frees_own_file();
+        let _free = self.slots.free();
+        let waiter = self.slots.grant(place);
+        let wanted = waiter.wanted();
+        let quotas = Stored { store: &self.store };
+        let was_held = is_limited(&quotas, self.locks.owner(wanted.owner));
+        self.unsettled = self.unsettled.after_grant(was_held);
+        let _ = self.locks.set_run(waiter.asked());
+        self.calls.make_due(self.next, waiter.into_letter());
+        self.next = self.next.wrapping_add(1);
+        true
     }
 }

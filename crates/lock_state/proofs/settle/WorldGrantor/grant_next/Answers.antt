@@ -15,8 +15,8 @@ use Rattle.blocked_list.specs.Waiting.{owner_at, waiter_by, waiters_by}
 use Rattle.lock_state.specs.Seen.{Seen}
 use Rattle.lock_state.proofs.Idle.{idle_granted}
 use Rattle.lock_state.proofs.Granting.{settled_rest, settled_grant, fewer_wait, is_set, whole_granted}
-use Rattle.lock_state.proofs.world.World.grant_next.Given.{Over}
-use Rattle.lock_state.proofs.world.World.grant_next.Goals as goal
+use Rattle.lock_state.proofs.settle.WorldGrantor.grant_next.Given.{Over}
+use Rattle.lock_state.proofs.settle.WorldGrantor.grant_next.Goals as goal
 
 pub invariant_of-self : goal.invariant_of-self
 invariant_of-self g c =
