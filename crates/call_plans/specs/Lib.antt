@@ -1,3 +1,4 @@
 pub mod Planned
 pub mod Answers
 pub mod Forgotten
+pub mod Deferred

@@ -18,7 +18,6 @@ ghost use Rattle.lock_state.specs.Answered.{call_at, lock_at};
 ghost use Rattle.lock_state.specs.Seen.{IsIdle, Knows};
 ghost use Rattle.call_plans.specs.Answers.{IsDone, IsFoundForgotten, IsGrant, IsGrantForgotten, IsNotice, IsTurnedForgotten, is_granted, grant_told, change_by, view_of_store_result};
 
-use crate::plans::StoreAnswer;
 use callbacks::Message;
 use hosts_db::{HostStore, StoreError};
 use lock_state::{AnswerKey, World};
@@ -26,6 +25,7 @@ use nlm4_types::Stat;
 use out_calls::Call;
 use range_table::RangeTable;
 use record_reading::AnswerReading;
+use store_answers::StoreAnswer;
 
 /// Does what an answer to one of the server's own calls asks for, and grants what waited for it. An answer that belongs to
 /// no call that was sent changes nothing. It takes no memory. The world, and the question to the store, are those of the

@@ -129,11 +129,3 @@ impl Plan {
         drop(self);
     }
 }
-
-/// What the store answered.
-#[derive(Clone, Copy, PartialEq, Eq)]
-pub enum StoreAnswer {
-    NotAsked,
-    Yes,
-    Refused,
-}

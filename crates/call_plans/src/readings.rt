@@ -7,7 +7,8 @@ ghost use Rattle.definitions.specs.Settings.{setting_of};
 ghost use Rattle.held_locks.specs.Asked.{view_of_request, view_of_new_setting};
 ghost use Rattle.call_plans.specs.Planned.{view_of_stored, planned, view_of_wanted, view_of_range};
 
-use crate::plans::{Plan, Range, StoreAnswer, Told, Wanted};
+use crate::plans::{Plan, Range, Told, Wanted};
+use store_answers::StoreAnswer;
 
 impl Range {
     /// The same, as the locks are told.

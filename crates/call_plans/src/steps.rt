@@ -15,12 +15,13 @@ ghost use Rattle.call_plans.specs.Forgotten.{IsForgottenBy, IsForgottenUnder};
 ghost use Rattle.call_plans.specs.Planned.{IsForgotten, IsForgottenFor, KeepsOthers, KeepsOthersFor, IsForgottenIfIdle, changed, view_of_range};
 
 use crate::answers::granted_res;
-use crate::plans::{Answer, Asked, Change, Plan, Range, Shared, StoreAnswer, Told};
+use crate::plans::{Answer, Asked, Change, Plan, Range, Shared, Told};
 use callbacks::{MyId, ShortBytes};
 use hosts_db::{HostStore, StoreError};
 use lock_state::World;
 use owner_ids::Starved;
 use range_table::{NoRuns, RangeTable};
+use store_answers::{Pending, StoreAnswer, rule};
 
 /// Gets all memory that doing the plan takes. The world stays, and who was known is known. Starved: the plan can't be
 /// done, and nobody has become known.
@@ -190,14 +191,39 @@ pub fn commit<R: RangeTable, S: HostStore>(
         } => {
             // Dropped by a call: where a plan's part ends in place, each of its variants is proved there.
             drop(asked);
-            match store {
-                StoreAnswer::Yes => {
-                    drop(refused);
-                    do_answer(world, agreed)
-                }
-                StoreAnswer::NotAsked | StoreAnswer::Refused => refuse(world, agreed, refused),
-            }
+            rule(world, Deferred { agreed, refused }, store)
         }
+    }
+}
+
+// What is agreed on, and what is told where the store refuses.
+#[derive(Drop)]
+struct Deferred {
+    agreed: Answer,
+    refused: Told,
+}
+
+impl<R: RangeTable, S: HostStore> Pending<World<R, S>, Shared> for Deferred {
+    ghost use Rattle.call_plans.specs.Planned.{FitsAnswer, FitsDue, IsReadyFor};
+    ghost use Rattle.call_plans.specs.Deferred.{IsAgreed, IsTurnedDown};
+
+    ghost MayAgree = { λ d w. FitsAnswer d.agreed w.world × IsReadyFor d.agreed.change w };
+
+    ghost Agreed = { λ d old told new. IsAgreed d.agreed old told new };
+
+    ghost MayRefuse = { λ d w. FitsDue d.refused w.world };
+
+    ghost Refused = { λ d old told new. IsTurnedDown d.agreed d.refused old told new };
+
+    fn agree(self, world: &mut World<R, S>) -> Shared {
+        let Deferred { agreed, refused } = self;
+        drop(refused);
+        do_answer(world, agreed)
+    }
+
+    fn refuse(self, world: &mut World<R, S>) -> Shared {
+        let Deferred { agreed, refused } = self;
+        refuse(world, agreed, refused)
     }
 }
 
