@@ -16,7 +16,7 @@ use Rattle.daemon_core.specs.Outcomes.{view_of_outcome, needs_entry}
 use Rattle.daemon_core.specs.declared.outputs.Outputs.{Outputs}
 use Rattle.daemon_core.specs.Outputs.{quiet, upshot_of, told_to}
 use Rattle.daemon_core.specs.Rooms.{Room, RoomAfter}
-use Rattle.daemon_core.specs.Untaken.{AreRecords, untaken}
+use Rattle.record_mark.specs.Untaken.{AreRecords, untaken}
 use Rattle.daemon_core.specs.Link.{Link, with_taken}
 use Rattle.daemon_core.specs.declared.event.Event.{Event}
 use Rattle.daemon_core.specs.Hub.{Hub, with_links, place_of, IsUnnoted, TakesAt, links_after, Happens, HubStep, Run}

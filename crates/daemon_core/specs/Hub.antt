@@ -19,7 +19,7 @@ use Rattle.daemon_core.specs.declared.outputs.Outputs.{Outputs}
 use Rattle.daemon_core.specs.Outcomes.{needs_entry}
 use Rattle.daemon_core.specs.Outputs.{quiet, starved, upshot_of, told, told_call, told_line, told_to, bytes_sent}
 use Rattle.daemon_core.specs.Rooms.{Room, room_of_journal, RoomAfter}
-use Rattle.daemon_core.specs.Untaken.{AreRecords, untaken}
+use Rattle.record_mark.specs.Untaken.{AreRecords, untaken}
 use Rattle.daemon_core.specs.Link.{Link, fresh, with_taken, Receives}
 
 -- the shared state, how often the store has refused, the room of the journal, and the connections, each with all that came on it

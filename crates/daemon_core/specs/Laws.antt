@@ -11,8 +11,10 @@ use Rattle.definition_laws.specs.Standing.{IsShareReclaim, IsGrantless}
 use Rattle.book.specs.Given.{Upshot}
 use Rattle.book.specs.Notes.{Happening, Steps}
 use Rattle.daemon_core.specs.declared.event.Event.{Event}
+use Rattle.daemon_core.specs.declared.event.Event.TheVariants.{Connect, Piece, Disconnect, Take, Send, Answer, Local, Silent, GraceOver, Restart}
+use Rattle.daemon_core.specs.declared.outcome.Outcome.TheVariants.{Applied, NoSegment}
 use Rattle.daemon_core.specs.declared.outputs.Outputs.{Outputs}
-use Rattle.daemon_core.specs.Hub.{Hub, opening, Run}
+use Rattle.daemon_core.specs.Hub.{Hub, opening, HubStep, Run}
 
 -- no byte has an exclusive mode of one owner and any mode of another, and nobody who waits could be granted
 abbrev pub RunsAreSound : Type 0
@@ -37,3 +39,22 @@ abbrev pub GraceTellsOfNoGrant : Type 0
 GraceTellsOfNoGrant =
     (name : Bytes) (hosts : Hosts) (refusals : ℕ) (events : List Event) (outs : List Outputs) (hub : Hub)
     → Run (opening name hosts refusals) events outs hub → hub.state.world.phase ≡ Grace → IsGrantless hub.state.world
+
+-- an event that takes no memory of its own: a sending, an answer, a silence, the end of grace
+abbrev pub IsSpare : Event → Type 0
+IsSpare (Send posting) = Unit {0}
+IsSpare (Answer bytes) = Unit {0}
+IsSpare (Silent number) = Unit {0}
+IsSpare GraceOver = Unit {0}
+IsSpare (Connect number peer) = ⊥
+IsSpare (Piece number bytes) = ⊥
+IsSpare (Disconnect number) = ⊥
+IsSpare (Take number i) = ⊥
+IsSpare (Local l line) = ⊥
+IsSpare Restart = ⊥
+
+-- it is done, or has no segment for its entry, and that only where the one that stands is full
+abbrev pub StarvesWhereFull : Type 0
+StarvesWhereFull =
+    (old new : Hub) (event : Event) (out : Outputs) → IsSpare event → HubStep old event out new
+    → (out.outcome ≡ Applied) ⊎ ((out.outcome ≡ NoSegment) × (old.room.left ≡ 0))

@@ -5,7 +5,7 @@ use Rattle.daemon_core.specs.declared.outcome.Outcome.{Outcome}
 use Rattle.daemon_core.specs.declared.outcome.Outcome.TheVariants.{Applied, Starved, NoSegment}
 use Rattle.daemon_core.specs.declared.outputs.Outputs.{Outputs}
 use Rattle.kept_replies.specs.declared.key.Peer.{Peer}
-use Rattle.daemon_core.specs.Untaken.{marked}
+use Rattle.record_mark.specs.Untaken.{marked}
 use Rattle.daemon_core.specs.Outputs.{quiet, starved, marked_by}
 
 pub record Link : Type 0 where

@@ -2,14 +2,13 @@
 
 ghost use Rattle.std.specs.Prelude.{◌≡◌, ℕ, ◌≤◌, List, length, slice_get, IfSome, IfNone, Some};
 ghost use Rattle.daemon_core.specs.Link.{fresh, Receives, with_taken};
-ghost use Rattle.daemon_core.specs.Untaken.{AreRecords, untaken};
+ghost use Rattle.record_mark.specs.Untaken.{AreRecords, untaken};
 
 use crate::event::Refusal;
 use crate::outputs::{Outputs, make_heard, make_quiet, make_starved};
 use bytes::Bytes;
-use history::History;
 use kept_replies::Peer;
-use record_mark::{Assembler, MarkError};
+use record_mark::{Heard, Inbox};
 use std::alloc::Global;
 use std::marker::Model;
 
@@ -18,12 +17,7 @@ use std::marker::Model;
 pub struct Connection {
     number: u64,
     peer: Peer,
-    assembler: Assembler,
-    queue: Vec<Bytes>,
-    receives: bool,
-    received: History<u8>,
-    given: History<Bytes>,
-    takes: History<usize>,
+    inbox: Inbox,
 }
 
 impl Model for Connection {
@@ -31,11 +25,7 @@ impl Model for Connection {
 
     ghost Value = { Link };
 
-    ghost use Rattle.daemon_core.specs.Inside.{view_of_connection, IsQueue};
-
-    ghost view = { view_of_connection };
-
-    ghost invariant = { IsQueue };
+    ghost view = { λ c. record { number = c.number; peer = c.peer; received = c.inbox.received; taken = c.inbox.taken; receives = c.inbox.receives } };
 }
 
 impl Connection {
@@ -45,12 +35,7 @@ impl Connection {
         Connection {
             number,
             peer,
-            assembler: Assembler::new(alloc),
-            queue: Vec::new(alloc),
-            receives: true,
-            received: History::new(),
-            given: History::new(),
-            takes: History::new(),
+            inbox: Inbox::new(alloc),
         }
     }
 
@@ -70,32 +55,19 @@ impl Connection {
     pub fn receive(&mut self, piece: &[u8]) -> Outputs
         ensures { Receives self.old.receives self.old piece.now result self.new }
     {
-        if !self.receives {
-            return make_quiet();
+        match self.inbox.receive(piece) {
+            Heard::Received { is_too_long: false } => make_heard(None),
+            Heard::Received { is_too_long: true } => make_heard(Some(Refusal::RecordTooLong)),
+            Heard::Starved => make_starved(),
+            Heard::Deaf => make_quiet(),
         }
-        let (mut records, refusal) = match self.assembler.feed(piece) {
-            Ok(records) => (records, None),
-            Err(MarkError::RecordTooLong(records)) => (records, Some(Refusal::RecordTooLong)),
-            Err(MarkError::Starved) => {
-                self.receives = false;
-                return make_starved();
-            }
-        };
-        let given = self.given.and_all(&records);
-        if self.queue.append(&mut records).is_err() {
-            self.receives = false;
-            return make_starved();
-        }
-        self.given = given;
-        self.received = self.received.and_all(piece);
-        make_heard(refusal)
     }
 
     /// How many whole records there are that were not taken.
     pub fn waiting(&self) -> usize
         ensures { (records : List (List ℕ)) × AreRecords self.now.received records × (result ≡ length (untaken records self.now.taken)) }
     {
-        self.queue.len()
+        self.inbox.waiting()
     }
 
     /// Takes the record of this place among those that were not taken.
@@ -104,11 +76,6 @@ impl Connection {
             × (slice_get (untaken records self.old.taken) index ≡ Some r) × (self.new ≡ with_taken self.old index)) }
         ensures none { IfNone result ((self.new ≡ self.old) × ((records : List (List ℕ)) × AreRecords self.old.received records × (length (untaken records self.old.taken) ≤ index))) }
     {
-        if index >= self.queue.len() {
-            return None;
-        }
-        let record = self.queue.remove(index);
-        self.takes = self.takes.and(&index);
-        Some(record)
+        self.inbox.take(index)
     }
 }

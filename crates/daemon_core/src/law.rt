@@ -1,7 +1,7 @@
 //! What is true of every run.
 
 ghost use Rattle.daemon_core.specs.Hub.{HasOneRun};
-ghost use Rattle.daemon_core.specs.Laws.{GraceGrantsReclaimsOnly, GraceTellsOfNoGrant, RunsAreSound};
+ghost use Rattle.daemon_core.specs.Laws.{GraceGrantsReclaimsOnly, GraceTellsOfNoGrant, RunsAreSound, StarvesWhereFull};
 ghost use Rattle.daemon_core.specs.Told.{KeptIsGivenAgain, MessageRefusalIsTold, RefusalIsTold};
 
 use book::one_step;
@@ -46,4 +46,10 @@ pub fn early_message_refusal_is_told()
 /// A call whose reply is kept gets it again, and is not done again.
 pub fn kept_reply_is_given_again()
     ensures { KeptIsGivenAgain }
+{}
+
+/// A sending, an answer, a silence and the end of grace never starve but for a segment of the journal, and for that only where
+/// the one that stands is full.
+pub fn starves_where_full()
+    ensures { StarvesWhereFull }
 {}

@@ -7,7 +7,6 @@ mod event;
 mod law;
 mod noted;
 mod outcome;
-mod output;
 mod outputs;
 mod posted;
 mod posting;
@@ -19,6 +18,7 @@ pub use crate::event::{Event, Refusal};
 pub use crate::law::{
     early_message_refusal_is_told, early_refusal_is_told, grace_grants_reclaims_only,
     grace_tells_of_no_grant, kept_reply_is_given_again, one_run, runs_are_sound,
+    starves_where_full,
 };
 pub use crate::outcome::Outcome;
 pub use crate::outputs::Outputs;

@@ -7,9 +7,9 @@ ghost use Rattle.daemon_core.specs.Outputs.{bytes_sent};
 ghost use Rattle.daemon_core.specs.Sending.{ToLocal, addressee};
 ghost use Rattle.written.specs.Written.{Wrote};
 
-use crate::output::write_record;
 use crate::sent::Addressee;
 use book::Dest;
+use record_writing::write_record;
 use std::io::Write;
 use std::marker::Model;
 use written::{WriteFault, write_whole};

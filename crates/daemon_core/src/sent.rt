@@ -9,9 +9,9 @@ ghost use Rattle.local_ops.specs.Answers.{view_of_local_answer};
 ghost use Rattle.local_ops.specs.Texts.{reply_text};
 ghost use Rattle.written.specs.Written.{Wrote};
 
-use crate::output::write_record;
 use crate::posting::Posting;
 use book::{LocalAnswer, Reply};
+use record_writing::{Spelled, write_spelled};
 use std::io::Write;
 use std::marker::Model;
 use written::WriteFault;
@@ -34,6 +34,23 @@ enum Content {
     Reply { to: u64, reply: Reply },
     Line { to: u64, answer: LocalAnswer },
     Call(Box<Posting>),
+}
+
+// A reply's record.
+#[derive(Clone, Copy)]
+struct Spoken<'a> {
+    reply: &'a Reply,
+}
+
+impl Spelled for Spoken<'_> {
+    ghost use Rattle.book.specs.Given.{view_of_reply, record_of};
+
+    ghost spelling = { λ s. record_of (view_of_reply s.reply.now) };
+
+    fn put(&self, f: &mut Frame) {
+        // An empty frame has room for each reply.
+        let _ = self.reply.put(f);
+    }
 }
 
 /// A reply to a connection, the answer to a local program's line, or one of the server's own calls to whom it is for.
@@ -104,12 +121,7 @@ impl Sent {
         match &self.content {
             Content::Line { answer, .. } => answer.write(writer),
             Content::Call(posting) => posting.write(writer),
-            Content::Reply { reply, .. } => {
-                room.truncate(0);
-                // An empty frame has room for each reply.
-                let _ = reply.put(room);
-                write_record(writer, room)
-            }
+            Content::Reply { reply, .. } => write_spelled(&Spoken { reply }, room, writer),
         }
     }
 }

@@ -4,3 +4,6 @@ pub mod Inside
 pub mod Taking
 pub mod Feeding
 pub mod Sent
+pub mod Untaken
+pub mod Received
+pub mod Queue

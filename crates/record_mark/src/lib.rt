@@ -3,11 +3,13 @@
 #![tactic(auto)]
 
 mod assembler;
+mod inbox;
 mod law;
 mod progress;
 mod sent;
 
 pub use crate::assembler::{Assembler, MarkError};
+pub use crate::inbox::{Heard, Inbox};
 pub use crate::law::{one_reading, sent_is_one_record};
 pub use crate::sent::last_mark;
 use bytes::Bytes;

@@ -1,6 +1,6 @@
 use Rattle.std.proofs.Common.{◌≡◌, length, ap, ◌∙◌, arith}
 use Rattle.std.proofs.lemmas.Grind.{common_steps}
-use Rattle.daemon_core.proofs.connection.Connection.waiting.Goals as goal
+use Rattle.record_mark.proofs.inbox.Inbox.waiting.Goals as goal
 
 pub returns : goal.returns
 returns c =

@@ -1,11 +1,11 @@
 use Rattle.std.proofs.Common.{◌≡◌, [], ◌<◌, ◌≤◌, length, Bool, List, refl, sym, ap, ◌∙◌, arith}
 use Rattle.std.proofs.lemmas.Grind.{common_steps}
 use Rattle.std.specs.List.{remove}
-use Rattle.daemon_core.specs.Untaken.{untaken, marked}
-use Rattle.daemon_core.specs.Link.{Link}
-use Rattle.daemon_core.specs.Inside.{flags_from}
-use Rattle.daemon_core.proofs.UntakenLemmas.{untaken-marked, length-marked, flags_from-append, get-item}
-use Rattle.daemon_core.proofs.connection.Connection.take.Goals as goal
+use Rattle.record_mark.specs.Untaken.{untaken, marked}
+use Rattle.record_mark.specs.Received.{Received}
+use Rattle.record_mark.specs.Queue.{flags_from}
+use Rattle.record_mark.proofs.UntakenLemmas.{untaken-marked, length-marked, flags_from-append, get-item}
+use Rattle.record_mark.proofs.inbox.Inbox.take.Goals as goal
 
 pub returns-then-index-len-clause-none : goal.returns-then-index-len-clause-none
 returns-then-index-len-clause-none c =
@@ -30,10 +30,10 @@ pub returns-clause-some : goal.returns-clause-some
 returns-clause-some c =
     let i = c.self.inside in
     let flags : flags_from [] c.and-self-inside.result.items ≡ marked (flags_from [] i.takes.items) c.args.index = rw c.and-self-inside.ensures (flags_from-append [] i.takes.items c.args.index) in
-    let link : List Bool → Link = λ fs. record { number = i.number; peer = i.peer; received = i.received.items; taken = fs; receives = i.receives } in
+    let seen : List Bool → Received = λ fs. record { received = i.received.items; taken = fs; receives = i.receives } in
     rw (← c.self.view_is) (
       i.given.items,
       (c.self.invariant.fault, c.self.invariant.splits),
       rw (← c.self.invariant.queue) (get-item i.queue.items c.args.index _ (grind (arith, common_steps)) c.remove-record.ensures.value),
-      ap link flags,
+      ap seen flags,
     )

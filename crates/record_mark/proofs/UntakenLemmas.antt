@@ -1,8 +1,8 @@
 -- Which records were taken, as records come and go.
 use Rattle.std.proofs.Common.{◌≡◌, ℕ, zero, suc, ◌<◌, ◌≤◌, Bool, true, false, List, [], ◌∷◌, ◌++◌, length, slice_index_or, slice_get, Some, refl, sym, ◌∙◌, ap, arith}
 use Rattle.std.specs.List.{remove}
-use Rattle.daemon_core.specs.Untaken.{untaken, marked}
-use Rattle.daemon_core.specs.Inside.{flags_from}
+use Rattle.record_mark.specs.Untaken.{untaken, marked}
+use Rattle.record_mark.specs.Queue.{flags_from}
 
 pub untaken-append : (rs more : List (List ℕ)) (flags : List Bool) → length flags ≤ length rs → untaken (rs ++ more) flags ≡ untaken rs flags ++ more
 untaken-append [] [] [] h = refl

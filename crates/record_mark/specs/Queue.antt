@@ -1,18 +1,18 @@
--- What a `Connection` keeps.
+-- What an `Inbox` keeps.
 use Rattle.std.specs.Prelude.{◌≡◌, ℕ, ◌≤◌, Bool, true, false, List, [], ◌∷◌, length}
 use Rattle.record_mark.specs.Stream.{Splits}
 use Rattle.record_mark.specs.Assembled.{Assembled}
-use Rattle.daemon_core.specs.Untaken.{untaken, marked}
-use Rattle.daemon_core.specs.Link.{Link}
-use Rattle.daemon_core.specs.declared.connection.Connection.TheInside.{Inside}
+use Rattle.record_mark.specs.Received.{Received}
+use Rattle.record_mark.specs.Untaken.{untaken, marked}
+use Rattle.record_mark.specs.declared.inbox.Inbox.TheInside.{Inside}
 
 -- the flags after these were taken, each counted among those that were left
 abbrev pub flags_from : List Bool → List ℕ → List Bool
 flags_from flags [] = flags
 flags_from flags (i ∷ is) = flags_from (marked flags i) is
 
-abbrev pub view_of_connection : Inside → Link
-view_of_connection c = record { number = c.number; peer = c.peer; received = c.received.items; taken = flags_from [] c.takes.items; receives = c.receives }
+abbrev pub view_of_inbox : Inside → Received
+view_of_inbox c = record { received = c.received.items; taken = flags_from [] c.takes.items; receives = c.receives }
 
 -- while bytes are received, the assembler took them all
 abbrev pub IsInStep : Bool → Assembled → List ℕ → List (List ℕ) → Type 0

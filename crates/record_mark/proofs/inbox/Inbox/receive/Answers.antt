@@ -1,10 +1,10 @@
 use Rattle.std.proofs.Common.{◌≡◌, ◌++◌, [], true, refl, sym, ap, ◌∙◌, arith, length-append}
 use Rattle.std.specs.Result.{is_ok}
 use Rattle.std.proofs.lemmas.Grind.{common_steps}
-use Rattle.daemon_core.specs.Inside.{flags_from}
-use Rattle.daemon_core.proofs.UntakenLemmas.{untaken-append}
-use Rattle.daemon_core.proofs.connection.Connection.receive.Goals.{in-Ok, in-Err-RecordTooLong}
-use Rattle.daemon_core.proofs.connection.Connection.receive.Goals as goal
+use Rattle.record_mark.specs.Queue.{flags_from}
+use Rattle.record_mark.proofs.UntakenLemmas.{untaken-append}
+use Rattle.record_mark.proofs.inbox.Inbox.receive.Goals.{in-Ok, in-Err-RecordTooLong}
+use Rattle.record_mark.proofs.inbox.Inbox.receive.Goals as goal
 
 -- the assembler took the piece and gave the records
 abbrev Fed : (c : goal.After-drop-records-2) → Type 0

@@ -1,0 +1,111 @@
+//! The records of a stream that wait.
+
+ghost use Rattle.std.specs.Prelude.{◌≡◌, ℕ, ◌≤◌, List, length, slice_get, IfSome, IfNone, Some};
+ghost use Rattle.record_mark.specs.Received.{nothing, Hears, with_taken};
+ghost use Rattle.record_mark.specs.Untaken.{AreRecords, untaken};
+
+use crate::assembler::{Assembler, MarkError};
+use bytes::Bytes;
+use history::History;
+use std::alloc::Global;
+use std::marker::Model;
+
+/// What bytes came to.
+#[derive(Clone, Copy)]
+pub enum Heard {
+    /// They were received.
+    Received {
+        /// The stream has a record that would be longer than `MAX_RECORD`. It gives no more records.
+        is_too_long: bool,
+    },
+    /// A growth was refused. They were not received, and nothing is from now on.
+    Starved,
+    /// They were not received, since earlier ones starved.
+    Deaf,
+}
+
+/// Takes a stream in pieces, and gives its records in any order. Contracts see all bytes that were received, and which of their
+/// records were taken.
+#[derive(Drop)]
+pub struct Inbox {
+    assembler: Assembler,
+    queue: Vec<Bytes>,
+    receives: bool,
+    received: History<u8>,
+    given: History<Bytes>,
+    takes: History<usize>,
+}
+
+impl Model for Inbox {
+    ghost use Rattle.record_mark.specs.Received.{Received};
+
+    ghost Value = { Received };
+
+    ghost use Rattle.record_mark.specs.Queue.{view_of_inbox, IsQueue};
+
+    ghost view = { view_of_inbox };
+
+    ghost invariant = { IsQueue };
+}
+
+impl Inbox {
+    /// With no bytes. It takes no memory.
+    pub fn new(alloc: Global) -> Inbox
+        ensures { result ≡ nothing }
+    {
+        Inbox {
+            assembler: Assembler::new(alloc),
+            queue: Vec::new(alloc),
+            receives: true,
+            received: History::new(),
+            given: History::new(),
+            takes: History::new(),
+        }
+    }
+
+    /// Takes bytes that came. If they starve they are not received, and nothing is from then on.
+    pub fn receive(&mut self, piece: &[u8]) -> Heard
+        ensures { Hears result self.old piece.now self.new }
+    {
+        if !self.receives {
+            return Heard::Deaf;
+        }
+        let (mut records, is_too_long) = match self.assembler.feed(piece) {
+            Ok(records) => (records, false),
+            Err(MarkError::RecordTooLong(records)) => (records, true),
+            Err(MarkError::Starved) => {
+                self.receives = false;
+                return Heard::Starved;
+            }
+        };
+        let given = self.given.and_all(&records);
+        if self.queue.append(&mut records).is_err() {
+            self.receives = false;
+            return Heard::Starved;
+        }
+        self.given = given;
+        self.received = self.received.and_all(piece);
+        Heard::Received { is_too_long }
+    }
+
+    /// How many whole records there are that were not taken.
+    pub fn waiting(&self) -> usize
+        ensures { (records : List (List ℕ)) × AreRecords self.now.received records × (result ≡ length (untaken records self.now.taken)) }
+    {
+        self.queue.len()
+    }
+
+    /// Takes the record of this place among those that were not taken.
+    pub fn take(&mut self, index: usize) -> Option<Bytes>
+        ensures some { IfSome result (λ r. (records : List (List ℕ)) × AreRecords self.old.received records
+            × (slice_get (untaken records self.old.taken) index ≡ Some r) × (self.new ≡ with_taken self.old index)) }
+        ensures none { IfNone result ((self.new ≡ self.old) × ((records : List (List ℕ)) × AreRecords self.old.received records × (length (untaken records self.old.taken) ≤ index))) }
+    {
+        if index >= self.queue.len() {
+            return None;
+        }
+        let record = self.queue.remove(index);
+        self.takes = self.takes.and(&index);
+        Some(record)
+    }
+}
