@@ -7,3 +7,4 @@ pub mod Same
 pub mod Early
 pub mod Lines
 pub mod Newest
+pub mod Rooms

@@ -1,5 +1,5 @@
 -- A segment of the journal, and when it is legal.
-use Rattle.std.specs.Prelude.{◌≡◌, ℕ, ◌+◌, ◌-◌, ◌^◌, List, [], ◌∷◌, ◌++◌, length, min, Option, None, Some}
+use Rattle.std.specs.Prelude.{◌≡◌, ℕ, ◌+◌, ◌-◌, ◌^◌, ◌<◌, List, [], ◌∷◌, ◌++◌, length, min, Option, None, Some}
 use Rattle.definitions.specs.Bytes.{Bytes}
 use Rattle.definitions.specs.Outgoing.{Letter, next_due}
 use Rattle.definitions.specs.Hosts.{NotAsked}
@@ -53,6 +53,10 @@ next_of j = j.first + length j.notes
 -- for so many entries more there is room: 2^64 - 1 entries have a number
 abbrev pub room_of : Journal → ℕ
 room_of j = min (1024 - length j.notes) (2 ^ 64 - next_of j)
+
+-- there is some while there are fewer entries, and a number is left
+abbrev pub RoomLaw : Type 0
+RoomLaw = (j : Journal) → length j.notes < 1024 → next_of j < 2 ^ 64 → 0 < room_of j
 
 -- the segment ends, and the next one begins where it ends
 abbrev pub rotated : Book → Book

@@ -5,3 +5,4 @@ pub mod Journal
 pub mod Kept
 pub mod Receipts
 pub mod Lines
+pub mod Told

@@ -1,12 +1,9 @@
 //! A call whose reply isn't kept.
-ghost use Rattle.std.specs.Prelude.{◌≡◌, ◌&&◌, [], true, cond, None, OnOk, OnErr};
+ghost use Rattle.std.specs.Prelude.{◌≡◌, [], true, cond, None, OnOk, OnErr};
 ghost use Rattle.definitions.specs.World.{World as SaidWorld, the_limits};
-ghost use Rattle.definitions.specs.Nlm as nlm;
-ghost use Rattle.definitions.specs.Replies.{Asks, Nlm};
-ghost use Rattle.nlm4_types.specs.Call.{view_of_call as view_of_nlm_call};
-ghost use Rattle.definitions.specs.Step.{Take, is_success, is_kept_kind, is_restart as restarts, kept_after};
+ghost use Rattle.definitions.specs.Replies.{Asks};
+ghost use Rattle.definitions.specs.Step.{Take, is_kept_kind, is_restart as restarts, kept_after};
 ghost use Rattle.kept_replies.specs.Pairs.{view_of_peer, at_key};
-ghost use Rattle.call_outcome.specs.Values.{view_of_outcome};
 ghost use Rattle.call_plans.specs.Planned.{view_of_stored, counted, told_in, IsForgotten};
 ghost use Rattle.record_reading.specs.Values.{view_of_call};
 ghost use Rattle.book.specs.Given.{view_of_reply};
@@ -16,12 +13,11 @@ use crate::kept::KeptReply;
 use crate::reply::Reply;
 use crate::shared::Shared;
 use crate::upshot::{Upshot, answers, starved};
-use call_outcome::Outcome;
+use call_outcome::is_kept;
 use call_plans::Told;
 use hosts_db::HostStore;
 use kept_replies::{KeptReplies, Key, Peer};
 use lock_service::{Call, Plan, StoreAnswer, World, abandon, agreed, commit};
-use nlm4_types::NlmCall;
 use nsm_types::NsmCall;
 use owner_ids::Starved;
 use range_table::RangeTable;
@@ -102,39 +98,6 @@ fn keep(
         kept.keep(key, reply)?;
     }
     Ok(())
-}
-
-// Whether the reply of such a call is kept: it was done, and it may have changed something.
-fn is_kept(call: &Call<'_>, outcome: &Outcome) -> bool
-    ensures { result ≡ (is_success (view_of_outcome outcome.now) && is_kept_kind (view_of_call call.now)) }
-{
-    is_done(outcome) && is_of_kept_kind(call)
-}
-
-fn is_done(outcome: &Outcome) -> bool
-    ensures { result ≡ is_success (view_of_outcome outcome.now) }
-{
-    matches!(outcome, Outcome::Success(_))
-}
-
-fn is_of_kept_kind(call: &Call<'_>) -> bool
-    ensures { result ≡ is_kept_kind (view_of_call call.now) }
-{
-    match call {
-        Call::Nlm(_, call) => changes_something(call),
-        Call::Nsm(_) => false,
-    }
-}
-
-// Whether a call of the lock manager is of a kind that may change something, and tells of it.
-fn changes_something(call: &NlmCall<'_>) -> bool
-    ensures { (version : nlm.Version) → result ≡ is_kept_kind (Nlm version (view_of_nlm_call call.now)) }
-{
-    match call {
-        NlmCall::Null => false,
-        NlmCall::Test(_) | NlmCall::TestMsg(_) | NlmCall::GrantedRes(_) => false,
-        _ => true,
-    }
 }
 
 // A restart forgets what is kept.

@@ -1,4 +1,5 @@
 //! What is true of every step.
+ghost use Rattle.book.specs.Journal.{RoomLaw};
 ghost use Rattle.book.specs.Notes.{OneStep};
 ghost use Rattle.book.specs.Receipts.{NewestLaw};
 
@@ -17,4 +18,10 @@ pub fn one_step()
 /// What entered last is the newest entry.
 pub fn newest_entered()
     ensures { NewestLaw }
+{}
+
+/// There is room while a segment has fewer than 1,024 entries and one of the 2^64 - 1 numbers is left, so that the last of them
+/// is given, too.
+pub fn room_to_the_last_number()
+    ensures { RoomLaw }
 {}

@@ -24,7 +24,7 @@ pub use call_records::{Dest, HostName};
 pub use entry::{Act, Entry, SEGMENT};
 pub use event::BookEvent;
 pub use kept_replies::Peer;
-pub use law::{newest_entered, one_step};
+pub use law::{newest_entered, one_step, room_to_the_last_number};
 pub use local_ops::LocalAnswer;
 pub use lock_service::StoreAnswer;
 pub use owner_ids::Starved;

@@ -13,7 +13,7 @@ use crate::shared::Shared;
 use crate::upshot::{Upshot, nothing, refuses, starved};
 use bytes::Bytes;
 use hosts_db::HostStore;
-use kept_replies::{Key, Peer};
+use kept_replies::{Answering, Key, Peer, answer_once};
 use lock_service::{Call, StoreAnswer};
 use owner_ids::Starved;
 use range_table::RangeTable;
@@ -42,10 +42,42 @@ impl<R: RangeTable, S: HostStore> Shared<R, S> {
             return starved(StoreAnswer::NotAsked, xid);
         };
         let key = Key { peer, record };
-        match self.repeat(&key) {
-            Ok(Some(said)) => said,
-            Ok(None) => self.fresh(key, xid, call),
-            Err(Starved) => starved(StoreAnswer::NotAsked, xid),
-        }
+        answer_once(self, key, &Asking { xid, call })
+    }
+}
+
+// What a call asks, and under which xid.
+#[derive(Clone, Copy)]
+struct Asking<'a, 'c> {
+    xid: u32,
+    call: &'a Call<'c>,
+}
+
+impl<'a, 'c, R: RangeTable, S: HostStore> Answering<Asking<'a, 'c>, (Upshot, Reply)> for Shared<R, S> {
+    ghost use Rattle.std.specs.Prelude.{◌≡◌, None};
+    ghost use Rattle.definitions.specs.Replies.{Asks};
+    ghost use Rattle.definitions.specs.Step.{Take};
+    ghost use Rattle.kept_replies.specs.Pairs.{view_of_peer, at_key};
+    ghost use Rattle.record_reading.specs.Values.{view_of_call};
+    ghost use Rattle.book.specs.Told.{IsTold};
+
+    ghost Answers = { λ old key asked told new. IsTold (Take (view_of_peer key.peer) key.«record» (Asks asked.xid (view_of_call asked.call.now))) old told new };
+
+    ghost IsNew = { λ s key. at_key key s.state.kept ≡ None };
+
+    fn answer_again(
+        &mut self,
+        key: &Key,
+        _asked: &Asking<'a, 'c>,
+    ) -> Result<Option<(Upshot, Reply)>, Starved> {
+        self.repeat(key)
+    }
+
+    fn answer_anew(&mut self, key: Key, asked: &Asking<'a, 'c>) -> (Upshot, Reply) {
+        self.fresh(key, asked.xid, asked.call)
+    }
+
+    fn answer_starved(&self, asked: &Asking<'a, 'c>) -> (Upshot, Reply) {
+        starved(StoreAnswer::NotAsked, asked.xid)
     }
 }

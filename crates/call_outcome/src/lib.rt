@@ -2,8 +2,10 @@
 //! tells it (RFC 5531, section 9).
 #![tactic(auto)]
 
+mod kinds;
 mod outcome;
 mod result;
 
+pub use kinds::is_kept;
 pub use outcome::Outcome;
 pub use result::{CallResult, ShareRes};

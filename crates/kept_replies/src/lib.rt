@@ -3,7 +3,9 @@
 #![tactic(auto)]
 
 mod key;
+mod once;
 mod replies;
 
 pub use key::{Key, Peer};
+pub use once::{Answering, answer_once};
 pub use replies::{Kept, KeptReplies, MOST_KEPT};
