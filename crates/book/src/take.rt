@@ -53,7 +53,8 @@ struct Asking<'a, 'c> {
     call: &'a Call<'c>,
 }
 
-impl<'a, 'c, R: RangeTable, S: HostStore> Answering<Asking<'a, 'c>, (Upshot, Reply)> for Shared<R, S> {
+impl<'a, 'c, R: RangeTable, S: HostStore> Answering<Asking<'a, 'c>, (Upshot, Reply)>
+    for Shared<R, S> {
     ghost use Rattle.std.specs.Prelude.{◌≡◌, None};
     ghost use Rattle.definitions.specs.Replies.{Asks};
     ghost use Rattle.definitions.specs.Step.{Take};

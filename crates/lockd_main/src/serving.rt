@@ -5,6 +5,7 @@ use callbacks::ShortBytes;
 use config::ServeConfig;
 use hosts_db::HostStore;
 use jobs::Job;
+use outboxes::Gate;
 use peers::{Peers, PeersFault};
 use pipe_loops::Fault as StoreFault;
 use server::{Backing, CallSettings, Runtime, Settings, serve};
@@ -13,7 +14,6 @@ use std::fs;
 use std::net::SocketAddr;
 use std::time::Duration;
 use thiserror::Error;
-use workers::Gate;
 
 /// What ends `serve` before it is told to stop. It is printed by number and name.
 #[derive(Clone, Copy, Debug, Error)]

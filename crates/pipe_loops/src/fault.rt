@@ -4,6 +4,7 @@ ghost use Rattle.std.specs.Prelude.{◌≡◌};
 
 use daemon_core::Refusal;
 use owner_ids::Starved;
+use pieces::FailedRead;
 use thiserror::Error;
 use written::WriteFault;
 
@@ -50,10 +51,6 @@ impl From<WriteFault> for Fault {
         Fault::WriteFault
     }
 }
-
-/// A read failed.
-#[derive(Clone, Copy)]
-pub(crate) struct FailedRead;
 
 impl From<FailedRead> for Fault {
     ghost use Rattle.pipe_loops.specs.FaultOf.{failed_read};

@@ -1,19 +1,18 @@
 //! One stream of records from a reader, and to a writer what it is answered and what is due behind each answer.
 
-ghost use Rattle.std.specs.Prelude.{◌≡◌, ◌<◌, ◌≤◌, [], ◌∷◌, length, IfOk, vec_len};
+ghost use Rattle.std.specs.Prelude.{◌≡◌, ◌≤◌, [], ◌∷◌, length};
 ghost use Rattle.kept_replies.specs.declared.key.TheConstants.Peer.{PIPE};
-ghost use Rattle.pipe_loops.specs.Reads.{ReadsPiece};
 ghost use Rattle.daemon_core.specs.Hub.{opening};
 ghost use Rattle.pipe_loops.specs.Answered.{SendsNext, SendsDue, AnswersNext};
 ghost use Rattle.daemon_core.specs.declared.event.Event.TheVariants.{Connect};
 ghost use Rattle.pipe_loops.specs.Pipe.{beginning, AnswersWaiting, TurnEnds, IsServed, Passes, Begins, StreamEnds, PipeEnds};
 
-use crate::fault::{FailedRead, Fault};
+use crate::fault::Fault;
 use crate::output::{Places, write_outputs};
 use crate::server::Server;
 use daemon_core::{Daemon, Event, Peer, Posted, Posting};
 use hosts_db::HostStore;
-use owner_ids::Starved;
+use pieces::{make_place, read_piece};
 use range_table::RangeTable;
 use std::alloc::Global;
 use std::io::{Read, Write};
@@ -23,24 +22,6 @@ const CONNECTION: u64 = 0;
 
 /// The most bytes that are read at once.
 const PIECE: usize = 8192;
-
-/// The place of the pieces, one after another.
-fn make_place(alloc: Global) -> Result<Vec<u8>, Starved>
-    ensures { IfOk result (λ place. vec_len place ≡ PIECE) }
-{
-    Ok(vec![in alloc; 0u8; PIECE]?)
-}
-
-/// Reads what there is, up to what the place has room for. Returns how many bytes stand at its front.
-fn read_piece<R: Read>(reader: &mut R, place: &mut [u8]) -> Result<usize, FailedRead>
-    requires { 0 < length place.old }
-    ensures { ReadsPiece (R.remaining reader.old) (R.remaining reader.new) result place.new }
-{
-    match reader.read(place) {
-        Ok(count) => Ok(count),
-        Err(_) => Err(FailedRead),
-    }
-}
 
 /// Sends the call of the server's own that is due first. Whether there was one.
 fn send_next<T: RangeTable, S: HostStore, W: Write>(
@@ -141,7 +122,9 @@ fn answer_pieces<T: RangeTable, S: HostStore, R: Read, W: Write>(
     ensures { IsServed bound result (R.remaining reader.old) (R.remaining reader.new) (W.contents writer.old) (W.contents writer.new) daemon.old daemon.new }
 {
     // The place is got first, so that no byte is lost.
-    let mut place = make_place(alloc)?;
+    let Ok(mut place) = make_place(alloc, PIECE) else {
+        return Err(Fault::Starved);
+    };
     let mut places = Places::new();
     for _turn in 0..bound {
         let piece = place.as_mut_slice();

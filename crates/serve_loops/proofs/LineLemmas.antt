@@ -1,9 +1,9 @@
 -- Lines go on.
-use Rattle.std.proofs.Common.{◌≡◌, ℕ, ◌+◌, ◌<◌, Bool, true, eqb, List, [], ◌∷◌, ◌++◌, length, take, drop, get_or, Option, Some, None, refl, sym, ◌∙◌, ap, subst, append_assoc}
+use Rattle.std.proofs.Common.{◌≡◌, ℕ, ◌+◌, ◌<◌, ◌≤◌, Bool, true, eqb, List, [], ◌∷◌, ◌++◌, length, take, drop, get_or, Option, Some, None, refl, sym, ◌∙◌, ap, subst, append_assoc, length-take-le}
 use Rattle.std.specs.Prelude.{Result, Ok, Err, IfOk, IfErr}
 use Rattle.std.specs.Option.{option_to_list}
 use Rattle.std.proofs.lemmas.Bool.{eqb-true}
-use Rattle.std.specs.Io.KnownBytes.{Appends, Consumes, Keeps}
+use Rattle.std.specs.Io.KnownBytes.{Appends, Consumes, IsAtEnd, Keeps}
 use Rattle.std.proofs.KnownBytes.{Consumes-nil, Consumes-trans, Consumes-kept, Appends-nil, Appends-trans, Appends-kept}
 use Rattle.std.proofs.lemmas.Grind.{flat_map-append}
 use Rattle.std.proofs.lemmas.List.{append-nil, take_more, take-append-drop}
@@ -20,7 +20,7 @@ use Rattle.written.specs.declared.WriteFault.{WriteFault}
 use Rattle.written.proofs.Appending.{WroteFront-whole}
 use Rattle.serve_loops.specs.declared.ending.Ending.{Ending}
 use Rattle.serve_loops.specs.declared.ending.Ending.TheVariants as ending
-use Rattle.serve_loops.specs.Lines.{IsOpen, Answer, AreOpen, ended, kept, text_of, texts, entries, IsAnswered, AreAnswered, Asks, Trace, trace, Goes, Serves, ServesFront, Breaks, Cuts, Ends, Turns, Takes, IsSaid, AnswersLine, Finishes, TellsOf}
+use Rattle.serve_loops.specs.Lines.{IsOpen, Answer, AreOpen, ended, kept, text_of, texts, entries, IsAnswered, AreAnswered, Asks, Trace, trace, Goes, Serves, ServesFront, Breaks, Cuts, Ends, Turns, Takes, Hears, IsSaid, AnswersLine, Finishes, TellsOf}
 
 open-all : (ls ms : List Answer) → AreOpen ls → AreOpen ms → AreOpen (ls ++ ms)
 open-all [] ms p q = q
@@ -192,6 +192,17 @@ read-failed c part u l x o keeps = ([], Consumes-kept u u l [] (Consumes-nil u) 
 
 pub unplaced : (c : ℕ) (part : Bytes) (u : Option Bytes) (x : Trace) → IsOpen part → Ends ending.Starved c part u u x x
 unplaced c part u x o = ([], Consumes-nil u, Front-none c part [] x o)
+
+-- what was read was answered
+pub piece-heard : (e : Option Ending) (c count : ℕ) (part rest place : Bytes) (u l : Option Bytes) (x y : Trace) → (count ≤ length place) × Consumes u l (take count place) × (count ≡ 0 → IsAtEnd l) → Hears e c part (take count place) rest x y → Turns e c part rest u l x y
+piece-heard None c count part rest place u l x y read h = (take count place, read.1, h)
+piece-heard (Some ending.Over) c count part rest place u l x y read h =
+    let none : count ≡ 0 = sym (length-take-le count place read.0) ∙ ap length h.0 in
+    ([], subst (Consumes u l) h.0 read.1, read.2 none, (rest, h.1))
+piece-heard (Some ending.Stopped) c count part rest place u l x y read h = (take count place, read.1, h)
+piece-heard (Some ending.Starved) c count part rest place u l x y read h = (take count place, read.1, h)
+piece-heard (Some ending.ReadFault) c count part rest place u l x y read h = (take count place, read.1, h)
+piece-heard (Some ending.WriteFault) c count part rest place u l x y read h = (take count place, read.1, h)
 
 -- ---- a byte
 

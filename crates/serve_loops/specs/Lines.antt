@@ -2,8 +2,7 @@
 use Rattle.std.specs.Prelude.{◌≡◌, ℕ, false, eqb, List, [], ◌∷◌, ◌++◌, take, Option, Some, None, Result, Ok, Err}
 use Rattle.std.specs.List.{list_any, flat_map}
 use Rattle.std.specs.Option.{option_to_list}
-use Rattle.std.specs.declared.vec.Vec.{Vec}
-use Rattle.std.specs.Io.KnownBytes.{Appends, Consumes, IsAtEnd, Keeps}
+use Rattle.std.specs.Io.KnownBytes.{Appends, Consumes, IsAtEnd}
 use Rattle.definitions.specs.Bytes.{Bytes}
 use Rattle.definitions.specs.Step.{Given, Nothing, Replies, Says, Sends, IsStarved, IsRefused}
 use Rattle.local_ops.specs.Texts.{reply_text}
@@ -174,11 +173,6 @@ Hears (Some ending.Stopped) connection part bytes rest before after = Cuts endin
 Hears (Some ending.Starved) connection part bytes rest before after = Cuts ending.Starved connection part bytes before after
 Hears (Some ending.ReadFault) connection part bytes rest before after = Cuts ending.ReadFault connection part bytes before after
 Hears (Some ending.WriteFault) connection part bytes rest before after = Cuts ending.WriteFault connection part bytes before after
-
--- a piece of what is left to read, none only at its end; or the read failed, and what is left stays
-abbrev pub Reads : {Z E : Type 0} → Option Bytes → Option Bytes → Result (Vec ℕ Z) E → Type 0
-Reads old new (Ok v) = Consumes old new v.items × (v.items ≡ [] → IsAtEnd new)
-Reads old new (Err failed) = Keeps old new
 
 -- what a line was answered was written, or not, and the connection goes on or ends for that
 abbrev pub Finishes : Result (Unit {0}) WriteFault → Option Ending → Type 0

@@ -1,8 +1,8 @@
 //! The lines of a local program are answered.
-ghost use Rattle.std.specs.Prelude.{◌≡◌, ◌<◌, ◌∷◌, [], eqb, IfOk, vec_len};
+ghost use Rattle.std.specs.Prelude.{◌≡◌, ◌∷◌, [], eqb};
 ghost use Rattle.book.specs.Given.{view_of_reply};
 ghost use Rattle.written.specs.Written.{Wrote};
-ghost use Rattle.serve_loops.specs.Lines.{AnswersLine, Ends, Finishes, Hears, Reads, Takes, Turns, text_of, trace};
+ghost use Rattle.serve_loops.specs.Lines.{AnswersLine, Ends, Finishes, Hears, Takes, Turns, text_of, trace};
 
 use crate::clerk::{Answers, Clerk};
 use crate::ending::Ending;
@@ -10,9 +10,10 @@ use crate::part::Part;
 use crate::signals::Signals;
 use book::{LocalAnswer, Reply, Starved};
 use hosts_db::HostStore;
+use pieces::{make_place, read_piece};
 use range_table::RangeTable;
 use std::alloc::Global;
-use std::io::{ErrorKind, Read, Write};
+use std::io::{Read, Write};
 use std::sync::ledger::Ledger;
 use std::sync::{Mutex, Wait};
 use workers::{Shared, Transcript};
@@ -28,34 +29,6 @@ pub struct Served {
     pub ending: Ending,
     /// What the holds of its lines gave.
     pub transcript: Transcript,
-}
-
-// A read failed.
-#[derive(Clone, Copy)]
-struct FailedRead {
-    is_interrupted: bool,
-}
-
-fn make_place(alloc: Global) -> Result<Vec<u8>, Starved>
-    ensures { IfOk result (λ place. 0 < vec_len place) }
-{
-    Ok(vec![in alloc; 0u8; PIECE]?)
-}
-
-// Reads what there is, up to what the place has room for.
-fn read_piece<I: Read>(input: &mut I, mut place: Vec<u8>) -> Result<Vec<u8>, FailedRead>
-    requires { 0 < vec_len place }
-    ensures { Reads (I.remaining input.old) (I.remaining input.new) result }
-{
-    match input.read(place.as_mut_slice()) {
-        Ok(count) => {
-            place.truncate(count);
-            Ok(place)
-        }
-        Err(error) => Err(FailedRead {
-            is_interrupted: error.kind() == ErrorKind::Interrupted,
-        }),
-    }
 }
 
 // Writes what a line is answered.
@@ -207,11 +180,12 @@ fn turn<A: Answers, I: Read, O: Write>(
 {
     part.has_no_feed();
     // The place is got first, so that no byte is lost.
-    let Ok(place) = make_place(alloc) else {
+    let Ok(mut place) = make_place(alloc, PIECE) else {
         return Some(Ending::Starved);
     };
-    match read_piece(input, place) {
-        Ok(piece) => hear(clerk, connection, part, output, piece.as_slice()),
+    let piece = place.as_mut_slice();
+    match read_piece(input, piece) {
+        Ok(count) => hear(clerk, connection, part, output, &piece[..count]),
         Err(failed) if failed.is_interrupted => None,
         Err(_) => Some(Ending::ReadFault),
     }

@@ -2,8 +2,8 @@
 use Rattle.std.specs.Prelude.{◌≡◌, ℕ, Bool, true, false, cond, List, [], length, flat_map, IsPermutation}
 use Rattle.book.specs.Journal.{Journal}
 use Rattle.book.specs.Receipts.{Receipt}
+use Rattle.audits.specs.Audits.{Agrees}
 use Rattle.workers.specs.Answers.{Worker}
-use Rattle.workers.specs.Audits.{Agrees}
 use Rattle.workers.specs.Holds.{IsOneHistory}
 
 -- the receipts that a worker leaves: all of them, where it keeps them

@@ -8,6 +8,7 @@ use connections::{Guest, Latch, Roster, Service, Side, Writer};
 use hosts_db::HostStore;
 use jobs::{Channel, Place};
 use log::Log;
+use outboxes::Gate;
 use range_table::RangeTable;
 use serve_loops::{Signals, serve_lines};
 use std::alloc::Global;
@@ -15,7 +16,7 @@ use std::net::{SocketAddr, TcpStream};
 use std::sync::ledger::Ledger;
 use std::sync::{Mutex, Wait};
 use std::time::Duration;
-use workers::{Gate, Origin, Shared, Source, Worker};
+use workers::{Origin, Shared, Source, Worker};
 
 /// The connections that are open. Those for calls lend what it takes to answer jobs.
 #[derive(Drop)]

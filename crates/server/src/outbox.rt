@@ -4,10 +4,10 @@ ghost use Rattle.std.specs.Prelude.{◌≡◌, [], ◌∷◌, ◌++◌};
 use book::Reply;
 use connections::{Connection, Roster, Wire};
 use history::History;
+use outboxes::{Outbox, SentReply};
 use serve_loops::Signals;
 use std::alloc::Global;
 use std::sync::{Arc, Mutex, Wait};
-use workers::{Outbox, SentReply};
 use xdr_core::Frame;
 
 /// Joins the replies of one connection, and writes them to its socket.
@@ -44,7 +44,7 @@ impl<'a, 'h, K: Drop, Q: Signals, R: Wait> SocketOutbox<'a, 'h, K, Q, R> {
 }
 
 impl<'a, 'h, K: Drop, Q: Signals, R: Wait> Outbox for SocketOutbox<'a, 'h, K, Q, R> {
-    ghost use Rattle.workers.specs.SentReplies.{view_of_sent};
+    ghost use Rattle.outboxes.specs.SentReplies.{view_of_sent};
 
     ghost handed = { λ o. view_of_sent o.all.items };
 

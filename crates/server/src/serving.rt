@@ -15,6 +15,7 @@ use callbacks::ShortBytes;
 use connections::{Door, NoThread, PLACES, Roster, Service, Staff, run};
 use hosts_db::HostStore;
 use jobs::{Channel, Opened, Place};
+use outboxes::Gate;
 use peers::Peers;
 use range_arena::ArenaTable;
 use range_table::RangeTable;
@@ -26,7 +27,7 @@ use std::net::{Ipv4Addr, Net, SocketAddr, SocketAddrV4, TcpListener, TcpStream};
 use std::sync::ledger::{Blank, Book as Total, Ledger};
 use std::sync::{Mutex, Wait};
 use std::time::Clock;
-use workers::{Gate, Shared, Transcript, Worker};
+use workers::{Shared, Transcript, Worker};
 
 /// The bytes of a thread's stack.
 const STACK: usize = 262_144;

@@ -4,7 +4,8 @@ use Rattle.std.proofs.lemmas.List.{map-append, append-nil}
 use Rattle.jobs.specs.Task.{Task}
 use Rattle.jobs.specs.declared.passes.View.{View}
 use Rattle.jobs.specs.Passes.{with_taken}
-use Rattle.workers.specs.Answers.{Sent, posted, Answer, IsMet, AreMet, sent_for, all_sent, listed, all_receipts, Worker, with_jobs, Worked}
+use Rattle.outboxes.specs.Posted.{Sent, posted}
+use Rattle.workers.specs.Answers.{Answer, IsMet, AreMet, sent_for, all_sent, listed, all_receipts, Worker, with_jobs, Worked}
 
 all_sent-append : (xs : List Answer) (a : Answer) → all_sent (xs ++ a ∷ []) ≡ all_sent xs ++ sent_for a
 all_sent-append [] a = append-nil (sent_for a)

@@ -7,7 +7,8 @@ use Rattle.std.specs.Prelude.{option_map}
 use Rattle.book.specs.Notes.{Note, Happening, Takes, SendsNext}
 use Rattle.book.specs.Receipts.{Receipt, receipt_of, newest, newest_receipt}
 use Rattle.book.specs.Journal.{Journal, Book, next_of, rotated, Enters, IsNext}
-use Rattle.workers.specs.Holds.{is_take, takes_in, takes_of, IsInStep}
+use Rattle.audits.specs.Audits.{is_take}
+use Rattle.workers.specs.Holds.{takes_in, takes_of, IsInStep}
 use Rattle.workers.proofs.Joins.{takes_in_append, takes_of_append, join_last, join_more}
 
 pub begins_in_step : (total : ℕ) (closed : List Journal) (last : Journal) → closed ≡ [] → last.notes ≡ [] → last.first ≡ 1 → total ≡ 0 → IsInStep total closed last

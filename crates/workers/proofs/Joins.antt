@@ -3,7 +3,8 @@ use Rattle.std.proofs.Common.{◌≡◌, ℕ, ◌+◌, List, [], ◌∷◌, ◌+
 use Rattle.definitions.specs.Step.{State}
 use Rattle.book.specs.Notes.{Note}
 use Rattle.book.specs.Journal.{Journal, next_of, begun}
-use Rattle.workers.specs.Holds.{is_take, takes_in, takes_of, Join}
+use Rattle.audits.specs.Audits.{is_take}
+use Rattle.workers.specs.Holds.{takes_in, takes_of, Join}
 
 pub takes_in_append : (xs : List Note) (n : Note) → takes_in (xs ++ n ∷ []) ≡ takes_in xs + cond (is_take n.event) 1 0
 takes_in_append [] n = omega arith

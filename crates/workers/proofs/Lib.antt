@@ -1,5 +1,4 @@
 pub mod Joins
 pub mod Holding
 pub mod Answering
-pub mod Auditing
 pub mod ReadingLemmas

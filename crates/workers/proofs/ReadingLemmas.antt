@@ -13,7 +13,8 @@ use Rattle.record_mark.specs.Assembled.{Assembled, IsSplit}
 use Rattle.workers.specs.declared.reading.Origin.{Origin}
 use Rattle.workers.specs.declared.reading.Ending.{Ending}
 use Rattle.workers.specs.declared.reading.Ending.TheVariants.{Over, Failed, TooLong, Closed, Starved}
-use Rattle.workers.specs.Answers.{Sent, sent_for, listed, Answer, AreMet, all_sent, all_receipts, Worker, with_seat, Worked}
+use Rattle.outboxes.specs.Posted.{Sent}
+use Rattle.workers.specs.Answers.{sent_for, listed, Answer, AreMet, all_sent, all_receipts, Worker, with_seat, Worked}
 use Rattle.workers.specs.Reading.{job_of, counted, jobs_of, Serves, HavePut, Puts, EndsSo, Fed, Cuts, EndsBy, IsRead}
 
 -- ---- jobs of records

@@ -1,9 +1,7 @@
 -- What a worker answered.
 use Rattle.std.specs.Prelude.{◌≡◌, ℕ, Bool, List, [], ◌∷◌, ◌++◌, map, Option, Some, None}
-use Rattle.definitions.specs.Bytes.{Bytes}
 use Rattle.definitions.specs.Hosts.{NotAsked}
-use Rattle.definitions.specs.Step.{State, Given, Nothing, Replies, Says, Sends, IsStarved, IsRefused, Starved}
-use Rattle.call_outcome.specs.Replies.{reply_bytes}
+use Rattle.definitions.specs.Step.{State, Given, Starved}
 use Rattle.book.specs.Given.{comes_to, record_of}
 use Rattle.book.specs.Notes.{Happening, Takes, Steps}
 use Rattle.book.specs.Receipts.{Receipt}
@@ -12,20 +10,7 @@ use Rattle.kept_replies.specs.Pairs.{view_of_peer}
 use Rattle.jobs.specs.Task.{Task}
 use Rattle.jobs.specs.declared.passes.View.{View}
 use Rattle.jobs.specs.Passes.{with_hand}
-
--- a record that was handed over, and the connection that it is for
-pub record Sent : Type 0 where
-  pub connection : ℕ
-  pub reply : Bytes
-
--- the record of a reply; nothing where there is none
-abbrev pub posted : ℕ → Given → List Sent
-posted connection (Replies xid outcome) = record { connection = connection; reply = reply_bytes xid outcome } ∷ []
-posted connection Nothing = []
-posted connection (Says line) = []
-posted connection (Sends number letter) = []
-posted connection IsStarved = []
-posted connection IsRefused = []
+use Rattle.outboxes.specs.Posted.{Sent, posted}
 
 abbrev pub asks : Task → Happening
 asks job = Takes job.peer job.asked

@@ -1,26 +1,17 @@
 -- What the lock keeps, and what one hold of it does.
-use Rattle.std.specs.Prelude.{◌≡◌, ◌⊎◌, ℕ, ◌+◌, Bool, true, false, cond, Some, List, [], ◌∷◌, ◌++◌}
+use Rattle.std.specs.Prelude.{◌≡◌, ◌⊎◌, ℕ, ◌+◌, Bool, cond, Some, List, [], ◌∷◌, ◌++◌}
 use Rattle.definitions.specs.Step.{State}
 use Rattle.book.specs.Given.{Upshot}
-use Rattle.book.specs.Notes.{Happening, Takes, SendsNext, HearsAnswer, AsksLine, FallsSilent, GraceEnds, BeginsAnew, Note}
+use Rattle.book.specs.Notes.{Happening, Note}
 use Rattle.book.specs.Receipts.{newest}
 use Rattle.book.specs.Journal.{Journal, Book, next_of, room_of, rotated, Enters}
+use Rattle.audits.specs.Audits.{is_take}
 
 -- the journals of the segments that are closed, in order, and the book with its open one; and whether closed segments are kept
 pub record Held : Type 0 where
   pub closed : List Journal
   pub book : Book
   pub keeps : Bool
-
--- the event is a record that was taken
-abbrev pub is_take : Happening → Bool
-is_take (Takes peer asked) = true
-is_take SendsNext = false
-is_take (HearsAnswer bytes) = false
-is_take (AsksLine l line) = false
-is_take (FallsSilent number) = false
-is_take GraceEnds = false
-is_take BeginsAnew = false
 
 -- how many of the entries took a record
 abbrev pub takes_in : List Note → ℕ

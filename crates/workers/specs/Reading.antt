@@ -7,10 +7,11 @@ use Rattle.record_mark.specs.Assembled.{Assembled, IsSplit}
 use Rattle.kept_replies.specs.Pairs.{view_of_peer}
 use Rattle.jobs.specs.Task.{Task}
 use Rattle.jobs.specs.Passes.{with_hand}
+use Rattle.outboxes.specs.Posted.{Sent}
 use Rattle.workers.specs.declared.reading.Origin.{Origin}
 use Rattle.workers.specs.declared.reading.Ending.{Ending}
 use Rattle.workers.specs.declared.reading.Ending.TheVariants.{Over, Failed, TooLong, Closed, Starved}
-use Rattle.workers.specs.Answers.{Answer, AreMet, Sent, all_sent, all_receipts, Worker, with_seat}
+use Rattle.workers.specs.Answers.{Answer, AreMet, all_sent, all_receipts, Worker, with_seat}
 
 -- the job of this record, under the next number
 abbrev pub job_of : Origin → Bytes → Task

@@ -4,12 +4,12 @@ ghost use Rattle.workers.specs.Answers.{TakesCall};
 ghost use Rattle.workers.specs.Places.{HasPlace};
 
 use crate::archive::Archive;
-use crate::outbox::{Outbox, post};
 use crate::patience::hold;
 use crate::shared::{Entered, Shared};
 use book::{Receipt, Starved, Taken};
 use bytes::Bytes;
 use hosts_db::HostStore;
+use outboxes::{Outbox, post};
 use range_table::RangeTable;
 use std::alloc::Global;
 use std::sync::ledger::{Ledger, Share};

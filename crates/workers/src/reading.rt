@@ -1,22 +1,23 @@
 //! A connection's own thread: it reads records, puts each as a job, and answers as many jobs as it put.
-ghost use Rattle.std.specs.Prelude.{◌≡◌, ◌≢◌, ℕ, ◌+◌, ◌<◌, ◌≤◌, true, false, cond, length, take, ◌∷◌, [], List, Some, Err, vec_len, IfOk, IfErr, MatchResult};
+ghost use Rattle.std.specs.Prelude.{◌≡◌, ◌≢◌, ℕ, ◌+◌, ◌<◌, ◌≤◌, true, false, cond, length, take, ◌∷◌, [], List, Some, Err, IfOk, IfErr, MatchResult};
 ghost use Rattle.std.specs.Io.KnownBytes.{Consumes};
 ghost use Rattle.jobs.specs.Passes.{with_put};
 ghost use Rattle.record_mark.specs.Assembled.{IsSplit};
 ghost use Rattle.workers.specs.Answers.{with_seat};
 ghost use Rattle.workers.specs.Reading.{heard, EndsSo, Cuts, Puts, job_of, counted, IsRead};
 
-use crate::outbox::{Gate, Outbox};
 use crate::shared::Shared;
 use crate::worker::Worker;
 use bytes::Bytes;
 use hosts_db::HostStore;
 use jobs::{Channel, Job, Place};
 use kept_replies::Peer;
+use outboxes::{Gate, Outbox};
+use pieces::{make_place, read_piece};
 use range_table::RangeTable;
 use record_mark::{Assembler, MarkError, Records};
-use std::alloc::{AllocError, Global};
-use std::io::{ErrorKind, Read};
+use std::alloc::Global;
+use std::io::Read;
 use std::marker::Model;
 use std::sync::ledger::Ledger;
 use std::sync::{Mutex, Wait};
@@ -60,13 +61,6 @@ pub enum Ending {
     Starved,
 }
 
-// The place of what is read.
-fn make_place(alloc: Global) -> Result<Vec<u8>, AllocError>
-    ensures { IfOk result (λ place. vec_len place ≡ PIECE) }
-{
-    Ok(vec![in alloc; 0u8; PIECE]?)
-}
-
 // Reads once: how many bytes came. An interruption brings none.
 fn hear<T: Read>(stream: &mut T, place: &mut [u8]) -> Result<usize, Ending>
     requires { 0 < length place.old }
@@ -74,10 +68,10 @@ fn hear<T: Read>(stream: &mut T, place: &mut [u8]) -> Result<usize, Ending>
     ensures bytes { Consumes (T.remaining stream.old) (T.remaining stream.new) (heard result place.new) }
     ensures ends { EndsSo result (T.remaining stream.new) }
 {
-    match stream.read(place) {
+    match read_piece(stream, place) {
         Ok(0) => Err(Ending::Over),
         Ok(count) => Ok(count),
-        Err(error) if error.kind() == ErrorKind::Interrupted => Ok(0),
+        Err(failed) if failed.is_interrupted => Ok(0),
         Err(_) => Err(Ending::Failed),
     }
 }
@@ -172,7 +166,7 @@ impl<P: Place, L: Ledger> Worker<P, L> {
             self.old self.new (O.handed outbox.old) (O.handed outbox.new) }
     {
         let alloc = self.alloc();
-        let Ok(mut place) = make_place(alloc) else {
+        let Ok(mut place) = make_place(alloc, PIECE) else {
             return Ending::Starved;
         };
         let mut intake = Intake::new(alloc);

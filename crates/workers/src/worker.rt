@@ -1,14 +1,15 @@
 //! What a worker does.
 ghost use Rattle.std.specs.Prelude.{◌≡◌, ◌+◌, ◌<◌, [], ◌∷◌, ◌++◌, is_some, IfOk, IfSome, IfNone, Some, None, length, MatchResult};
 ghost use Rattle.jobs.specs.Passes.{with_put, with_taken};
-ghost use Rattle.workers.specs.Answers.{Answer, Worked, IsMet, posted, listed, with_seat};
+ghost use Rattle.outboxes.specs.Posted.{posted};
+ghost use Rattle.workers.specs.Answers.{Answer, Worked, IsMet, listed, with_seat};
 
 use crate::desk::Desk;
-use crate::outbox::{Gate, Outbox, post_last};
 use crate::shared::Shared;
 use book::{Receipt, Taken};
 use hosts_db::HostStore;
 use jobs::{Channel, Closed, Job, Place, Seat};
+use outboxes::{Gate, Outbox, post_last};
 use range_table::RangeTable;
 use std::alloc::Global;
 use std::marker::Model;

@@ -1,9 +1,9 @@
 //! A gate that holds jobs until enough of them are inside.
 use jobs::Job;
+use outboxes::Gate;
 use std::sync::atomic::{AtomicBool, AtomicU64, Ordering};
 use std::thread;
 use std::time::{Clock, Duration};
-use workers::Gate;
 
 /// How long is waited where all are to be inside, in milliseconds.
 pub(crate) const LONG: u32 = 10_000;

@@ -1,8 +1,8 @@
 //! The turns of the sender.
 ghost use Rattle.std.specs.Prelude.{◌≡◌, false, []};
 ghost use Rattle.book.specs.Notes.{view_of_event};
+ghost use Rattle.audits.specs.Audits.{is_take};
 ghost use Rattle.serve_loops.specs.Handing.{HandsOn};
-ghost use Rattle.workers.specs.Holds.{is_take};
 
 use super::locals::Locals;
 use super::run::Sender;

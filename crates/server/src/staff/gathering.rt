@@ -3,6 +3,7 @@ ghost use Rattle.std.specs.Prelude.{◌≡◌, ◌+◌, ◌++◌, [], IfOk, IfNo
 ghost use Rattle.server.specs.Gathered.{Audited, Settles, left_by, left_by_all};
 
 use super::fault::StaffFault;
+use audits::audit;
 use book::Receipt;
 use hosts_db::HostStore;
 use jobs::{Channel, Keeper, Place};
@@ -10,7 +11,7 @@ use range_table::RangeTable;
 use std::alloc::Global;
 use std::marker::Model;
 use std::sync::ledger::{Ledger, Share};
-use workers::{Ends, Leaves, Shared, Worker, audit};
+use workers::{Ends, Leaves, Shared, Worker};
 
 /// Parts of the ledger that came back.
 #[derive(Drop)]

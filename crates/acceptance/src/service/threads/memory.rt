@@ -1,9 +1,9 @@
 //! Where replies and the server's own calls are handed to in memory.
 use book::{Dest, Reply};
 use history::History;
+use outboxes::{Outbox, SentReply};
 use serve_loops::{Courier, SentCall};
 use std::alloc::Global;
-use workers::{Outbox, SentReply};
 use xdr_core::Frame;
 
 /// An outbox that keeps records, as many as it finds memory for, and tells of all that it was handed.
@@ -28,7 +28,7 @@ impl MemoryOutbox {
 }
 
 impl Outbox for MemoryOutbox {
-    ghost use Rattle.workers.specs.SentReplies.{view_of_sent};
+    ghost use Rattle.outboxes.specs.SentReplies.{view_of_sent};
 
     ghost handed = { λ o. view_of_sent o.all.items };
 

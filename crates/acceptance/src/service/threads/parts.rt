@@ -8,11 +8,12 @@ use callbacks::ShortBytes;
 use hosts_db::MemHosts;
 use jobs::{Channel, Job, Place};
 use kept_replies::Peer;
+use outboxes::{Gate, SentReply};
 use range_arena::ArenaTable;
 use std::alloc::Global;
 use std::sync::Wait;
 use std::sync::ledger::Ledger;
-use workers::{Gate, SentReply, Shared, Worker};
+use workers::{Shared, Worker};
 
 /// Holds nobody.
 #[derive(Drop)]

@@ -2,7 +2,7 @@
 //! would drop all that is alive, and is a proof of its own.
 ghost use Rattle.std.specs.Prelude.{◌≡◌, false, []};
 ghost use Rattle.book.specs.Notes.{view_of_event};
-ghost use Rattle.workers.specs.Holds.{is_take};
+ghost use Rattle.audits.specs.Audits.{is_take};
 
 use super::answering::Waiting;
 use super::local::Talk;

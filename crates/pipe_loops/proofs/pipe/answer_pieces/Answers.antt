@@ -4,14 +4,12 @@ use Rattle.std.proofs.lemmas.Result.{err_from_is_err_and}
 use Rattle.pipe_loops.proofs.PipeLemmas.{ends-within, read-kept, unplaced, read-nothing, turn-failed, turn-more}
 use Rattle.pipe_loops.proofs.pipe.answer_pieces.Goals as goal
 
-pub returns-in_err-place : goal.returns-in_err-place
-returns-in_err-place g c events start unread before begun =
-    let p = err_from_is_err_and c.from_residual.result c.from_residual.ensures.1 in
-    rw (p.1, p.2) (unplaced events start c.args.bound unread _ before _ _ begun start)
+pub returns-in_default : goal.returns-in_default
+returns-in_default g c events start unread before begun = unplaced events start c.args.bound unread _ before _ _ begun start
 
 pub returns-in_err-count : goal.returns-in_err-count
 returns-in_err-count g c events start unread before begun =
-    let p = err_from_is_err_and c.from_residual-in_err-count.result c.from_residual-in_err-count.ensures.1 in
+    let p = err_from_is_err_and c.from_residual.result c.from_residual.ensures.1 in
     let one_more : c.loop-turn._turn < c.args.bound = omega arith in
     rw (p.1, p.2) (_, read-kept events start _ c.args.bound one_more unread _ before _ _ (c.loop-turn.invariant.0 events start unread before begun) _ c.in_err-count.ensures)
 

@@ -5,7 +5,8 @@ use Rattle.definitions.specs.Hosts.{NotAsked}
 use Rattle.definitions.specs.Step.{Starved}
 use Rattle.book.specs.Given.{comes_to, view_of_reply}
 use Rattle.book.specs.Notes.{Happening, Takes, Steps}
-use Rattle.workers.specs.Answers.{Worker, asks, view_of_taken, posted}
+use Rattle.outboxes.specs.Posted.{posted}
+use Rattle.workers.specs.Answers.{Worker, asks, view_of_taken}
 use Rattle.workers.proofs.worker.Worker.answer.Goals.{in-Err, in-Ok}
 use Rattle.workers.proofs.worker.Worker.answer.Goals as goal
 

@@ -1,7 +1,9 @@
-//! Where replies go, and what stands before a hold.
+//! Where replies go, and what stands before a hold of the book's lock: a trait of each, and what of a reply is handed over.
+#![tactic(auto)]
+
 ghost use Rattle.std.specs.Prelude.{◌≡◌, List, [], ◌∷◌, ◌++◌};
 ghost use Rattle.book.specs.Given.{view_of_reply, record_of};
-ghost use Rattle.workers.specs.Answers.{Sent, posted};
+ghost use Rattle.outboxes.specs.Posted.{Sent, posted};
 
 use book::Reply;
 use jobs::Job;
@@ -43,8 +45,8 @@ pub trait Outbox {
         ensures { handed self.new ≡ handed self.old };
 }
 
-/// Hands over a reply, if it has a record.
-pub(crate) fn post<O: Outbox>(outbox: &mut O, connection: u64, reply: &Reply)
+/// Hands over a reply for this connection, once, if it has a record, and nothing else.
+pub fn post<O: Outbox>(outbox: &mut O, connection: u64, reply: &Reply)
     ensures { O.handed outbox.new ≡ O.handed outbox.old ++ posted connection (view_of_reply reply.now) }
 {
     match reply {
@@ -55,8 +57,8 @@ pub(crate) fn post<O: Outbox>(outbox: &mut O, connection: u64, reply: &Reply)
     }
 }
 
-/// As `post`, of a reply that nobody else needs.
-pub(crate) fn post_last<O: Outbox>(outbox: &mut O, connection: u64, reply: Reply)
+/// As `post`, of a reply that nobody else needs, which is let go of.
+pub fn post_last<O: Outbox>(outbox: &mut O, connection: u64, reply: Reply)
     ensures { O.handed outbox.new ≡ O.handed outbox.old ++ posted connection (view_of_reply reply) }
 {
     post(outbox, connection, &reply);

@@ -1,6 +1,6 @@
 use Rattle.std.proofs.Common.{◌≡◌, Some, take}
-use Rattle.workers.specs.Audits.{meet_all, notes_of}
-use Rattle.workers.proofs.audits.follow.Given as goal
+use Rattle.audits.specs.Audits.{meet_all, notes_of}
+use Rattle.audits.proofs.follow.Given as goal
 
 abbrev pub invariant-loop-segment : goal.invariant-loop-segment
 invariant-loop-segment g l = meet_all 0 l.fn.receipts (notes_of (take l.segment-index l.segments)) ≡ Some (l.last, l.left)

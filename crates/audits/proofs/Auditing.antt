@@ -13,8 +13,7 @@ use Rattle.book.specs.Notes.{view_of_entry, Happening, Takes, SendsNext, HearsAn
 use Rattle.book.specs.Given.{record_of}
 use Rattle.book.specs.Journal.{Journal}
 use Rattle.book.specs.Receipts.{Receipt, receipt_of, same_receipt, same_event, same_peer}
-use Rattle.workers.specs.Holds.{is_take}
-use Rattle.workers.specs.Audits.{notes_of, RunOn, receipts_of, Agrees, taken_from, meet, meet_all}
+use Rattle.audits.specs.Audits.{is_take, notes_of, RunOn, receipts_of, Agrees, taken_from, meet, meet_all}
 
 abbrev At : Type 0
 At = ℕ × List Receipt

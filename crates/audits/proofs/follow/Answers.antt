@@ -1,7 +1,7 @@
 use Rattle.std.proofs.Common.{ap, sym, ◌∙◌}
-use Rattle.workers.specs.Audits.{meet_all}
-use Rattle.workers.proofs.Auditing.{segment_met, segment_missed}
-use Rattle.workers.proofs.audits.follow.Goals as goal
+use Rattle.audits.specs.Audits.{meet_all}
+use Rattle.audits.proofs.Auditing.{segment_met, segment_missed}
+use Rattle.audits.proofs.follow.Goals as goal
 
 pub loop-segment-preserved : goal.loop-segment-preserved
 loop-segment-preserved g c =

@@ -1,10 +1,10 @@
 //! The audit, of segments and receipts that belong together and of others.
 use super::rotation::{MemBook, MemSegment, is_noted};
 use super::threads::parts::begun;
+use audits::audit;
 use book::Receipt;
 use std::alloc::Global;
 use std::test::*;
-use workers::audit;
 
 /// The segments of a book, and the receipts of what it took.
 #[derive(Drop)]

@@ -1,9 +1,11 @@
-//! Whether receipts and segments agree.
+//! Whether receipts and segments agree: each entry that took a record has one receipt, which stands at its number with its call
+//! and its reply.
+#![tactic(auto)]
+
 ghost use Rattle.std.specs.Prelude.{◌≡◌, Some, None, map, IfSome, IfNone, MatchResult, IsPermutation};
 ghost use Rattle.std.specs.List.Sorted.{IsNonDecreasingBy};
 ghost use Rattle.book.specs.Notes.{view_of_entry};
-ghost use Rattle.workers.specs.Audits.{Agrees, meet, meet_all, notes_of};
-ghost use Rattle.workers.specs.Holds.{is_take};
+ghost use Rattle.audits.specs.Audits.{Agrees, is_take, meet, meet_all, notes_of};
 
 use book::{Act, BookEvent, Closed, Entry, Receipt};
 use hosts_db::HostStore;

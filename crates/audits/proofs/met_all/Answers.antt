@@ -1,5 +1,5 @@
-use Rattle.workers.proofs.Auditing.{entry_met, entry_missed}
-use Rattle.workers.proofs.audits.met_all.Goals as goal
+use Rattle.audits.proofs.Auditing.{entry_met, entry_missed}
+use Rattle.audits.proofs.met_all.Goals as goal
 
 pub loop-entry-preserved : goal.loop-entry-preserved
 loop-entry-preserved c =

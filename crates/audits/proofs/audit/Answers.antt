@@ -1,6 +1,6 @@
 use Rattle.std.proofs.Common.{sym}
-use Rattle.workers.proofs.Auditing.{agrees_from, none_left, met_none, some_left}
-use Rattle.workers.proofs.audits.audit.Goals as goal
+use Rattle.audits.proofs.Auditing.{agrees_from, none_left, met_none, some_left}
+use Rattle.audits.proofs.audit.Goals as goal
 
 pub returns-in_default-clause-agrees : goal.returns-in_default-clause-agrees
 returns-in_default-clause-agrees g c = met_none _ _ c.in_default.ensures.none

@@ -1,0 +1,2 @@
+pub mod Posted
+pub mod SentReplies

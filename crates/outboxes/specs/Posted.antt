@@ -1,0 +1,19 @@
+-- What an outbox is handed.
+use Rattle.std.specs.Prelude.{ℕ, List, [], ◌∷◌}
+use Rattle.definitions.specs.Bytes.{Bytes}
+use Rattle.definitions.specs.Step.{Given, Nothing, Replies, Says, Sends, IsStarved, IsRefused}
+use Rattle.call_outcome.specs.Replies.{reply_bytes}
+
+-- a record that was handed over, and the connection that it is for
+pub record Sent : Type 0 where
+  pub connection : ℕ
+  pub reply : Bytes
+
+-- the record of a reply; nothing where there is none
+abbrev pub posted : ℕ → Given → List Sent
+posted connection (Replies xid outcome) = record { connection = connection; reply = reply_bytes xid outcome } ∷ []
+posted connection Nothing = []
+posted connection (Says line) = []
+posted connection (Sends number letter) = []
+posted connection IsStarved = []
+posted connection IsRefused = []
