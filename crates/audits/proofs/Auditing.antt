@@ -9,11 +9,11 @@ use Rattle.definition_laws.proofs.KeptLaws.{local_same, local_is}
 use Rattle.definitions.specs.Bytes.{Bytes, same_bytes}
 use Rattle.definitions.specs.Step.{Peer}
 use Rattle.book.specs.declared.entry.Entry.{Entry}
-use Rattle.book.specs.Notes.{view_of_entry, Happening, Takes, SendsNext, HearsAnswer, AsksLine, FallsSilent, GraceEnds, BeginsAnew, Note}
+use Rattle.book.specs.Notes.{view_of_entry, is_take, Happening, Takes, SendsNext, HearsAnswer, AsksLine, FallsSilent, GraceEnds, BeginsAnew, Note}
 use Rattle.book.specs.Given.{record_of}
 use Rattle.book.specs.Journal.{Journal}
 use Rattle.book.specs.Receipts.{Receipt, receipt_of, same_receipt, same_event, same_peer}
-use Rattle.audits.specs.Audits.{is_take, notes_of, RunOn, receipts_of, Agrees, taken_from, meet, meet_all}
+use Rattle.audits.specs.Audits.{notes_of, RunOn, receipts_of, Agrees, taken_from, meet, meet_all}
 
 abbrev At : Type 0
 At = ℕ × List Receipt

@@ -1,18 +1,8 @@
 -- When receipts and segments agree.
 use Rattle.std.specs.Prelude.{◌≡◌, ◌==◌, ℕ, suc, Bool, true, false, cond, Option, Some, None, List, [], ◌∷◌, ◌++◌}
-use Rattle.book.specs.Notes.{Note, Happening, Takes, SendsNext, HearsAnswer, AsksLine, FallsSilent, GraceEnds, BeginsAnew}
+use Rattle.book.specs.Notes.{Note, is_take}
 use Rattle.book.specs.Journal.{Journal}
 use Rattle.book.specs.Receipts.{Receipt, receipt_of, same_receipt}
-
--- the event is a record that was taken
-abbrev pub is_take : Happening → Bool
-is_take (Takes peer asked) = true
-is_take SendsNext = false
-is_take (HearsAnswer bytes) = false
-is_take (AsksLine l line) = false
-is_take (FallsSilent number) = false
-is_take GraceEnds = false
-is_take BeginsAnew = false
 
 abbrev pub notes_of : List Journal → List Note
 notes_of [] = []

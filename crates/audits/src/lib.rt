@@ -4,8 +4,8 @@
 
 ghost use Rattle.std.specs.Prelude.{◌≡◌, Some, None, map, IfSome, IfNone, MatchResult, IsPermutation};
 ghost use Rattle.std.specs.List.Sorted.{IsNonDecreasingBy};
-ghost use Rattle.book.specs.Notes.{view_of_entry};
-ghost use Rattle.audits.specs.Audits.{Agrees, is_take, meet, meet_all, notes_of};
+ghost use Rattle.book.specs.Notes.{is_take, view_of_entry};
+ghost use Rattle.audits.specs.Audits.{Agrees, meet, meet_all, notes_of};
 
 use book::{Act, BookEvent, Closed, Entry, Receipt};
 use hosts_db::HostStore;

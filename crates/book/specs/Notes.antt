@@ -1,5 +1,5 @@
 -- What an entry of the journal notes: the event with the bytes of its record, and what it came to.
-use Rattle.std.specs.Prelude.{◌≡◌, ℕ, true}
+use Rattle.std.specs.Prelude.{◌≡◌, ℕ, Bool, true, false}
 use Rattle.definitions.specs.Bytes.{Bytes}
 use Rattle.definitions.specs.Hosts.{StoreAnswer}
 use Rattle.definitions.specs.Replies.{Reading, AnswerReading, Line}
@@ -27,6 +27,16 @@ pub data Happening : Type 0 where
   FallsSilent : ℕ → Happening
   GraceEnds : Happening
   BeginsAnew : Happening
+
+-- a record was taken
+abbrev pub is_take : Happening → Bool
+is_take (Takes peer asked) = true
+is_take SendsNext = false
+is_take (HearsAnswer bytes) = false
+is_take (AsksLine l line) = false
+is_take (FallsSilent number) = false
+is_take GraceEnds = false
+is_take BeginsAnew = false
 
 pub record Note : Type 0 where
   pub number : ℕ

@@ -1,8 +1,7 @@
 //! Who answers a line.
 ghost use Rattle.std.specs.Prelude.{◌≡◌, ℕ, false, List, [], IfOk, IfErr};
 ghost use Rattle.book.specs.Given.{view_of_reply};
-ghost use Rattle.book.specs.Notes.{Note, view_of_event};
-ghost use Rattle.audits.specs.Audits.{is_take};
+ghost use Rattle.book.specs.Notes.{is_take, Note, view_of_event};
 ghost use Rattle.workers.specs.Holds.{entry_of, Notes, Adds};
 ghost use Rattle.serve_loops.specs.Lines.{Asks, TellsOf};
 

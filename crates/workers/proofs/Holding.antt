@@ -4,10 +4,9 @@ use Rattle.definitions.specs.Bytes.{Bytes}
 use Rattle.call_records.specs.declared.dest.Dest.{Dest}
 use Rattle.book.specs.Given.{Upshot}
 use Rattle.std.specs.Prelude.{option_map}
-use Rattle.book.specs.Notes.{Note, Happening, Takes, SendsNext}
+use Rattle.book.specs.Notes.{Note, Happening, Takes, SendsNext, is_take}
 use Rattle.book.specs.Receipts.{Receipt, receipt_of, newest, newest_receipt}
 use Rattle.book.specs.Journal.{Journal, Book, next_of, rotated, Enters, IsNext}
-use Rattle.audits.specs.Audits.{is_take}
 use Rattle.workers.specs.Holds.{takes_in, takes_of, IsInStep}
 use Rattle.workers.proofs.Joins.{takes_in_append, takes_of_append, join_last, join_more}
 

@@ -1,9 +1,8 @@
 -- Journals that join, and what they took, where one more is closed.
 use Rattle.std.proofs.Common.{◌≡◌, ℕ, ◌+◌, List, [], ◌∷◌, ◌++◌, refl, ◌∙◌, arith, cond}
 use Rattle.definitions.specs.Step.{State}
-use Rattle.book.specs.Notes.{Note}
+use Rattle.book.specs.Notes.{Note, is_take}
 use Rattle.book.specs.Journal.{Journal, next_of, begun}
-use Rattle.audits.specs.Audits.{is_take}
 use Rattle.workers.specs.Holds.{takes_in, takes_of, Join}
 
 pub takes_in_append : (xs : List Note) (n : Note) → takes_in (xs ++ n ∷ []) ≡ takes_in xs + cond (is_take n.event) 1 0

@@ -2,10 +2,9 @@
 use Rattle.std.specs.Prelude.{◌≡◌, ◌⊎◌, ℕ, ◌+◌, Bool, cond, Some, List, [], ◌∷◌, ◌++◌}
 use Rattle.definitions.specs.Step.{State}
 use Rattle.book.specs.Given.{Upshot}
-use Rattle.book.specs.Notes.{Happening, Note}
+use Rattle.book.specs.Notes.{Happening, Note, is_take}
 use Rattle.book.specs.Receipts.{newest}
 use Rattle.book.specs.Journal.{Journal, Book, next_of, room_of, rotated, Enters}
-use Rattle.audits.specs.Audits.{is_take}
 
 -- the journals of the segments that are closed, in order, and the book with its open one; and whether closed segments are kept
 pub record Held : Type 0 where

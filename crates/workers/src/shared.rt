@@ -3,9 +3,8 @@ ghost use Rattle.std.specs.Prelude.{◌≡◌, ℕ, ◌+◌, ◌<◌, true, fals
 ghost use Rattle.definitions.specs.Outgoing.{next_due};
 ghost use Rattle.book.specs.Given.{Upshot as Became};
 ghost use Rattle.book.specs.Journal.{Journal, room_of};
-ghost use Rattle.book.specs.Notes.{view_of_event};
+ghost use Rattle.book.specs.Notes.{is_take, view_of_event};
 ghost use Rattle.book.specs.Receipts.{newest_receipt};
-ghost use Rattle.audits.specs.Audits.{is_take};
 ghost use Rattle.workers.specs.Holds.{takes_of, entry_of, IsOneHistory, Rests, Notes, Adds};
 ghost use Rattle.workers.specs.Sending.{IsNextOf};
 ghost use Rattle.workers.specs.Answers.{view_of_taken};

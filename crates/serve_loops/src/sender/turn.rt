@@ -1,7 +1,6 @@
 //! The turns of the sender.
 ghost use Rattle.std.specs.Prelude.{◌≡◌, false, []};
-ghost use Rattle.book.specs.Notes.{view_of_event};
-ghost use Rattle.audits.specs.Audits.{is_take};
+ghost use Rattle.book.specs.Notes.{is_take, view_of_event};
 ghost use Rattle.serve_loops.specs.Handing.{HandsOn};
 
 use super::locals::Locals;

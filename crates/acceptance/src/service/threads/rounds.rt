@@ -1,8 +1,7 @@
 //! A round: workers are cut, do what a test tells them, and are gathered. There are no early ends once there is a book: each
 //! would drop all that is alive, and is a proof of its own.
 ghost use Rattle.std.specs.Prelude.{◌≡◌, false, []};
-ghost use Rattle.book.specs.Notes.{view_of_event};
-ghost use Rattle.audits.specs.Audits.{is_take};
+ghost use Rattle.book.specs.Notes.{is_take, view_of_event};
 
 use super::answering::Waiting;
 use super::local::Talk;
