@@ -10,12 +10,13 @@ use Rattle.jobs.specs.declared.passes.View.{View}
 use Rattle.jobs.specs.Passes.{with_put, with_hand}
 use Rattle.record_mark.specs.Stream.{Splits}
 use Rattle.record_mark.specs.Assembled.{Assembled, IsSplit}
+use Rattle.record_intake.specs.declared.ending.Ending.{Ending}
+use Rattle.record_intake.specs.declared.ending.Ending.TheVariants.{Over, Failed, TooLong, Closed, Starved}
+use Rattle.record_intake.specs.Intakes.{EndsSo, Fed, Cuts}
 use Rattle.workers.specs.declared.reading.Origin.{Origin}
-use Rattle.workers.specs.declared.reading.Ending.{Ending}
-use Rattle.workers.specs.declared.reading.Ending.TheVariants.{Over, Failed, TooLong, Closed, Starved}
 use Rattle.outboxes.specs.Posted.{Sent}
 use Rattle.workers.specs.Answers.{sent_for, listed, Answer, AreMet, all_sent, all_receipts, Worker, with_seat, Worked}
-use Rattle.workers.specs.Reading.{job_of, counted, jobs_of, Serves, HavePut, Puts, EndsSo, Fed, Cuts, EndsBy, IsRead}
+use Rattle.workers.specs.Reading.{job_of, counted, jobs_of, Serves, HavePut, Puts, EndsBy, IsRead}
 
 -- ---- jobs of records
 

@@ -1,16 +1,15 @@
 -- What a connection's own thread reads, puts and answers.
-use Rattle.std.specs.Prelude.{◌≡◌, ◌≢◌, ℕ, ◌+◌, ◌<◌, Bool, true, false, List, [], ◌∷◌, ◌++◌, length, take, map, Option, Some, None, Result, Ok, Err}
+use Rattle.std.specs.Prelude.{◌≡◌, ℕ, ◌+◌, ◌<◌, Bool, true, false, List, [], ◌∷◌, ◌++◌, length, take, map, Option}
 use Rattle.std.specs.Io.KnownBytes.{Consumes, IsAtEnd}
 use Rattle.definitions.specs.Bytes.{Bytes}
 use Rattle.record_mark.specs.Stream.{Splits}
-use Rattle.record_mark.specs.Assembled.{Assembled, IsSplit}
+use Rattle.record_intake.specs.declared.ending.Ending.{Ending}
+use Rattle.record_intake.specs.declared.ending.Ending.TheVariants.{Over, Failed, TooLong, Closed, Starved}
 use Rattle.kept_replies.specs.Pairs.{view_of_peer}
 use Rattle.jobs.specs.Task.{Task}
 use Rattle.jobs.specs.Passes.{with_hand}
 use Rattle.outboxes.specs.Posted.{Sent}
 use Rattle.workers.specs.declared.reading.Origin.{Origin}
-use Rattle.workers.specs.declared.reading.Ending.{Ending}
-use Rattle.workers.specs.declared.reading.Ending.TheVariants.{Over, Failed, TooLong, Closed, Starved}
 use Rattle.workers.specs.Answers.{Answer, AreMet, all_sent, all_receipts, Worker, with_seat}
 
 -- the job of this record, under the next number
@@ -34,35 +33,6 @@ pub record Serves (jobs : List Task) (old new : Worker) (sent sent' : List Sent)
   pub handed : sent' ≡ sent ++ all_sent answers
   pub receipts : new.receipts ≡ old.receipts ++ all_receipts answers
   pub keeps : new.keeps ≡ old.keeps
-
--- the bytes of a read
-abbrev pub heard : Result ℕ Ending → List ℕ → List ℕ
-heard (Ok count) place = take count place
-heard (Err ending) place = []
-
--- a stream that is over has no byte left
-abbrev pub EndsSo : Result ℕ Ending → Option (List ℕ) → Type 0
-EndsSo (Ok count) after = Unit {0}
-EndsSo (Err Over) after = IsAtEnd after
-EndsSo (Err Failed) after = Unit {0}
-EndsSo (Err TooLong) after = ⊥
-EndsSo (Err Closed) after = ⊥
-EndsSo (Err Starved) after = ⊥
-
--- the piece was taken, and ends these records
-pub record Fed (old : Assembled) (piece : List ℕ) (records : List Bytes) (fault : Bool) (new : Assembled) : Type 0 where
-  pub split : IsSplit new
-  pub received : new.received ≡ old.received ++ piece
-  pub given : new.given ≡ old.given ++ records
-  pub failed : new.failed ≡ fault
-
-abbrev pub Cuts : Assembled → List ℕ → List Bytes → Option Ending → Assembled → Type 0
-Cuts old piece records None new = Fed old piece records false new
-Cuts old piece records (Some TooLong) new = Fed old piece records true new
-Cuts old piece records (Some Starved) new = (new ≡ old) × (records ≡ []) × (piece ≢ [])
-Cuts old piece records (Some Over) new = ⊥
-Cuts old piece records (Some Failed) new = ⊥
-Cuts old piece records (Some Closed) new = ⊥
 
 -- these were put, numbered on, and nothing else happened
 pub record HavePut (records : List Bytes) (o o' : Origin) (old new : Worker) : Type 0 where

@@ -10,7 +10,8 @@ mod shared;
 mod transcript;
 mod worker;
 
-pub use reading::{Ending, Origin, Source};
+pub use reading::{Origin, Source};
+pub use record_intake::Ending;
 pub use shared::{Ends, Entered, Next, Shared};
 pub use transcript::Transcript;
 pub use worker::{Leaves, Worker};

@@ -1,10 +1,8 @@
 //! A connection's own thread: it reads records, puts each as a job, and answers as many jobs as it put.
-ghost use Rattle.std.specs.Prelude.{◌≡◌, ◌≢◌, ℕ, ◌+◌, ◌<◌, ◌≤◌, true, false, cond, length, take, ◌∷◌, [], List, Some, Err, IfOk, IfErr, MatchResult};
-ghost use Rattle.std.specs.Io.KnownBytes.{Consumes};
+ghost use Rattle.std.specs.Prelude.{◌≡◌, true, false, cond, Some};
 ghost use Rattle.jobs.specs.Passes.{with_put};
-ghost use Rattle.record_mark.specs.Assembled.{IsSplit};
 ghost use Rattle.workers.specs.Answers.{with_seat};
-ghost use Rattle.workers.specs.Reading.{heard, EndsSo, Cuts, Puts, job_of, counted, IsRead};
+ghost use Rattle.workers.specs.Reading.{Puts, job_of, counted, IsRead};
 
 use crate::shared::Shared;
 use crate::worker::Worker;
@@ -13,12 +11,12 @@ use hosts_db::HostStore;
 use jobs::{Channel, Job, Place};
 use kept_replies::Peer;
 use outboxes::{Gate, Outbox};
-use pieces::{make_place, read_piece};
+use pieces::make_place;
 use range_table::RangeTable;
-use record_mark::{Assembler, MarkError, Records};
+use record_intake::{Ending, Intake};
+use record_mark::Records;
 use std::alloc::Global;
 use std::io::Read;
-use std::marker::Model;
 use std::sync::ledger::Ledger;
 use std::sync::{Mutex, Wait};
 
@@ -44,103 +42,6 @@ pub struct Origin {
 pub struct Source<T> {
     pub stream: T,
     pub origin: Origin,
-}
-
-/// How reading ended.
-#[derive(Clone, Copy, PartialEq, Eq)]
-pub enum Ending {
-    /// The stream ended. An end inside a record is no fault.
-    Over,
-    /// A read failed, or none brought bytes in time, or there were a billion reads.
-    Failed,
-    /// The stream has a record that would be longer than 8,192 bytes. The records before it were put.
-    TooLong,
-    /// The channel is closed, or 2^64 - 1 jobs were put. A record is left that was not put.
-    Closed,
-    /// There was no memory for bytes that were read. Records that were whole before them were put.
-    Starved,
-}
-
-// Reads once: how many bytes came. An interruption brings none.
-fn hear<T: Read>(stream: &mut T, place: &mut [u8]) -> Result<usize, Ending>
-    requires { 0 < length place.old }
-    ensures room { IfOk result (λ count. count ≤ length place.new) }
-    ensures bytes { Consumes (T.remaining stream.old) (T.remaining stream.new) (heard result place.new) }
-    ensures ends { EndsSo result (T.remaining stream.new) }
-{
-    match read_piece(stream, place) {
-        Ok(0) => Err(Ending::Over),
-        Ok(count) => Ok(count),
-        Err(failed) if failed.is_interrupted => Ok(0),
-        Err(_) => Err(Ending::Failed),
-    }
-}
-
-// The records that the piece ends, and how the stream ends with them, if it does.
-fn cut(assembler: &mut Assembler, alloc: Global, piece: &[u8]) -> (Records, Option<Ending>)
-    requires { piece.now ≢ [] }
-    ensures { Cuts assembler.old piece.now result.0.items result.1 assembler.new }
-{
-    match assembler.feed(piece) {
-        Ok(records) => (records, None),
-        Err(MarkError::RecordTooLong(records)) => (records, Some(Ending::TooLong)),
-        Err(MarkError::Starved) => (Vec::new(alloc), Some(Ending::Starved)),
-    }
-}
-
-/// What cuts a stream in records. Contracts see what came and was cut so far.
-struct Intake {
-    alloc: Global,
-    assembler: Assembler,
-}
-
-impl Model for Intake {
-    ghost use Rattle.record_mark.specs.Assembled.{Assembled};
-
-    ghost Value = { Assembled };
-
-    ghost view = { λ i. i.assembler };
-}
-
-// It is written out, so that each early end of whoever reads makes a call.
-impl Drop for Intake {
-    fn drop(self) {
-        let Intake {
-            alloc: _,
-            assembler: _,
-        } = self;
-    }
-}
-
-impl Intake {
-    fn new(alloc: Global) -> Intake
-        ensures new { result ≡ record { received = []; given = []; failed = false } }
-        ensures split { IsSplit result }
-    {
-        Intake {
-            alloc,
-            assembler: Assembler::new(alloc),
-        }
-    }
-
-    // Reads once: the records that end with what came, and how the stream ends with them, if it does.
-    fn read<T: Read>(
-        &mut self,
-        stream: &mut T,
-        place: &mut [u8],
-    ) -> Result<(Records, Option<Ending>), Ending>
-        requires room { 0 < length place.old }
-        requires split { IsSplit self.old }
-        requires going { self.old.failed ≡ false }
-        ensures ok { IfOk result (λ read. (piece : List ℕ) × Consumes (T.remaining stream.old) (T.remaining stream.new) piece × Cuts self.old piece read.0.items read.1 self.new) }
-        ensures err { IfErr result (λ ending. Consumes (T.remaining stream.old) (T.remaining stream.new) [] × EndsSo (Err ending) (T.remaining stream.new)) }
-    {
-        let count = hear(stream, place)?;
-        if count == 0 {
-            return Ok((Vec::new(self.alloc), None));
-        }
-        Ok(cut(&mut self.assembler, self.alloc, &place[..count]))
-    }
 }
 
 // How the reading ends behind the records of one read, if it does.

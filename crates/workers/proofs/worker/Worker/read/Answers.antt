@@ -1,5 +1,5 @@
 use Rattle.std.proofs.KnownBytes.{Consumes-nil}
-use Rattle.workers.specs.declared.reading.Ending.TheVariants.{Failed}
+use Rattle.record_intake.specs.declared.ending.Ending.TheVariants.{Failed}
 use Rattle.workers.proofs.ReadingLemmas.{unread, SoFar-none, stops, ended_so, not_ended}
 use Rattle.workers.proofs.worker.Worker.read.Goals as goal
 
