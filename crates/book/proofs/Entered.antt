@@ -7,6 +7,8 @@ use Rattle.std.proofs.lemmas.List.{map-append, length-map}
 use Rattle.definitions.specs.Step.{State}
 use Rattle.book.specs.declared.entry.TheConstants.{SEGMENT}
 use Rattle.book.specs.declared.entry.Entry.{Entry}
+use Rattle.book.specs.declared.entries.Entries.{Entries}
+use Rattle.book.specs.Deeds.{HasPlace}
 use Rattle.book.specs.Given.{Upshot}
 use Rattle.book.specs.Notes.{Happening, Note, view_of_entry, Steps}
 use Rattle.book.specs.Journal.{IsLegal, next_of, noted, room_of}
@@ -20,17 +22,20 @@ module _ {Z : Type 0} (newest : ℕ) (base s : State) (entries : Vec Entry Z) wh
       let same = length-map entries.items view_of_entry in
       grind (arith, common_steps, room, same)
 
-  pub place_left : IsKept newest base entries s → 0 < room_of (journal_of newest base entries s) → vec_len entries < vec_capacity entries
+  place_left : IsKept newest base entries s → 0 < room_of (journal_of newest base entries s) → vec_len entries < vec_capacity entries
   place_left kept room =
       let r = kept.room in
       let left = room_left room in
       omega arith
 
-  pub number_left : IsKept newest base entries s → 0 < room_of (journal_of newest base entries s) → newest < 2 ^ 64 - 1
+  number_left : IsKept newest base entries s → 0 < room_of (journal_of newest base entries s) → newest < 2 ^ 64 - 1
   number_left kept room =
       let k = kept.numbers in
       let same = length-map entries.items view_of_entry in
       grind (arith, common_steps, k, room, same)
+
+pub has_place : (e : Entries) (base s : State) → IsKept e.newest base e.list s → 0 < room_of (journal_of e.newest base e.list s) → HasPlace e
+has_place e base s kept room = record { place = place_left e.newest base s e.list kept room; number = number_left e.newest base s e.list kept room }
 
 module _ {Z : Type 0} (newest : ℕ) (base s new : State) (entries more : Vec Entry Z) (e : Entry) (event : Happening) (upshot : Upshot) where
   abbrev note : Note

@@ -6,3 +6,4 @@ pub mod Kept
 pub mod Receipts
 pub mod Lines
 pub mod Told
+pub mod Deeds

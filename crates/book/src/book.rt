@@ -1,5 +1,5 @@
 //! The shared state and the segment of the journal that leads to it.
-ghost use Rattle.std.specs.Prelude.{◌≡◌, ◌+◌, ◌-◌, ◌<◌, ◌^◌, [], ◌∷◌, ◌++◌, vec_len, vec_capacity, Some, IfOk, is_some};
+ghost use Rattle.std.specs.Prelude.{◌≡◌, ◌<◌, [], Some, IfOk, is_some};
 ghost use Rattle.kept_replies.specs.Pairs.{view_of_peer};
 ghost use Rattle.definitions.specs.Outgoing.{next_due};
 ghost use Rattle.definitions.specs.Step.{opening_state};
@@ -8,7 +8,8 @@ ghost use Rattle.book.specs.Given.{view_of_reply};
 ghost use Rattle.book.specs.Receipts.{newest_event, newest_given, newest_receipt, is_noted};
 ghost use Rattle.book.specs.Journal.{begun, room_of, rotated, Enters, IsLegal, IsNext};
 
-use crate::entry::{Act, Entry, SEGMENT};
+use crate::entries::{Deed, Entries};
+use crate::entry::{Act, SEGMENT};
 use crate::event::BookEvent;
 use crate::receipt::{Receipt, Taken};
 use crate::reply::Reply;
@@ -21,6 +22,7 @@ use callbacks::ShortBytes;
 use held_locks::Locks;
 use hosts_db::HostStore;
 use lock_service::StoreAnswer;
+use noted_changes::{Noting, change_noted};
 use owner_ids::Starved;
 use range_table::RangeTable;
 use std::alloc::Global;
@@ -33,9 +35,7 @@ use xdr_core::Frame;
 pub struct Book<R: RangeTable, S: HostStore> {
     shared: Shared<R, S>,
     base: Seen<Shared<R, S>>,
-    entries: Vec<Entry>,
-    /// The number of the newest entry, over all segments.
-    newest: u64,
+    entries: Entries,
 }
 
 impl<R: RangeTable, S: HostStore> Model for Book<R, S> {
@@ -44,9 +44,9 @@ impl<R: RangeTable, S: HostStore> Model for Book<R, S> {
 
     ghost Value = { Book };
 
-    ghost view = { λ b. record { journal = journal_of b.newest b.base.value.state b.entries b.shared.state; refusals = b.shared.refusals } };
+    ghost view = { λ b. record { journal = journal_of b.entries.newest b.base.value.state b.entries.list b.shared.state; refusals = b.shared.refusals } };
 
-    ghost invariant = { λ b. IsKept b.newest b.base.value.state b.entries b.shared.state };
+    ghost invariant = { λ b. IsKept b.entries.newest b.base.value.state b.entries.list b.shared.state };
 }
 
 // It is written out, so that no crate above proves again how each part of a book is dropped.
@@ -56,7 +56,6 @@ impl<R: RangeTable + Drop, S: HostStore + Drop> Drop for Book<R, S> {
             shared: _,
             base: _,
             entries: _,
-            newest: _,
         } = self;
     }
 }
@@ -79,8 +78,10 @@ impl<R: RangeTable + Drop, S: HostStore + Drop> Book<R, S> {
         Ok(Book {
             shared,
             base,
-            entries: segment.entries,
-            newest: 0,
+            entries: Entries {
+                list: segment.entries,
+                newest: 0,
+            },
         })
     }
 
@@ -93,13 +94,12 @@ impl<R: RangeTable + Drop, S: HostStore + Drop> Book<R, S> {
             shared,
             base,
             entries,
-            newest,
         } = self;
         let end = Seen::of(&shared);
         Closed {
-            newest,
+            newest: entries.newest,
             base,
-            entries,
+            entries: entries.list,
             end,
         }
     }
@@ -111,8 +111,8 @@ impl<R: RangeTable, S: HostStore> Book<R, S> {
         ensures room { result ≡ room_of self.now.journal }
         ensures legal { IsLegal self.now.journal }
     {
-        let newest = self.newest;
-        let left = SEGMENT - self.entries.len();
+        let newest = self.entries.newest;
+        let left = SEGMENT - self.entries.list.len();
         (u64::MAX - newest).min(left as u64)
     }
 
@@ -138,10 +138,7 @@ impl<R: RangeTable, S: HostStore> Book<R, S> {
         ensures enters { Enters self.old (view_of_event event) result self.new }
         ensures legal { IsLegal self.new.journal }
     {
-        let (upshot, act) = self.shared.apply(event);
-        let (doing, store) = (upshot.doing, upshot.store);
-        enter(&mut self.entries, &mut self.newest, act, doing, store);
-        upshot
+        change_noted(&mut self.shared, &mut self.entries, event)
     }
 
     /// Whether a call of the server's own is due.
@@ -164,8 +161,11 @@ impl<R: RangeTable, S: HostStore> Book<R, S> {
             number: sending.number,
             letter: sending.letter,
         };
-        let (doing, store) = (Doing::Applied, StoreAnswer::NotAsked);
-        enter(&mut self.entries, &mut self.newest, act, doing, store);
+        self.entries.note(Deed {
+            act,
+            doing: Doing::Applied,
+            store: StoreAnswer::NotAsked,
+        });
         Some((sending.number, sending.to, sending.frame))
     }
 
@@ -177,9 +177,9 @@ impl<R: RangeTable, S: HostStore> Book<R, S> {
     {
         let end = Seen::of(&self.shared);
         let base = mem::replace(&mut self.base, Seen::of(&self.shared));
-        let entries = mem::replace(&mut self.entries, fresh.entries);
+        let entries = mem::replace(&mut self.entries.list, fresh.entries);
         Closed {
-            newest: self.newest,
+            newest: self.entries.newest,
             base,
             entries,
             end,
@@ -192,31 +192,14 @@ impl<R: RangeTable, S: HostStore> Book<R, S> {
         requires reply { newest_given self.now.journal.notes ≡ Some (view_of_reply reply) }
         ensures { Some result ≡ newest_receipt self.now.journal.notes }
     {
-        let newest = self.entries.len() - 1;
-        Receipt::of(self.entries[newest].number, taken, reply)
+        let newest = self.entries.list.len() - 1;
+        Receipt::of(self.entries.list[newest].number, taken, reply)
     }
 
     /// Whether the receipt's number stands in this segment, with its call and its reply.
     pub fn check(&self, receipt: &Receipt) -> bool
         ensures { result ≡ is_noted receipt.now self.now.journal.notes }
     {
-        self.entries.iter().any(|entry| receipt.is_of(entry))
+        self.entries.list.iter().any(|entry| receipt.is_of(entry))
     }
-}
-
-// One entry more, under the next number.
-fn enter(entries: &mut Vec<Entry>, newest: &mut u64, act: Act, doing: Doing, store: StoreAnswer)
-    requires room { vec_len entries.old < vec_capacity entries.old }
-    requires number { newest.old < 2 ^ 64 - 1 }
-    ensures entries { entries.new.items ≡ entries.old.items ++ record { number = newest.old + 1; act = act; doing = doing; store = store } ∷ [] }
-    ensures room { vec_capacity entries.new ≡ vec_capacity entries.old }
-    ensures newest { newest.new ≡ newest.old + 1 }
-{
-    *newest += 1;
-    entries.push_reserved(Entry {
-        number: *newest,
-        act,
-        doing,
-        store,
-    });
 }

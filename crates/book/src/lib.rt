@@ -2,6 +2,7 @@
 #![tactic(auto)]
 
 mod book;
+mod entries;
 mod entry;
 mod event;
 mod fresh;

@@ -10,6 +10,6 @@ use Rattle.book.proofs.book.Book.check.Goals as goal
 
 pub returns : goal.returns
 returns g c =
-    any_from_yields_List (λ (e : Entry). same_receipt (receipt_of (view_of_entry e)) c.args.receipt.now) _ _ c.any.result c.any.ensures.ran (YieldsList-from_slice c.self.inside.entries.items cc) (λ x b q k. search (rules, tests))
-    ∙ any_found c.args.receipt.now c.self.inside.entries.items
+    any_from_yields_List (λ (e : Entry). same_receipt (receipt_of (view_of_entry e)) c.args.receipt.now) _ _ c.any.result c.any.ensures.ran (YieldsList-from_slice c.self.inside.entries.list.items cc) (λ x b q k. search (rules, tests))
+    ∙ any_found c.args.receipt.now c.self.inside.entries.list.items
     ∙ ap (λ (b : Book). is_noted c.args.receipt.now b.journal.notes) c.self.view_is
