@@ -1,7 +1,8 @@
 //! Events take the book, in segments of its journal.
 
-ghost use Rattle.std.specs.Prelude.{◌≡◌, ◌<◌, List, true, false};
+ghost use Rattle.std.specs.Prelude.{◌≡◌, ◌<◌, List, true, false, is_some};
 ghost use Rattle.definitions.specs.Hosts.{NotAsked};
+ghost use Rattle.definitions.specs.Outgoing.{next_due};
 ghost use Rattle.call_plans.specs.Planned.{counted};
 ghost use Rattle.book.specs.Notes.{view_of_event, Steps};
 ghost use Rattle.book.specs.Journal.{room_of, rotated, TakesMemory};
@@ -52,9 +53,23 @@ pub(crate) fn send_next<R: RangeTable, S: HostStore>(
 ) -> Posted
     ensures { (links : List Link) → SendStep (hub_of book.old links) (told_posted result posting.new) (hub_of book.new links) }
 {
-    if !book.has_due() {
-        return Posted::Nothing;
+    if book.has_due() {
+        send_due(alloc, book, posting)
+    } else {
+        Posted::Nothing
     }
+}
+
+// The call that is due first. It has room for its record, 5 KiB that are cleared, which is not to be paid where none is due.
+#[inline(never)]
+fn send_due<R: RangeTable, S: HostStore>(
+    alloc: Global,
+    book: &mut Book<R, S>,
+    posting: &mut Posting,
+) -> Posted
+    requires due { is_some (next_due book.old.journal.end.world.calls) ≡ true }
+    ensures { (links : List Link) → SendStep (hub_of book.old links) (told_posted result posting.new) (hub_of book.new links) }
+{
     if !has_room(alloc, book) {
         return Posted::NoSegment;
     }

@@ -4,7 +4,7 @@ use Rattle.book.specs.Notes.{SendsNext}
 use Rattle.book.specs.Journal.{room_of}
 use Rattle.daemon_core.specs.Outcomes.{needs_entry}
 use Rattle.daemon_core.proofs.RoomLemmas.{enters-room, needed-room}
-use Rattle.daemon_core.proofs.noted.send_next.Goals as goal
+use Rattle.daemon_core.proofs.noted.send_due.Goals as goal
 
 pub returns : goal.returns
 returns g c = λ links.
