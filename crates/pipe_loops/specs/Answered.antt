@@ -48,15 +48,12 @@ AnswersEach old (outs ∷ answers) new = (mid : Hub) × AnswersRecord old outs m
 abbrev pub in_order : List (List Outputs) → List Outputs
 in_order answers = flat_map (λ (outs : List Outputs). outs) answers
 
--- a call is due, and there is no segment for the entry of its sending
+-- a call is due, and there is no segment for the entry of its sending: the one that stands is full
 pub record SendStarves (old new : Hub) : Type 0 where
   pub out : Outputs
   pub step : SendStep old out new
   pub met : out.outcome ≡ NoSegment
-
--- which is so only where the segment that stands is full
-abbrev pub StarvesWhereFull : Type 0
-StarvesWhereFull = (old new : Hub) → SendStarves old new → old.room.left ≡ 0
+  pub full : old.room.left ≡ 0
 
 -- what ends it while this was sent: a write fails, and a front of what was sent is written; or there is no segment for the entry
 -- of the next sending, and all is

@@ -9,7 +9,7 @@ mod server;
 mod table;
 
 pub use fault::Fault;
-pub use law::{reads_are_bounded, sendings_starve_where_full};
+pub use law::reads_are_bounded;
 pub use pipe::pipe_loop;
 pub use server::Server;
 pub use table::table_loop;
