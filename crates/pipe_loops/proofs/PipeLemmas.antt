@@ -6,6 +6,7 @@ use Rattle.std.specs.Io.KnownBytes.{Appends, Keeps, Consumes}
 use Rattle.std.proofs.KnownBytes.{Consumes-nil, Consumes-trans, Consumes-kept, Appends-nil, Appends-trans, Appends-kept, Keeps-refl}
 use Rattle.std.proofs.lemmas.Grind.{flat_map-append}
 use Rattle.std.proofs.lemmas.List.{append-nil, length-append}
+use Rattle.std.proofs.lemmas.List.Elements.{All-nil, All-push}
 use Rattle.daemon_core.specs.declared.event.Event.{Event}
 use Rattle.daemon_core.specs.declared.event.Event.TheVariants.{Piece, Connect}
 use Rattle.daemon_core.specs.declared.outcome.Outcome.{Outcome}
@@ -22,7 +23,7 @@ use Rattle.pipe_loops.specs.declared.fault.Fault.{Fault}
 use Rattle.pipe_loops.specs.FaultOf.{fault_of}
 use Rattle.written.specs.Written.{WroteFront}
 use Rattle.pipe_loops.specs.Answered.{in_order, Breaks}
-use Rattle.pipe_loops.specs.Pipe.{IsPiece, Hears, Turn, Turns, met_by, beginning, PipeRun, joined, AnswersAll, AnswersSome, WholeTurn, BrokenTurn, TurnEnds, BeginsAll, BeginsSome, EndsAt, BrokenPipe, StreamEnds}
+use Rattle.pipe_loops.specs.Pipe.{IsPiece, Hears, Turn, Turns, met_by, beginning, PipeRun, joined, IsShort, AnswersAll, AnswersSome, WholeTurn, BrokenTurn, TurnEnds, BeginsAll, BeginsSome, EndsAt, BrokenPipe, StreamEnds}
 use Rattle.written.proofs.Appending.{WroteFront-whole, WroteFront-after}
 
 pub bytes-append : (outs more : List Outputs) → all_bytes_sent (outs ++ more) ≡ all_bytes_sent outs ++ all_bytes_sent more
@@ -208,7 +209,7 @@ joined-more pieces piece = flat_map-append (λ p. p) pieces (piece ∷ []) ∙ a
 
 -- so many pieces, and perhaps more
 pub ends-within : (events : List Event) (start : Hub) (most bound : ℕ) → most ≤ bound → (unread left before after : Option (List ℕ)) (hub : Hub) → EndsAt events start most unread left before after [] hub → EndsAt events start bound unread left before after [] hub
-ends-within events start most bound fits unread left before after hub e = record { pieces = e.pieces; few = omega arith; outs = e.outs; run = e.run; read = e.read; wrote = e.wrote }
+ends-within events start most bound fits unread left before after hub e = record { pieces = e.pieces; few = omega arith; short = e.short; outs = e.outs; run = e.run; read = e.read; wrote = e.wrote }
 
 -- there was no memory for the place of the pieces
 pub unplaced : (events : List Event) (start : Hub) (bound : ℕ) (unread left before after : Option (List ℕ)) (hub : Hub) → EndsAt events start 0 unread left before after [] hub → (end : Hub) → StreamEnds events start bound (Err Fault.Starved) unread left before after end
@@ -217,13 +218,14 @@ unplaced events start bound unread left before after hub e end = inr (inl (inl (
 module _ (events : List Event) (start : Hub) (most next : ℕ) (one_more : most < next) (unread left before after : Option (List ℕ)) (mid : Hub) (so_far : EndsAt events start most unread left before after [] mid) where
   -- a read that failed
   pub read-kept : (later : Option (List ℕ)) → Keeps left later → EndsAt events start next unread later before after [] mid
-  read-kept later k = record { pieces = so_far.pieces; few = omega arith; outs = so_far.outs; run = so_far.run; read = Consumes-kept unread left later _ so_far.read k; wrote = so_far.wrote }
+  read-kept later k = record { pieces = so_far.pieces; few = omega arith; short = so_far.short; outs = so_far.outs; run = so_far.run; read = Consumes-kept unread left later _ so_far.read k; wrote = so_far.wrote }
 
   -- the end, which was read as an empty piece
   pub read-nothing : (later : Option (List ℕ)) (piece : List ℕ) → piece ≡ [] → Consumes left later piece → EndsAt events start most unread later before after [] mid
   read-nothing later piece e read = record {
     pieces = so_far.pieces;
     few = so_far.few;
+    short = so_far.short;
     outs = so_far.outs;
     run = so_far.run;
     read = let P : List ℕ → Type 0 = λ x. Consumes unread later x in
@@ -231,11 +233,12 @@ module _ (events : List Event) (start : Hub) (most next : ℕ) (one_more : most 
     wrote = so_far.wrote;
   }
 
-  module _ (later : Option (List ℕ)) (piece : List ℕ) (read : Consumes left later piece) (new : Hub) (written : Option (List ℕ)) where
+  module _ (later : Option (List ℕ)) (piece : List ℕ) (short : IsShort piece) (read : Consumes left later piece) (new : Hub) (written : Option (List ℕ)) where
     pub turn-more : (met : List Refusal) → WholeTurn mid new piece after written met → EndsAt events start next unread later before written met new
     turn-more met t = record {
       pieces = so_far.pieces ++ piece ∷ [];
       few = let longer = length-append so_far.pieces (piece ∷ []) in omega (arith, longer);
+      short = All-push IsShort so_far.pieces piece so_far.short short;
       outs = so_far.outs ++ t.outs;
       run = let P : List Refusal → Type 0 = λ rs. PipeRun events start (so_far.pieces ++ piece ∷ []) (so_far.outs ++ t.outs) rs new in
           subst P t.met_is (PipeRun-more events start so_far.pieces so_far.outs t.outs [] mid new piece so_far.run t.turn);
@@ -247,10 +250,12 @@ module _ (events : List Event) (start : Hub) (most next : ℕ) (one_more : most 
     turn-broken fault t = record {
       pieces = so_far.pieces;
       few = omega arith;
+      short = so_far.short;
       outs = so_far.outs;
       mid = mid;
       run = so_far.run;
       last = piece;
+      last_short = short;
       more = t.outs;
       next = t.mid;
       turn = t.turn;
@@ -295,6 +300,7 @@ pub at-start : (grace : Bool) (start hub : Hub) (unread before : Option (List �
 at-start grace start hub unread before b = record {
   pieces = [];
   few = omega arith;
+  short = All-nil IsShort;
   outs = b.outs;
   run = record { begun = hub; firsts = b.outs; begins = b.run; agreed = b.agreed; rest = []; turns = (refl, refl, refl); all = sym (append-nil b.outs) };
   read = Consumes-nil unread;

@@ -1,6 +1,6 @@
 -- One stream from a reader to a writer, as a run of the daemon.
 use Rattle.std.specs.Prelude.{◌≡◌, ℕ, ◌+◌, ◌<◌, ◌≤◌, ◌⊎◌, Bool, true, false, List, [], ◌∷◌, ◌++◌, length, take, Option, Some, None, Result, Ok, Err}
-use Rattle.std.specs.List.{flat_map}
+use Rattle.std.specs.List.{All, flat_map}
 use Rattle.std.specs.Option.{option_to_list}
 use Rattle.std.specs.Io.KnownBytes.{Appends, Keeps, Consumes, IsAtEnd}
 use Rattle.daemon_core.specs.declared.event.Event.{Event}
@@ -11,6 +11,7 @@ use Rattle.kept_replies.specs.declared.key.TheConstants.Peer.{PIPE}
 use Rattle.daemon_core.specs.Hub.{Hub, place_of, Waits, HubStep, Run, all_bytes_sent}
 use Rattle.pipe_loops.specs.declared.fault.Fault.{Fault}
 use Rattle.pipe_loops.specs.declared.fault.Fault.TheVariants.{Starved, RecordTooLong, StoreRefused, ReadFault, WriteFault}
+use Rattle.pipe_loops.specs.declared.pipe.TheConstants.{PIECE}
 use Rattle.pipe_loops.specs.FaultOf.{fault_of}
 use Rattle.pipe_loops.specs.Answered.{AnswersEach, AnswersPart, taken_in, in_order, Breaks}
 
@@ -80,6 +81,10 @@ pub record PipeRun (events : List Event) (start : Hub) (pieces : List (List ℕ)
 
 abbrev pub joined : List (List ℕ) → List ℕ
 joined pieces = flat_map (λ p. p) pieces
+
+-- no more bytes than one read brings
+abbrev pub IsShort : List ℕ → Type 0
+IsShort piece = length piece ≤ PIECE
 
 -- ---- the records that are whole after a piece
 
@@ -158,6 +163,7 @@ Begins events (Err fault) old new = (why : Refusal) × (fault ≡ fault_of why) 
 pub record EndsAt (events : List Event) (start : Hub) (most : ℕ) (unread left before after : Option (List ℕ)) (met : List Refusal) (hub : Hub) : Type 0 where
   pub pieces : List (List ℕ)
   pub few : length pieces ≤ most
+  pub short : All IsShort pieces
   pub outs : List Outputs
   pub run : PipeRun events start pieces outs met hub
   pub read : Consumes unread left (joined pieces)
@@ -170,10 +176,12 @@ WholePipe events start most unread left before after met = (hub : Hub) × EndsAt
 pub record BrokenPipe (fault : Fault) (events : List Event) (start : Hub) (most : ℕ) (unread left before after : Option (List ℕ)) : Type 0 where
   pub pieces : List (List ℕ)
   pub few : length pieces < most
+  pub short : All IsShort pieces
   pub outs : List Outputs
   pub mid : Hub
   pub run : PipeRun events start pieces outs [] mid
   pub last : List ℕ
+  pub last_short : IsShort last
   pub more : List Outputs
   pub next : Hub
   pub turn : SomeTurn mid last more next
@@ -221,11 +229,11 @@ IsServed bound result left left' after after' old new =
 abbrev pub PipeEnds : List Event → Hub → ℕ → Result (Unit {0}) Fault → Option (List ℕ) → Option (List ℕ) → Option (List ℕ) → Option (List ℕ) → Type 0
 PipeEnds events start bound result unread left before after = (end : Hub) × StreamEnds events start bound result unread left before after end
 
--- what was read came as so many pieces at most
+-- what was read came as so many pieces at most, none longer than one read brings
 abbrev pub ComesWithin : ℕ → Option (List ℕ) → Option (List ℕ) → Type 0
-ComesWithin bound unread left = (pieces : List (List ℕ)) × (length pieces ≤ bound) × Consumes unread left (joined pieces)
+ComesWithin bound unread left = (pieces : List (List ℕ)) × (length pieces ≤ bound) × All IsShort pieces × Consumes unread left (joined pieces)
 
--- however a stream ends, it came as at most `bound` pieces
+-- however a stream ends, it came as at most `bound` such pieces, so that no more than `bound` times `PIECE` bytes of it were taken
 abbrev pub ReadsAreBounded : Type 0
 ReadsAreBounded =
     (events : List Event) (start : Hub) (bound : ℕ) (result : Result (Unit {0}) Fault) (unread left before after : Option (List ℕ)) (end : Hub)

@@ -1,5 +1,6 @@
-use Rattle.std.proofs.Common.{◌≡◌, ◌<◌, ◌≤◌, ◌+◌, [], take, arith, ap}
+use Rattle.std.proofs.Common.{◌≡◌, ◌<◌, ◌≤◌, ◌+◌, [], length, take, arith, ap}
 use Rattle.std.proofs.lemmas.Grind.{common_steps}
+use Rattle.std.proofs.lemmas.List.{length-take-le}
 use Rattle.std.proofs.lemmas.Result.{err_from_is_err_and}
 use Rattle.pipe_loops.proofs.PipeLemmas.{ends-within, read-kept, unplaced, read-nothing, turn-failed, turn-more}
 use Rattle.pipe_loops.proofs.pipe.answer_pieces.Goals as goal
@@ -26,13 +27,17 @@ pub returns-in_err-turn : goal.returns-in_err-turn
 returns-in_err-turn g c events start unread before begun =
     let p = err_from_is_err_and c.from_residual-in_err-turn.result c.from_residual-in_err-turn.ensures.1 in
     let one_more : c.loop-turn._turn < c.args.bound = omega arith in
-    rw (p.1, p.2) (turn-failed events start _ c.args.bound one_more unread _ before _ _ (c.loop-turn.invariant.0 events start unread before begun) _ _ c.in_ok-count.ensures.1 _ _ c.in_err-turn.field-0.0 c.in_err-turn.ensures _)
+    let is = length-take-le c.in_ok-count.count c.read_piece.new.place c.in_ok-count.ensures.0 in
+    let short : length (take c.in_ok-count.count c.read_piece.new.place) ≤ 8192 = grind (arith, common_steps, is) in
+    rw (p.1, p.2) (turn-failed events start _ c.args.bound one_more unread _ before _ _ (c.loop-turn.invariant.0 events start unread before begun) _ _ short c.in_ok-count.ensures.1 _ _ c.in_err-turn.field-0.0 c.in_err-turn.ensures _)
 
 pub loop-turn-preserved : goal.loop-turn-preserved
 loop-turn-preserved g c = (
   λ events start unread before begun.
       let one_more : c.loop-turn._turn < c.loop-turn._turn + 1 = omega arith in
-      turn-more events start _ (c.loop-turn._turn + 1) one_more unread _ before _ _ (c.loop-turn.invariant.0 events start unread before begun) _ _ c.in_ok-count.ensures.1 _ _ [] c.in_ok-turn.ensures,
+      let is = length-take-le c.in_ok-count.count c.read_piece.new.place c.in_ok-count.ensures.0 in
+      let short : length (take c.in_ok-count.count c.read_piece.new.place) ≤ 8192 = grind (arith, common_steps, is) in
+      turn-more events start _ (c.loop-turn._turn + 1) one_more unread _ before _ _ (c.loop-turn.invariant.0 events start unread before begun) _ _ short c.in_ok-count.ensures.1 _ _ [] c.in_ok-turn.ensures,
   c.loop-turn.invariant.1,
 )
 
