@@ -1,4 +1,6 @@
 //! Where replies and the server's own calls are handed to in memory.
+ghost use Rattle.std.specs.Prelude.{◌≡◌, []};
+
 use book::{Dest, Reply};
 use history::History;
 use outboxes::{Outbox, SentReply};
@@ -14,7 +16,9 @@ pub(crate) struct MemoryOutbox {
 }
 
 impl MemoryOutbox {
-    pub(crate) fn new(alloc: Global) -> MemoryOutbox {
+    pub(crate) fn new(alloc: Global) -> MemoryOutbox
+        ensures { result.all.items ≡ [] }
+    {
         MemoryOutbox {
             kept: Vec::new(alloc),
             all: History::new(),
@@ -60,7 +64,9 @@ pub(crate) struct MemoryCourier {
 }
 
 impl MemoryCourier {
-    pub(crate) fn new(alloc: Global) -> MemoryCourier {
+    pub(crate) fn new(alloc: Global) -> MemoryCourier
+        ensures { result.all.items ≡ [] }
+    {
         MemoryCourier {
             kept: Vec::new(alloc),
             all: History::new(),
