@@ -6,7 +6,7 @@ ghost use Rattle.lockd_main.specs.Ends.{EndsBy};
 
 use crate::serving::{ServeFault, read_peers, serve_sockets};
 use crate::stores::hosts_of;
-use crate::streams::{Told, serve_stream};
+use crate::streams::{Output, serve_stream};
 use config::{Config, ConfigFault, FilePath, ServeConfig, StreamConfig, config};
 use hosts_db::HostStore;
 use hosts_lasting::Lasting;
@@ -103,7 +103,7 @@ fn end_server<F: Display + Drop>(
 #[derive(Drop)]
 enum Work<'a> {
     /// The stream on standard input.
-    Stream(Told, &'a StreamConfig),
+    Stream(Output, &'a StreamConfig),
     /// Sockets, with the peers that a file names.
     Sockets(&'a ServeConfig, Peers),
 }
@@ -128,7 +128,7 @@ where
 {
     let store = lasting(store);
     match work {
-        Work::Stream(told, asked) => end(host, serve_stream(host, told, asked, store)),
+        Work::Stream(output, asked) => end(host, serve_stream(host, output, asked, store)),
         Work::Sockets(asked, peers) => {
             end_server(
                 host,
@@ -203,7 +203,7 @@ fn run_asked<R: Runtime>(
             serve_file(
                 host,
                 rt,
-                Work::Stream(Told::Replies, asked),
+                Work::Stream(Output::Replies, asked),
                 asked.db.as_ref(),
             )
         }
@@ -211,7 +211,7 @@ fn run_asked<R: Runtime>(
             serve_file(
                 host,
                 rt,
-                Work::Stream(Told::Table, asked),
+                Work::Stream(Output::Table, asked),
                 asked.db.as_ref(),
             )
         }

@@ -1,7 +1,7 @@
 //! A server on sockets.
-ghost use Rattle.std.specs.Prelude.{◌≡◌, Err, IfErr};
+ghost use Rattle.std.specs.Prelude.{◌≡◌, Err, IfErr, IfOk};
 
-use callbacks::ShortBytes;
+use crate::streams::own_name;
 use config::ServeConfig;
 use hosts_db::HostStore;
 use jobs::Job;
@@ -63,7 +63,12 @@ pub(crate) fn read_peers(host: &HostRuntime, path: &str) -> Result<Peers, ServeF
     }
 }
 
-fn settings_of(asked: &ServeConfig) -> Settings {
+fn settings_of(asked: &ServeConfig) -> Settings
+    ensures own { result.local_port ≡ asked.now.ports.local }
+    ensures peers { (result.calls.nlm_port ≡ asked.now.ports.peer_nlm) × (result.calls.nsm_port ≡ asked.now.ports.peer_nsm) }
+    ensures watchers { result.calls.watch_port ≡ asked.now.ports.watch }
+    ensures workers { (result.workers ≡ asked.now.workers) × (result.is_audited ≡ asked.now.audit) }
+{
     Settings {
         rpc: SocketAddr::new(asked.bind, asked.ports.rpc.get()),
         local_port: asked.ports.local.get(),
@@ -85,8 +90,10 @@ fn backing_of<S: HostStore + Drop>(
     asked: &ServeConfig,
     peers: Peers,
     store: S,
-) -> Result<Backing<S>, ServeFault> {
-    match ShortBytes::copy_of(alloc, asked.name.as_str().as_bytes()) {
+) -> Result<Backing<S>, ServeFault>
+    ensures { IfOk result (λ backing. (backing.own_name ≡ asked.now.name) × (backing.store ≡ store)) }
+{
+    match own_name(alloc, &asked.name) {
         Ok(own_name) => Ok(Backing {
             store,
             peers,

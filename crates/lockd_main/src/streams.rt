@@ -1,5 +1,5 @@
 //! The stream on standard input is served.
-ghost use Rattle.std.specs.Prelude.{◌≡◌, Err, IfErr};
+ghost use Rattle.std.specs.Prelude.{◌≡◌, Err, IfErr, IfOk};
 
 use callbacks::ShortBytes;
 use config::{Name, StreamConfig};
@@ -10,18 +10,21 @@ use std::alloc::Global;
 use std::io::{self, BufWriter};
 
 /// The most reads of a reader loop.
-const MAX_READS: u64 = 1_000_000_000;
+const MOST_READS: u64 = 1_000_000_000;
 
 /// What is written of the stream.
 #[derive(Clone, Copy)]
-pub(crate) enum Told {
+pub(crate) enum Output {
     /// What each record is answered, and the calls of the server's own.
     Replies,
     /// The table of locks at its end.
     Table,
 }
 
-fn own_name(alloc: Global, name: &Name) -> Result<ShortBytes, Fault> {
+/// A copy of the server's own name.
+pub(crate) fn own_name(alloc: Global, name: &Name) -> Result<ShortBytes, Fault>
+    ensures { IfOk result (λ copy. copy ≡ name.now) }
+{
     match ShortBytes::copy_of(alloc, name.as_str().as_bytes()) {
         Ok(copy) => Ok(copy),
         Err(_) => Err(Fault::Starved),
@@ -31,7 +34,7 @@ fn own_name(alloc: Global, name: &Name) -> Result<ShortBytes, Fault> {
 /// Serves the stream on standard input over the store, where it could be had.
 pub(crate) fn serve_stream<S: HostStore + Drop>(
     rt: &HostRuntime,
-    told: Told,
+    output: Output,
     asked: &StreamConfig,
     store: Result<S, Fault>,
 ) -> Result<(), Fault>
@@ -51,8 +54,8 @@ pub(crate) fn serve_stream<S: HostStore + Drop>(
     let Ok(mut writer) = BufWriter::new(alloc, io::writer(rt)) else {
         return Err(Fault::Starved);
     };
-    match told {
-        Told::Replies => pipe_loop(alloc, server, &mut reader, &mut writer, MAX_READS),
-        Told::Table => table_loop(alloc, server, &mut reader, &mut writer, MAX_READS),
+    match output {
+        Output::Replies => pipe_loop(alloc, server, &mut reader, &mut writer, MOST_READS),
+        Output::Table => table_loop(alloc, server, &mut reader, &mut writer, MOST_READS),
     }
 }
