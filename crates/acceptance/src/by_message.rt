@@ -42,6 +42,27 @@ const ROWS: &[Row] = &[
             "8 test b 0 0 = held a 0 10",
         ],
     ),
+    // How many owners have a number after each.
+    (
+        "known_by_message",
+        &[
+            "begins",
+            "220 test-msg a 0 10 = done",
+            "221 cancel-msg a 0 10 = done",
+            "222 unlock-msg a 0 10 = done",
+            "known 0",
+            "223 lock-msg a 0 10 = done",
+            "known 1",
+            "224 lock-msg b 0 10 = done",
+            "known 1",
+            "225 block-msg b 0 10 = done",
+            "known 2",
+            "226 cancel-msg b 0 10 = done",
+            "known 1",
+            "227 unlock-msg a 0 10 = done",
+            "known 0",
+        ],
+    ),
 ];
 
 #[test]

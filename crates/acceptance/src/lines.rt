@@ -1,6 +1,7 @@
 //! Lines of local programs, beside the calls of clients: all share one table.
-use daemon_scripts::{Misplayed, PIECE, Row, Way, play_by, play_rows};
+use daemon_scripts::{Misplayed, PIECE, Row, Way, play, play_by, play_rows, play_with_all_hosts};
 use std::alloc::{AllocError, Global};
+use std::fmt::Write;
 
 /// A LOCK of ten bytes by an owner whose host's name and own bytes are as long as can be: 1,024.
 const LONG_LOCK: &str =
@@ -23,7 +24,8 @@ fn play_long_owner(alloc: Global) -> Result<(), Misplayed> {
     let played = match put_long_holder(&mut line) {
         Ok(()) => {
             let granted = "out 80000024 35 1 0 0 0 0 4 35 0";
-            let lines = ["begins", LONG_LOCK, granted, line.as_str()];
+            let held = line.as_str();
+            let lines = ["begins", LONG_LOCK, granted, held, "restart", "stored yes"];
             play_by(alloc, 128 * PIECE, &lines)
         }
         Err(AllocError) => Err(Misplayed::NoServer),
@@ -36,6 +38,52 @@ fn play_long_owner(alloc: Global) -> Result<(), Misplayed> {
 #[test]
 fn longest_line(rt: HostRuntime) -> Result<(), Misplayed> {
     play_long_owner(rt.alloc())
+}
+
+// `table` names each second of 200 bytes, which one owner holds.
+fn put_locks(line: &mut String) -> Option<()> {
+    line.push_str("local |table| ").ok()?;
+    for byte in 0..100 {
+        let at = 2 * byte;
+        write!(line, "00000007 w {at} {at} h61/7/41;").ok()?;
+    }
+    line.push_str("end").ok()
+}
+
+// `hosts` names as many hosts as a store has.
+fn put_hosts(line: &mut String) -> Option<()> {
+    line.push_str("local |hosts| ").ok()?;
+    for number in 0..4_096 {
+        write!(line, "{number:08x} 1 0 65536;").ok()?;
+    }
+    line.push_str("end").ok()
+}
+
+fn play_locks(alloc: Global) -> Result<(), Misplayed> {
+    let mut line = String::new(alloc);
+    let played = match put_locks(&mut line) {
+        Some(()) => play(alloc, &["begins", "locks 7 0 100", line.as_str()]),
+        None => Err(Misplayed::NoServer),
+    };
+    drop(line);
+    played
+}
+
+fn play_hosts(alloc: Global) -> Result<(), Misplayed> {
+    let mut line = String::new(alloc);
+    let played = match put_hosts(&mut line) {
+        Some(()) => play_with_all_hosts(alloc, &["begins", line.as_str()]),
+        None => Err(Misplayed::NoServer),
+    };
+    drop(line);
+    played
+}
+
+// Answers of many lines.
+#[test]
+fn longest_lists(rt: HostRuntime) -> Result<(), Misplayed> {
+    play_locks(rt.alloc())?;
+    play_hosts(rt.alloc())
 }
 
 /// Lines alone, and beside calls.
@@ -151,6 +199,18 @@ const ROWS: &[Row] = &[
             "local |close d1 bb| ok",
             "known 1",
             "local |close d1 aa| ok",
+            "known 0",
+            "local |setlkw p1 aa w 0 1| ok",
+            "known 1",
+            "local |setlkw p2 aa w 0 1| wait",
+            "known 2",
+            "local |table| aa w 0 0 p1;end",
+            "local |hosts| end",
+            "local |quota 61 1| absent",
+            "known 2",
+            "local |close p2 aa| ok",
+            "known 1",
+            "local |close p1 aa| ok",
             "known 0",
         ],
     ),

@@ -32,6 +32,23 @@ const ROWS: &[Row] = &[
             "rows a 1 5 b 1 3",
         ],
     ),
+    // How many owners have a number after a host, and then the server, has begun anew.
+    (
+        "known_by_restarts",
+        &[
+            "begins",
+            "240 lock a 0 10 = granted",
+            "241 block b 0 10 = blocked",
+            "242 lock d 20 1 = granted",
+            "known 3",
+            "243 notify b 5 = done",
+            "known 2",
+            "244 notify a 5 = done",
+            "known 1",
+            "245 crash = done",
+            "known 0",
+        ],
+    ),
     // Only a local peer may have a host watched and the server begin anew, which keeps the connections.
     (
         "monitor_and_simulated_crash",

@@ -30,7 +30,7 @@ pub use plays::{
 pub use script::{happens, streams};
 pub use servers::{
     Misplayed, PIECE, Row, Streams, Way, all_hosts, memory, opened, play, play_by, play_rows,
-    play_streams, play_with_hosts, played,
+    play_streams, play_with_all_hosts, play_with_hosts, played,
 };
 pub use showing::{are_same, does_show, model, shown, shown_after};
 pub use sink::Sink;

@@ -18,6 +18,8 @@ const LOCK_CALLS: &[&str] = &[
     "lock-long: 800000ac xid 0 2 186b5 4 2 0 0 0 0 4 xid 0 1 1 name 41 05*68 1 handle svid 0 0 0 1 0 3",
     "cancel: 80000064 xid 0 2 186b5 4 3 0 0 0 0 4 xid 1 1 1 name 4 1020304 1 handle svid ##0 ##1",
     "unlock: 8000005c xid 0 2 186b5 4 4 0 0 0 0 4 xid 1 name 4 1020304 1 handle svid ##0 ##1",
+    "cancel-msg: 80000064 xid 0 2 186b5 4 8 0 0 0 0 4 xid 1 1 1 name 4 1020304 1 handle svid ##0 ##1",
+    "unlock-msg: 8000005c xid 0 2 186b5 4 9 0 0 0 0 4 xid 1 name 4 1020304 1 handle svid ##0 ##1",
     "test-msg: 80000060 xid 0 2 186b5 4 6 0 0 0 0 4 xid 1 1 name 4 1020304 1 handle svid ##0 ##1",
     "lock-msg: 8000006c xid 0 2 186b5 4 7 0 0 0 0 4 xid 0 1 1 name 4 1020304 1 handle svid ##0 ##1 0 3",
     "block-msg: 8000006c xid 0 2 186b5 4 7 0 0 0 0 4 xid 1 1 1 name 4 1020304 1 handle svid ##0 ##1 0 3",

@@ -182,8 +182,8 @@ fn put_hosts(alloc: Global, hosts: &mut Vec<HostRow>, names: &[u8]) -> Option<()
     Some(())
 }
 
-// Of a server that knows as many hosts as a store has.
-fn play_with_all_hosts(alloc: Global, lines: &[&str]) -> Result<(), Misplayed> {
+/// Of a server that knows as many hosts as a store has.
+pub fn play_with_all_hosts(alloc: Global, lines: &[&str]) -> Result<(), Misplayed> {
     play_in_memory(alloc, 0, all_hosts(alloc), PIECE, lines)
 }
 

@@ -8,9 +8,9 @@ use std::test::*;
 
 /// A reply is known by its number alone.
 #[derive(Drop)]
-struct Noted(u32);
+struct Numbered(u32);
 
-impl Kept for Noted {
+impl Kept for Numbered {
     ghost use Rattle.std.specs.Prelude.{[]};
     ghost use Rattle.definitions.specs.Replies.{SystemErr};
 
@@ -42,9 +42,9 @@ fn key(alloc: Global, peer: Peer, call: u32) -> Result<Key, AllocError> {
 }
 
 /// Whether what is kept of the call is its own reply, or whether nothing is kept.
-fn is_kept(found: Option<&Noted>, call: Option<u32>) -> bool {
+fn is_kept(found: Option<&Numbered>, call: Option<u32>) -> bool {
     match (found, call) {
-        (Some(Noted(number)), Some(call)) => *number == call,
+        (Some(Numbered(number)), Some(call)) => *number == call,
         (None, None) => true,
         _ => false,
     }
@@ -53,7 +53,7 @@ fn is_kept(found: Option<&Noted>, call: Option<u32>) -> bool {
 /// Whether a look tells this of a peer's call.
 fn looks(
     alloc: Global,
-    kept: &KeptReplies<Noted>,
+    kept: &KeptReplies<Numbered>,
     peer: Peer,
     call: u32,
     reply: Option<u32>,
@@ -67,7 +67,7 @@ fn looks(
 /// Whether the call's use tells this of it.
 fn finds(
     alloc: Global,
-    kept: &mut KeptReplies<Noted>,
+    kept: &mut KeptReplies<Numbered>,
     peer: Peer,
     call: u32,
     reply: Option<u32>,
@@ -81,7 +81,7 @@ fn finds(
 /// Whether a look and then the call's use tell this of it.
 fn tells(
     alloc: Global,
-    kept: &mut KeptReplies<Noted>,
+    kept: &mut KeptReplies<Numbered>,
     peer: Peer,
     call: u32,
     reply: Option<u32>,
@@ -92,21 +92,21 @@ fn tells(
 /// Keeps the reply of a call. Whether nothing was kept under its key before. None where there is no memory.
 fn keep(
     alloc: Global,
-    kept: &mut KeptReplies<Noted>,
+    kept: &mut KeptReplies<Numbered>,
     peer: Peer,
     call: u32,
     reply: u32,
 ) -> Option<bool> {
     let key = key(alloc, peer, call).ok()?;
     let is_new = kept.look(&key).is_none();
-    match kept.keep(key, Noted(reply)) {
+    match kept.keep(key, Numbered(reply)) {
         Ok(()) => Some(is_new),
         Err(_) => None,
     }
 }
 
 /// Keeps the call's number as its reply, where nothing was kept of it.
-fn keeps(alloc: Global, kept: &mut KeptReplies<Noted>, call: u32) -> bool {
+fn keeps(alloc: Global, kept: &mut KeptReplies<Numbered>, call: u32) -> bool {
     keep(alloc, kept, PEER, call, call) == Some(true)
 }
 
@@ -118,7 +118,7 @@ const ASKED: &[(Peer, u32, Option<u32>)] = &[
     (PEER, 21, None),
 ];
 
-fn tells_each(alloc: Global, kept: &mut KeptReplies<Noted>) -> bool {
+fn tells_each(alloc: Global, kept: &mut KeptReplies<Numbered>) -> bool {
     for (peer, call, reply) in ASKED {
         if !tells(alloc, kept, *peer, *call, *reply) {
             return false;
@@ -127,7 +127,7 @@ fn tells_each(alloc: Global, kept: &mut KeptReplies<Noted>) -> bool {
     true
 }
 
-fn are_apart(alloc: Global, kept: &mut KeptReplies<Noted>) -> Result<(), Wrong> {
+fn are_apart(alloc: Global, kept: &mut KeptReplies<Numbered>) -> Result<(), Wrong> {
     let are_new = keeps(alloc, kept, 20) && keep(alloc, kept, Peer::PIPE, 20, 21) == Some(true);
     let are_told = tells_each(alloc, kept);
     kept.clear();
@@ -139,7 +139,7 @@ fn are_apart(alloc: Global, kept: &mut KeptReplies<Noted>) -> Result<(), Wrong> 
     ])
 }
 
-fn keeps_each(alloc: Global, kept: &mut KeptReplies<Noted>, first: u32, past: u32) -> bool {
+fn keeps_each(alloc: Global, kept: &mut KeptReplies<Numbered>, first: u32, past: u32) -> bool {
     for call in first..past {
         if !keeps(alloc, kept, call) {
             return false;
@@ -149,18 +149,18 @@ fn keeps_each(alloc: Global, kept: &mut KeptReplies<Noted>, first: u32, past: u3
 }
 
 /// The first call is used again, the second is looked at alone.
-fn uses_first(alloc: Global, kept: &mut KeptReplies<Noted>) -> bool {
+fn uses_first(alloc: Global, kept: &mut KeptReplies<Numbered>) -> bool {
     looks(alloc, kept, PEER, 1, Some(1)) && finds(alloc, kept, PEER, 0, Some(0))
 }
 
 /// Of the first three calls that one alone is kept which was used again.
-fn leaves_used(alloc: Global, kept: &KeptReplies<Noted>) -> bool {
+fn leaves_used(alloc: Global, kept: &KeptReplies<Numbered>) -> bool {
     looks(alloc, kept, PEER, 0, Some(0))
         && looks(alloc, kept, PEER, 1, None)
         && looks(alloc, kept, PEER, 2, None)
 }
 
-fn are_limited(alloc: Global, kept: &mut KeptReplies<Noted>) -> Result<(), Wrong> {
+fn are_limited(alloc: Global, kept: &mut KeptReplies<Numbered>) -> Result<(), Wrong> {
     let is_filled = keeps_each(alloc, kept, 0, MOST_KEPT as u32);
     let is_used = uses_first(alloc, kept);
     let is_full = keeps_each(alloc, kept, 2_000, 2_002);
@@ -173,7 +173,7 @@ fn are_limited(alloc: Global, kept: &mut KeptReplies<Noted>) -> Result<(), Wrong
 }
 
 /// A reply whose key is there takes the place of the old one.
-fn takes_place(alloc: Global, kept: &mut KeptReplies<Noted>) -> Result<(), Wrong> {
+fn takes_place(alloc: Global, kept: &mut KeptReplies<Numbered>) -> Result<(), Wrong> {
     let are_new = keeps(alloc, kept, 1) && keeps(alloc, kept, 2);
     let is_old = keep(alloc, kept, PEER, 1, 7) == Some(false);
     let is_anew = looks(alloc, kept, PEER, 1, Some(7));
@@ -200,7 +200,7 @@ fn keep_plain(plain: &mut Vec<u32>, call: u32) -> bool {
 }
 
 /// One call. Whether both tell the same of it.
-fn uses(alloc: Global, kept: &mut KeptReplies<Noted>, plain: &mut Vec<u32>, call: u32) -> bool {
+fn uses(alloc: Global, kept: &mut KeptReplies<Numbered>, plain: &mut Vec<u32>, call: u32) -> bool {
     if use_plain(plain, call) {
         tells(alloc, kept, PEER, call, Some(call))
     } else {
@@ -209,7 +209,11 @@ fn uses(alloc: Global, kept: &mut KeptReplies<Noted>, plain: &mut Vec<u32>, call
 }
 
 /// The first random call of which they don't tell the same, or behind which they don't have as many.
-fn wrong_turn(alloc: Global, kept: &mut KeptReplies<Noted>, plain: &mut Vec<u32>) -> Option<usize> {
+fn wrong_turn(
+    alloc: Global,
+    kept: &mut KeptReplies<Numbered>,
+    plain: &mut Vec<u32>,
+) -> Option<usize> {
     let mut random: u32 = 1;
     for place in 0..6_000usize {
         let call = next_word(&mut random) >> 16 & 2_047;
@@ -220,7 +224,7 @@ fn wrong_turn(alloc: Global, kept: &mut KeptReplies<Noted>, plain: &mut Vec<u32>
     None
 }
 
-fn are_alike(alloc: Global, kept: &mut KeptReplies<Noted>) -> Result<(), Wrong> {
+fn are_alike(alloc: Global, kept: &mut KeptReplies<Numbered>) -> Result<(), Wrong> {
     let mut plain = Vec::new(alloc);
     nowhere("a random script", wrong_turn(alloc, kept, &mut plain))
 }
@@ -234,7 +238,7 @@ enum Trial {
     RandomScript,
 }
 
-fn outcome(alloc: Global, kept: &mut KeptReplies<Noted>, trial: Trial) -> Result<(), Wrong> {
+fn outcome(alloc: Global, kept: &mut KeptReplies<Numbered>, trial: Trial) -> Result<(), Wrong> {
     match trial {
         Trial::Apart => are_apart(alloc, kept),
         Trial::Limit => are_limited(alloc, kept),
