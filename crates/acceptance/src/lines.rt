@@ -43,8 +43,8 @@ fn longest_line(rt: HostRuntime) -> Result<(), Misplayed> {
 // `table` names each second of 200 bytes, which one owner holds.
 fn put_locks(line: &mut String) -> Option<()> {
     line.push_str("local |table| ").ok()?;
-    for byte in 0..100 {
-        let at = 2 * byte;
+    for byte in 0..100u32 {
+        let at = byte.wrapping_mul(2);
         write!(line, "00000007 w {at} {at} h61/7/41;").ok()?;
     }
     line.push_str("end").ok()
