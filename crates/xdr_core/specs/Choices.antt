@@ -1,9 +1,10 @@
 -- Formats of a value that is one of several cases, where a number from elsewhere says which.
-use Rattle.std.proofs.Common.{◌≡◌, ℕ, Bool, true, false, List, [], ◌++◌, Ok, Err, refl, sym, subst, inl, inr}
+use Rattle.std.proofs.Common.{◌≡◌, ℕ, Bool, true, false, List, [], ◌++◌, Ok, Err, refl, sym, subst}
 use Rattle.xdr_core.specs.declared.error.XdrError.{XdrError}
 use Rattle.xdr_core.specs.declared.error.XdrError.TheVariants.{Starved, BadEnum}
-use Rattle.xdr_core.specs.Codec.{AreBytes, Reading, ◌>>=◌, Front, Codec}
-use Rattle.xdr_core.specs.Laws.{bind_ok, bind_err, bind_fed, ok_is, ok_err, ok_fed}
+use Rattle.xdr_core.specs.Codec.{Reading, Front, Codec}
+use Rattle.xdr_core.specs.Spelling.{SpellsMapped, mapped_at}
+use Rattle.xdr_core.specs.Laws.{ok_is, ok_err, ok_fed, mapped-found, mapped-refused, mapped-only, mapped-canonical, mapped-fed}
 
 -- one of two formats
 abbrev pub choose : {V : Type 0} → Bool → Codec V → Codec V → Codec V
@@ -79,56 +80,16 @@ alone x = record {
 
 -- ---- one case of a larger type
 
-module _ {A B : Type 0} (to : A → B) (written : B → List ℕ) (c : Codec A) where
-  -- the bytes spell a value of c, and this is its case
-  pub record SpellsCase (text : List ℕ) (b : B) : Type 0 where
-    pub inner : A
-    pub spelled : c.Spells text inner
-    pub is : b ≡ to inner
-
-  abbrev pub case_of : A × List ℕ → Reading B
-  case_of x = Ok (to x.0, x.1)
-
-  abbrev pub case_at : List ℕ → Reading B
-  case_at bytes = c.read bytes >>= case_of
-
-  pub case-found : (bytes : List ℕ) (b : B) (rest : List ℕ) → AreBytes bytes → case_at bytes ≡ Ok (b, rest) → Front SpellsCase bytes b rest
-  case-found bytes b rest fits e =
-      let p = bind_ok (c.read bytes) case_of (b, rest) e in
-      let front = c.found bytes p.0.0 p.0.1 fits p.1 in
-      let made : Front SpellsCase bytes (to p.0.0) p.0.1 = record { text = front.text; parts = front.parts; spelled = record { inner = p.0.0; spelled = front.spelled; is = refl } } in
-      subst (λ (y : B × List ℕ). Front SpellsCase bytes y.0 y.1) (ok_is (to p.0.0, p.0.1) (b, rest) p.2) made
-
-  pub case-refused : (bytes : List ℕ) (e : XdrError) → AreBytes bytes → case_at bytes ≡ Err e → c.Refuses bytes e
-  case-refused bytes e fits h =
-      elim (bind_err (c.read bytes) case_of e h) [
-        | inl first ↦ c.refused bytes e fits first
-        | inr second ↦ absurd (ok_err (to second.0.0, second.0.1) e second.2)
-      ]
-
-  pub case-only : (text : List ℕ) (b : B) (rest : List ℕ) → SpellsCase text b → case_at (text ++ rest) ≡ Ok (b, rest)
-  case-only text b rest s = rw (c.only text s.inner rest s.spelled, s.is) refl
-
-  pub case-canonical : ((a : A) → written (to a) ≡ c.written a) → (text : List ℕ) (b : B) → SpellsCase text b → SpellsCase (written b) b
-  case-canonical same text b s = record {
-    inner = s.inner;
-    spelled = rw (s.is, same s.inner) (c.canonical text s.inner s.spelled);
-    is = s.is;
-  }
-
-  pub case-fed : (bytes : List ℕ) → case_at bytes ≡ Err Starved → ⊥
-  case-fed bytes e = bind_fed (c.read bytes) case_of (c.fed bytes) (λ x. ok_fed (to x.0, x.1)) e
-
 -- the values of c as one case of a larger type, of which `written` says what is written of each case
 unfoldable pub case : {A B : Type 0} (to : A → B) (written : B → List ℕ) (c : Codec A) → ((a : A) → written (to a) ≡ c.written a) → Codec B
 case to written c same = record {
-  Spells = SpellsCase to written c;
+  Spells = SpellsMapped c to;
   written = written;
   Refuses = c.Refuses;
-  read = case_at to written c;
-  found = case-found to written c;
-  only = case-only to written c;
-  refused = case-refused to written c;
-  canonical = case-canonical to written c same;
-  fed = case-fed to written c;
+  read = mapped_at c to;
+  found = mapped-found c to;
+  only = mapped-only c to;
+  refused = mapped-refused c to;
+  canonical = mapped-canonical c to written (λ _ a _. same a);
+  fed = mapped-fed c to;
 }
