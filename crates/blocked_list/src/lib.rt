@@ -14,7 +14,7 @@ mod waiter;
 
 pub use callbacks::MOST_SLOTS;
 pub use owner_ids::Starved;
-pub use quotas::{FULL_QUOTA, Limit, Quotas, limit_of};
+pub use quotas::{Limit, Quotas, limit_of};
 pub use settling::{Grantor, settle};
 pub use slots::{NoSlots, NotWaiting, Slots};
 pub use waiter::Waiter;

@@ -3,10 +3,8 @@ ghost use Rattle.std.specs.Prelude.{◌≡◌};
 ghost use Rattle.owner_ids.specs.Views.{view_of_owner};
 ghost use Rattle.blocked_list.specs.Quotas.{IsLimit};
 
+use definitions::quotas::FULL_QUOTA;
 use owner_ids::Owner;
-
-/// As many runs as the whole table may have: a quota that holds nobody back.
-pub const FULL_QUOTA: u32 = 65_536;
 
 /// How many runs the owners of each host may have, on all files together.
 pub trait Quotas {

@@ -2,3 +2,4 @@
 #![tactic(auto)]
 
 pub mod own_state;
+pub mod quotas;

@@ -5,9 +5,10 @@ ghost use Rattle.definitions.specs.Bytes.{is_any, put};
 ghost use Rattle.definitions.specs.Hosts.{row_cmp, watch_cmp, row_of, has_row, next_own, after_store, is_past_limit, is_watch, Begin, Monitor, Seen, Acked, Watched, Unwatched, AreInOrder, Quota};
 ghost use Rattle.hosts_db.specs.Notes.{view_of_note};
 
-use crate::rows::{FULL_QUOTA, HostRow, MOST_NAME_BYTES, MyId, Note, Watch};
+use crate::rows::{HostRow, MOST_NAME_BYTES, MyId, Note, Watch};
 use crate::search::{MOST_HOSTS, MOST_WATCHES, place_of_host, place_of_watch, put_in};
 use definitions::own_state::next_own_state;
+use definitions::quotas::FULL_QUOTA;
 use std::alloc::{AllocError, Global};
 use std::marker::Model;
 

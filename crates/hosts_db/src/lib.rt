@@ -9,10 +9,11 @@ mod rows;
 mod search;
 mod store;
 
+pub use definitions::quotas::FULL_QUOTA;
 pub use error::StoreError;
 pub use host_rows::HostRows;
 pub use memory::MemHosts;
 pub use refusals::Refusals;
-pub use rows::{FULL_QUOTA, HostRow, MOST_NAME_BYTES, MyId, Note, Watch};
+pub use rows::{HostRow, MOST_NAME_BYTES, MyId, Note, Watch};
 pub use search::{MOST_HOSTS, MOST_WATCHES};
 pub use store::HostStore;

@@ -13,9 +13,6 @@ use std::marker::Model;
 /// How many bytes a name may have (XNFS, SM_MAXSTRLEN).
 pub const MOST_NAME_BYTES: usize = 1024;
 
-/// The quota of a new row: as many runs as there may be in all, so that it refuses nothing.
-pub const FULL_QUOTA: u32 = 65_536;
-
 /// A host that is told of a restart.
 #[derive(Drop)]
 pub struct HostRow {

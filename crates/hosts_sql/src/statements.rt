@@ -12,10 +12,16 @@ ghost use Rattle.hosts_sql.specs.Wrote.{HasTables, IsFresh, MayWriteHosts, Wrote
 ghost use Rattle.hosts_sql.specs.declared.tables.Version.TheVariants.{Second};
 
 use crate::making::{HOSTS, Make};
-use hosts_db::MyId;
+use hosts_db::{FULL_QUOTA, MyId};
 use hosts_transactions::{One, Then, run_one, run_two, transact};
 use sqlite::types::ValueRef;
 use sqlite::{Alter, Connection, Error, params};
+
+// Adds the row of a host.
+const INSERT_HOST: &str = "INSERT INTO hosts2 (name, epoch, seen, quota) VALUES (?1, ?2, ?3, ?4)";
+
+// Takes out the row of a host.
+const DELETE_HOST: &str = "DELETE FROM hosts2 WHERE name = ?1";
 
 /// Adds the row of a new host.
 pub(crate) fn insert_host<S: Alter>(
@@ -31,11 +37,7 @@ pub(crate) fn insert_host<S: Alter>(
     ensures err { HasCleanDisk (state S.Store conn.new) → OnErr result (KeepsCommit (state S.Store conn.old) (state S.Store conn.new)) }
     ensures crash { Survives (state S.Store conn.old) (state S.Store conn.new) (MayWriteHosts (λ h. after_store h (Monitor name.now seen)) (state S.Store conn.old)) }
 {
-    run_one(
-        conn,
-        "INSERT INTO hosts2 (name, epoch, seen, quota) VALUES (?1, ?2, ?3, ?4)",
-        params![name, epoch, seen, 65_536u32],
-    )
+    run_one(conn, INSERT_HOST, params![name, epoch, seen, FULL_QUOTA])
 }
 
 /// Puts a host's row in the place of the row of its name, or adds it.
@@ -53,9 +55,9 @@ pub(crate) fn replace_host<S: Alter>(
 {
     run_two(
         conn,
-        "DELETE FROM hosts2 WHERE name = ?1",
+        DELETE_HOST,
         params![name],
-        "INSERT INTO hosts2 (name, epoch, seen, quota) VALUES (?1, ?2, ?3, ?4)",
+        INSERT_HOST,
         params![name, epoch, seen, quota],
     )
 }
@@ -67,7 +69,7 @@ pub(crate) fn delete_host<S: Alter>(conn: &mut Connection<S>, name: &[u8]) -> Re
     ensures err { HasCleanDisk (state S.Store conn.new) → OnErr result (KeepsCommit (state S.Store conn.old) (state S.Store conn.new)) }
     ensures crash { Survives (state S.Store conn.old) (state S.Store conn.new) (MayWriteHosts (λ h. record h { rows = without (is_named name.now) h.rows }) (state S.Store conn.old)) }
 {
-    run_one(conn, "DELETE FROM hosts2 WHERE name = ?1", params![name])
+    run_one(conn, DELETE_HOST, params![name])
 }
 
 // Takes out the watch of a key.
@@ -147,10 +149,7 @@ pub(crate) fn put_host_and_watch<S: Alter>(
 {
     let key = watch_key(mon, my_id);
     let row = watch_row(mon, my_id, private);
-    let host = One(
-        "INSERT INTO hosts2 (name, epoch, seen, quota) VALUES (?1, ?2, ?3, ?4)",
-        params![mon, epoch, 0i32, 65_536u32],
-    );
+    let host = One(INSERT_HOST, params![mon, epoch, 0i32, FULL_QUOTA]);
     let none = One(DELETE_WATCH, &key);
     let watch = One(INSERT_WATCH, &row);
     transact(conn, &Then(Then(host, none), watch))
