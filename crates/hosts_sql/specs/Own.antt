@@ -35,9 +35,18 @@ is_below limit (Real x) = false
 is_below limit (Text t) = false
 is_below limit (Blob b) = false
 
--- an own state, a state of 32 bits as its type has it, and a quota
+-- a number of 32 bits with a sign
+abbrev pub is_signed : Value → Bool
+is_signed Null = false
+is_signed (Int (pos n)) = ltb n 2147483648
+is_signed (Int (negsuc n)) = ltb n 2147483648
+is_signed (Real x) = false
+is_signed (Text t) = false
+is_signed (Blob b) = false
+
+-- an own state, a host's state, and a quota
 abbrev pub has_host_numbers : Row → Bool
-has_host_numbers row = is_below 2147483648 (column row 2) && (is_int (column row 3) && is_below 65537 (column row 4))
+has_host_numbers row = is_below 2147483648 (column row 2) && (is_signed (column row 3) && is_below 65537 (column row 4))
 
 -- each row passes the test
 abbrev pub AllFit : (Row → Bool) → List Row → Type 0
