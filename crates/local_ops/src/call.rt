@@ -12,7 +12,7 @@ use owner_ids::Owner;
 use range_table::{FileId, Mode};
 
 /// The most bytes of a line, without its line feed.
-const MAX_LINE: usize = 512;
+const MOST_LINE_BYTES: usize = 512;
 
 /// What a line asks.
 #[derive(Drop)]
@@ -49,7 +49,7 @@ impl LocalCall {
 fn read_fields(line: &[u8]) -> Result<LocalCall, BadLine>
     ensures { Gives view_of_local_call result (read_line line.now) }
 {
-    if line.len() > MAX_LINE {
+    if line.len() > MOST_LINE_BYTES {
         return Err(BadLine);
     }
     let mut fields = Fields::of(line);

@@ -11,7 +11,7 @@ use std::marker::Model;
 use std::net::IpAddr;
 
 /// The most lines of the file.
-const MAX_LINES: usize = 4_096;
+const MOST_LINES: usize = 4_096;
 
 /// A host, and where it is.
 #[derive(Drop)]
@@ -75,7 +75,7 @@ impl Peers {
         let Some((name, address)) = read_line(line) else {
             return Err(PeersFault::BadLine(number));
         };
-        if self.peers.len() >= MAX_LINES || self.address(name).is_some() {
+        if self.peers.len() >= MOST_LINES || self.address(name).is_some() {
             return Err(PeersFault::BadLine(number));
         }
         let name = Vec::from_slice(alloc, name)?;

@@ -2,7 +2,7 @@
 use Rattle.std.proofs.Common.{◌≡◌, ℕ, zero, suc, ◌+◌, ◌%◌, ◌^◌, ◌≤◌, inl, inr, Bool, true, false, List, [], ◌∷◌, ◌++◌, length, flat_map, refl, sym, ◌∙◌, ap, subst, append_assoc, arith, length-append}
 use Rattle.std.specs.List.{All}
 use Rattle.record_mark.specs.Stream.{size_of, IsFragment, begun_with, ended_by, joined, begun_after, Fit, IsEnding, Splits}
-use Rattle.record_mark.specs.declared.TheConstants.{MAX_RECORD}
+use Rattle.record_mark.specs.declared.TheConstants.{MOST_RECORD_BYTES}
 use Rattle.record_mark.proofs.StreamLemmas.{word-append}
 
 abbrev bytes_in : List (List ℕ) → List ℕ
@@ -17,13 +17,13 @@ tail f fs h k d lt = h (suc k) d (omega arith)
 size-append : (f g : List ℕ) → 4 ≤ length f → size_of (f ++ g) ≡ size_of f
 size-append f g h = ap (λ (n : ℕ). n % 2 ^ 31) (word-append f g h)
 
-no_ending : (ending : Bool) (begun rest : List ℕ) → IsEnding ending begun rest → 4 + size_of rest ≤ length rest → length begun + size_of rest ≤ MAX_RECORD → ⊥
+no_ending : (ending : Bool) (begun rest : List ℕ) → IsEnding ending begun rest → 4 + size_of rest ≤ length rest → length begun + size_of rest ≤ MOST_RECORD_BYTES → ⊥
 no_ending false begun rest (inl short) long fits = omega arith
 no_ending false begun rest (inr part) long fits = omega arith
 no_ending true begun rest h long fits = omega arith
 
 -- an ending doesn't begin with a whole fragment that fits
-no_fragment : (ending : Bool) (begun f more rest : List ℕ) → IsFragment f → length begun + size_of f ≤ MAX_RECORD → f ++ more ≡ rest → IsEnding ending begun rest → ⊥
+no_fragment : (ending : Bool) (begun f more rest : List ℕ) → IsFragment f → length begun + size_of f ≤ MOST_RECORD_BYTES → f ++ more ≡ rest → IsEnding ending begun rest → ⊥
 no_fragment ending begun f more rest is fits e h =
     let four : 4 ≤ length f = omega arith in
     let size : size_of rest ≡ size_of f = ap size_of (sym e) ∙ size-append f more four in

@@ -3,12 +3,12 @@ use Rattle.std.proofs.Common.{◌≡◌, ℕ, ◌+◌, ◌%◌, ◌^◌, ◌≤�
 use Rattle.std.specs.Int.{w32, from_be_bytes}
 use Rattle.std.proofs.lemmas.Bool.{le-leb}
 use Rattle.std.proofs.lemmas.Nat.{from_be_bytes-to_be_bytes_4}
-use Rattle.record_mark.specs.declared.TheConstants.{MAX_RECORD}
+use Rattle.record_mark.specs.declared.TheConstants.{MOST_RECORD_BYTES}
 use Rattle.record_mark.specs.Stream.{is_last, size_of, IsFragment, Reads}
 use Rattle.record_mark.specs.Sent.{mark_of_last, marked, IsOneRecordWhenSent}
 use Rattle.record_mark.proofs.StreamLemmas.{Reads-last, word-append}
 
-word_of_marked : (m : List ℕ) → length m ≤ MAX_RECORD → from_be_bytes w32 (marked m) ≡ 2 ^ 31 + length m
+word_of_marked : (m : List ℕ) → length m ≤ MOST_RECORD_BYTES → from_be_bytes w32 (marked m) ≡ 2 ^ 31 + length m
 word_of_marked m le = word-append (mark_of_last (length m)) m (omega arith) ∙ from_be_bytes-to_be_bytes_4 (2 ^ 31 + length m) (omega arith)
 
 begins : (f : List ℕ) → Reads f [] [] f

@@ -6,7 +6,7 @@ use Rattle.std.proofs.lemmas.Grind.{flat_map-append}
 use Rattle.std.proofs.lemmas.List.{append-nil, take-append-drop}
 use Rattle.std.proofs.lemmas.List.Elements.{All-append}
 use Rattle.record_mark.specs.Stream.{is_last, size_of, IsFragment, begun_with, ended_by, joined, begun_after, Fit, Reads, IsTooLong, Splits}
-use Rattle.record_mark.specs.declared.TheConstants.{MAX_RECORD}
+use Rattle.record_mark.specs.declared.TheConstants.{MOST_RECORD_BYTES}
 
 pub joined-append : (begun : List ℕ) (fs gs : List (List ℕ)) → joined begun (fs ++ gs) ≡ joined begun fs ++ joined (begun_after begun fs) gs
 joined-append begun [] gs = refl
@@ -17,7 +17,7 @@ pub begun_after-append : (begun : List ℕ) (fs gs : List (List ℕ)) → begun_
 begun_after-append begun [] gs = refl
 begun_after-append begun (f ∷ fs) gs = begun_after-append (begun_with begun f) fs gs
 
-pub Fit-append : (begun : List ℕ) (fs : List (List ℕ)) (g : List ℕ) → Fit begun fs → length (begun_after begun fs) + size_of g ≤ MAX_RECORD → Fit begun (fs ++ g ∷ [])
+pub Fit-append : (begun : List ℕ) (fs : List (List ℕ)) (g : List ℕ) → Fit begun fs → length (begun_after begun fs) + size_of g ≤ MOST_RECORD_BYTES → Fit begun (fs ++ g ∷ [])
 Fit-append begun [] g p q = (q, tt)
 Fit-append begun (f ∷ fs) g p q = (p.0, Fit-append (begun_with begun f) fs g p.1 q)
 
@@ -37,7 +37,7 @@ All-single f is zero d lt = is
 All-single f is (suc k) d lt = absurd (omega arith)
 
 -- the fragment is whole
-pub Reads-whole : (stream : List ℕ) (records : List (List ℕ)) (begun rest : List ℕ) → Reads stream records begun rest → IsFragment rest → length begun + size_of rest ≤ MAX_RECORD
+pub Reads-whole : (stream : List ℕ) (records : List (List ℕ)) (begun rest : List ℕ) → Reads stream records begun rest → IsFragment rest → length begun + size_of rest ≤ MOST_RECORD_BYTES
     → Reads stream (records ++ ended_by begun rest) (begun_with begun rest) []
 Reads-whole stream records begun rest r is fits = record {
   fragments = r.fragments ++ rest ∷ [];
@@ -49,14 +49,14 @@ Reads-whole stream records begun rest r is fits = record {
 }
 
 -- and is the last of its record
-pub Reads-last : (stream : List ℕ) (given given' : List (List ℕ)) (begun rest begun' rest' : List ℕ) → Reads stream given begun rest → IsFragment rest → length begun + size_of rest ≤ MAX_RECORD
+pub Reads-last : (stream : List ℕ) (given given' : List (List ℕ)) (begun rest begun' rest' : List ℕ) → Reads stream given begun rest → IsFragment rest → length begun + size_of rest ≤ MOST_RECORD_BYTES
     → is_last rest ≡ true → given' ≡ given ++ (begun ++ drop 4 rest) ∷ [] → begun' ≡ [] → rest' ≡ [] → Reads stream given' begun' rest'
 Reads-last stream given given' begun rest begun' rest' r is fits last e₁ e₂ e₃ =
     let whole = Reads-whole stream given begun rest r is fits in
     rw (e₁, e₂, e₃) (rw last at whole)
 
 -- or is not
-pub Reads-inner : (stream : List ℕ) (given given' : List (List ℕ)) (begun rest begun' rest' : List ℕ) → Reads stream given begun rest → IsFragment rest → length begun + size_of rest ≤ MAX_RECORD
+pub Reads-inner : (stream : List ℕ) (given given' : List (List ℕ)) (begun rest begun' rest' : List ℕ) → Reads stream given begun rest → IsFragment rest → length begun + size_of rest ≤ MOST_RECORD_BYTES
     → is_last rest ≡ false → given' ≡ given → begun' ≡ begun ++ drop 4 rest → rest' ≡ [] → Reads stream given' begun' rest'
 Reads-inner stream given given' begun rest begun' rest' r is fits inner e₁ e₂ e₃ =
     let whole = Reads-whole stream given begun rest r is fits in

@@ -1,7 +1,7 @@
 -- A message that is sent is one fragment (RFC 5531, section 11).
 use Rattle.std.specs.Prelude.{ℕ, ◌+◌, ◌^◌, ◌≤◌, List, [], ◌∷◌, ◌++◌, length, false}
 use Rattle.std.specs.Int.{w32, to_be_bytes}
-use Rattle.record_mark.specs.declared.TheConstants.{MAX_RECORD}
+use Rattle.record_mark.specs.declared.TheConstants.{MOST_RECORD_BYTES}
 use Rattle.record_mark.specs.Stream.{Splits}
 
 -- the mark of a record's last fragment: the top bit, and its length
@@ -13,4 +13,4 @@ marked message = mark_of_last (length message) ++ message
 
 -- what is sent is a stream of just that record
 abbrev pub IsOneRecordWhenSent : Type 0
-IsOneRecordWhenSent = (message : List ℕ) → length message ≤ MAX_RECORD → Splits (marked message) (message ∷ []) false
+IsOneRecordWhenSent = (message : List ℕ) → length message ≤ MOST_RECORD_BYTES → Splits (marked message) (message ∷ []) false

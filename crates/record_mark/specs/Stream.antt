@@ -3,7 +3,7 @@ use Rattle.std.specs.Prelude.{◌≡◌, ℕ, ◌+◌, ◌^◌, ◌%◌, ◌<◌
 use Rattle.std.specs.Bool.{nat_le}
 use Rattle.std.specs.Int.{w32, from_be_bytes}
 use Rattle.std.specs.List.{flat_map, All}
-use Rattle.record_mark.specs.declared.TheConstants.{MAX_RECORD}
+use Rattle.record_mark.specs.declared.TheConstants.{MOST_RECORD_BYTES}
 
 -- a fragment begins with its mark, a word in big-endian order: the top bit says that it is the record's last
 abbrev pub is_last : List ℕ → Bool
@@ -37,7 +37,7 @@ begun_after begun (f ∷ fs) = begun_after (begun_with begun f) fs
 -- no record is longer than the bound
 abbrev pub Fit : List ℕ → List (List ℕ) → Type 0
 Fit begun [] = Unit {0}
-Fit begun (f ∷ fs) = (length begun + size_of f ≤ MAX_RECORD) × Fit (begun_with begun f) fs
+Fit begun (f ∷ fs) = (length begun + size_of f ≤ MOST_RECORD_BYTES) × Fit (begun_with begun f) fs
 
 -- the stream is whole fragments that make these records, then of the next record the fragments in begun, and then the rest
 pub record Reads (stream : List ℕ) (records : List (List ℕ)) (begun rest : List ℕ) : Type 0 where
@@ -50,11 +50,11 @@ pub record Reads (stream : List ℕ) (records : List (List ℕ)) (begun rest : L
 
 -- less than a whole mark, or less than a whole fragment of a record that fits so far
 abbrev pub IsUnfinished : List ℕ → List ℕ → Type 0
-IsUnfinished begun rest = (length rest < 4) ⊎ ((length rest < 4 + size_of rest) × (length begun + size_of rest ≤ MAX_RECORD))
+IsUnfinished begun rest = (length rest < 4) ⊎ ((length rest < 4 + size_of rest) × (length begun + size_of rest ≤ MOST_RECORD_BYTES))
 
 -- a mark by which the record would be longer than the bound
 abbrev pub IsTooLong : List ℕ → List ℕ → Type 0
-IsTooLong begun rest = (4 ≤ length rest) × (MAX_RECORD < length begun + size_of rest)
+IsTooLong begun rest = (4 ≤ length rest) × (MOST_RECORD_BYTES < length begun + size_of rest)
 
 abbrev pub IsEnding : Bool → List ℕ → List ℕ → Type 0
 IsEnding false begun rest = IsUnfinished begun rest

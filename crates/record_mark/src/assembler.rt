@@ -16,7 +16,7 @@ pub enum MarkError {
     /// A growth was refused. The piece was not taken.
     #[error("1 Starved")]
     Starved,
-    /// A record would be longer than `MAX_RECORD`. These are the records that the piece ended before
+    /// A record would be longer than `MOST_RECORD_BYTES`. These are the records that the piece ended before
     /// it; from now on every piece is answered so, with none.
     #[error("10 RecordTooLong")]
     RecordTooLong(Records),

@@ -15,7 +15,7 @@ use std::marker::Model;
 pub enum Heard {
     /// They were received.
     Received {
-        /// The stream has a record that would be longer than `MAX_RECORD`. It gives no more records.
+        /// The stream has a record that would be longer than `MOST_RECORD_BYTES`. It gives no more records.
         is_too_long: bool,
     },
     /// A growth was refused. They were not received, and nothing is from now on.

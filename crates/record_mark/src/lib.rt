@@ -15,7 +15,7 @@ pub use crate::sent::last_mark;
 use bytes::Bytes;
 
 /// The most bytes that a record may have.
-pub const MAX_RECORD: usize = 8192;
+pub const MOST_RECORD_BYTES: usize = 8192;
 
 /// Whole records, the oldest first. Each is shared: a clone of it copies no byte.
 pub type Records = Vec<Bytes>;

@@ -3,7 +3,7 @@ ghost use Rattle.std.specs.Prelude.{◌≡◌, ℕ, ◌+◌, ◌<◌, ◌≤◌,
 ghost use Rattle.record_mark.specs.Stream.{is_last, size_of, Reads, IsUnfinished, IsEnding};
 ghost use Rattle.record_mark.specs.Taking.{GoesOn, Breaks};
 
-use crate::{MAX_RECORD, Records};
+use crate::{MOST_RECORD_BYTES, Records};
 use bytes::Bytes;
 use std::alloc::{AllocError, Global};
 use std::mem;
@@ -102,7 +102,9 @@ impl Progress {
             return Ok(false);
         }
         let mark = mark_of(&self.rest);
-        if self.begun.len() > MAX_RECORD || mark.size > MAX_RECORD - self.begun.len() {
+        if self.begun.len() > MOST_RECORD_BYTES
+            || mark.size > MOST_RECORD_BYTES - self.begun.len()
+        {
             return Ok(true);
         }
         if self.rest.len() < 4 + mark.size {
