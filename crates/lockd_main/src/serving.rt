@@ -1,5 +1,7 @@
 //! A server on sockets.
 ghost use Rattle.std.specs.Prelude.{◌≡◌, Err, IfErr, IfOk};
+ghost use Rattle.std.specs.Net.Socket.{socket_ip, socket_port};
+ghost use Rattle.lockd_main.specs.Times.{Lasts};
 
 use crate::streams::own_name;
 use config::ServeConfig;
@@ -64,9 +66,11 @@ pub(crate) fn read_peers(host: &HostRuntime, path: &str) -> Result<Peers, ServeF
 }
 
 fn settings_of(asked: &ServeConfig) -> Settings
+    ensures calls { (socket_ip result.rpc ≡ asked.now.bind) × (socket_port result.rpc ≡ asked.now.ports.rpc) }
     ensures own { result.local_port ≡ asked.now.ports.local }
     ensures peers { (result.calls.nlm_port ≡ asked.now.ports.peer_nlm) × (result.calls.nsm_port ≡ asked.now.ports.peer_nsm) }
     ensures watchers { result.calls.watch_port ≡ asked.now.ports.watch }
+    ensures times { Lasts asked.now.times.grace result.calls.grace × Lasts asked.now.times.silence result.calls.silence × Lasts asked.now.times.idle result.idle }
     ensures workers { (result.workers ≡ asked.now.workers) × (result.is_audited ≡ asked.now.audit) }
 {
     Settings {
