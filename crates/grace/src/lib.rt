@@ -31,7 +31,7 @@ pub enum CallKind {
     Unsharing,
     /// A local lock request.
     LocalLocking,
-    /// FREE_ALL, GRANTED_RES, every NSM call, and the local lines close, table, hosts and stop.
+    /// FREE_ALL, GRANTED_RES, every NSM call, and the local lines close, table, hosts, quota and stop.
     Always,
 }
 
