@@ -4,13 +4,11 @@ ghost use Rattle.std.specs.Prelude.{◌≡◌, Err, IfErr, IfOk};
 use callbacks::ShortBytes;
 use config::{Name, StreamConfig};
 use hosts_db::HostStore;
+use pieces::MOST_READS;
 use pipe_loops::{Fault, Server, pipe_loop, table_loop};
 use range_arena::ArenaTable;
 use std::alloc::Global;
 use std::io::{self, BufWriter};
-
-/// The most reads of a reader loop.
-const MOST_READS: u64 = 1_000_000_000;
 
 /// What is written of the stream.
 #[derive(Clone, Copy)]

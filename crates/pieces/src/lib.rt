@@ -7,6 +7,10 @@ ghost use Rattle.pieces.specs.Reads.{ReadsPiece};
 use std::alloc::{AllocError, Global};
 use std::io::{ErrorKind, Read};
 
+/// How often the program's loops read a stream at most, so that each ends by itself: a client that calls a thousand times a
+/// second does so for eleven days.
+pub const MOST_READS: u64 = 1_000_000_000;
+
 /// A read that failed.
 #[derive(Clone, Copy)]
 pub struct FailedRead {

@@ -5,7 +5,7 @@
 pub enum Ending {
     /// The stream ended. An end inside a record is no fault.
     Over,
-    /// A read failed, or none brought bytes in time, or there were a billion reads.
+    /// A read failed, or none brought bytes in time, or the stream was read as often as it may be.
     Failed,
     /// The stream has a record that would be longer than 8,192 bytes. The records before it were put.
     TooLong,

@@ -1,6 +1,7 @@
 //! What a stream is cut with.
 ghost use Rattle.std.specs.Prelude.{◌≡◌, ◌≢◌, ℕ, ◌<◌, ◌≤◌, true, false, length, [], List, Err, IfOk, IfErr};
 ghost use Rattle.std.specs.Io.KnownBytes.{Consumes};
+ghost use Rattle.pieces.specs.Reads.{TakesAtMost};
 ghost use Rattle.record_mark.specs.Assembled.{IsSplit};
 ghost use Rattle.record_intake.specs.Intakes.{heard, EndsSo, Cuts};
 
@@ -17,6 +18,7 @@ fn hear<T: Read>(stream: &mut T, place: &mut [u8]) -> Result<usize, Ending>
     ensures room { IfOk result (λ count. count ≤ length place.new) }
     ensures bytes { Consumes (T.remaining stream.old) (T.remaining stream.new) (heard result place.new) }
     ensures ends { EndsSo result (T.remaining stream.new) }
+    ensures few { TakesAtMost (length place.old) (T.remaining stream.old) (T.remaining stream.new) }
 {
     match read_piece(stream, place) {
         Ok(0) => Err(Ending::Over),
@@ -86,6 +88,7 @@ impl Intake {
         requires going { self.old.failed ≡ false }
         ensures ok { IfOk result (λ read. (piece : List ℕ) × Consumes (T.remaining stream.old) (T.remaining stream.new) piece × Cuts self.old piece read.0.items read.1 self.new) }
         ensures err { IfErr result (λ ending. Consumes (T.remaining stream.old) (T.remaining stream.new) [] × EndsSo (Err ending) (T.remaining stream.new)) }
+        ensures few { TakesAtMost (length place.old) (T.remaining stream.old) (T.remaining stream.new) }
     {
         let count = hear(stream, place)?;
         if count == 0 {

@@ -14,5 +14,5 @@ mod signals;
 pub use courier::{Courier, SentCall};
 pub use due::{Due, MOST_CALLS, send_due};
 pub use ending::Ending;
-pub use lines::{Served, serve_lines};
+pub use lines::{MOST_READ_BYTES, Served, serve_lines};
 pub use signals::Signals;

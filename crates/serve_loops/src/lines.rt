@@ -1,6 +1,7 @@
 //! The lines of a local program are answered.
-ghost use Rattle.std.specs.Prelude.{◌≡◌, ◌∷◌, [], eqb};
+ghost use Rattle.std.specs.Prelude.{◌≡◌, ◌*◌, ◌∷◌, [], eqb};
 ghost use Rattle.book.specs.Given.{view_of_reply};
+ghost use Rattle.pieces.specs.Reads.{TakesAtMost};
 ghost use Rattle.written.specs.Written.{Wrote};
 ghost use Rattle.serve_loops.specs.Lines.{AnswersLine, Ends, Finishes, Hears, Takes, Turns, text_of, trace};
 
@@ -20,7 +21,7 @@ use workers::{Shared, Transcript};
 use written::WriteFault;
 
 /// The most bytes that are read at once.
-const PIECE: usize = 4_096;
+pub const MOST_READ_BYTES: usize = 4_096;
 
 /// What the lines of a local program came to.
 #[derive(Drop)]
@@ -176,11 +177,12 @@ fn turn<A: Answers, I: Read, O: Write>(
     input: &mut I,
     output: &mut O,
 ) -> Option<Ending>
-    ensures { Turns result connection part.old part.new (I.remaining input.old) (I.remaining input.new) (trace (O.contents output.old) (A.told clerk.old)) (trace (O.contents output.new) (A.told clerk.new)) }
+    ensures turns { Turns result connection part.old part.new (I.remaining input.old) (I.remaining input.new) (trace (O.contents output.old) (A.told clerk.old)) (trace (O.contents output.new) (A.told clerk.new)) }
+    ensures few { TakesAtMost MOST_READ_BYTES (I.remaining input.old) (I.remaining input.new) }
 {
     part.has_no_feed();
     // The place is got first, so that no byte is lost.
-    let Ok(mut place) = make_place(alloc, PIECE) else {
+    let Ok(mut place) = make_place(alloc, MOST_READ_BYTES) else {
         return Some(Ending::Starved);
     };
     let piece = place.as_mut_slice();
@@ -191,33 +193,35 @@ fn turn<A: Answers, I: Read, O: Write>(
     }
 }
 
-// Answers the lines of a stream, from its start.
-fn serve<A: Answers, I: Read, O: Write, W: Wait>(
+// Answers the lines of a stream, from its start, in so many reads at most.
+fn serve<A: Answers, I: Read, O: Write>(
     alloc: Global,
-    rt: &W,
     clerk: &mut A,
     connection: u64,
     input: &mut I,
     output: &mut O,
+    bound: u64,
 ) -> Ending
-    ensures { Ends result connection [] (I.remaining input.old) (I.remaining input.new) (trace (O.contents output.old) (A.told clerk.old)) (trace (O.contents output.new) (A.told clerk.new)) }
+    ensures ends { Ends result connection [] (I.remaining input.old) (I.remaining input.new) (trace (O.contents output.old) (A.told clerk.old)) (trace (O.contents output.new) (A.told clerk.new)) }
+    ensures few { TakesAtMost (MOST_READ_BYTES * bound) (I.remaining input.old) (I.remaining input.new) }
 {
     let Ok(mut part) = Part::new(alloc) else {
         return Ending::Starved;
     };
-    for _ in rt.forever() {
+    for _read in 0..bound {
         match turn(alloc, clerk, connection, &mut part, input, output) {
             Some(ending) => return ending,
             None => {}
         }
     }
-    Ending::Stopped
+    Ending::ReadFault
 }
 
 /// Answers the lines of a local program on the connection of this number, each in a hold of its own, in order, and writes what
 /// each is answered, whole, and nothing else. The transcript has the lines' entries: one for each that had room, and no others.
-/// It ends with the stream, where the server stops, where there is no memory for a line, and where a read or a write fails. A line
-/// past 512 bytes is answered `bad`, and its first 513 stand in the journal. What the connection's lines locked stays.
+/// It ends with the stream, where the server stops, where there is no memory for a line, where a read or a write fails, and
+/// behind so many reads, each of `MOST_READ_BYTES` at most, which is told as a read that failed. A line past 512 bytes is answered `bad`, and its first 513 stand in
+/// the journal. What the connection's lines locked stays.
 pub fn serve_lines<R, S, L, G, I, O, W>(
     alloc: Global,
     rt: &W,
@@ -226,6 +230,7 @@ pub fn serve_lines<R, S, L, G, I, O, W>(
     connection: u64,
     input: &mut I,
     output: &mut O,
+    bound: u64,
 ) -> Served
 where
     R: RangeTable + Drop,
@@ -235,10 +240,11 @@ where
     I: Read,
     O: Write,
     W: Wait,
-    ensures { Ends result.ending connection [] (I.remaining input.old) (I.remaining input.new) (trace (O.contents output.old) []) (trace (O.contents output.new) result.transcript) }
+    ensures ends { Ends result.ending connection [] (I.remaining input.old) (I.remaining input.new) (trace (O.contents output.old) []) (trace (O.contents output.new) result.transcript) }
+    ensures few { TakesAtMost (MOST_READ_BYTES * bound) (I.remaining input.old) (I.remaining input.new) }
 {
     let mut clerk = Clerk::new(rt, shared, signals);
-    let ending = serve(alloc, rt, &mut clerk, connection, input, output);
+    let ending = serve(alloc, &mut clerk, connection, input, output, bound);
     Served {
         ending,
         transcript: clerk.into_transcript(),

@@ -9,6 +9,7 @@ use hosts_db::HostStore;
 use jobs::{Channel, Place};
 use log::Log;
 use outboxes::Gate;
+use pieces::MOST_READS;
 use range_table::RangeTable;
 use serve_loops::{Signals, serve_lines};
 use std::alloc::Global;
@@ -65,6 +66,7 @@ impl<'a, P: Place, L: Ledger, T: RangeTable + Drop, S: HostStore + Drop, G: Gate
         };
         let mut source = Source {
             stream: Incoming::new(guest.connection.stream(), self.bells),
+            bound: MOST_READS,
             origin,
         };
         let ending = worker.read(
@@ -103,6 +105,7 @@ impl<'a, P: Place, L: Ledger, T: RangeTable + Drop, S: HostStore + Drop, G: Gate
             number,
             &mut input,
             &mut output,
+            MOST_READS,
         );
         drop(output);
         notes::local(rt, guest.from, served.ending);

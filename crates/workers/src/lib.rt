@@ -10,7 +10,7 @@ mod shared;
 mod transcript;
 mod worker;
 
-pub use reading::{Origin, Source};
+pub use reading::{MOST_READ_BYTES, Origin, Source};
 pub use record_intake::Ending;
 pub use shared::{Ends, Entered, Next, Shared};
 pub use transcript::Transcript;

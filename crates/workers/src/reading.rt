@@ -1,6 +1,7 @@
 //! A connection's own thread: it reads records, puts each as a job, and answers as many jobs as it put.
-ghost use Rattle.std.specs.Prelude.{◌≡◌, true, false, cond, Some};
+ghost use Rattle.std.specs.Prelude.{◌≡◌, ◌*◌, true, false, cond, Some};
 ghost use Rattle.jobs.specs.Passes.{with_put};
+ghost use Rattle.pieces.specs.Reads.{TakesAtMost};
 ghost use Rattle.workers.specs.Answers.{with_seat};
 ghost use Rattle.workers.specs.Reading.{Puts, job_of, counted, IsRead};
 
@@ -21,10 +22,7 @@ use std::sync::ledger::Ledger;
 use std::sync::{Mutex, Wait};
 
 /// The most bytes that are read at once.
-const PIECE: usize = 65_536;
-
-/// The most reads of a connection.
-const READS: u64 = 1_000_000_000;
+pub const MOST_READ_BYTES: usize = 65_536;
 
 /// Whose records they are, and how many of them were put as jobs: that is the next one's number.
 #[derive(Clone, Copy)]
@@ -41,6 +39,8 @@ pub struct Origin {
 #[derive(Drop)]
 pub struct Source<T> {
     pub stream: T,
+    /// How often the stream is read at most.
+    pub bound: u64,
     pub origin: Origin,
 }
 
@@ -52,7 +52,7 @@ fn ended(is_put: bool, fault: Option<Ending>) -> Option<Ending>
 }
 
 impl<P: Place, L: Ledger> Worker<P, L> {
-    /// Reads the stream to its end. Each whole record is a job, numbered from `put` on, in order. While there are places
+    /// Reads the stream to its end, or as often as it may: each read takes `MOST_READ_BYTES` at most. Each whole record is a job, numbered from `put` on, in order. While there are places
     /// nobody is woken for them, since this worker takes as many jobs as it put before it reads on, whoever put them.
     pub fn read<R: RangeTable, S: HostStore, G: Gate, O: Outbox, T: Read, W: Wait>(
         &mut self,
@@ -63,15 +63,16 @@ impl<P: Place, L: Ledger> Worker<P, L> {
         outbox: &mut O,
         source: &mut Source<T>,
     ) -> Ending
-        ensures { IsRead result source.old.origin source.new.origin (T.remaining source.old.stream) (T.remaining source.new.stream)
+        ensures read { IsRead result source.old.origin source.new.origin (T.remaining source.old.stream) (T.remaining source.new.stream)
             self.old self.new (O.handed outbox.old) (O.handed outbox.new) }
+        ensures few { TakesAtMost (MOST_READ_BYTES * source.old.bound) (T.remaining source.old.stream) (T.remaining source.new.stream) }
     {
         let alloc = self.alloc();
-        let Ok(mut place) = make_place(alloc, PIECE) else {
+        let Ok(mut place) = make_place(alloc, MOST_READ_BYTES) else {
             return Ending::Starved;
         };
         let mut intake = Intake::new(alloc);
-        for _ in 0..READS {
+        for _read in 0..source.bound {
             let (records, fault) = match intake.read(&mut source.stream, place.as_mut_slice()) {
                 Ok(read) => read,
                 Err(ending) => return ending,

@@ -20,6 +20,8 @@ pub(crate) struct Talk<'a> {
     name: &'a str,
     lines: &'a [u8],
     pace: Pace,
+    /// How often they are read at most.
+    bound: u64,
     /// For how many bytes of the answers there is room.
     room: usize,
     answers: &'a str,
@@ -43,7 +45,16 @@ impl Talk<'_> {
             held: Vec::new(alloc),
             room: self.room,
         };
-        let served = serve_lines(alloc, rt, shared, &bells, 7, &mut input, &mut output);
+        let served = serve_lines(
+            alloc,
+            rt,
+            shared,
+            &bells,
+            7,
+            &mut input,
+            &mut output,
+            self.bound,
+        );
         let ending = served.ending;
         ending == self.ending
             && output.held.as_slice() == self.answers.as_bytes()
@@ -67,6 +78,7 @@ const SILENT: Talk<'static> = Talk {
     name: "no line",
     lines: b"",
     pace: AT_ONCE,
+    bound: u64::MAX,
     room: usize::MAX,
     answers: "",
     ending: Ending::Over,
@@ -172,6 +184,16 @@ const RESET: Talk<'static> = Talk {
     ..SILENT
 };
 
+/// The first line is answered at its sixth byte.
+const BOUNDED: Talk<'static> = Talk {
+    name: "as many reads as there may be",
+    pace: Pace { most: 1, ..AT_ONCE },
+    bound: 11,
+    answers: "end\n",
+    ending: Ending::ReadFault,
+    ..TWO_LISTS
+};
+
 /// The front of its answers is written for which there is room.
 const NO_ROOM: Talk<'static> = Talk {
     name: "no room for an answer",
@@ -209,6 +231,7 @@ const TALKS: &[Talk<'static>] = &[
     STOP_AND_A_SPACE,
     INTERRUPTED,
     RESET,
+    BOUNDED,
     NO_ROOM,
     ROOM_FOR_A_FRONT,
     ROOM_FOR_ONE,
@@ -308,6 +331,7 @@ fn are_granted<R: Threads + Wait + Clock + Sync>(
                 name: "waiters",
                 lines: waiters.lines.as_bytes(),
                 pace: AT_ONCE,
+                bound: u64::MAX,
                 room: usize::MAX,
                 answers: waiters.answers.as_str(),
                 ending: Ending::Over,

@@ -24,6 +24,8 @@ pub(crate) struct Reading<'a> {
     /// The most bytes that one read gives, and how many reads go well. Each is interrupted once before.
     most: usize,
     reads: usize,
+    /// How often it is read at most.
+    bound: u64,
     /// Whether the channel is closed before.
     is_closed: bool,
     ending: Ending,
@@ -59,6 +61,7 @@ impl Reading<'_> {
         };
         let mut source = workers::Source {
             stream: Source::new(bytes.as_slice(), pace),
+            bound: self.bound,
             origin: Origin {
                 connection: CONNECTION,
                 peer: Peer::PIPE,
@@ -88,6 +91,7 @@ const THREE: Reading<'static> = Reading {
     stream: "80000028 5 0 2 186b5 4 0 0 0 0 0 80000028 6 0 2 186b5 4 0 0 0 0 0 80000028 7 0 2 186b5 4 0 0 0 0 0",
     most: 65_536,
     reads: usize::MAX,
+    bound: u64::MAX,
     is_closed: false,
     ending: Ending::Over,
     put: 3,
@@ -131,6 +135,17 @@ const CLOSED: Reading<'static> = Reading {
     ..THREE
 };
 
+/// Each record takes two reads, the first of which is interrupted.
+const BOUNDED: Reading<'static> = Reading {
+    name: "as many reads as there may be",
+    most: 44,
+    bound: 4,
+    ending: Ending::Failed,
+    put: 2,
+    replies: "0 12c 5 1 0 0 0 0 0 12c 6 1 0 0 0 0",
+    ..THREE
+};
+
 /// A record with its mark has 44 bytes.
 const READINGS: &[Reading<'static>] = &[
     Reading { most: 1, ..THREE },
@@ -142,6 +157,7 @@ const READINGS: &[Reading<'static>] = &[
     FAILS,
     LONG,
     CLOSED,
+    BOUNDED,
 ];
 
 #[test]

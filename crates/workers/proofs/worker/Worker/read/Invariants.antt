@@ -1,8 +1,10 @@
-use Rattle.std.proofs.Common.{◌≡◌, vec_len}
+use Rattle.std.proofs.Common.{◌≡◌, ◌*◌, vec_len}
+use Rattle.pieces.specs.Reads.{TakesAtMost}
 use Rattle.workers.proofs.ReadingLemmas.{SoFar}
 use Rattle.workers.proofs.worker.Worker.read.Given as goal
 
-abbrev pub invariant-loop : goal.invariant-loop
-invariant-loop g l =
+abbrev pub invariant-loop-read : goal.invariant-loop-read
+invariant-loop-read g l =
     SoFar l.fn.source.origin l.source.origin (g.T.Read.remaining l.fn.source.stream) (g.T.Read.remaining l.source.stream) l.intake l.fn.self l.self (g.O.Outbox.handed l.fn.outbox) (g.O.Outbox.handed l.outbox)
     × (vec_len l.place ≡ 65536)
+    × TakesAtMost (65536 * l._read) (g.T.Read.remaining l.fn.source.stream) (g.T.Read.remaining l.source.stream)
