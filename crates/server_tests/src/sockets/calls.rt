@@ -1,5 +1,5 @@
 //! Calls, and what a peer says to one of the server's own, word for word.
-use crate::service::words::put_header;
+use crate::words::put_header;
 use daemon_scripts::put_plain;
 use std::alloc::AllocError;
 

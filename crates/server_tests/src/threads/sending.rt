@@ -1,7 +1,7 @@
 //! The turns of the sender: calls that are due are handed over.
 use super::memory::MemoryCourier;
 use super::parts::Kept;
-use crate::service::words::are;
+use crate::words::are;
 use book::Dest;
 use serve_loops::{Due, SentCall, send_due};
 use std::alloc::{AllocError, Global};

@@ -1,4 +1,4 @@
-use Rattle.acceptance.proofs.service.threads.rounds.audited.Given as goal
+use Rattle.server_tests.proofs.threads.rounds.audited.Given as goal
 
 abbrev pub ghosts-play-P-Place : goal.ghosts-play-P-Place
 ghosts-play-P-Place g a = record { table = a.opened.slip.table_id; key = a.opened.slip.me.0.of }

@@ -4,7 +4,7 @@ use super::calls::{
 };
 use super::client::{answer, ask, dial, read, stop, write};
 use super::servers::{Ports, loopback};
-use crate::service::hall::Hall;
+use crate::hall::Hall;
 use std::alloc::Global;
 use std::net::{Net, TcpListener, TcpStream};
 use std::time::{Clock, Duration};

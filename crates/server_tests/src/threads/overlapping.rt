@@ -2,7 +2,7 @@
 use super::memory::MemoryOutbox;
 use super::parts::{Kept, null, sent};
 use super::rounds::{Crew, Turn, audited};
-use crate::service::hall::{Hall, LONG};
+use crate::hall::{Hall, LONG};
 use jobs::{Channel, Place};
 use std::alloc::Global;
 use std::sync::atomic::{AtomicU64, Ordering};

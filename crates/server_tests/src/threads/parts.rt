@@ -1,7 +1,7 @@
 //! What the tests share: a book, records to be answered, and what goes through a worker's seat.
 ghost use Rattle.std.specs.Prelude.{◌≡◌, [], IfSome};
 
-use crate::service::words::{are, put_header};
+use crate::words::{are, put_header};
 use book::Book;
 use bytes::Bytes;
 use callbacks::ShortBytes;

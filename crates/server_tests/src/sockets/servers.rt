@@ -1,6 +1,6 @@
 //! A server, and who talks to it.
 use super::talks::{Talk, Told};
-use crate::service::hall::{Hall, LONG};
+use crate::hall::{Hall, LONG};
 use callbacks::ShortBytes;
 use hosts_db::MemHosts;
 use log::Log;

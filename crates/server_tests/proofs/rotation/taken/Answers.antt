@@ -2,7 +2,7 @@ use Rattle.std.proofs.Common.{ap, ◌∙◌, sym, Some}
 use Rattle.std.specs.Prelude.{option_map}
 use Rattle.book.specs.Given.{Upshot}
 use Rattle.book.specs.Notes.{Note, Takes}
-use Rattle.acceptance.proofs.service.rotation.taken.Goals as goal
+use Rattle.server_tests.proofs.rotation.taken.Goals as goal
 
 pub receipt-requires-clause-call : goal.receipt-requires-clause-call
 receipt-requires-clause-call c =
