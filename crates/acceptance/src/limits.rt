@@ -2,10 +2,11 @@
 ghost use Rattle.std.specs.Prelude.{◌≡◌, []};
 
 use daemon_core::Daemon;
-use daemon_scripts::{Lent, Page, Terms, happens, memory, opened, put_terms, streams};
+use daemon_scripts::{Page, happens, memory, opened, streams};
 use hosts_db::HostStore;
 use range_arena::ArenaTable;
 use range_table::{FlatTable, RangeTable};
+use script_parts::{Lent, Terms, put_terms};
 use std::alloc::Global;
 use std::mem;
 use std::test::*;

@@ -1,8 +1,7 @@
 //! The lines of a script that are events, and what is to be sent for each.
-use crate::messages::put_message;
 use crate::page::{CONNECTION, LOCAL, Page, read_xid};
-use crate::words::read_number;
 use daemon_core::{Event, Peer, Posting};
+use script_parts::{put_message, read_number};
 
 impl<'a> Page<'a> {
     /// The bytes of the stream, in pieces.

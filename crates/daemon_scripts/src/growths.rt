@@ -1,7 +1,5 @@
 //! Scripts whose lines may starve, each once: what starves leaves all as it was but, perhaps, a host's row, and goes right when it is
 //! made again; all else goes as with ample memory.
-use crate::lent::Lent;
-use crate::messages::put_message;
 use crate::page::{Page, read_xid};
 use crate::script::{goes, is_answered};
 use crate::servers::{Misplayed, PIECE, memory, play_over, told};
@@ -9,6 +7,7 @@ use crate::state::known;
 use daemon_core::Daemon;
 use hosts_db::{HostStore, MemHosts};
 use range_table::RangeTable;
+use script_parts::{Lent, put_message};
 use std::alloc::{AllocError, Global};
 
 /// As many bytes as any line needs, which are got before the script begins.

@@ -1,7 +1,6 @@
 //! What comes to a server, what it is to send for that, and what it sends.
-use crate::messages::{put_message, put_terms};
-use crate::words::{Terms, put_words, read_number};
 use daemon_core::{Addressee, Frame, Outcome, Outputs, Refusal, StoreAnswer};
+use script_parts::{Terms, put_message, put_terms, put_words, read_number};
 use std::alloc::Global;
 use std::mem;
 

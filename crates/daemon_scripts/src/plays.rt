@@ -2,15 +2,14 @@
 //! a call, and more: `3 notify a 5 = done or system-err -> 1; a 1 5 65536;`. Behind ` or ` stands the reply to a call, or the
 //! answer to a local program, where the store refuses; and behind ` -> ` what the store shows then. Where nothing does, the store
 //! isn't asked; where `refused` does, it is, and refuses. Each line is one step: a call's record comes whole, and is taken at once.
-use crate::lent::Lent;
 use crate::page::Page;
 use crate::script::{happens, taken};
 use crate::servers::opened;
-use crate::showing::shown;
 use daemon_core::{Daemon, StoreAnswer};
 use hosts_db::HostStore;
 use range_arena::ArenaTable;
 use range_table::RangeTable;
+use script_parts::{Lent, shown};
 use std::alloc::Global;
 use std::fmt::Write;
 

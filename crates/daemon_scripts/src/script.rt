@@ -17,10 +17,10 @@
 //! Lines of a stream that stand one behind the other come as one stream, cut in pieces, and are answered when all is there.
 use crate::page::{CONNECTION, Page, read_xid};
 use crate::state::is_so;
-use crate::words::Terms;
 use daemon_core::{Daemon, Event, StoreAnswer};
 use hosts_db::HostStore;
 use range_table::RangeTable;
+use script_parts::Terms;
 
 /// Everything that happens to a daemon happens here. None where there is no memory.
 pub fn happens<T: RangeTable, S: HostStore>(

@@ -3,7 +3,6 @@
 ghost use Rattle.std.specs.Prelude.{◌≡◌, ◌<◌, []};
 
 use crate::growths::play_in_room;
-use crate::lent::Lent;
 use crate::page::Page;
 use crate::script::wrong_line;
 use callbacks::ShortBytes;
@@ -11,6 +10,7 @@ use daemon_core::Daemon;
 use hosts_db::{FULL_QUOTA, HostRow, HostStore, MemHosts};
 use range_arena::ArenaTable;
 use range_table::RangeTable;
+use script_parts::Lent;
 use std::alloc::Global;
 
 /// Why a script is not played as it says.

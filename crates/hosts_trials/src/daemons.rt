@@ -4,10 +4,11 @@ use crate::stops::{Stop, Trial, after_crash, are_met, stopping};
 use crate::visits::{Trials, Work, visit_files};
 use daemon_core::Daemon;
 use daemon_scripts::{
-    Deed, Line, are_rows_after, goes_well, lines_done, notifies, parted, shown, with_daemon,
+    Deed, Line, are_rows_after, goes_well, lines_done, notifies, parted, with_daemon,
 };
 use hosts_db::HostStore;
 use range_table::RangeTable;
+use script_parts::shown;
 use std::alloc::Global;
 use std::test::*;
 

@@ -1,8 +1,8 @@
 //! What a refused growth leaves: run this test with each allocation failing in turn.
 use crate::stops::{after_crash, crash};
 use crate::visits::{Work, fresh, visit_files};
-use daemon_scripts::{are_same, call, model};
 use hosts_db::{HostStore, MemHosts};
+use script_parts::{are_same, call, model};
 use std::alloc::Global;
 use std::test::*;
 

@@ -2,8 +2,8 @@
 //! full stores.
 use crate::tables::FIRST;
 use crate::visits::{Came, Work, fresh, visit_files};
-use daemon_scripts::{answers, are_same, call, does_show, model, run};
 use hosts_db::{HostStore, MemHosts};
+use script_parts::{answers, are_same, call, does_show, model, run};
 use std::alloc::{AllocError, Global};
 use std::fmt::Write;
 use std::test::*;

@@ -1,8 +1,8 @@
 //! A stop of the disk at each of its calls, while each writing call runs, and while a file of schema 1 is upgraded.
 use crate::tables::FIRST;
 use crate::visits::{Trials, Work, fresh, visit_files};
-use daemon_scripts::{run, shown, shown_after};
 use hosts_db::HostStore;
+use script_parts::{run, shown, shown_after};
 use sqlite::Files;
 use sqlite_disk::{Crash, Disk, Fuse, Memory};
 use std::alloc::Global;

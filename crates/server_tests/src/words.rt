@@ -1,5 +1,5 @@
 //! Bytes of calls, and bytes that are compared with text.
-use daemon_scripts::put_plain;
+use script_parts::put_plain;
 use std::alloc::{AllocError, Global};
 
 /// Appends the header of a call of the lock manager's version 4 under no credentials.

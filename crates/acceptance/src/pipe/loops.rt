@@ -2,10 +2,10 @@
 ghost use Rattle.std.specs.Prelude.{◌≡◌, [], IfOk};
 
 use callbacks::ShortBytes;
-use daemon_scripts::{Lent, Pace, Sink, Source, put_plain};
 use hosts_db::{FULL_QUOTA, HostRow, MemHosts};
 use pipe_loops::{Fault, Server, pipe_loop, table_loop};
 use range_table::FlatTable;
+use script_parts::{Lent, Pace, Sink, Source, put_plain};
 use std::alloc::Global;
 
 /// What serves the stream.

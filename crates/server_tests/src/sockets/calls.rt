@@ -1,6 +1,6 @@
 //! Calls, and what a peer says to one of the server's own, word for word.
 use crate::words::put_header;
-use daemon_scripts::put_plain;
+use script_parts::put_plain;
 use std::alloc::AllocError;
 
 /// A call: its mark, its procedure (RFC 1813, appendix II), and the words of its arguments.

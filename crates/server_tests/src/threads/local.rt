@@ -3,7 +3,7 @@ use super::bells::Bells;
 use super::parts::Kept;
 use super::rounds::{Crew, Turn, audited};
 use super::sending::{NOTHING, Sent};
-use daemon_scripts::{AT_ONCE, Pace, Sink, Source};
+use script_parts::{AT_ONCE, Pace, Sink, Source};
 use serve_loops::{Due, Ending, serve_lines};
 use std::alloc::{AllocError, Global};
 use std::fmt::Write;

@@ -2,9 +2,9 @@
 use super::memory::MemoryOutbox;
 use super::parts::{Kept, Open, are_replies};
 use super::rounds::{Crew, Turn, audited};
-use daemon_scripts::{Pace, Source, put_plain};
 use jobs::{Channel, Place};
 use kept_replies::Peer;
+use script_parts::{Pace, Source, put_plain};
 use std::alloc::Global;
 use std::sync::ledger::Ledger;
 use std::sync::{Mutex, Wait};

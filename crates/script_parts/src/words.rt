@@ -49,7 +49,7 @@ impl Terms {
 }
 
 /// In decimal, or behind `0x` in hexadecimal.
-pub(crate) fn read_number(word: &str) -> Option<u64> {
+pub fn read_number(word: &str) -> Option<u64> {
     match word.strip_prefix("0x") {
         Some(digits) => u64::from_str_radix(digits, 16).ok(),
         None => word.parse().ok(),
@@ -109,7 +109,7 @@ fn put_term(bytes: &mut Vec<u8>, word: &str, terms: &Terms) -> Option<()> {
 }
 
 /// Appends the bytes of these words, which white space parts.
-pub(crate) fn put_words(bytes: &mut Vec<u8>, words: &str, terms: &Terms) -> Option<()> {
+pub fn put_words(bytes: &mut Vec<u8>, words: &str, terms: &Terms) -> Option<()> {
     for word in words.split_whitespace() {
         put_term(bytes, word, terms)?;
     }
