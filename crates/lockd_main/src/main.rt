@@ -1,10 +1,7 @@
-//! `lockd`: the lock manager and status monitor of an NFS server. What its words ask, where its hosts are stored, and how it ends.
+//! `lockd`: the lock manager and status monitor of an NFS server. What its words ask, and how it ends.
 #![tactic(auto)]
 
 mod program;
-mod serving;
-mod stores;
-mod streams;
 
 use program::run_lockd;
 use std::process::ExitCode;

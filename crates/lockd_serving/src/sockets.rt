@@ -1,7 +1,7 @@
 //! A server on sockets.
 ghost use Rattle.std.specs.Prelude.{◌≡◌, Err, IfErr, IfOk};
 ghost use Rattle.std.specs.Net.Socket.{socket_ip, socket_port};
-ghost use Rattle.lockd_main.specs.Times.{Lasts};
+ghost use Rattle.lockd_serving.specs.Times.{Lasts};
 
 use crate::streams::own_name;
 use config::ServeConfig;
