@@ -1,9 +1,9 @@
 -- How a reading of a stream goes on.
-use Rattle.std.proofs.Common.{◌≡◌, ℕ, zero, suc, ◌+◌, ◌≤◌, true, false, List, [], ◌∷◌, ◌++◌, length, take, drop, ◌-◌, flat_map, refl, sym, ◌∙◌, ap, subst, ◌%◌, ◌^◌, append_assoc, arith, length-append}
+use Rattle.std.proofs.Common.{◌≡◌, ℕ, zero, suc, ◌+◌, ◌≤◌, true, false, List, [], ◌∷◌, ◌++◌, length, take, drop, flat_map, refl, sym, ◌∙◌, ap, subst, ◌%◌, ◌^◌, append_assoc, arith, length-append}
 use Rattle.std.specs.List.{All}
 use Rattle.std.specs.Int.{w32, from_be_bytes}
 use Rattle.std.proofs.lemmas.Grind.{flat_map-append}
-use Rattle.std.proofs.lemmas.List.{append-nil, take-append-drop}
+use Rattle.std.proofs.lemmas.List.{append-nil}
 use Rattle.std.proofs.lemmas.List.Elements.{All-append}
 use Rattle.record_mark.specs.Stream.{is_last, size_of, IsFragment, begun_with, ended_by, joined, begun_after, Fit, Reads, IsTooLong, Splits}
 use Rattle.record_mark.specs.declared.TheConstants.{MOST_RECORD_BYTES}
@@ -91,6 +91,3 @@ pub Reads-filled : (stream front left : List ℕ) (count : ℕ) (given : List (L
 Reads-filled stream front left count given begun rest begun' rest' r e₁ e₂ =
     let more = Reads-more (stream ++ front) given begun rest (take count left) r in
     rw (e₁, e₂) (rw append_assoc at more)
-
-pub append-take-drop : (front left piece : List ℕ) (count : ℕ) → front ++ left ≡ piece → (front ++ take count left) ++ drop count left ≡ piece
-append-take-drop front left piece count e = append_assoc front (take count left) (drop count left) ∙ (ap (λ x. front ++ x) (take-append-drop count left) ∙ e)

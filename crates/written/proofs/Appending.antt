@@ -1,6 +1,6 @@
 -- Appending goes on.
-use Rattle.std.proofs.Common.{◌≡◌, ℕ, List, [], ◌++◌, Option, take, drop, sym, ◌∙◌, ap, append_assoc}
-use Rattle.std.proofs.lemmas.List.{append-nil, take-append-drop}
+use Rattle.std.proofs.Common.{ℕ, List, [], ◌++◌, Option, sym, ◌∙◌, ap, append_assoc}
+use Rattle.std.proofs.lemmas.List.{append-nil}
 use Rattle.std.specs.Io.KnownBytes.{Appends}
 use Rattle.std.proofs.KnownBytes.{Appends-trans}
 use Rattle.std.specs.Prelude.{Result, Ok, Err, IsErr}
@@ -35,7 +35,3 @@ Wrote-after a b d (Err fault) x y p w = WroteFront-after a b d x y p w
 pub Wrote-failed : {E : Type 0} (a b : Option (List ℕ)) (r : Result (Unit {0}) E) (x : List ℕ) → IsErr r → WroteFront a b x → Wrote a b r x
 Wrote-failed a b (Ok done) x e w = absurd cc
 Wrote-failed a b (Err fault) x e w = w
-
--- a loop's next part
-pub parts-next : (front left bytes : List ℕ) (count : ℕ) → front ++ left ≡ bytes → (front ++ take count left) ++ drop count left ≡ bytes
-parts-next front left bytes count e = append_assoc front (take count left) (drop count left) ∙ (ap (λ (s : List ℕ). front ++ s) (take-append-drop count left) ∙ e)

@@ -1,7 +1,6 @@
-use Rattle.std.proofs.Common.{◌++◌, take, ap, ◌∙◌}
-use Rattle.std.proofs.lemmas.List.{take_rest}
+use Rattle.std.proofs.Common.{◌++◌, take}
 use Rattle.std.proofs.KnownBytes.{Appends-trans}
-use Rattle.written.proofs.Appending.{parts-next}
+use Rattle.byte_parts.proofs.Fronts.{front_moves}
 use Rattle.written.proofs.write_whole.Goals as goal
 
 pub loop-rest-preserved : goal.loop-rest-preserved
@@ -10,6 +9,6 @@ loop-rest-preserved g c =
     let left = c.loop-rest.rest.now in
     let count = c.in-Ok.count in (
       before.0 ++ take count left,
-      ap (λ x. (before.0 ++ take count left) ++ x) (take_rest left count) ∙ parts-next before.0 left _ count before.1,
+      front_moves before.0 left _ count before.1,
       Appends-trans _ _ _ before.0 (take count left) before.2 c.in-Ok.ensures.bytes,
     )

@@ -1,7 +1,6 @@
-use Rattle.std.proofs.Common.{◌++◌, take, ap, ◌∙◌}
-use Rattle.std.proofs.lemmas.List.{take_rest}
+use Rattle.std.proofs.Common.{◌++◌, take}
 use Rattle.std.proofs.KnownBytes.{Appends-trans}
-use Rattle.written.proofs.Appending.{parts-next}
+use Rattle.byte_parts.proofs.Fronts.{front_moves}
 use Rattle.connections.proofs.connection.write_in_turns.Goals as goal
 
 pub loop-preserved : goal.loop-preserved
@@ -10,6 +9,6 @@ loop-preserved g c =
     let left = c.loop.rest.now in
     let count = c.in_ok-count.count in (
       before.0 ++ take count left,
-      ap (λ x. (before.0 ++ take count left) ++ x) (take_rest left count) ∙ parts-next before.0 left _ count before.1,
+      front_moves before.0 left _ count before.1,
       Appends-trans _ _ _ before.0 (take count left) before.2 c.in_ok-count.ensures.ok.1,
     )
