@@ -5,10 +5,8 @@ use Rattle.std.specs.declared.cmp.Ordering.{Ordering}
 use Rattle.std.specs.declared.cmp.Ordering.TheVariants.{Less, Equal, Greater}
 use Rattle.std.specs.List.{AllByRecursion, list_any}
 use Rattle.std.specs.Ordering.{is_eq, is_ne, eq_by_cmp}
-use Rattle.std.specs.Cmp.{eq_by_cmp_equiv, first_so, second_so}
-use Rattle.std.specs.Cmp.Lexicographic.{nat_list_cmp_total}
+use Rattle.std.specs.Cmp.{first_so, second_so}
 use Rattle.std.specs.FinMap.{find}
-use Rattle.std.proofs.lemmas.Map.Text.{is_eq-slice_cmp}
 use Rattle.std.proofs.Math.Bool.{and-true}
 use Rattle.sqlite_value.specs.declared.value.Value.{Value}
 use Rattle.sqlite_value.specs.declared.value.Value.TheVariants.{Null, Int, Real, Text, Blob}
@@ -24,6 +22,7 @@ use Rattle.hosts_sql.specs.Shown.{host_of}
 use Rattle.hosts_sql.specs.Own.{is_blob, is_host}
 use Rattle.hosts_sql.specs.Reading.{AreApart}
 use Rattle.hosts_sql.proofs.Gone.{AreOwnIds}
+use Rattle.hosts_sql.proofs.Names.{names_agree_turned}
 use Rattle.hosts_sql.proofs.OwnIds.{first_fits, rest_fits}
 use Rattle.hosts_sql.proofs.Shrink.{truth_is, blob_holds}
 
@@ -60,13 +59,13 @@ not_first : (a b : Bool) → (a && b) ≡ false → b ≡ true → a ≡ false
 not_first true b h e = absurd (true≢false (sym e ∙ h))
 not_first false b h e = refl
 
-name_agrees : (r row : Row) → is_host r ≡ true → is_host row ≡ true → agree one_key (1 ∷ []) r (1 ∷ []) row ≡ eq_by_cmp bytes_cmp (host_of row).0 (host_of r).0
+agrees_by_name : (r row : Row) → is_host r ≡ true → is_host row ≡ true → agree one_key (1 ∷ []) r (1 ∷ []) row ≡ eq_by_cmp bytes_cmp (host_of row).0 (host_of r).0
 unfolding Rattle.sqlite_value.specs.Keys.first_key
-name_agrees r row h k =
+agrees_by_name r row h k =
     let blob = second_so (is_int (rowid r)) (is_blob (column r 1)) h in
     let other = blob_is (column row 1) (second_so (is_int (rowid row)) (is_blob (column row 1)) k) in
     and-true _ ∙ ap (λ v. is_true (binary (Rattle.sqlite_sql.specs.declared.ops.BinaryOp.TheVariants.Compare Rattle.sqlite_sql.specs.declared.ops.CompareOp.TheVariants.Eq Rattle.sqlite_value.specs.declared.keys.Collation.TheVariants.Binary) (column r 1) v)) other
-    ∙ blob_holds (column r 1) (bytes (column row 1)) blob ∙ sym (is_eq-slice_cmp (bytes (column r 1)) (bytes (column row 1))) ∙ (eq_by_cmp_equiv nat_list_cmp_total).symm (host_of r).0 (host_of row).0
+    ∙ blob_holds (column r 1) (bytes (column row 1)) blob ∙ names_agree_turned (host_of r).0 (host_of row).0
 
 none_found : (row : Row) (rows : List Row) → is_host row ≡ true → list_any (λ r. not (is_host r)) rows ≡ false → is_taken rows row ≡ false → list_any (clash row) rows ≡ false → find bytes_cmp (host_of row).0 (map host_of rows) ≡ None
 none_found row [] fit all free apart = refl
@@ -75,7 +74,7 @@ none_found row (r ∷ rs) fit all free apart =
     let untied = (or_parts (is_eq (value_cmp (rowid r) (rowid row))) (is_taken rs row) free).0 in
     let other = differs (rowid r) (rowid row) (first_so (is_int (rowid r)) (is_blob (column r 1)) here) (first_so (is_int (rowid row)) (is_blob (column row 1)) fit) untied in
     let differ_names = not_first (agree one_key (1 ∷ []) r (1 ∷ []) row) (differ (rowid r) (rowid row)) (or_parts (clash row r) (list_any (clash row) rs) apart).0 other in
-    let missed = sym (name_agrees r row here fit) ∙ differ_names in
+    let missed = sym (agrees_by_name r row here fit) ∙ differ_names in
     ap (λ b. cond b (Some (host_of r).1) (find bytes_cmp (host_of row).0 (map host_of rs))) missed
     ∙ none_found row rs fit (rest_fits is_host r rs all) (or_parts (is_eq (value_cmp (rowid r) (rowid row))) (is_taken rs row) free).1 (or_parts (clash row r) (list_any (clash row) rs) apart).1
 

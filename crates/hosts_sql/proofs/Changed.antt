@@ -6,7 +6,6 @@ use Rattle.std.specs.Ordering.{is_eq, eq_by_cmp, ordering_reverse}
 use Rattle.std.specs.Cmp.{IsTotalOrder, eq_by_cmp_equiv}
 use Rattle.std.specs.Cmp.Lexicographic.{nat_list_cmp_total}
 use Rattle.std.proofs.lemmas.Cmp.{tied_itself}
-use Rattle.std.proofs.lemmas.Map.Text.{is_eq-slice_cmp}
 use Rattle.std.specs.FinMap.{FinMap, IsAntisymmetric, get, insert, entries, retain_keys, get-insert, get-retain_keys, same_map}
 use Rattle.std.proofs.lemmas.Option.{same_Some}
 use Rattle.definitions.specs.Bytes.{Bytes, IsAscending, IsBelowAll, bytes_cmp, same_bytes, first_that, change_first, put, placed, without}
@@ -21,6 +20,7 @@ use Rattle.hosts_transactions.specs.Work.{RanTwo, RanThree}
 use Rattle.hosts_sql.specs.Wrote.{IsWhole}
 use Rattle.hosts_sql.specs.declared.tables.Version.TheVariants.{Second}
 use Rattle.hosts_sql.proofs.Monitor.{params}
+use Rattle.hosts_sql.proofs.Names.{names_agree}
 use Rattle.hosts_sql.specs.Given.{watch_given, watch_params}
 use Rattle.hosts_sql.proofs.Watch.{watch_total, watch_exact}
 use Rattle.hosts_sql.proofs.Rows.{Makes, makes_then, made_host, made_watch}
@@ -46,9 +46,6 @@ module _ {K X : Type 0} {R : K → K → Ordering} (o : IsTotalOrder R) (exact :
       go q true e = refl
       go q false e = ap (λ b. cond (not b) (get m q) None) e
 
-name_agrees : (name q : Bytes) → same_bytes q name ≡ eq_by_cmp bytes_cmp q name
-name_agrees name q = sym (is_eq-slice_cmp q name)
-
 watch_key_agrees : (k q : WatchKey) → is_key_of (Some k.mon) k.my q ≡ eq_by_cmp key_cmp q k
 watch_key_agrees k q = key_agrees k (q, []) ∙ (eq_by_cmp_equiv watch_total).symm k q
 
@@ -57,7 +54,7 @@ watch_key_agrees k q = key_agrees k (q, []) ∙ (eq_by_cmp_equiv watch_total).sy
 pub replaced_host : (name : Bytes) (host : Host) (from to : Database) → IsWhole Second from → RanTwo delete_host_text (host_given name) monitor_text (params name host) from to → Makes (λ r. with_host name host (without_host name r)) from to
 replaced_host name host from to whole ran =
     let first = made_without_host name from ran.0 whole ran.1 in
-    let none = ap (λ (r : Rows). get r.hosts name) first.rows ∙ taken_out nat_list_cmp_total bytes_exact (shown from.trees).hosts (λ k. same_bytes k name) name (name_agrees name) in
+    let none = ap (λ (r : Rows). get r.hosts name) first.rows ∙ taken_out nat_list_cmp_total bytes_exact (shown from.trees).hosts (λ k. same_bytes k name) name (λ q. names_agree q name) in
     makes_then (without_host name) (with_host name host) from ran.0 to first (made_host name host ran.0 to first.whole none ran.2)
 
 pub replaced_watch : (k : WatchKey) (private : Bytes) (from to : Database) → IsWhole Second from → RanTwo delete_watch_text (watch_given k.mon k.my) watch_text (watch_params k private) from to
@@ -77,7 +74,7 @@ host_and_watch_put host k private from to whole none ran =
 
 pub host_replaced : (name : Bytes) (host : Host) (r : Rows) → listed (with_host name host (without_host name r)) ≡ record (listed r) { rows = put row_cmp (host_row (name, host)) (listed r).rows }
 host_replaced name host r =
-    let rows = ap (λ (m : FinMap bytes_cmp Host). map host_row (entries m)) (put_back nat_list_cmp_total bytes_exact r.hosts (λ k. same_bytes k name) name (name_agrees name) host) ∙ host_put r.hosts name host in
+    let rows = ap (λ (m : FinMap bytes_cmp Host). map host_row (entries m)) (put_back nat_list_cmp_total bytes_exact r.hosts (λ k. same_bytes k name) name (λ q. names_agree q name) host) ∙ host_put r.hosts name host in
     λ i. record { own = r.own; rows = rows i; watches = map watch_row (entries r.watches) }
 
 pub watch_replaced : (k : WatchKey) (private : Bytes) (r : Rows) → listed (with_watch k private (without_watches (Some k.mon) k.my r)) ≡ record (listed r) { watches = put watch_cmp (watch_row (k, private)) (listed r).watches }

@@ -17,6 +17,7 @@ pub mod Fewer
 pub mod Update
 pub mod Create
 pub mod Reading
+pub mod Names
 pub mod Listed
 pub mod Commits
 pub mod Changed

@@ -5,11 +5,10 @@ use Rattle.std.specs.declared.cmp.Ordering.TheVariants.{Less, Equal, Greater}
 use Rattle.std.specs.Ordering.{eq_by_cmp, match_ordering}
 use Rattle.std.specs.Cmp.{eq_by_cmp_equiv}
 use Rattle.std.specs.Cmp.Lexicographic.{nat_list_cmp_total}
-use Rattle.std.proofs.lemmas.Map.Text.{is_eq-slice_cmp}
 use Rattle.std.specs.FinMap.{FinMap, IsAntisymmetric, empty, empty_of_len, from_sorted, len-entries, entries-from_sorted, find, get, insert, entries, put, get-entries, entries-insert, slice_cmp-IsAntisymmetric, nat_cmp-IsAntisymmetric}
 use Rattle.definitions.proofs.Lists.{none_from_is_some}
 use Rattle.definitions.specs.Bytes as list
-use Rattle.definitions.specs.Bytes.{Bytes, bytes_cmp, same_bytes, is_any, placed}
+use Rattle.definitions.specs.Bytes.{Bytes, bytes_cmp, is_any, placed}
 use Rattle.definitions.specs.Hosts.{Hosts, row_cmp, watch_cmp, has_row, is_watch, after_store, Monitor, is_named}
 use Rattle.hosts_db.proofs.Orders.{watch_agrees}
 use Rattle.hosts_sql.specs.Maps.{Host, WatchKey, Rows, no_rows, key_cmp, host_row, watch_row, listed, made_now, with_host}
@@ -19,6 +18,7 @@ use Rattle.sqlite.specs.Effect.{Database}
 use Rattle.hosts_sql.specs.Shown.{shown}
 use Rattle.hosts_transactions.specs.Work.{Committed, MayWork}
 use Rattle.hosts_sql.specs.Wrote.{WroteHosts, MayWriteHosts, rows_in, hosts_in}
+use Rattle.hosts_sql.proofs.Names.{names_agree_turned}
 use Rattle.hosts_sql.proofs.Rows.{Makes}
 use Rattle.hosts_sql.proofs.Watch.{watch_total, watch_exact}
 
@@ -46,14 +46,11 @@ module _ {K X A : Type 0} (R : K → K → Ordering) (row : K × X → A) where
 pub bytes_exact : IsAntisymmetric bytes_cmp
 bytes_exact = slice_cmp-IsAntisymmetric nat_cmp-IsAntisymmetric
 
-name_agrees : (name : Bytes) (e : Bytes × Host) → same_bytes (host_row e).name name ≡ eq_by_cmp bytes_cmp name e.0
-name_agrees name e = sym (is_eq-slice_cmp e.0 name) ∙ (eq_by_cmp_equiv nat_list_cmp_total).symm e.0 name
-
 pub key_agrees : (k : WatchKey) (e : WatchKey × Bytes) → is_watch (Some k.mon) k.my (watch_row e) ≡ eq_by_cmp key_cmp k e.0
 key_agrees k e = watch_agrees k.mon k.my (watch_row e) ∙ (eq_by_cmp_equiv watch_total).symm e.0 k
 
 pub row_found : (m : FinMap bytes_cmp Host) (name : Bytes) → is_any (is_named name) (map host_row (entries m)) ≡ is_some (get m name)
-row_found m name = any_found bytes_cmp host_row name (is_named name) (name_agrees name) (entries m) ∙ ap is_some (sym (get-entries m name))
+row_found m name = any_found bytes_cmp host_row name (is_named name) (λ e. names_agree_turned e.0 name) (entries m) ∙ ap is_some (sym (get-entries m name))
 
 pub watch_found : (m : FinMap key_cmp Bytes) (k : WatchKey) → is_any (is_watch (Some k.mon) k.my) (map watch_row (entries m)) ≡ is_some (get m k)
 watch_found m k = any_found key_cmp watch_row k (is_watch (Some k.mon) k.my) (key_agrees k) (entries m) ∙ ap is_some (sym (get-entries m k))
