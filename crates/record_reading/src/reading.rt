@@ -7,7 +7,7 @@ ghost use Rattle.record_reading.specs.Readings.{IsReading, IsAsked, IsNlmAsked, 
 use crate::call::{Call, Refusal};
 use nlm4_types::{NlmCall, PROGRAM as NLM_PROGRAM, Version};
 use nsm_types::{NsmCall, PROGRAM as NSM_PROGRAM, VERSION as NSM_VERSION};
-use rpc_msg::{Header, HeaderError};
+use rpc_msg::{Call as RpcCall, Header, HeaderError};
 use xdr_core::{CallError, Cursor};
 
 /// The lowest and the highest version of the lock manager that is served; 2 is not.
@@ -32,7 +32,7 @@ impl<'r> Reading<'r> {
         ensures { IsReading bytes.now (view_of_reading result) }
     {
         match Header::read(bytes) {
-            Ok((header, mut arguments)) => asked(&header, &mut arguments),
+            Ok((header, arguments)) => asked(header.xid, header.call(arguments)),
             Err(error) => refused(error),
         }
     }
@@ -55,16 +55,16 @@ fn refused<'r>(error: HeaderError) -> Reading<'r>
 }
 
 // The program, the version, the procedure and the arguments, in this order.
-fn asked<'r>(header: &Header, arguments: &mut Cursor<'r>) -> Reading<'r>
-    ensures { IsAsked header.now arguments.old (view_of_reading result) }
+fn asked<'r>(xid: u32, call: RpcCall<'r>) -> Reading<'r>
+    ensures { IsAsked (record { xid = xid; prog = call.entry.prog; vers = call.entry.vers; proc = call.entry.proc }) call.entry.arguments (view_of_reading result) }
 {
-    let xid = header.xid;
-    match header.prog {
-        NLM_PROGRAM => match Version::from_number(header.vers) {
-            Some(version) => nlm(xid, version, header.proc, arguments),
+    let mut arguments = call.arguments;
+    match call.prog {
+        NLM_PROGRAM => match Version::from_number(call.vers) {
+            Some(version) => nlm(xid, version, call.proc, &mut arguments),
             None => mismatch(xid, LOWEST_NLM_VERSION, HIGHEST_NLM_VERSION),
         },
-        NSM_PROGRAM if header.vers == NSM_VERSION => nsm(xid, header.proc, arguments),
+        NSM_PROGRAM if call.vers == NSM_VERSION => nsm(xid, call.proc, &mut arguments),
         NSM_PROGRAM => mismatch(xid, NSM_VERSION, NSM_VERSION),
         _ => Reading::Turned {
             xid,

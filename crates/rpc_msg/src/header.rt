@@ -1,9 +1,9 @@
 //! The verdict on a record.
 
-ghost use Rattle.std.specs.Prelude.{IfOk, IfErr};
+ghost use Rattle.std.specs.Prelude.{◌≡◌, IfOk, IfErr};
 ghost use Rattle.rpc_msg.specs.Verdict.{Asks, IsRefusal};
 
-use crate::call::{CallBody, CallStart};
+use crate::call::{Call, CallBody, CallStart};
 use crate::{CALL, RPC_VERSION};
 use thiserror::Error;
 use xdr_core::{Cursor, read};
@@ -66,5 +66,17 @@ impl Header {
             proc: body.proc,
         };
         Ok((header, c))
+    }
+
+    /// What it asks, with the arguments that stand behind it.
+    pub fn call<'r>(&self, arguments: Cursor<'r>) -> Call<'r>
+        ensures { result ≡ record { prog = self.now.prog; vers = self.now.vers; proc = self.now.proc; arguments = arguments.entry } }
+    {
+        Call {
+            prog: self.prog,
+            vers: self.vers,
+            proc: self.proc,
+            arguments,
+        }
     }
 }
