@@ -22,10 +22,14 @@ abbrev pub Makes : {X : Type 0} → Result X StoreError → Hosts → Hosts → 
 Makes (Ok x) before now changed = now ≡ changed
 Makes (Err e) before now changed = now ≡ before
 
+-- what stands where the call starved
+abbrev pub OnStarved : {X : Type 0} → Result X StoreError → Type 0 → Type 0
+OnStarved (Ok x) P = Unit {0}
+OnStarved (Err Starved) P = P
+OnStarved (Err StoreRefused) P = Unit {0}
+
 abbrev pub IsNotStarved : {X : Type 0} → Result X StoreError → Type 0
-IsNotStarved (Ok x) = Unit {0}
-IsNotStarved (Err Starved) = ⊥
-IsNotStarved (Err StoreRefused) = Unit {0}
+IsNotStarved result = OnStarved result ⊥
 
 -- what stands where the call was refused
 abbrev pub OnRefused : {X : Type 0} → Result X StoreError → Type 0 → Type 0

@@ -2,3 +2,4 @@ pub mod Places
 pub mod Kept
 pub mod Calls
 pub mod Notes
+pub mod Writings

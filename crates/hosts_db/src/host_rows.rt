@@ -4,9 +4,12 @@ ghost use Rattle.std.specs.Option.{is_some, option_copied};
 ghost use Rattle.definitions.specs.Bytes.{is_any, put};
 ghost use Rattle.definitions.specs.Hosts.{row_cmp, watch_cmp, row_of, has_row, next_own, after_store, is_past_limit, is_watch, Begin, Monitor, Seen, Acked, Watched, Unwatched, AreInOrder, Quota};
 ghost use Rattle.hosts_db.specs.Notes.{view_of_note};
+ghost use Rattle.hosts_db.specs.Writings.{view_of_prepared, view_of_writing, Fits, IsOfHost};
 
+use crate::prepared::Prepared;
 use crate::rows::{HostRow, MOST_NAME_BYTES, MyId, Note, Watch};
 use crate::search::{MOST_HOSTS, MOST_WATCHES, place_of_host, place_of_watch, put_in};
+use crate::writing::Writing;
 use definitions::own_state::next_own_state;
 use definitions::quotas::FULL_QUOTA;
 use std::alloc::{AllocError, Global};
@@ -102,12 +105,27 @@ impl HostRows {
         !self.has_host(name) && self.hosts().len() >= MOST_HOSTS
     }
 
-    /// Whether this watch, or the row of its host, would be one too many.
-    pub fn is_watch_past_limit(&self, mon_name: &[u8], my_id: &MyId<'_>) -> bool
+    // Whether this watch, or the row of its host, would be one too many.
+    fn is_watch_past_limit(&self, mon_name: &[u8], my_id: &MyId<'_>) -> bool
         ensures { result ≡ is_past_limit MOST_HOSTS MOST_WATCHES self.now (Watched mon_name.now my_id.now []) }
     {
         self.is_host_past_limit(mon_name)
             || !self.has_watch(mon_name, my_id) && self.watches().len() >= MOST_WATCHES
+    }
+
+    /// Whether this would be one row or one watch too many.
+    pub fn is_past_limit(&self, asked: Writing<'_>) -> bool
+        ensures { result ≡ is_past_limit MOST_HOSTS MOST_WATCHES self.now (view_of_writing asked.entry) }
+    {
+        match asked {
+            Writing::Monitor { name, state: _ } => self.is_host_past_limit(name),
+            Writing::Watch {
+                mon_name,
+                my_id,
+                private_bytes: _,
+            } => self.is_watch_past_limit(mon_name, my_id),
+            Writing::Note { .. } | Writing::Unwatch { .. } => false,
+        }
     }
 
     pub fn set_own(&mut self, own: u32)
@@ -144,8 +162,8 @@ impl HostRows {
         self.own
     }
 
-    /// Adds the row of a host in the own state, where it has none.
-    pub fn monitor(&mut self, name: Vec<u8>, state: i32)
+    // Adds the row of a host in the own state, where it has none.
+    fn monitor(&mut self, name: Vec<u8>, state: i32)
         requires fits { length name.items ≤ MOST_NAME_BYTES }
         requires room { is_past_limit MOST_HOSTS MOST_WATCHES self.old (Monitor name.items state) ≡ false }
         ensures { self.new ≡ after_store self.old (Monitor name.items state) }
@@ -156,8 +174,8 @@ impl HostRows {
         }
     }
 
-    /// Notes something in the row of a host. Without a row of that name nothing changes.
-    pub fn note(&mut self, name: &[u8], note: Note)
+    // Notes something in the row of a host. Without a row of that name nothing changes.
+    fn note(&mut self, name: &[u8], note: Note)
         ensures { self.new ≡ after_store self.old (view_of_note name.now note) }
     {
         if let Ok(at) = place_of_host(&self.hosts, name) {
@@ -166,8 +184,8 @@ impl HostRows {
         }
     }
 
-    /// Adds a watch, and the row of its host, where it has none.
-    pub fn watch(&mut self, mon_name: Vec<u8>, watch: Watch)
+    // Adds a watch, and the row of its host, where it has none.
+    fn watch(&mut self, mon_name: Vec<u8>, watch: Watch)
         requires host { mon_name.items ≡ watch.mon_name }
         requires fits { length mon_name.items ≤ MOST_NAME_BYTES }
         requires room { is_past_limit MOST_HOSTS MOST_WATCHES self.old (Watched watch.mon_name watch.my_id watch.private_bytes) ≡ false }
@@ -177,10 +195,25 @@ impl HostRows {
         self.put_watch(watch);
     }
 
-    /// Drops the watches of a watcher: of one host, or of all.
-    pub fn unwatch(&mut self, mon_name: Option<&[u8]>, my_id: &MyId<'_>)
+    // Drops the watches of a watcher: of one host, or of all.
+    fn unwatch(&mut self, mon_name: Option<&[u8]>, my_id: &MyId<'_>)
         ensures { self.new ≡ after_store self.old (Unwatched (option_copied mon_name.entry) my_id.now) }
     {
         self.watches.retain(|watch| !watch.is_of(mon_name, my_id));
+    }
+
+    /// Makes the change, which takes no memory.
+    pub fn write(&mut self, prepared: Prepared<'_>)
+        requires fits { Fits (view_of_prepared prepared) }
+        requires of_host { IsOfHost prepared }
+        requires room { is_past_limit MOST_HOSTS MOST_WATCHES self.old (view_of_prepared prepared) ≡ false }
+        ensures { self.new ≡ after_store self.old (view_of_prepared prepared.entry) }
+    {
+        match prepared {
+            Prepared::Monitor(name, state) => self.monitor(name, state),
+            Prepared::Note(name, note) => self.note(name, note),
+            Prepared::Watch(mon_name, watch) => self.watch(mon_name, watch),
+            Prepared::Unwatch(mon_name, my_id) => self.unwatch(mon_name, my_id),
+        }
     }
 }

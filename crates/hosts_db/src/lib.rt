@@ -4,16 +4,20 @@
 mod error;
 mod host_rows;
 mod memory;
+mod prepared;
 mod refusals;
 mod rows;
 mod search;
 mod store;
+mod writing;
 
 pub use definitions::quotas::FULL_QUOTA;
 pub use error::StoreError;
 pub use host_rows::HostRows;
 pub use memory::MemHosts;
+pub use prepared::Prepared;
 pub use refusals::Refusals;
 pub use rows::{HostRow, MOST_NAME_BYTES, MyId, Note, Watch};
 pub use search::{MOST_HOSTS, MOST_WATCHES};
 pub use store::HostStore;
+pub use writing::Writing;

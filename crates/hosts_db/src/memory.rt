@@ -7,10 +7,11 @@ ghost use Rattle.hosts_db.specs.Places.{put_all};
 use crate::error::StoreError;
 use crate::host_rows::HostRows;
 use crate::refusals::Refusals;
-use crate::rows::{HostRow, MOST_NAME_BYTES, MyId, Note, Watch};
+use crate::rows::{HostRow, Watch};
 use crate::search::{MOST_HOSTS, MOST_WATCHES};
 use crate::store::HostStore;
-use std::alloc::{AllocError, Global};
+use crate::writing::Writing;
+use std::alloc::Global;
 
 /// Hosts in memory, which a crash doesn't take. Nothing is refused but what is past a limit.
 pub struct MemHosts {
@@ -82,30 +83,6 @@ impl MemHosts {
             alloc,
         })
     }
-
-    // Counts a refusal.
-    fn refuse(&mut self) -> StoreError
-        ensures error { result ≡ StoreError.StoreRefused }
-        ensures counts { self.new ≡ record self.old { refusals = self.old.refusals + 1 } }
-    {
-        self.refusals.add();
-        StoreError::StoreRefused
-    }
-
-    // What `watch` stores, of copies.
-    fn copies(
-        &self,
-        mon_name: &[u8],
-        my_id: &MyId<'_>,
-        private_bytes: &[u8; 16],
-    ) -> Result<(Vec<u8>, Watch), AllocError>
-        requires { length mon_name.now ≤ MOST_NAME_BYTES }
-        ensures { IfOk result (λ made. (made.0.items ≡ mon_name.now) × (made.1 ≡ record { mon_name = mon_name.now; my_id = my_id.now; private_bytes = private_bytes.now })) }
-    {
-        let name = Vec::from_slice(self.alloc, mon_name)?;
-        let watch = Watch::new(self.alloc, mon_name, my_id, private_bytes)?;
-        Ok((name, watch))
-    }
 }
 
 impl HostStore for MemHosts {
@@ -123,66 +100,16 @@ impl HostStore for MemHosts {
         Ok(self.rows.start())
     }
 
-    fn monitor(&mut self, name: &[u8], state: i32) -> Result<(), StoreError> {
-        if self.rows.is_host_past_limit(name) {
-            return Err(self.refuse());
+    fn write(&mut self, asked: Writing<'_>) -> Result<(), StoreError> {
+        if self.rows.is_past_limit(asked) {
+            return Err(self.refusals.refuse());
         }
-        let Ok(name) = Vec::from_slice(self.alloc, name) else {
-            return Err(StoreError::Starved);
-        };
-        self.rows.monitor(name, state);
+        let prepared = asked.prepare(self.alloc)?;
+        self.rows.write(prepared);
         Ok(())
     }
 
-    fn seen(&mut self, name: &[u8], state: i32) -> Result<(), StoreError> {
-        self.rows.note(name, Note::Seen(state));
-        Ok(())
-    }
-
-    fn acked(&mut self, name: &[u8], epoch: u32) -> Result<(), StoreError> {
-        self.rows.note(name, Note::Epoch(epoch));
-        Ok(())
-    }
-
-    fn quota(&mut self, name: &[u8], runs: u32) -> Result<(), StoreError> {
-        self.rows.note(name, Note::Quota(runs));
-        Ok(())
-    }
-
-    fn watch(
-        &mut self,
-        mon_name: &[u8],
-        my_id: &MyId<'_>,
-        private_bytes: &[u8; 16],
-    ) -> Result<(), StoreError> {
-        if self.rows.is_watch_past_limit(mon_name, my_id) {
-            return Err(self.refuse());
-        }
-        let Ok((name, watch)) = self.copies(mon_name, my_id, private_bytes) else {
-            return Err(StoreError::Starved);
-        };
-        self.rows.watch(name, watch);
-        Ok(())
-    }
-
-    fn unwatch(&mut self, mon_name: Option<&[u8]>, my_id: &MyId<'_>) -> Result<(), StoreError> {
-        self.rows.unwatch(mon_name, my_id);
-        Ok(())
-    }
-
-    fn own(&self) -> u32 {
-        self.rows.own()
-    }
-
-    fn hosts(&self) -> &[HostRow] {
-        self.rows.hosts()
-    }
-
-    fn host(&self, name: &[u8]) -> Option<&HostRow> {
-        self.rows.host(name)
-    }
-
-    fn watches(&self) -> &[Watch] {
-        self.rows.watches()
+    fn kept(&self) -> &HostRows {
+        &self.rows
     }
 }

@@ -1,6 +1,7 @@
 //! How often a store has refused.
 ghost use Rattle.std.specs.Prelude.{◌≡◌, ◌+◌};
 
+use crate::error::StoreError;
 use history::History;
 use std::marker::Model;
 
@@ -28,10 +29,12 @@ impl Refusals {
         }
     }
 
-    /// One more.
-    pub fn add(&mut self)
-        ensures { self.new ≡ self.old + 1 }
+    /// One more, and what is answered.
+    pub fn refuse(&mut self) -> StoreError
+        ensures answer { result ≡ StoreError.StoreRefused }
+        ensures counts { self.new ≡ self.old + 1 }
     {
         self.each = self.each.and(&());
+        StoreError::StoreRefused
     }
 }

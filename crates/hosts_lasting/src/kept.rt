@@ -1,5 +1,5 @@
 //! The hosts of a program, which may have no database.
-use hosts_db::{HostRow, HostStore, MyId, StoreError, Watch};
+use hosts_db::{HostRows, HostStore, StoreError, Writing};
 
 /// Hosts in memory alone, or those that a store keeps. It is one type, so that what stands above it is built once in a program
 /// which may have either.
@@ -29,78 +29,17 @@ impl<M: HostStore, S: HostStore> HostStore for KeptHosts<M, S> {
         }
     }
 
-    fn monitor(&mut self, name: &[u8], state: i32) -> Result<(), StoreError> {
+    fn write(&mut self, asked: Writing<'_>) -> Result<(), StoreError> {
         match self {
-            KeptHosts::InMemory(hosts) => hosts.monitor(name, state),
-            KeptHosts::Stored(hosts) => hosts.monitor(name, state),
+            KeptHosts::InMemory(hosts) => hosts.write(asked),
+            KeptHosts::Stored(hosts) => hosts.write(asked),
         }
     }
 
-    fn seen(&mut self, name: &[u8], state: i32) -> Result<(), StoreError> {
+    fn kept(&self) -> &HostRows {
         match self {
-            KeptHosts::InMemory(hosts) => hosts.seen(name, state),
-            KeptHosts::Stored(hosts) => hosts.seen(name, state),
-        }
-    }
-
-    fn acked(&mut self, name: &[u8], epoch: u32) -> Result<(), StoreError> {
-        match self {
-            KeptHosts::InMemory(hosts) => hosts.acked(name, epoch),
-            KeptHosts::Stored(hosts) => hosts.acked(name, epoch),
-        }
-    }
-
-    fn quota(&mut self, name: &[u8], runs: u32) -> Result<(), StoreError> {
-        match self {
-            KeptHosts::InMemory(hosts) => hosts.quota(name, runs),
-            KeptHosts::Stored(hosts) => hosts.quota(name, runs),
-        }
-    }
-
-    fn watch(
-        &mut self,
-        mon_name: &[u8],
-        my_id: &MyId<'_>,
-        private_bytes: &[u8; 16],
-    ) -> Result<(), StoreError> {
-        match self {
-            KeptHosts::InMemory(hosts) => hosts.watch(mon_name, my_id, private_bytes),
-            KeptHosts::Stored(hosts) => hosts.watch(mon_name, my_id, private_bytes),
-        }
-    }
-
-    fn unwatch(&mut self, mon_name: Option<&[u8]>, my_id: &MyId<'_>) -> Result<(), StoreError> {
-        match self {
-            KeptHosts::InMemory(hosts) => hosts.unwatch(mon_name, my_id),
-            KeptHosts::Stored(hosts) => hosts.unwatch(mon_name, my_id),
-        }
-    }
-
-    fn own(&self) -> u32 {
-        match self {
-            KeptHosts::InMemory(hosts) => hosts.own(),
-            KeptHosts::Stored(hosts) => hosts.own(),
-        }
-    }
-
-    fn hosts(&self) -> &[HostRow] {
-        match self {
-            KeptHosts::InMemory(hosts) => hosts.hosts(),
-            KeptHosts::Stored(hosts) => hosts.hosts(),
-        }
-    }
-
-    fn host(&self, name: &[u8]) -> Option<&HostRow> {
-        match self {
-            KeptHosts::InMemory(hosts) => hosts.host(name),
-            KeptHosts::Stored(hosts) => hosts.host(name),
-        }
-    }
-
-    fn watches(&self) -> &[Watch] {
-        match self {
-            KeptHosts::InMemory(hosts) => hosts.watches(),
-            KeptHosts::Stored(hosts) => hosts.watches(),
+            KeptHosts::InMemory(hosts) => hosts.kept(),
+            KeptHosts::Stored(hosts) => hosts.kept(),
         }
     }
 }

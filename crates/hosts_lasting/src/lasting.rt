@@ -2,7 +2,7 @@
 ghost use Rattle.std.specs.Prelude.{◌≡◌, true, IfOk};
 ghost use Rattle.hosts_lasting.specs.Outlives.{Outlives};
 
-use hosts_db::{HostRow, HostStore, MyId, StoreError, Watch};
+use hosts_db::{HostRows, HostStore, StoreError, Writing};
 
 /// A store of hosts whose rows outlive a crash from its first `start` on: whatever a crash leaves at any moment, between calls
 /// or behind one that was refused, each host with a row has one in it. So a host that was told that a lock is granted, or waits, is
@@ -49,48 +49,11 @@ impl<S: HostStore> HostStore for Lasting<S> {
         Ok(own)
     }
 
-    fn monitor(&mut self, name: &[u8], state: i32) -> Result<(), StoreError> {
-        self.store.monitor(name, state)
+    fn write(&mut self, asked: Writing<'_>) -> Result<(), StoreError> {
+        self.store.write(asked)
     }
 
-    fn seen(&mut self, name: &[u8], state: i32) -> Result<(), StoreError> {
-        self.store.seen(name, state)
-    }
-
-    fn acked(&mut self, name: &[u8], epoch: u32) -> Result<(), StoreError> {
-        self.store.acked(name, epoch)
-    }
-
-    fn quota(&mut self, name: &[u8], runs: u32) -> Result<(), StoreError> {
-        self.store.quota(name, runs)
-    }
-
-    fn watch(
-        &mut self,
-        mon_name: &[u8],
-        my_id: &MyId<'_>,
-        private_bytes: &[u8; 16],
-    ) -> Result<(), StoreError> {
-        self.store.watch(mon_name, my_id, private_bytes)
-    }
-
-    fn unwatch(&mut self, mon_name: Option<&[u8]>, my_id: &MyId<'_>) -> Result<(), StoreError> {
-        self.store.unwatch(mon_name, my_id)
-    }
-
-    fn own(&self) -> u32 {
-        self.store.own()
-    }
-
-    fn hosts(&self) -> &[HostRow] {
-        self.store.hosts()
-    }
-
-    fn host(&self, name: &[u8]) -> Option<&HostRow> {
-        self.store.host(name)
-    }
-
-    fn watches(&self) -> &[Watch] {
-        self.store.watches()
+    fn kept(&self) -> &HostRows {
+        self.store.kept()
     }
 }

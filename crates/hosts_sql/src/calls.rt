@@ -3,14 +3,18 @@ ghost use Rattle.std.specs.Prelude.{OnOk, OnErr};
 ghost use Rattle.sqlite.specs.State.{HasCleanDisk, KeepsCommit, Survives};
 ghost use Rattle.sqlite.specs.Held.{state};
 ghost use Rattle.definitions.specs.Hosts.{after_store, Watched};
+ghost use Rattle.hosts_db.specs.Writings.{view_of_writing, IsNew};
 ghost use Rattle.hosts_sql.specs.Wrote.{HasTables, IsAsKept, MayWriteHosts, WroteHosts};
 ghost use Rattle.hosts_sql.specs.declared.tables.Version.TheVariants.{Second};
 ghost use Rattle.hosts_sql.specs.Holds.{Holds};
 
-use crate::statements::{make_and_start, put_host_and_watch, put_watch, set_own};
+use crate::notes::write_note;
+use crate::statements::{
+    delete_watches, insert_host, make_and_start, put_host_and_watch, put_watch, set_own,
+};
 use crate::tables::Version;
 use crate::upgrade::upgrade;
-use hosts_db::{HostRows, MyId};
+use hosts_db::{HostRows, MyId, Writing};
 use sqlite::{Alter, Connection, Error};
 
 /// Sets the own state of a file with the tables of this version, or with no object, and leaves it with those of
@@ -32,8 +36,8 @@ pub(crate) fn write_start<S: Alter>(
     }
 }
 
-/// Puts a watch, and the row of its host, where it has none, in one transaction.
-pub(crate) fn write_watch<S: Alter>(
+// Puts a watch, and the row of its host, where it has none, in one transaction.
+fn write_watch<S: Alter>(
     conn: &mut Connection<S>,
     rows: &HostRows,
     mon: &[u8],
@@ -50,4 +54,29 @@ pub(crate) fn write_watch<S: Alter>(
         return put_watch(conn, mon, my_id, private);
     }
     put_host_and_watch(conn, rows.own(), mon, my_id, private)
+}
+
+/// Makes this change, in one transaction.
+pub(crate) fn write_change<S: Alter>(
+    conn: &mut Connection<S>,
+    rows: &HostRows,
+    asked: Writing<'_>,
+) -> Result<(), Error>
+    requires tables { HasTables Second (state S.Store conn.old) }
+    requires kept { IsAsKept (state S.Store conn.old) rows.now }
+    requires new { IsNew rows.now (view_of_writing asked) }
+    ensures ok { HasCleanDisk (state S.Store conn.new) → OnOk result (WroteHosts (λ h. after_store h (view_of_writing asked.entry)) (state S.Store conn.old) (state S.Store conn.new)) }
+    ensures err { HasCleanDisk (state S.Store conn.new) → OnErr result (KeepsCommit (state S.Store conn.old) (state S.Store conn.new)) }
+    ensures crash { Survives (state S.Store conn.old) (state S.Store conn.new) (MayWriteHosts (λ h. after_store h (view_of_writing asked.entry)) (state S.Store conn.old)) }
+{
+    match asked {
+        Writing::Monitor { name, state } => insert_host(conn, name, rows.own(), state),
+        Writing::Note { name, note } => write_note(conn, rows, name, note),
+        Writing::Watch {
+            mon_name,
+            my_id,
+            private_bytes,
+        } => write_watch(conn, rows, mon_name, my_id, private_bytes),
+        Writing::Unwatch { mon_name, my_id } => delete_watches(conn, mon_name, my_id),
+    }
 }

@@ -6,17 +6,12 @@ ghost use Rattle.hosts_sql.specs.Own.{has_host_numbers, AllFit};
 ghost use Rattle.hosts_sql.specs.Wrote.{IsAsKept, hosts_of};
 ghost use Rattle.hosts_sql.specs.declared.tables.Version.TheVariants.{Second};
 ghost use Rattle.hosts_sql.specs.Holds.{Holds, Holds-prop};
-ghost use Rattle.definitions.specs.Hosts.{after_store};
-ghost use Rattle.hosts_db.specs.Calls.{Counts, Leaves, Makes, IsNotStarved, OnRefused};
-ghost use Rattle.hosts_db.specs.Notes.{view_of_note};
 
-use crate::calls::{write_start, write_watch};
+use crate::calls::{write_change, write_start};
 use crate::loading::load;
-use crate::notes::write_note;
-use crate::statements::{delete_watches, insert_host};
 use crate::tables::{Version, is_none, version_of};
 use definitions::own_state::next_own_state;
-use hosts_db::{HostRow, HostRows, HostStore, MyId, Note, Refusals, StoreError, Watch};
+use hosts_db::{HostRows, HostStore, Refusals, StoreError, Writing};
 use sqlite::{Alter, Connection, Error};
 use std::alloc::Global;
 
@@ -103,22 +98,6 @@ impl<S: Alter> SqlHosts<S> {
         self.is_started && matches!(self.version, Some(Version::Second))
     }
 
-    // Notes this in the row of a host. Without a row of that name nothing changes.
-    fn note(&mut self, name: &[u8], note: Note) -> Result<(), StoreError>
-        ensures makes { Makes result self.old.rows self.new.rows (after_store self.old.rows (view_of_note name.now note)) }
-        ensures counts { Counts result self.old.refusals self.new.refusals }
-        ensures refused { OnRefused result (⟦<SqlHosts<S> as HostStore>⟧.may_refuse self.old false) }
-        ensures not_starved { IsNotStarved result }
-        ensures crash { Leaves result (⟦<SqlHosts<S> as HostStore>⟧.may_leave self.old) (⟦<SqlHosts<S> as HostStore>⟧.may_leave self.new) (after_store self.old.rows (view_of_note name.now note)) }
-    {
-        if !self.is_ready() || write_note(&mut self.conn, &self.rows, name, note).is_err() {
-            self.refusals.add();
-            return Err(StoreError::StoreRefused);
-        }
-        self.rows.note(name, note);
-        Ok(())
-    }
-
     /// Gives the connection back, as the last call left it.
     pub fn into_connection(self) -> Connection<S>
         ensures { result ≡ self.conn }
@@ -173,8 +152,7 @@ impl<S: Alter> HostStore for SqlHosts<S> {
     fn start(&mut self) -> Result<u32, StoreError> {
         let own = next_own_state(self.rows.own());
         if write_start(&mut self.conn, self.version, own).is_err() {
-            self.refusals.add();
-            return Err(StoreError::StoreRefused);
+            return Err(self.refusals.refuse());
         }
         let own = self.rows.start();
         self.version = Some(Version::Second);
@@ -182,81 +160,19 @@ impl<S: Alter> HostStore for SqlHosts<S> {
         Ok(own)
     }
 
-    fn monitor(&mut self, name: &[u8], state: i32) -> Result<(), StoreError> {
-        if !self.is_ready() || self.rows.is_host_past_limit(name) {
-            self.refusals.add();
-            return Err(StoreError::StoreRefused);
+    fn write(&mut self, asked: Writing<'_>) -> Result<(), StoreError> {
+        if !self.is_ready() || self.rows.is_past_limit(asked) {
+            return Err(self.refusals.refuse());
         }
-        let Ok(kept) = Vec::from_slice(self.alloc, name) else {
-            return Err(StoreError::Starved);
-        };
-        let epoch = self.rows.own();
-        if insert_host(&mut self.conn, name, epoch, state).is_err() {
-            self.refusals.add();
-            return Err(StoreError::StoreRefused);
+        let prepared = asked.prepare(self.alloc)?;
+        if write_change(&mut self.conn, &self.rows, asked).is_err() {
+            return Err(self.refusals.refuse());
         }
-        self.rows.monitor(kept, state);
+        self.rows.write(prepared);
         Ok(())
     }
 
-    fn seen(&mut self, name: &[u8], state: i32) -> Result<(), StoreError> {
-        self.note(name, Note::Seen(state))
-    }
-
-    fn acked(&mut self, name: &[u8], epoch: u32) -> Result<(), StoreError> {
-        self.note(name, Note::Epoch(epoch))
-    }
-
-    fn quota(&mut self, name: &[u8], runs: u32) -> Result<(), StoreError> {
-        self.note(name, Note::Quota(runs))
-    }
-
-    fn watch(
-        &mut self,
-        mon_name: &[u8],
-        my_id: &MyId<'_>,
-        private_bytes: &[u8; 16],
-    ) -> Result<(), StoreError> {
-        if !self.is_ready() || self.rows.is_watch_past_limit(mon_name, my_id) {
-            self.refusals.add();
-            return Err(StoreError::StoreRefused);
-        }
-        let Ok(name) = Vec::from_slice(self.alloc, mon_name) else {
-            return Err(StoreError::Starved);
-        };
-        let Ok(watch) = Watch::new(self.alloc, mon_name, my_id, private_bytes) else {
-            return Err(StoreError::Starved);
-        };
-        if write_watch(&mut self.conn, &self.rows, mon_name, my_id, private_bytes).is_err() {
-            self.refusals.add();
-            return Err(StoreError::StoreRefused);
-        }
-        self.rows.watch(name, watch);
-        Ok(())
-    }
-
-    fn unwatch(&mut self, mon_name: Option<&[u8]>, my_id: &MyId<'_>) -> Result<(), StoreError> {
-        if !self.is_ready() || delete_watches(&mut self.conn, mon_name, my_id).is_err() {
-            self.refusals.add();
-            return Err(StoreError::StoreRefused);
-        }
-        self.rows.unwatch(mon_name, my_id);
-        Ok(())
-    }
-
-    fn own(&self) -> u32 {
-        self.rows.own()
-    }
-
-    fn hosts(&self) -> &[HostRow] {
-        self.rows.hosts()
-    }
-
-    fn host(&self, name: &[u8]) -> Option<&HostRow> {
-        self.rows.host(name)
-    }
-
-    fn watches(&self) -> &[Watch] {
-        self.rows.watches()
+    fn kept(&self) -> &HostRows {
+        &self.rows
     }
 }

@@ -1,7 +1,7 @@
 //! A store that is lent to a server, so that its rows can be read when the server is gone, and how often it was asked to write.
 ghost use Rattle.std.specs.Prelude.{◌≡◌};
 
-use hosts_db::{HostRow, HostStore, MyId, StoreError, Watch};
+use hosts_db::{HostRows, HostStore, StoreError, Writing};
 
 /// A store that stays its owner's, and a count that grows by one with each call that may write a row, up to the last number.
 #[derive(Drop)]
@@ -33,54 +33,12 @@ impl<'a, S: HostStore> HostStore for Lent<'a, S> {
         self.store.start()
     }
 
-    fn monitor(&mut self, name: &[u8], state: i32) -> Result<(), StoreError> {
+    fn write(&mut self, asked: Writing<'_>) -> Result<(), StoreError> {
         *self.writes = self.writes.saturating_add(1);
-        self.store.monitor(name, state)
+        self.store.write(asked)
     }
 
-    fn seen(&mut self, name: &[u8], state: i32) -> Result<(), StoreError> {
-        *self.writes = self.writes.saturating_add(1);
-        self.store.seen(name, state)
-    }
-
-    fn acked(&mut self, name: &[u8], epoch: u32) -> Result<(), StoreError> {
-        *self.writes = self.writes.saturating_add(1);
-        self.store.acked(name, epoch)
-    }
-
-    fn quota(&mut self, name: &[u8], runs: u32) -> Result<(), StoreError> {
-        *self.writes = self.writes.saturating_add(1);
-        self.store.quota(name, runs)
-    }
-
-    fn watch(
-        &mut self,
-        mon_name: &[u8],
-        my_id: &MyId<'_>,
-        private_bytes: &[u8; 16],
-    ) -> Result<(), StoreError> {
-        *self.writes = self.writes.saturating_add(1);
-        self.store.watch(mon_name, my_id, private_bytes)
-    }
-
-    fn unwatch(&mut self, mon_name: Option<&[u8]>, my_id: &MyId<'_>) -> Result<(), StoreError> {
-        *self.writes = self.writes.saturating_add(1);
-        self.store.unwatch(mon_name, my_id)
-    }
-
-    fn own(&self) -> u32 {
-        self.store.own()
-    }
-
-    fn hosts(&self) -> &[HostRow] {
-        self.store.hosts()
-    }
-
-    fn host(&self, name: &[u8]) -> Option<&HostRow> {
-        self.store.host(name)
-    }
-
-    fn watches(&self) -> &[Watch] {
-        self.store.watches()
+    fn kept(&self) -> &HostRows {
+        self.store.kept()
     }
 }
