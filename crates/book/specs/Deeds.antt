@@ -7,10 +7,10 @@ use Rattle.book.specs.declared.entries.Entries.{Entries}
 use Rattle.book.specs.Given.{Upshot, comes_to, view_of_doing}
 use Rattle.book.specs.Journal.{TakesMemory}
 use Rattle.book.specs.Notes.{Happening, Steps, given_in, view_of_act}
-use Rattle.book.specs.Shared.{Shared}
+use Rattle.book.specs.BookState.{BookState}
 
 -- one step of the definitions, of which the deed tells, and one refusal more where the store has refused
-pub record IsDone (old : Shared) (event : Happening) (upshot : Upshot) (deed : Deed) (new : Shared) : Type 0 where
+pub record IsDone (old : BookState) (event : Happening) (upshot : Upshot) (deed : Deed) (new : BookState) : Type 0 where
   pub step : Steps old.state event upshot new.state
   pub tells : view_of_act deed.act ≡ event
   pub noted : comes_to (view_of_doing deed.doing) (view_of_stored deed.store) (given_in deed.act) ≡ upshot

@@ -1,6 +1,6 @@
 pub mod Given
 pub mod Notes
-pub mod Shared
+pub mod BookState
 pub mod Journal
 pub mod Kept
 pub mod Receipts

@@ -5,10 +5,10 @@ use Rattle.call_plans.specs.Planned.{counted}
 use Rattle.book.specs.declared.reply.Reply.{Reply}
 use Rattle.book.specs.Given.{Upshot, view_of_reply}
 use Rattle.book.specs.Notes.{IsStep}
-use Rattle.book.specs.Shared.{Shared}
+use Rattle.book.specs.BookState.{BookState}
 
 -- one step of the definitions, what it gives as a reply, and one refusal more where the store has refused
-pub record IsTold (event : Event) (old : Shared) (told : Upshot × Reply) (new : Shared) : Type 0 where
+pub record IsTold (event : Event) (old : BookState) (told : Upshot × Reply) (new : BookState) : Type 0 where
   pub step : IsStep old.state event told.0 new.state
   pub noted : view_of_reply told.1 ≡ told.0.given
   pub counts : new.refusals ≡ counted told.0.store old.refusals

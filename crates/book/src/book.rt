@@ -15,7 +15,7 @@ use crate::receipt::{Receipt, Taken};
 use crate::reply::Reply;
 use crate::seen::Seen;
 use crate::segment::{Closed, Segment};
-use crate::shared::Shared;
+use crate::state::BookState;
 use crate::upshot::{Doing, Upshot};
 use call_records::Dest;
 use callbacks::ShortBytes;
@@ -33,8 +33,8 @@ use xdr_core::Frame;
 /// The world, the kept replies, and the journal of this segment. Contracts see the journal, whose end is the state, and how
 /// often the store has refused.
 pub struct Book<R: RangeTable, S: HostStore> {
-    shared: Shared<R, S>,
-    base: Seen<Shared<R, S>>,
+    shared: BookState<R, S>,
+    base: Seen<BookState<R, S>>,
     entries: Entries,
 }
 
@@ -73,7 +73,7 @@ impl<R: RangeTable + Drop, S: HostStore + Drop> Book<R, S> {
         ensures begins { IfOk result (λ book. book ≡ record { journal = begun 1 (opening_state own_name (S.rows store)); refusals = S.refusals store }) }
     {
         let segment = Segment::new(alloc)?;
-        let shared = Shared::new(alloc, table, store, own_name)?;
+        let shared = BookState::new(alloc, table, store, own_name)?;
         let base = Seen::of(&shared);
         Ok(Book {
             shared,

@@ -1,7 +1,7 @@
 //! Entries are made.
 use crate::entry::{Act, Entry};
 use crate::event::BookEvent;
-use crate::shared::Shared;
+use crate::state::BookState;
 use crate::upshot::{Doing, Upshot};
 use hosts_db::HostStore;
 use lock_service::StoreAnswer;
@@ -41,7 +41,7 @@ impl Noting<Deed> for Entries {
     }
 }
 
-impl<R: RangeTable, S: HostStore> Changing<BookEvent, Upshot, Deed> for Shared<R, S> {
+impl<R: RangeTable, S: HostStore> Changing<BookEvent, Upshot, Deed> for BookState<R, S> {
     ghost use Rattle.book.specs.Deeds.{IsDone};
     ghost use Rattle.book.specs.Notes.{view_of_event};
 

@@ -11,7 +11,7 @@ ghost use Rattle.book.specs.Notes.{IsStep};
 
 use crate::kept::KeptReply;
 use crate::reply::Reply;
-use crate::shared::Shared;
+use crate::state::BookState;
 use crate::upshot::{Upshot, answers, starved};
 use call_outcome::is_kept;
 use call_plans::Told;
@@ -23,7 +23,7 @@ use owner_ids::Starved;
 use range_table::RangeTable;
 use std::alloc::Global;
 
-impl<R: RangeTable, S: HostStore> Shared<R, S> {
+impl<R: RangeTable, S: HostStore> BookState<R, S> {
     /// The call is planned, all memory is got, the store is asked, the reply is kept, the plan is done, and what waited for
     /// it is granted.
     pub(crate) fn fresh(&mut self, key: Key, xid: u32, call: &Call<'_>) -> (Upshot, Reply)

@@ -15,8 +15,8 @@ mod reply;
 mod seen;
 mod segment;
 mod send;
-mod shared;
 mod starved;
+mod state;
 mod take;
 mod upshot;
 

@@ -11,7 +11,7 @@ ghost use Rattle.book.specs.Given.{comes_to};
 ghost use Rattle.book.specs.Lines.{IsDone, IsToldOnly};
 ghost use Rattle.book.specs.Notes.{AsksLine, IsStep, Steps};
 
-use crate::shared::Shared;
+use crate::state::BookState;
 use hosts_db::HostStore;
 use local_ops::{LocalAnswer, LocalCall};
 use lock_service::{
@@ -20,7 +20,7 @@ use lock_service::{
 use owner_ids::Starved;
 use range_table::RangeTable;
 
-impl<R: RangeTable, S: HostStore> Shared<R, S> {
+impl<R: RangeTable, S: HostStore> BookState<R, S> {
     /// A line, without its line feed, on the local connection of this number: what it is answered, and what the store
     /// answered. Starved: there is no memory for it, and nothing has changed.
     pub(crate) fn line(

@@ -8,14 +8,14 @@ ghost use Rattle.book.specs.Given.{view_of_reply};
 ghost use Rattle.book.specs.Notes.{IsStep};
 
 use crate::reply::Reply;
-use crate::shared::Shared;
+use crate::state::BookState;
 use crate::upshot::{Upshot, too_few_places};
 use hosts_db::HostStore;
 use kept_replies::Key;
 use owner_ids::Starved;
 use range_table::RangeTable;
 
-impl<R: RangeTable, S: HostStore> Shared<R, S> {
+impl<R: RangeTable, S: HostStore> BookState<R, S> {
     /// The reply that is kept under the key, which is now the newest use, and the calls that went with it, due again;
     /// whatever the call asks, nothing else changes. Where too few places are free for those calls, nothing changes, and
     /// the reply is SYSTEM_ERR. Starved: nothing has changed.

@@ -5,7 +5,7 @@ ghost use Rattle.book.specs.declared.entry.TheConstants.{SEGMENT};
 
 use crate::entry::{Entry, SEGMENT};
 use crate::seen::Seen;
-use crate::shared::Shared;
+use crate::state::BookState;
 use hosts_db::HostStore;
 use owner_ids::Starved;
 use range_table::RangeTable;
@@ -32,9 +32,9 @@ impl Segment {
 /// A segment that is over. Contracts see the states before and after it, too.
 pub struct Closed<R: RangeTable, S: HostStore> {
     pub(crate) newest: u64,
-    pub(crate) base: Seen<Shared<R, S>>,
+    pub(crate) base: Seen<BookState<R, S>>,
     pub(crate) entries: Vec<Entry>,
-    pub(crate) end: Seen<Shared<R, S>>,
+    pub(crate) end: Seen<BookState<R, S>>,
 }
 
 impl<R: RangeTable, S: HostStore> Model for Closed<R, S> {

@@ -9,7 +9,7 @@ ghost use Rattle.book.specs.Given.{comes_to};
 ghost use Rattle.book.specs.Notes.{IsStep};
 
 use crate::seen::Seen;
-use crate::shared::Shared;
+use crate::state::BookState;
 use call_records::{Dest, put_record};
 use callbacks::Letter;
 use hosts_db::HostStore;
@@ -27,7 +27,7 @@ pub(crate) struct Sending {
     pub(crate) ghost says: { frame ≡ call_record number letter.value.message },
 }
 
-impl<R: RangeTable, S: HostStore> Shared<R, S> {
+impl<R: RangeTable, S: HostStore> BookState<R, S> {
     /// The call that is due first is sent, if one is due.
     pub(crate) fn send(&mut self) -> Option<Sending>
         ensures step { IfSome result (λ s. IsStep self.old.state Send (comes_to Applied NotAsked (Sends s.number s.letter.value)) self.new.state) }

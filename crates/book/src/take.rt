@@ -9,7 +9,7 @@ ghost use Rattle.book.specs.Given.{view_of_reply};
 ghost use Rattle.book.specs.Notes.{IsStep, Steps, Takes};
 
 use crate::reply::Reply;
-use crate::shared::Shared;
+use crate::state::BookState;
 use crate::upshot::{Upshot, nothing, refuses, starved};
 use bytes::Bytes;
 use hosts_db::HostStore;
@@ -19,7 +19,7 @@ use owner_ids::Starved;
 use range_table::RangeTable;
 use record_reading::Reading;
 
-impl<R: RangeTable, S: HostStore> Shared<R, S> {
+impl<R: RangeTable, S: HostStore> BookState<R, S> {
     /// A record of a peer: it is ignored, turned away, or given to its procedure, unless its reply is kept.
     pub(crate) fn take(&mut self, peer: Peer, bytes: &Bytes) -> (Upshot, Reply)
         ensures step { Steps self.old.state (Takes (view_of_peer peer) bytes.now) result.0 self.new.state }
@@ -54,7 +54,7 @@ struct Asking<'a, 'c> {
 }
 
 impl<'a, 'c, R: RangeTable, S: HostStore> Answering<Asking<'a, 'c>, (Upshot, Reply)>
-    for Shared<R, S> {
+    for BookState<R, S> {
     ghost use Rattle.std.specs.Prelude.{◌≡◌, None};
     ghost use Rattle.definitions.specs.Replies.{Asks};
     ghost use Rattle.definitions.specs.Step.{Take};

@@ -89,7 +89,7 @@ pub enum Change {
 
 /// An outcome, shared: one for whoever asked, one for the journal. So that nothing is got once the store has answered.
 #[derive(Drop)]
-pub struct Shared {
+pub struct SharedOutcome {
     pub told: Arc<Outcome, Global>,
     pub noted: Arc<Outcome, Global>,
     pub ghost same: { view_of_outcome noted.value ≡ view_of_outcome told.value },
@@ -98,7 +98,7 @@ pub struct Shared {
 /// What is told: the outcome, and the calls of the server's own that become due for it.
 #[derive(Drop)]
 pub struct Told {
-    pub outcome: Shared,
+    pub outcome: SharedOutcome,
     pub due: Vec<Letter>,
 }
 

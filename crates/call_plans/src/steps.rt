@@ -15,7 +15,7 @@ ghost use Rattle.call_plans.specs.Forgotten.{IsForgottenBy, IsForgottenUnder};
 ghost use Rattle.call_plans.specs.Planned.{IsForgotten, IsForgottenFor, KeepsOthers, KeepsOthersFor, IsForgottenIfIdle, changed, view_of_range};
 
 use crate::answers::granted_res;
-use crate::plans::{Answer, Asked, Change, Plan, Range, Shared, Told};
+use crate::plans::{Answer, Asked, Change, Plan, Range, SharedOutcome, Told};
 use callbacks::{MyId, ShortBytes};
 use hosts_db::{HostStore, StoreError};
 use lock_state::World;
@@ -175,7 +175,7 @@ pub fn commit<R: RangeTable, S: HostStore>(
     world: &mut World<R, S>,
     plan: Plan,
     store: StoreAnswer,
-) -> Shared
+) -> SharedOutcome
     requires fits { FitsUnder (view_of_stored store) plan world.old.world }
     requires ready { IsReady plan world.old }
     ensures answer { IsCommitted (view_of_stored store) plan (view_of_outcome result.told.value) world.old.world world.new.world }
@@ -203,7 +203,7 @@ struct Deferred {
     refused: Told,
 }
 
-impl<R: RangeTable, S: HostStore> Pending<World<R, S>, Shared> for Deferred {
+impl<R: RangeTable, S: HostStore> Pending<World<R, S>, SharedOutcome> for Deferred {
     ghost use Rattle.call_plans.specs.Planned.{FitsAnswer, FitsDue, IsReadyFor};
     ghost use Rattle.call_plans.specs.Deferred.{IsAgreed, IsTurnedDown};
 
@@ -215,13 +215,13 @@ impl<R: RangeTable, S: HostStore> Pending<World<R, S>, Shared> for Deferred {
 
     ghost Refused = { λ d old told new. IsTurnedDown d.agreed d.refused old told new };
 
-    fn agree(self, world: &mut World<R, S>) -> Shared {
+    fn agree(self, world: &mut World<R, S>) -> SharedOutcome {
         let Deferred { agreed, refused } = self;
         drop(refused);
         do_answer(world, agreed)
     }
 
-    fn refuse(self, world: &mut World<R, S>) -> Shared {
+    fn refuse(self, world: &mut World<R, S>) -> SharedOutcome {
         let Deferred { agreed, refused } = self;
         refuse(world, agreed, refused)
     }
@@ -232,7 +232,7 @@ fn refuse<R: RangeTable, S: HostStore>(
     world: &mut World<R, S>,
     agreed: Answer,
     refused: Told,
-) -> Shared
+) -> SharedOutcome
     requires { FitsDue refused world.old.world }
     ensures told { record { outcome = view_of_outcome result.told.value; due = refused.due.items; world = world.new.world } ≡ told_in refused world.old.world }
     ensures refusals { world.new.refusals ≡ world.old.refusals }
@@ -244,7 +244,7 @@ fn refuse<R: RangeTable, S: HostStore>(
 }
 
 // The change, and then the calls that become due.
-fn do_answer<R: RangeTable, S: HostStore>(world: &mut World<R, S>, answer: Answer) -> Shared
+fn do_answer<R: RangeTable, S: HostStore>(world: &mut World<R, S>, answer: Answer) -> SharedOutcome
     requires fits { FitsAnswer answer world.old.world }
     requires ready { IsReadyFor answer.change world.old }
     ensures told { record { outcome = view_of_outcome result.told.value; due = answer.told.due.items; world = world.new.world } ≡ answered answer world.old.world }
@@ -259,7 +259,7 @@ fn do_answer<R: RangeTable, S: HostStore>(world: &mut World<R, S>, answer: Answe
     tell(world, told)
 }
 
-fn tell<R: RangeTable, S: HostStore>(world: &mut World<R, S>, told: Told) -> Shared
+fn tell<R: RangeTable, S: HostStore>(world: &mut World<R, S>, told: Told) -> SharedOutcome
     requires { FitsDue told world.old.world }
     ensures told { record { outcome = view_of_outcome result.told.value; due = told.due.items; world = world.new.world } ≡ told_in told world.old.world }
     ensures names { world.new.names ≡ world.old.names }

@@ -5,16 +5,16 @@ ghost use Rattle.definitions.specs.Answer.{gives, sent_back};
 ghost use Rattle.definitions.specs.World.{World as SaidWorld, slots_free, the_limits};
 ghost use Rattle.call_plans.specs.Planned.{told_in, FitsDue};
 
-use crate::plans::{Shared, Told};
+use crate::plans::{SharedOutcome, Told};
 use call_outcome::{CallResult, Outcome};
 use callbacks::Letter;
 use owner_ids::Starved;
 use std::alloc::Global;
 use std::sync::Arc;
 
-impl Shared {
+impl SharedOutcome {
     /// The outcome, for both.
-    pub fn of(alloc: Global, outcome: Outcome) -> Result<Shared, Starved>
+    pub fn of(alloc: Global, outcome: Outcome) -> Result<SharedOutcome, Starved>
         ensures { IfOk result (λ made. made.told.value ≡ outcome) }
     {
         let told = match Arc::new(alloc, outcome) {
@@ -22,7 +22,7 @@ impl Shared {
             Err(_) => return Err(Starved),
         };
         let noted = Arc::try_clone(&told)?;
-        Ok(Shared { told, noted })
+        Ok(SharedOutcome { told, noted })
     }
 }
 
@@ -33,7 +33,7 @@ impl Told {
         ensures fits { IfOk result (λ made. (w : SaidWorld) → FitsDue made w) }
     {
         Ok(Told {
-            outcome: Shared::of(alloc, outcome)?,
+            outcome: SharedOutcome::of(alloc, outcome)?,
             due: Vec::new(alloc),
         })
     }
@@ -49,7 +49,7 @@ impl Told {
         };
         due.push_reserved(letter);
         Ok(Told {
-            outcome: Shared::of(alloc, Outcome::Success(CallResult::Nothing))?,
+            outcome: SharedOutcome::of(alloc, Outcome::Success(CallResult::Nothing))?,
             due,
         })
     }

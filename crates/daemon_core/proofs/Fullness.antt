@@ -1,13 +1,13 @@
 -- What takes no memory starves for a segment alone.
 use Rattle.std.proofs.Common.{◌≡◌, ◌⊎◌, Bool, inl, inr, refl}
 use Rattle.daemon_core.specs.declared.event.Event.TheVariants.{Connect, Piece, Disconnect, Take, Send, Answer, Local, Silent, GraceOver, Restart}
-use Rattle.daemon_core.specs.declared.outcome.Outcome.{Outcome}
-use Rattle.daemon_core.specs.declared.outcome.Outcome.TheVariants.{Applied, Starved, NoSegment}
+use Rattle.daemon_core.specs.declared.event_outcome.EventOutcome.{EventOutcome}
+use Rattle.daemon_core.specs.declared.event_outcome.EventOutcome.TheVariants.{Applied, Starved, NoSegment}
 use Rattle.daemon_core.specs.Rooms.{Room, RoomAfter}
 use Rattle.daemon_core.specs.Laws.{StarvesWhereFull}
 
 -- of each thing that may become of it
-full : (outcome : Outcome) (needed : Bool) (old new : Room) → (outcome ≡ Starved → ⊥) → RoomAfter outcome needed old new → (outcome ≡ Applied) ⊎ ((outcome ≡ NoSegment) × (old.left ≡ 0))
+full : (outcome : EventOutcome) (needed : Bool) (old new : Room) → (outcome ≡ Starved → ⊥) → RoomAfter outcome needed old new → (outcome ≡ Applied) ⊎ ((outcome ≡ NoSegment) × (old.left ≡ 0))
 full Applied needed old new fed room = inl refl
 full Starved needed old new fed room = absurd (fed refl)
 full NoSegment needed old new fed room = inr (refl, room.0)

@@ -10,9 +10,9 @@ use Rattle.call_plans.specs.Planned.{view_of_stored, counted}
 use Rattle.book.specs.Given.{Upshot}
 use Rattle.book.specs.Journal.{TakesMemory}
 use Rattle.book.specs.Notes.{Happening, Takes, BeginsAnew, Steps}
-use Rattle.daemon_core.specs.declared.outcome.Outcome.{Outcome}
-use Rattle.daemon_core.specs.declared.outcome.Outcome.TheVariants.{Starved, NoSegment}
-use Rattle.daemon_core.specs.Outcomes.{view_of_outcome, needs_entry}
+use Rattle.daemon_core.specs.declared.event_outcome.EventOutcome.{EventOutcome}
+use Rattle.daemon_core.specs.declared.event_outcome.EventOutcome.TheVariants.{Starved, NoSegment}
+use Rattle.daemon_core.specs.Outcomes.{view_of_event_outcome, needs_entry}
 use Rattle.daemon_core.specs.declared.outputs.Outputs.{Outputs}
 use Rattle.daemon_core.specs.Outputs.{quiet, upshot_of, told_to}
 use Rattle.daemon_core.specs.Rooms.{Room, RoomAfter}
@@ -85,19 +85,19 @@ links_after-kept told.Yes links unlike = absurd (unlike refl)
 links_after-kept told.Refused links unlike = refl
 
 -- what is told of an upshot
-module _ (out : Outputs) (outcome : Outcome) (upshot : Upshot) (is : out.outcome ≡ outcome) (store : view_of_stored out.store ≡ upshot.store) (doing : view_of_outcome outcome ≡ upshot.doing) where
+module _ (out : Outputs) (outcome : EventOutcome) (upshot : Upshot) (is : out.outcome ≡ outcome) (store : view_of_stored out.store ≡ upshot.store) (doing : view_of_event_outcome outcome ≡ upshot.doing) where
   pub upshot_of-told : upshot_of out upshot.given ≡ upshot
   upshot_of-told =
-      let became : view_of_outcome out.outcome ≡ upshot.doing = ap view_of_outcome is ∙ doing in λ i. record { doing = became i; store = store i; given = upshot.given }
+      let became : view_of_event_outcome out.outcome ≡ upshot.doing = ap view_of_event_outcome is ∙ doing in λ i. record { doing = became i; store = store i; given = upshot.given }
 
   pub room-told : (needed : Bool) (room after : Room) → RoomAfter outcome needed room after → RoomAfter out.outcome needed room after
-  room-told needed room after takes = subst (λ (o : Outcome). RoomAfter o needed room after) (sym is) takes
+  room-told needed room after takes = subst (λ (o : EventOutcome). RoomAfter o needed room after) (sym is) takes
 
   module _ (event : Happening) (old new : State) (unasked : outcome ≡ NoSegment → upshot.store ≡ NotAsked) (unchanged : outcome ≡ NoSegment → new ≡ old) (needed : needs_entry event old ≡ true) where
     pub unnoted : out.outcome ≡ NoSegment → IsUnnoted event old out new
     unnoted none = let same = sym is ∙ none in record { needed = needed; unasked = not_asked out.store (store ∙ unasked same); unchanged = unchanged same }
 
-    pub Happens-noted : (tell : Outcome → Told → Given → Outputs) (refusals counts : ℕ) (room after : Room) (links more : List Link) → Steps old event upshot new → counts ≡ counted upshot.store refusals → (outcome ≡ Starved → TakesMemory event)
+    pub Happens-noted : (tell : EventOutcome → Told → Given → Outputs) (refusals counts : ℕ) (room after : Room) (links more : List Link) → Steps old event upshot new → counts ≡ counted upshot.store refusals → (outcome ≡ Starved → TakesMemory event)
         → RoomAfter outcome (needs_entry event old) room after
         → more ≡ links_after event out.store links → out ≡ tell out.outcome out.store upshot.given
         → Happens tell event (record { state = old; refusals = refusals; room = room; links = links }) out (record { state = new; refusals = counts; room = after; links = more })

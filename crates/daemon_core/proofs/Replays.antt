@@ -14,8 +14,8 @@ use Rattle.book.specs.Notes.{Happening, Steps}
 use Rattle.kept_replies.specs.declared.key.Peer.{Peer}
 use Rattle.daemon_core.specs.declared.event.Event.{Event}
 use Rattle.daemon_core.specs.declared.event.Event.TheVariants.{Connect, Piece, Disconnect, Take, Send, Answer, Local, Silent, GraceOver, Restart}
-use Rattle.daemon_core.specs.declared.outcome.Outcome.{Outcome}
-use Rattle.daemon_core.specs.declared.outcome.Outcome.TheVariants.{Applied, Starved, NoSegment}
+use Rattle.daemon_core.specs.declared.event_outcome.EventOutcome.{EventOutcome}
+use Rattle.daemon_core.specs.declared.event_outcome.EventOutcome.TheVariants.{Applied, Starved, NoSegment}
 use Rattle.daemon_core.specs.declared.outputs.Outputs.{Outputs}
 use Rattle.definition_laws.proofs.RunLaws.{run_is_sound}
 use Rattle.definition_laws.proofs.GraceLaws.{grace_grants_law}
@@ -35,7 +35,7 @@ stays old new e = record { done = []; leads = sym e }
 by_step : (old new : State) (event : Happening) (upshot : Upshot) → Steps old event upshot new → Replay old new
 by_step old new event upshot s = record { done = (record { event = s.said; doing = upshot.doing; store = upshot.store }) ∷ []; leads = s.step.leaves }
 
-connects : (place : Option ℕ) (o : Outcome) (number : ℕ) (peer : Peer) (old new : Hub) (out : Outputs) → Connects place o number peer old out new → Replay old.state new.state
+connects : (place : Option ℕ) (o : EventOutcome) (number : ℕ) (peer : Peer) (old new : Hub) (out : Outputs) → Connects place o number peer old out new → Replay old.state new.state
 connects (Some place) o number peer old new out h = stays old.state new.state (ap (λ (x : Hub). x.state) h.0)
 connects None Applied number peer old new out h = stays old.state new.state (ap (λ (x : Hub). x.state) h.0)
 connects None Starved number peer old new out h = stays old.state new.state (ap (λ (x : Hub). x.state) h.0)

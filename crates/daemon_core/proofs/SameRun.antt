@@ -10,10 +10,10 @@ use Rattle.book.specs.Given.{comes_to}
 use Rattle.book.specs.Notes.{Happening, Takes, SendsNext, HearsAnswer, AsksLine, FallsSilent, GraceEnds, BeginsAnew, Steps, OneStep}
 use Rattle.daemon_core.specs.declared.event.Event.{Event}
 use Rattle.daemon_core.specs.declared.event.Event.TheVariants.{Connect, Piece, Disconnect, Take, Send, Answer, Local, Silent, GraceOver, Restart}
-use Rattle.daemon_core.specs.declared.outcome.Outcome.{Outcome}
-use Rattle.daemon_core.specs.declared.outcome.Outcome.TheVariants.{Applied, Starved, NoSegment}
+use Rattle.daemon_core.specs.declared.event_outcome.EventOutcome.{EventOutcome}
+use Rattle.daemon_core.specs.declared.event_outcome.EventOutcome.TheVariants.{Applied, Starved, NoSegment}
 use Rattle.daemon_core.specs.declared.outputs.Outputs.{Outputs}
-use Rattle.daemon_core.specs.Outcomes.{view_of_outcome, needs_entry}
+use Rattle.daemon_core.specs.Outcomes.{view_of_event_outcome, needs_entry}
 use Rattle.daemon_core.specs.Outputs.{marked_by, told, told_call, told_line, told_to}
 use Rattle.daemon_core.specs.Rooms.{Room, TakesIfNeeded, RoomAfter}
 use Rattle.record_mark.specs.Untaken.{AreRecords, untaken}
@@ -33,24 +33,24 @@ taken-same true old new end h h' =
     let next : new.next ≡ end.next = h.1 ∙ sym h'.1 in λ i. record { left = left i; next = next i }
 taken-same false old new end h h' = h ∙ sym h'
 
-room-same : (o p : Outcome) (needed : Bool) (old new end : Room) → o ≡ p → RoomAfter o needed old new → RoomAfter p needed old end → new ≡ end
-room-same o p needed old new end e h h' = go o h (subst (λ (q : Outcome). RoomAfter q needed old end) (sym e) h')
+room-same : (o p : EventOutcome) (needed : Bool) (old new end : Room) → o ≡ p → RoomAfter o needed old new → RoomAfter p needed old end → new ≡ end
+room-same o p needed old new end e h h' = go o h (subst (λ (q : EventOutcome). RoomAfter q needed old end) (sym e) h')
   where
-    go : (q : Outcome) → RoomAfter q needed old new → RoomAfter q needed old end → new ≡ end
+    go : (q : EventOutcome) → RoomAfter q needed old new → RoomAfter q needed old end → new ≡ end
     go NoSegment k k' = k.1 ∙ sym k'.1
     go Applied k k' = taken-same needed old new end k k'
     go Starved k k' = taken-same needed old new end k k'
 
 -- what the events gave, and the states after them
-same-step : OneStep → (old new end : State) (event : Happening) (o p : Outcome) (a b : StoreAnswer) (given other : Given) → o ≡ p → a ≡ b → Steps old event (comes_to (view_of_outcome o) (view_of_stored a) given) new
-    → Steps old event (comes_to (view_of_outcome p) (view_of_stored b) other) end → (given ≡ other) × (new ≡ end)
+same-step : OneStep → (old new end : State) (event : Happening) (o p : EventOutcome) (a b : StoreAnswer) (given other : Given) → o ≡ p → a ≡ b → Steps old event (comes_to (view_of_event_outcome o) (view_of_stored a) given) new
+    → Steps old event (comes_to (view_of_event_outcome p) (view_of_stored b) other) end → (given ≡ other) × (new ≡ end)
 same-step one old new end event o p a b given other e f x y =
-    one old new end event (view_of_outcome p) (view_of_stored b) given other (subst (λ (q : Outcome). Steps old event (comes_to (view_of_outcome q) (view_of_stored b) given) new) e (subst (λ (q : StoreAnswer). Steps old event (comes_to (view_of_outcome o) (view_of_stored q) given) new) f x)) y
+    one old new end event (view_of_event_outcome p) (view_of_stored b) given other (subst (λ (q : EventOutcome). Steps old event (comes_to (view_of_event_outcome q) (view_of_stored b) given) new) e (subst (λ (q : StoreAnswer). Steps old event (comes_to (view_of_event_outcome o) (view_of_stored q) given) new) f x)) y
 
 quiet-same : (old new new' : Hub) (out out' : Outputs) → IsQuiet old out new → IsQuiet old out' new' → Same out out' new new'
 quiet-same old new new' out out' h h' = (h.1 ∙ sym h'.1, h.0 ∙ sym h'.0)
 
-Connects-same : (place : Option ℕ) (o o' : Outcome) (number : ℕ) (peer : Peer) (old new new' : Hub) (out out' : Outputs) → o ≡ o' → Connects place o number peer old out new
+Connects-same : (place : Option ℕ) (o o' : EventOutcome) (number : ℕ) (peer : Peer) (old new new' : Hub) (out out' : Outputs) → o ≡ o' → Connects place o number peer old out new
     → Connects place o' number peer old out' new' → Same out out' new new'
 Connects-same (Some place) o o' number peer old new new' out out' e h h' = quiet-same old new new' out out' h h'
 Connects-same None Applied Applied number peer old new new' out out' e h h' = (h.1 ∙ sym h'.1, h.0 ∙ sym h'.0)
@@ -64,7 +64,7 @@ Disconnects-same : (place : Option ℕ) (old new new' : Hub) (out out' : Outputs
 Disconnects-same None old new new' out out' h h' = (h.1 ∙ sym h'.1, h.0 ∙ sym h'.0)
 Disconnects-same (Some place) old new new' out out' h h' = (h.1 ∙ sym h'.1, h.0 ∙ sym h'.0)
 
-Hears-same : HasOneReading → (o o' : Outcome) (old new new' : Link) (bytes : List ℕ) (out out' : Outputs) → o ≡ o' → Hears o old bytes out new → Hears o' old bytes out' new'
+Hears-same : HasOneReading → (o o' : EventOutcome) (old new new' : Link) (bytes : List ℕ) (out out' : Outputs) → o ≡ o' → Hears o old bytes out new → Hears o' old bytes out' new'
     → (out ≡ out') × (new ≡ new')
 Hears-same one Applied Applied old new new' bytes out out' e h h' =
     let links : new ≡ new' = h.0 ∙ sym h'.0 in
@@ -116,18 +116,18 @@ Answers-same one step place i old new new' out out' e f h h' =
     let get : Link → List (List ℕ) → Option (List ℕ) = λ l rs. slice_get (untaken rs l.taken) i in
     let is' : slice_get (untaken h.records h.link.taken) i ≡ Some h'.bytes = ap (λ (rs : List (List ℕ)). get h.link rs) (sym records) ∙ (ap (λ (l : Link). get l h'.records) (sym link) ∙ h'.is) in
     let bytes : h'.bytes ≡ h.bytes = bytes-same (slice_get (untaken h.records h.link.taken) i) h'.bytes h.bytes is' h.is in
-    let Q : Link → List ℕ → Type 0 = λ l b. Steps old.state (Takes (view_of_peer l.peer) b) (comes_to (view_of_outcome out'.outcome) (view_of_stored out'.store) h'.given) new'.state in
+    let Q : Link → List ℕ → Type 0 = λ l b. Steps old.state (Takes (view_of_peer l.peer) b) (comes_to (view_of_event_outcome out'.outcome) (view_of_stored out'.store) h'.given) new'.state in
     let step' = subst (λ (b : List ℕ). Q h.link b) bytes (subst (λ (l : Link). Q l h'.bytes) link h'.step) in
     let same = same-step step old.state new.state new'.state (Takes (view_of_peer h.link.peer) h.bytes) out.outcome out'.outcome out.store out'.store h.given h'.given e f h.step step' in
     let links : new.links ≡ new'.links = h.links ∙ (ap (λ (l : Link). slice_set old.links place (with_taken l i)) (sym link) ∙ sym h'.links) in (
-      h.outputs ∙ ap (λ (o : Outcome). told_to h.link.number o out.store h.given) e ∙ ap (λ (a : StoreAnswer). told_to h.link.number out'.outcome a h.given) f ∙ ap (λ (x : Given). told_to h.link.number out'.outcome out'.store x) same.0 ∙ ap (λ (l : Link). told_to l.number out'.outcome out'.store h'.given) (sym link) ∙ sym h'.outputs,
+      h.outputs ∙ ap (λ (o : EventOutcome). told_to h.link.number o out.store h.given) e ∙ ap (λ (a : StoreAnswer). told_to h.link.number out'.outcome a h.given) f ∙ ap (λ (x : Given). told_to h.link.number out'.outcome out'.store x) same.0 ∙ ap (λ (l : Link). told_to l.number out'.outcome out'.store h'.given) (sym link) ∙ sym h'.outputs,
       same-hub new new' same.1 (h.refusals ∙ ap (λ (a : StoreAnswer). counted (view_of_stored a) old.refusals) f ∙ sym h'.refusals) (room-same out.outcome out'.outcome true old.room new.room new'.room e h.room h'.room) links,
     )
 
-Happens-same : OneStep → (tell : Outcome → StoreAnswer → Given → Outputs) (event : Happening) (old new new' : Hub) (out out' : Outputs) → out.outcome ≡ out'.outcome → out.store ≡ out'.store → Happens tell event old out new → Happens tell event old out' new' → Same out out' new new'
+Happens-same : OneStep → (tell : EventOutcome → StoreAnswer → Given → Outputs) (event : Happening) (old new new' : Hub) (out out' : Outputs) → out.outcome ≡ out'.outcome → out.store ≡ out'.store → Happens tell event old out new → Happens tell event old out' new' → Same out out' new new'
 Happens-same step tell event old new new' out out' e f h h' =
     let same = same-step step old.state new.state new'.state event out.outcome out'.outcome out.store out'.store h.given h'.given e f h.step h'.step in (
-      h.outputs ∙ ap (λ (o : Outcome). tell o out.store h.given) e ∙ ap (λ (a : StoreAnswer). tell out'.outcome a h.given) f ∙ ap (λ (x : Given). tell out'.outcome out'.store x) same.0 ∙ sym h'.outputs,
+      h.outputs ∙ ap (λ (o : EventOutcome). tell o out.store h.given) e ∙ ap (λ (a : StoreAnswer). tell out'.outcome a h.given) f ∙ ap (λ (x : Given). tell out'.outcome out'.store x) same.0 ∙ sym h'.outputs,
       same-hub new new' same.1 (h.refusals ∙ ap (λ (a : StoreAnswer). counted (view_of_stored a) old.refusals) f ∙ sym h'.refusals) (room-same out.outcome out'.outcome (needs_entry event old.state) old.room new.room new'.room e h.room h'.room) (h.links ∙ ap (λ (a : StoreAnswer). links_after event a old.links) f ∙ sym h'.links),
     )
 

@@ -18,7 +18,7 @@ use Rattle.kept_replies.specs.Pairs.{view_of_peer}
 use Rattle.call_plans.specs.Planned.{view_of_stored}
 use Rattle.book.specs.Given.{Upshot}
 use Rattle.book.specs.Notes.{IsStep}
-use Rattle.daemon_core.specs.Outcomes.{view_of_outcome}
+use Rattle.daemon_core.specs.Outcomes.{view_of_event_outcome}
 use Rattle.daemon_core.specs.Outputs.{reply_to, upshot_of}
 use Rattle.daemon_core.specs.declared.outputs.Outputs.{Outputs}
 use Rattle.daemon_core.specs.Hub.{Hub, Answers}
@@ -142,7 +142,7 @@ module _ (place i : ℕ) (old new : Hub) (out : Outputs) (t : Answers place i ol
   sent given e = ap (λ (o : Outputs). o.sent) t.outputs ∙ ap (reply_to t.link.number) e
 
   pub tells : (xid : ℕ) (version : Version) (call : NlmCall) (stat : Stat) → t.step.said ≡ Take (view_of_peer t.link.peer) t.bytes (Asks xid (Nlm version call)) → look old.state (view_of_peer t.link.peer) t.bytes ≡ None
-      → view_of_outcome out.outcome ≡ Applied → early_refusal old.state.world call ≡ Some stat → TellsStat t.link xid (shown_stat version stat) out
+      → view_of_event_outcome out.outcome ≡ Applied → early_refusal old.state.world call ≡ Some stat → TellsStat t.link xid (shown_stat version stat) out
   tells xid version call stat is none applied early = record {
     outcome = (ruled (view_of_stored out.store) (nlm_answer the_limits old.state.world version call)).outcome;
     stat_is = says_early old.state.world version call stat (view_of_stored out.store) early;
@@ -150,7 +150,7 @@ module _ (place i : ℕ) (old new : Hub) (out : Outputs) (t : Answers place i ol
   }
 
   pub calls_back : (xid : ℕ) (version : Version) (call : NlmCall) (stat : Stat) → t.step.said ≡ Take (view_of_peer t.link.peer) t.bytes (Asks xid (Nlm version call)) → look old.state (view_of_peer t.link.peer) t.bytes ≡ None
-      → view_of_outcome out.outcome ≡ Applied → 0 < slots_free the_limits old.state.world → early_message_refusal old.state.world call ≡ Some stat → CallsBack t.link xid version call stat old out new
+      → view_of_event_outcome out.outcome ≡ Applied → 0 < slots_free the_limits old.state.world → early_message_refusal old.state.world call ≡ Some stat → CallsBack t.link xid version call stat old out new
   calls_back xid version call stat is none applied free early =
       let store = view_of_stored out.store in
       let back = sent_back_as old.state.world version call stat store (grind (arith, nat_tests)) early in
@@ -165,7 +165,7 @@ module _ (place i : ℕ) (old new : Hub) (out : Outputs) (t : Answers place i ol
 
   pub repeats : (xid : ℕ) (call : Call) (k : KeptPair) → t.step.said ≡ Take (view_of_peer t.link.peer) t.bytes (Asks xid call) → look old.state (view_of_peer t.link.peer) t.bytes ≡ Some k → AnswersRepeat t.link xid k old out new
   repeats xid call k is there = record {
-    unapplied = subst (λ (s : State). LeavesRest old.state.world s.world) (sym (steps old.state new.state t.step.said (upshot_of out t.given) t.step.step (view_of_peer t.link.peer) t.bytes xid call is (view_of_outcome out.outcome) refl).1) (repeat_law the_limits old.state (view_of_peer t.link.peer) t.bytes xid call (view_of_outcome out.outcome) (view_of_stored out.store) k there);
+    unapplied = subst (λ (s : State). LeavesRest old.state.world s.world) (sym (steps old.state new.state t.step.said (upshot_of out t.given) t.step.step (view_of_peer t.link.peer) t.bytes xid call is (view_of_event_outcome out.outcome) refl).1) (repeat_law the_limits old.state (view_of_peer t.link.peer) t.bytes xid call (view_of_event_outcome out.outcome) (view_of_stored out.store) k there);
     again = λ applied slots.
         let r = again old.state new.state t.step.said (upshot_of out t.given) t.step.step (view_of_peer t.link.peer) t.bytes xid call is k there applied in
         let both : repeated the_limits old.state k ≡ record { given = Replies k.xid k.outcome; state = record { world = with_all_due old.state.world k.letters; kept = moved_to_front k old.state.kept } } = rw slots refl in

@@ -11,8 +11,8 @@ use Rattle.store_answers.specs.declared.StoreAnswer.TheVariants.{NotAsked, Yes, 
 use Rattle.call_plans.specs.Planned.{view_of_stored, counted}
 use Rattle.book.specs.Journal.{Book, TakesMemory}
 use Rattle.book.specs.Notes.{Happening, Takes, SendsNext, HearsAnswer, AsksLine, FallsSilent, GraceEnds, BeginsAnew, Steps}
-use Rattle.daemon_core.specs.declared.outcome.Outcome.{Outcome}
-use Rattle.daemon_core.specs.declared.outcome.Outcome.TheVariants.{Applied, Starved, NoSegment}
+use Rattle.daemon_core.specs.declared.event_outcome.EventOutcome.{EventOutcome}
+use Rattle.daemon_core.specs.declared.event_outcome.EventOutcome.TheVariants.{Applied, Starved, NoSegment}
 use Rattle.daemon_core.specs.declared.event.Event.{Event}
 use Rattle.daemon_core.specs.declared.event.Event.TheVariants.{Connect, Piece, Disconnect, Take, Send, Answer, Local, Silent, GraceOver, Restart}
 use Rattle.daemon_core.specs.declared.outputs.Outputs.{Outputs}
@@ -47,7 +47,7 @@ abbrev pub IsQuiet : Hub → Outputs → Hub → Type 0
 IsQuiet old out new = (new ≡ old) × (out ≡ quiet)
 
 -- a connection whose number is in use doesn't begin
-abbrev pub Connects : Option ℕ → Outcome → ℕ → Peer → Hub → Outputs → Hub → Type 0
+abbrev pub Connects : Option ℕ → EventOutcome → ℕ → Peer → Hub → Outputs → Hub → Type 0
 Connects (Some place) outcome number peer old out new = IsQuiet old out new
 Connects None Applied number peer old out new = (new ≡ with_links old (old.links ++ fresh number peer ∷ [])) × (out ≡ quiet)
 Connects None Starved number peer old out new = (new ≡ old) × (out ≡ starved)
@@ -130,7 +130,7 @@ links_after GraceEnds store links = links
 
 -- an event of the shared state, and what is told of it: a sending, an answer, a silence and the end of grace starve only where
 -- the segment that stands is full and there is no other for their entry
-pub record Happens (tell : Outcome → StoreAnswer → Given → Outputs) (event : Happening) (old : Hub) (out : Outputs) (new : Hub) : Type 0 where
+pub record Happens (tell : EventOutcome → StoreAnswer → Given → Outputs) (event : Happening) (old : Hub) (out : Outputs) (new : Hub) : Type 0 where
   pub given : Given
   pub step : Steps old.state event (upshot_of out given) new.state
   pub refusals : new.refusals ≡ counted (view_of_stored out.store) old.refusals

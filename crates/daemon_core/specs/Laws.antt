@@ -12,7 +12,7 @@ use Rattle.book.specs.Given.{Upshot}
 use Rattle.book.specs.Notes.{Happening, Steps}
 use Rattle.daemon_core.specs.declared.event.Event.{Event}
 use Rattle.daemon_core.specs.declared.event.Event.TheVariants.{Connect, Piece, Disconnect, Take, Send, Answer, Local, Silent, GraceOver, Restart}
-use Rattle.daemon_core.specs.declared.outcome.Outcome.TheVariants.{Applied, NoSegment}
+use Rattle.daemon_core.specs.declared.event_outcome.EventOutcome.TheVariants.{Applied, NoSegment}
 use Rattle.daemon_core.specs.declared.outputs.Outputs.{Outputs}
 use Rattle.daemon_core.specs.Hub.{Hub, opening, HubStep, Run}
 

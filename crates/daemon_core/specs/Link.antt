@@ -1,8 +1,8 @@
 -- A connection, as data.
 use Rattle.std.specs.Prelude.{◌≡◌, ℕ, Bool, true, false, List, [], ◌++◌}
 use Rattle.record_mark.specs.Stream.{Splits}
-use Rattle.daemon_core.specs.declared.outcome.Outcome.{Outcome}
-use Rattle.daemon_core.specs.declared.outcome.Outcome.TheVariants.{Applied, Starved, NoSegment}
+use Rattle.daemon_core.specs.declared.event_outcome.EventOutcome.{EventOutcome}
+use Rattle.daemon_core.specs.declared.event_outcome.EventOutcome.TheVariants.{Applied, Starved, NoSegment}
 use Rattle.daemon_core.specs.declared.outputs.Outputs.{Outputs}
 use Rattle.kept_replies.specs.declared.key.Peer.{Peer}
 use Rattle.record_mark.specs.Untaken.{marked}
@@ -26,7 +26,7 @@ abbrev pub with_taken : Link → ℕ → Link
 with_taken old i = record old { taken = marked old.taken i }
 
 -- the bytes came, and a fault is told where the stream has one; or they starved, and nothing more is received
-abbrev pub Hears : Outcome → Link → List ℕ → Outputs → Link → Type 0
+abbrev pub Hears : EventOutcome → Link → List ℕ → Outputs → Link → Type 0
 Hears Applied old bytes out new =
     (new ≡ with_bytes old bytes) × ((records : List (List ℕ)) × (fault : Bool) × Splits new.received records fault × (out ≡ marked_by fault))
 Hears Starved old bytes out new = (new ≡ record old { receives = false }) × (out ≡ starved)

@@ -5,17 +5,17 @@ use Rattle.definitions.specs.Step.{State, Doing, Applied, Starved}
 use Rattle.book.specs.declared.upshot.Doing.{Doing as Became}
 use Rattle.book.specs.declared.upshot.Doing.TheVariants as doing
 use Rattle.book.specs.Notes.{Happening, Takes, SendsNext, HearsAnswer, AsksLine, FallsSilent, GraceEnds, BeginsAnew}
-use Rattle.daemon_core.specs.declared.outcome.Outcome.{Outcome}
-use Rattle.daemon_core.specs.declared.outcome.Outcome.TheVariants as outcome
+use Rattle.daemon_core.specs.declared.event_outcome.EventOutcome.{EventOutcome}
+use Rattle.daemon_core.specs.declared.event_outcome.EventOutcome.TheVariants as outcome
 
 -- an event without an entry has starved
-abbrev pub view_of_outcome : Outcome → Doing
-view_of_outcome outcome.Applied = Applied
-view_of_outcome outcome.Starved = Starved
-view_of_outcome outcome.NoSegment = Starved
+abbrev pub view_of_event_outcome : EventOutcome → Doing
+view_of_event_outcome outcome.Applied = Applied
+view_of_event_outcome outcome.Starved = Starved
+view_of_event_outcome outcome.NoSegment = Starved
 
 -- of an event that has an entry
-abbrev pub noted_as : Became → Outcome
+abbrev pub noted_as : Became → EventOutcome
 noted_as doing.Applied = outcome.Applied
 noted_as doing.Starved = outcome.Starved
 

@@ -4,9 +4,9 @@ use Rattle.definitions.specs.Step.{Given, Nothing, Replies, Says, Sends, IsStarv
 use Rattle.record_mark.specs.Sent.{marked}
 use Rattle.local_ops.specs.Texts.{reply_text}
 use Rattle.call_plans.specs.Planned.{view_of_stored}
-use Rattle.daemon_core.specs.declared.outcome.Outcome.{Outcome}
-use Rattle.daemon_core.specs.declared.outcome.Outcome.TheVariants.{Applied, Starved, NoSegment}
-use Rattle.daemon_core.specs.Outcomes.{view_of_outcome}
+use Rattle.daemon_core.specs.declared.event_outcome.EventOutcome.{EventOutcome}
+use Rattle.daemon_core.specs.declared.event_outcome.EventOutcome.TheVariants.{Applied, Starved, NoSegment}
+use Rattle.daemon_core.specs.Outcomes.{view_of_event_outcome}
 use Rattle.store_answers.specs.declared.StoreAnswer.{StoreAnswer}
 use Rattle.store_answers.specs.declared.StoreAnswer.TheVariants.{NotAsked}
 use Rattle.book.specs.Given.{Upshot, comes_to, record_of}
@@ -71,22 +71,22 @@ refusal_of (Sends call letter) = None
 
 -- what the event came to that gave this
 abbrev pub upshot_of : Outputs → Given → Upshot
-upshot_of out given = comes_to (view_of_outcome out.outcome) (view_of_stored out.store) given
+upshot_of out given = comes_to (view_of_event_outcome out.outcome) (view_of_stored out.store) given
 
 -- of an event that sends nothing
-abbrev pub told : Outcome → StoreAnswer → Given → Outputs
+abbrev pub told : EventOutcome → StoreAnswer → Given → Outputs
 told outcome store given = record { outcome = outcome; store = store; sent = None; refusal = refusal_of given }
 
 -- of the sending of a call
-abbrev pub told_call : Outcome → StoreAnswer → Given → Outputs
+abbrev pub told_call : EventOutcome → StoreAnswer → Given → Outputs
 told_call outcome store given = record { outcome = outcome; store = store; sent = sent_on given; refusal = refusal_of given }
 
 -- of a line that came on a local connection
-abbrev pub told_line : ℕ → Outcome → StoreAnswer → Given → Outputs
+abbrev pub told_line : ℕ → EventOutcome → StoreAnswer → Given → Outputs
 told_line l outcome store given = record { outcome = outcome; store = store; sent = line_to l given; refusal = refusal_of given }
 
 -- of a record that came on a connection
-abbrev pub told_to : ℕ → Outcome → StoreAnswer → Given → Outputs
+abbrev pub told_to : ℕ → EventOutcome → StoreAnswer → Given → Outputs
 told_to number outcome store given = record { outcome = outcome; store = store; sent = reply_to number given; refusal = refusal_of given }
 
 -- of a sending to the place in which this stands now

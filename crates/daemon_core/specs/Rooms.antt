@@ -1,8 +1,8 @@
 -- The room of the journal.
 use Rattle.std.specs.Prelude.{◌≡◌, ◌⊎◌, ℕ, zero, suc, ◌+◌, ◌-◌, ◌^◌, min, Bool, true, false}
 use Rattle.book.specs.Journal.{Journal, Book, next_of, room_of, rotated}
-use Rattle.daemon_core.specs.declared.outcome.Outcome.{Outcome}
-use Rattle.daemon_core.specs.declared.outcome.Outcome.TheVariants.{Applied, Starved, NoSegment}
+use Rattle.daemon_core.specs.declared.event_outcome.EventOutcome.{EventOutcome}
+use Rattle.daemon_core.specs.declared.event_outcome.EventOutcome.TheVariants.{Applied, Starved, NoSegment}
 
 -- for how many entries more the segment that stands has room, and the number of the next one
 pub record Room : Type 0 where
@@ -31,7 +31,7 @@ TakesIfNeeded true old new = TakesRoom old new
 TakesIfNeeded false old new = new ≡ old
 
 -- an event has no segment only where the one that stands is full
-abbrev pub RoomAfter : Outcome → Bool → Room → Room → Type 0
+abbrev pub RoomAfter : EventOutcome → Bool → Room → Room → Type 0
 RoomAfter NoSegment needed old new = (old.left ≡ 0) × (new ≡ old)
 RoomAfter Applied needed old new = TakesIfNeeded needed old new
 RoomAfter Starved needed old new = TakesIfNeeded needed old new

@@ -11,7 +11,7 @@ use Rattle.definitions.specs.World.{World, LeavesRest, the_limits, slots_free, w
 use Rattle.definitions.specs.Step.{Take, Applied, Starved, KeptPair, Replies, look, moved_to_front}
 use Rattle.kept_replies.specs.Pairs.{view_of_peer}
 use Rattle.daemon_core.specs.Link.{Link}
-use Rattle.daemon_core.specs.Outcomes.{view_of_outcome}
+use Rattle.daemon_core.specs.Outcomes.{view_of_event_outcome}
 use Rattle.daemon_core.specs.Outputs.{reply_to}
 use Rattle.daemon_core.specs.declared.outputs.Outputs.{Outputs}
 use Rattle.daemon_core.specs.Hub.{Hub, Answers}
@@ -54,7 +54,7 @@ abbrev pub RefusalIsTold : Type 0
 RefusalIsTold =
     (place i : ℕ) (old new : Hub) (out : Outputs) (taken : Answers place i old out new) (xid : ℕ) (version : Version) (call : NlmCall) (stat : Stat)
     → IsCall taken xid (Nlm version call) → kept_of taken ≡ None
-    → view_of_outcome out.outcome ≡ Applied → early_refusal old.state.world call ≡ Some stat → TellsStat taken.link xid (shown_stat version stat) out
+    → view_of_event_outcome out.outcome ≡ Applied → early_refusal old.state.world call ≡ Some stat → TellsStat taken.link xid (shown_stat version stat) out
 
 -- what a message form is refused for before its procedure's own rules
 abbrev pub early_message_refusal : World → NlmCall → Option Stat
@@ -83,7 +83,7 @@ pub record CallsBack (link : Link) (xid : ℕ) (version : Version) (call : NlmCa
 abbrev pub MessageRefusalIsTold : Type 0
 MessageRefusalIsTold =
     (place i : ℕ) (old new : Hub) (out : Outputs) (taken : Answers place i old out new) (xid : ℕ) (version : Version) (call : NlmCall) (stat : Stat)
-    → IsCall taken xid (Nlm version call) → kept_of taken ≡ None → view_of_outcome out.outcome ≡ Applied → 0 < slots_free the_limits old.state.world
+    → IsCall taken xid (Nlm version call) → kept_of taken ≡ None → view_of_event_outcome out.outcome ≡ Applied → 0 < slots_free the_limits old.state.world
     → early_message_refusal old.state.world call ≡ Some stat → CallsBack taken.link xid version call stat old out new
 
 -- the kept reply is sent again, the calls that went with it are due again, and the pair is now the newest
@@ -101,10 +101,10 @@ pub record IsTurnedBack (link : Link) (xid : ℕ) (old : Hub) (out : Outputs) (n
 -- memory or the places for its calls are wanting
 pub record AnswersRepeat (link : Link) (xid : ℕ) (k : KeptPair) (old : Hub) (out : Outputs) (new : Hub) : Type 0 where
   pub unapplied : LeavesRest old.state.world new.state.world
-  pub again : view_of_outcome out.outcome ≡ Applied → leb (length k.letters) (slots_free the_limits old.state.world) ≡ true → IsRepeated link k old out new
-  pub full : view_of_outcome out.outcome ≡ Applied → leb (length k.letters) (slots_free the_limits old.state.world) ≡ false
+  pub again : view_of_event_outcome out.outcome ≡ Applied → leb (length k.letters) (slots_free the_limits old.state.world) ≡ true → IsRepeated link k old out new
+  pub full : view_of_event_outcome out.outcome ≡ Applied → leb (length k.letters) (slots_free the_limits old.state.world) ≡ false
       → IsTurnedBack link k.xid old out new
-  pub starved : view_of_outcome out.outcome ≡ Starved → IsTurnedBack link xid old out new
+  pub starved : view_of_event_outcome out.outcome ≡ Starved → IsTurnedBack link xid old out new
 
 abbrev pub KeptIsGivenAgain : Type 0
 KeptIsGivenAgain =

@@ -4,9 +4,9 @@
 mod connection;
 mod daemon;
 mod event;
+mod event_outcome;
 mod law;
 mod noted;
-mod outcome;
 mod outputs;
 mod posted;
 mod posting;
@@ -15,12 +15,12 @@ mod sent;
 pub use crate::connection::Connection;
 pub use crate::daemon::Daemon;
 pub use crate::event::{Event, Refusal};
+pub use crate::event_outcome::EventOutcome;
 pub use crate::law::{
     early_message_refusal_is_told, early_refusal_is_told, grace_grants_reclaims_only,
     grace_tells_of_no_grant, kept_reply_is_given_again, one_run, runs_are_sound,
     starves_where_full,
 };
-pub use crate::outcome::Outcome;
 pub use crate::outputs::Outputs;
 pub use crate::posted::Posted;
 pub use crate::posting::Posting;

@@ -8,11 +8,11 @@ ghost use Rattle.book.specs.Notes.{view_of_event, Steps};
 ghost use Rattle.book.specs.Journal.{room_of, rotated, TakesMemory};
 ghost use Rattle.daemon_core.specs.Hub.{SendStep, hub_of};
 ghost use Rattle.daemon_core.specs.Link.{Link};
-ghost use Rattle.daemon_core.specs.Outcomes.{view_of_outcome};
+ghost use Rattle.daemon_core.specs.Outcomes.{view_of_event_outcome};
 ghost use Rattle.daemon_core.specs.Outputs.{told_posted};
 ghost use Rattle.daemon_core.specs.Rooms.{BeginsWhereFull, RoomAfter, room_of_journal};
 
-use crate::outcome::Outcome;
+use crate::event_outcome::EventOutcome;
 use crate::posted::Posted;
 use crate::posting::Posting;
 use book::{Book, BookEvent, Segment, Upshot};
@@ -26,22 +26,22 @@ pub(crate) fn note<R: RangeTable, S: HostStore>(
     alloc: Global,
     book: &mut Book<R, S>,
     event: BookEvent,
-) -> (Outcome, Upshot)
-    ensures outcome { view_of_outcome result.0 ≡ result.1.doing }
+) -> (EventOutcome, Upshot)
+    ensures outcome { view_of_event_outcome result.0 ≡ result.1.doing }
     ensures step { Steps book.old.journal.end (view_of_event event) result.1 book.new.journal.end }
     ensures counts { book.new.refusals ≡ counted result.1.store book.old.refusals }
-    ensures fed { result.0 ≡ Outcome.Starved → TakesMemory (view_of_event event) }
+    ensures fed { result.0 ≡ EventOutcome.Starved → TakesMemory (view_of_event event) }
     ensures room { RoomAfter result.0 true (room_of_journal book.old.journal) (room_of_journal book.new.journal) }
 
     // Without an entry no store is asked, and nothing changes.
-    ensures unasked { result.0 ≡ Outcome.NoSegment → result.1.store ≡ NotAsked }
-    ensures unchanged { result.0 ≡ Outcome.NoSegment → book.new.journal.end ≡ book.old.journal.end }
+    ensures unasked { result.0 ≡ EventOutcome.NoSegment → result.1.store ≡ NotAsked }
+    ensures unchanged { result.0 ≡ EventOutcome.NoSegment → book.new.journal.end ≡ book.old.journal.end }
 {
     if !has_room(alloc, book) {
-        return (Outcome::NoSegment, event.starved());
+        return (EventOutcome::NoSegment, event.starved());
     }
     let upshot = book.apply(event);
-    (Outcome::from(upshot.doing), upshot)
+    (EventOutcome::from(upshot.doing), upshot)
 }
 
 /// The call that is due first is sent to this place, which is one entry, or none is due. Where the segment is full and no fresh

@@ -6,7 +6,7 @@ ghost use Rattle.book.specs.Given.{view_of_reply};
 ghost use Rattle.daemon_core.specs.Outputs.{quiet, starved, unnoted, heard, refusal_of, reply_to, line_to, told, told_line, told_posted, told_to};
 
 use crate::event::Refusal;
-use crate::outcome::Outcome;
+use crate::event_outcome::EventOutcome;
 use crate::posted::Posted;
 use crate::posting::Posting;
 use crate::sent::Sent;
@@ -15,7 +15,7 @@ use book::{Reply, StoreAnswer, Upshot};
 /// What comes of an event: what became of it, what the store answered it, what is sent, and the refusal of an event that
 /// has nobody to answer.
 pub struct Outputs {
-    pub outcome: Outcome,
+    pub outcome: EventOutcome,
     pub store: StoreAnswer,
     pub sent: Option<Sent>,
     pub refusal: Option<Refusal>,
@@ -45,7 +45,7 @@ pub(crate) fn make_heard(refusal: Option<Refusal>) -> Outputs
     ensures { result ≡ heard refusal }
 {
     Outputs {
-        outcome: Outcome::Applied,
+        outcome: EventOutcome::Applied,
         store: StoreAnswer::NotAsked,
         sent: None,
         refusal,
@@ -57,7 +57,7 @@ pub(crate) fn make_starved() -> Outputs
     ensures { result ≡ starved }
 {
     Outputs {
-        outcome: Outcome::Starved,
+        outcome: EventOutcome::Starved,
         store: StoreAnswer::NotAsked,
         sent: None,
         refusal: Some(Refusal::Starved),
@@ -69,7 +69,7 @@ pub(crate) fn make_unnoted() -> Outputs
     ensures { result ≡ unnoted }
 {
     Outputs {
-        outcome: Outcome::NoSegment,
+        outcome: EventOutcome::NoSegment,
         store: StoreAnswer::NotAsked,
         sent: None,
         refusal: Some(Refusal::Starved),
@@ -77,7 +77,7 @@ pub(crate) fn make_unnoted() -> Outputs
 }
 
 /// Of an event that sends nothing.
-pub(crate) fn tell(outcome: Outcome, upshot: Upshot) -> Outputs
+pub(crate) fn tell(outcome: EventOutcome, upshot: Upshot) -> Outputs
     ensures outcome { result.outcome ≡ outcome }
     ensures store { view_of_stored result.store ≡ upshot.store }
     ensures told { result ≡ told result.outcome result.store upshot.given }
@@ -91,7 +91,7 @@ pub(crate) fn tell(outcome: Outcome, upshot: Upshot) -> Outputs
 }
 
 /// Of a record that came on this connection.
-pub(crate) fn tell_to(number: u64, outcome: Outcome, upshot: Upshot) -> Outputs
+pub(crate) fn tell_to(number: u64, outcome: EventOutcome, upshot: Upshot) -> Outputs
     ensures outcome { result.outcome ≡ outcome }
     ensures store { view_of_stored result.store ≡ upshot.store }
     ensures told { result ≡ told_to number result.outcome result.store upshot.given }
@@ -105,7 +105,7 @@ pub(crate) fn tell_to(number: u64, outcome: Outcome, upshot: Upshot) -> Outputs
 }
 
 /// Of a line that came on this local connection.
-pub(crate) fn tell_line(connection: u64, outcome: Outcome, upshot: Upshot) -> Outputs
+pub(crate) fn tell_line(connection: u64, outcome: EventOutcome, upshot: Upshot) -> Outputs
     ensures outcome { result.outcome ≡ outcome }
     ensures store { view_of_stored result.store ≡ upshot.store }
     ensures told { result ≡ told_line connection result.outcome result.store upshot.given }
@@ -126,7 +126,7 @@ pub(crate) fn tell_posted(posted: Posted, posting: Box<Posting>) -> Outputs
         Posted::Nothing => make_quiet(),
         Posted::NoSegment => make_unnoted(),
         Posted::Sent => Outputs {
-            outcome: Outcome::Applied,
+            outcome: EventOutcome::Applied,
             store: StoreAnswer::NotAsked,
             sent: Some(Sent::call(posting)),
             refusal: None,

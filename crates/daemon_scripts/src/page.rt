@@ -1,5 +1,5 @@
 //! What comes to a server, what it is to send for that, and what it sends.
-use daemon_core::{Addressee, Frame, Outcome, Outputs, Refusal, StoreAnswer};
+use daemon_core::{Addressee, EventOutcome, Frame, Outputs, Refusal, StoreAnswer};
 use script_parts::{Terms, put_message, put_terms, put_words, read_number};
 use std::alloc::Global;
 use std::mem;
@@ -122,7 +122,7 @@ impl<'a> Page<'a> {
     /// Notes what came of an event. None where there is no memory.
     pub(crate) fn hear(&mut self, outputs: &Outputs) -> Option<()> {
         self.refusal = outputs.refusal;
-        self.is_starved = self.is_starved || outputs.outcome != Outcome::Applied;
+        self.is_starved = self.is_starved || outputs.outcome != EventOutcome::Applied;
         if outputs.store != StoreAnswer::NotAsked {
             self.store = outputs.store;
         }

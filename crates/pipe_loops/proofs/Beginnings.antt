@@ -3,8 +3,8 @@ use Rattle.std.proofs.Common.{◌≡◌, ℕ, suc, Bool, true, false, List, [], 
 use Rattle.std.specs.Option.{option_to_list}
 use Rattle.std.specs.Prelude.{Result, Ok, Err}
 use Rattle.definitions.specs.Step.{Given, Nothing, Replies, Says, Sends, IsStarved, IsRefused}
-use Rattle.daemon_core.specs.declared.outcome.Outcome.{Outcome}
-use Rattle.daemon_core.specs.declared.outcome.Outcome.TheVariants.{Applied, Starved, NoSegment}
+use Rattle.daemon_core.specs.declared.event_outcome.EventOutcome.{EventOutcome}
+use Rattle.daemon_core.specs.declared.event_outcome.EventOutcome.TheVariants.{Applied, Starved, NoSegment}
 use Rattle.book.specs.Notes.{Happening, GraceEnds, BeginsAnew}
 use Rattle.daemon_core.specs.declared.event.Event.{Event}
 use Rattle.daemon_core.specs.declared.event.Event.TheVariants.{Connect, GraceOver, Restart}
@@ -33,7 +33,7 @@ happens-short : (event : Happening) (old new : Hub) (out : Outputs) (why : Refus
 happens-short event old new out why h met is =
     told-short h.given (sym (ap (λ (o : Outputs). o.refusal) h.outputs) ∙ met ∙ ap (λ r. Some r) is)
 
-connect-short : (place : Option ℕ) (o : Outcome) (number : ℕ) (peer : Peer) (old new : Hub) (out : Outputs) (why : Refusal) → Connects place o number peer old out new → out.refusal ≡ Some why → why ≡ Refusal.RecordTooLong → ⊥
+connect-short : (place : Option ℕ) (o : EventOutcome) (number : ℕ) (peer : Peer) (old new : Hub) (out : Outputs) (why : Refusal) → Connects place o number peer old out new → out.refusal ≡ Some why → why ≡ Refusal.RecordTooLong → ⊥
 connect-short (Some place) o number peer old new out why h met is = let e : None ≡ Some why = sym (ap (λ (x : Outputs). x.refusal) h.1) ∙ met in cc
 connect-short None Applied number peer old new out why h met is = let e : None ≡ Some why = sym (ap (λ (x : Outputs). x.refusal) h.1) ∙ met in cc
 connect-short None Starved number peer old new out why h met is = let e : Some Refusal.Starved ≡ Some Refusal.RecordTooLong = sym (ap (λ (x : Outputs). x.refusal) h.1) ∙ met ∙ ap (λ r. Some r) is in cc

@@ -7,7 +7,7 @@ use Rattle.definitions.specs.Step.{State, Event, Send, Doing, Applied, Starved, 
 use Rattle.book.specs.Given.{comes_to}
 use Rattle.book.specs.Notes.{IsStep}
 use Rattle.call_plans.specs.Planned.{view_of_stored}
-use Rattle.daemon_core.specs.Outcomes.{view_of_outcome}
+use Rattle.daemon_core.specs.Outcomes.{view_of_event_outcome}
 use Rattle.daemon_core.specs.declared.outputs.Outputs.{Outputs}
 use Rattle.daemon_core.specs.Sending.{Sending as Sent}
 use Rattle.daemon_core.specs.Outputs.{sent_on}
@@ -57,10 +57,10 @@ send_ends s Applied store given new h = inr (go (next_due s.world.calls) refl h.
 -- ---- a step of the daemon
 
 module _ (old new : Hub) (out : Outputs) (step : SendStep old out new) where
-  ended_here : SendEnds old.state (view_of_outcome out.outcome) (view_of_stored out.store) step.given new.state
+  ended_here : SendEnds old.state (view_of_event_outcome out.outcome) (view_of_stored out.store) step.given new.state
   ended_here =
-      let P : Event → Type 0 = λ e. IsStep old.state e (comes_to (view_of_outcome out.outcome) (view_of_stored out.store) step.given) new.state in
-      send_ends old.state (view_of_outcome out.outcome) (view_of_stored out.store) step.given new.state (subst P step.step.reads step.step.step)
+      let P : Event → Type 0 = λ e. IsStep old.state e (comes_to (view_of_event_outcome out.outcome) (view_of_stored out.store) step.given) new.state in
+      send_ends old.state (view_of_event_outcome out.outcome) (view_of_stored out.store) step.given new.state (subst P step.step.reads step.step.step)
 
   sent_is : out.sent ≡ sent_on step.given
   sent_is = ap (λ (o : Outputs). o.sent) step.outputs
@@ -72,7 +72,7 @@ module _ (old new : Hub) (out : Outputs) (step : SendStep old out new) where
       nothing_sent : out.sent ≡ None → ⊥
       nothing_sent e = let P : Option Sent → Type 0 = λ o. IsSome o in let n = subst P e some in cc
 
-      go : SendEnds old.state (view_of_outcome out.outcome) (view_of_stored out.store) step.given new.state → due_count new.state.world.calls < due_count old.state.world.calls
+      go : SendEnds old.state (view_of_event_outcome out.outcome) (view_of_stored out.store) step.given new.state → due_count new.state.world.calls < due_count old.state.world.calls
       go (inl h) = absurd (nothing_sent (sent_is ∙ ap sent_on h.0))
       go (inr (inl h)) = absurd (nothing_sent (sent_is ∙ ap sent_on h.0))
       go (inr (inr h)) = let n = h.2 in omega (arith, n)

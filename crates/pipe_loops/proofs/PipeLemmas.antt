@@ -9,8 +9,8 @@ use Rattle.std.proofs.lemmas.List.{append-nil, length-append}
 use Rattle.std.proofs.lemmas.List.Elements.{All-nil, All-push}
 use Rattle.daemon_core.specs.declared.event.Event.{Event}
 use Rattle.daemon_core.specs.declared.event.Event.TheVariants.{Piece, Connect}
-use Rattle.daemon_core.specs.declared.outcome.Outcome.{Outcome}
-use Rattle.daemon_core.specs.declared.outcome.Outcome.TheVariants.{Applied, Starved, NoSegment}
+use Rattle.daemon_core.specs.declared.event_outcome.EventOutcome.{EventOutcome}
+use Rattle.daemon_core.specs.declared.event_outcome.EventOutcome.TheVariants.{Applied, Starved, NoSegment}
 use Rattle.daemon_core.specs.declared.outputs.Outputs.{Outputs}
 use Rattle.daemon_core.specs.declared.event.Refusal.{Refusal}
 use Rattle.daemon_core.specs.Sending.{Sending}
@@ -38,7 +38,7 @@ marked-sends : (fault : Bool) → (marked_by fault).sent ≡ None
 marked-sends false = refl
 marked-sends true = refl
 
-hears-sends : (o : Outcome) (old new : Link) (bytes : List ℕ) (out : Outputs) → HearsOn o old bytes out new → out.sent ≡ None
+hears-sends : (o : EventOutcome) (old new : Link) (bytes : List ℕ) (out : Outputs) → HearsOn o old bytes out new → out.sent ≡ None
 hears-sends Applied old new bytes out h = sent_of h.1.3 ∙ marked-sends h.1.1
 hears-sends Starved old new bytes out h = sent_of h.1
 hears-sends NoSegment old new bytes out h = absurd h
@@ -136,7 +136,7 @@ marked-agreed : (fault : Bool) → (marked_by fault).refusal ≡ Some Refusal.St
 marked-agreed false e = cc
 marked-agreed true e = cc
 
-hears-agreed : (o : Outcome) (old new : Link) (bytes : List ℕ) (out : Outputs) → HearsOn o old bytes out new → out.refusal ≡ Some Refusal.StoreRefused → ⊥
+hears-agreed : (o : EventOutcome) (old new : Link) (bytes : List ℕ) (out : Outputs) → HearsOn o old bytes out new → out.refusal ≡ Some Refusal.StoreRefused → ⊥
 hears-agreed Applied old new bytes out h e = marked-agreed h.1.1 (sym (ap (λ (o : Outputs). o.refusal) h.1.3) ∙ e)
 hears-agreed Starved old new bytes out h e = cc
 hears-agreed NoSegment old new bytes out h e = absurd h
@@ -277,7 +277,7 @@ module _ (events : List Event) (start : Hub) (most next : ℕ) (one_more : most 
 
 -- ---- the beginning
 
-connects-sends : (place : Option ℕ) (o : Outcome) (number : ℕ) (peer : Peer) (old new : Hub) (out : Outputs) → Connects place o number peer old out new → out.sent ≡ None
+connects-sends : (place : Option ℕ) (o : EventOutcome) (number : ℕ) (peer : Peer) (old new : Hub) (out : Outputs) → Connects place o number peer old out new → out.sent ≡ None
 connects-sends (Some place) o number peer old new out h = sent_of h.1
 connects-sends None Applied number peer old new out h = sent_of h.1
 connects-sends None Starved number peer old new out h = sent_of h.1

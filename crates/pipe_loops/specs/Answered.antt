@@ -3,7 +3,7 @@ use Rattle.std.specs.Prelude.{◌≡◌, ℕ, Bool, true, false, List, [], ◌�
 use Rattle.std.specs.Io.KnownBytes.{Appends}
 use Rattle.definitions.specs.Outgoing.{next_due}
 use Rattle.daemon_core.specs.declared.event.Event.TheVariants.{Take}
-use Rattle.daemon_core.specs.declared.outcome.Outcome.TheVariants.{NoSegment}
+use Rattle.daemon_core.specs.declared.event_outcome.EventOutcome.TheVariants.{NoSegment}
 use Rattle.daemon_core.specs.declared.outputs.Outputs.{Outputs}
 use Rattle.daemon_core.specs.Outputs.{bytes_sent}
 use Rattle.daemon_core.specs.Hub.{Hub, HubStep, SendStep, all_bytes_sent}

@@ -19,8 +19,8 @@ use Rattle.book.specs.Given.{Upshot}
 use Rattle.book.specs.Notes.{Happening, Steps}
 use Rattle.daemon_core.specs.declared.event.Event.{Event}
 use Rattle.daemon_core.specs.declared.event.Event.TheVariants.{Connect, Piece, Disconnect, Take, Send, Answer, Local, Silent, GraceOver, Restart}
-use Rattle.daemon_core.specs.declared.outcome.Outcome.{Outcome}
-use Rattle.daemon_core.specs.declared.outcome.Outcome.TheVariants.{Applied, Starved, NoSegment}
+use Rattle.daemon_core.specs.declared.event_outcome.EventOutcome.{EventOutcome}
+use Rattle.daemon_core.specs.declared.event_outcome.EventOutcome.TheVariants.{Applied, Starved, NoSegment}
 use Rattle.daemon_core.specs.declared.outputs.Outputs.{Outputs}
 use Rattle.daemon_core.specs.Hub.{Hub, opening, place_of, Connects, Disconnects, Pieces, TakesAt, HubStep, Run}
 use Rattle.restart_laws.specs.Rows.{KeptHaveRows}
@@ -33,7 +33,7 @@ pub data Moved (old new : State) : Type 0 where
   IsStill : new ≡ old → Moved old new
   IsStep : (event : Happening) (upshot : Upshot) → Steps old event upshot new → Moved old new
 
-connects : (place : Option ℕ) (o : Outcome) (number : ℕ) (peer : Peer) (old new : Hub) (out : Outputs) → Connects place o number peer old out new → Moved old.state new.state
+connects : (place : Option ℕ) (o : EventOutcome) (number : ℕ) (peer : Peer) (old new : Hub) (out : Outputs) → Connects place o number peer old out new → Moved old.state new.state
 connects (Some place) o number peer old new out h = IsStill (ap (λ (x : Hub). x.state) h.0)
 connects None Applied number peer old new out h = IsStill (ap (λ (x : Hub). x.state) h.0)
 connects None Starved number peer old new out h = IsStill (ap (λ (x : Hub). x.state) h.0)
@@ -111,7 +111,7 @@ module _ (list : List Setting) where
   takes_under (Some place) number i old new out (inl h) grace under honest = stays_under list old.state new.state _ _ h.step grace under (honest place h)
   takes_under (Some place) number i old new out (inr h) grace under honest = still_under old.state new.state (ap (λ (x : Hub). x.state) h.quiet.0) under
 
-  connects_under : (place : Option ℕ) (o : Outcome) (number : ℕ) (peer : Peer) (old new : Hub) (out : Outputs) → Connects place o number peer old out new → IsUnder list old.state.world → IsUnder list new.state.world
+  connects_under : (place : Option ℕ) (o : EventOutcome) (number : ℕ) (peer : Peer) (old new : Hub) (out : Outputs) → Connects place o number peer old out new → IsUnder list old.state.world → IsUnder list new.state.world
   connects_under (Some place) o number peer old new out h under = still_under old.state new.state (ap (λ (x : Hub). x.state) h.0) under
   connects_under None Applied number peer old new out h under = still_under old.state new.state (ap (λ (x : Hub). x.state) h.0) under
   connects_under None Starved number peer old new out h under = still_under old.state new.state (ap (λ (x : Hub). x.state) h.0) under

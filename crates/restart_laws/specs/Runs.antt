@@ -15,7 +15,7 @@ use Rattle.call_plans.specs.Planned.{view_of_stored}
 use Rattle.daemon_core.specs.declared.event.Event.{Event}
 use Rattle.daemon_core.specs.declared.event.Event.TheVariants.{Take, Restart}
 use Rattle.daemon_core.specs.declared.outputs.Outputs.{Outputs}
-use Rattle.daemon_core.specs.Outcomes.{view_of_outcome}
+use Rattle.daemon_core.specs.Outcomes.{view_of_event_outcome}
 use Rattle.daemon_core.specs.Outputs.{reply_to}
 use Rattle.daemon_core.specs.Hub.{Hub, Answers, HubStep, Run, opening}
 use Rattle.daemon_core.specs.Told.{IsCall, kept_of}
@@ -35,7 +35,7 @@ pub record RunsKeepRows : Type 0 where
   pub standing : (name : Bytes) (hosts : Hosts) (refusals : ℕ) (events : List Event) (outs : List Outputs) (hub new : Hub)
       → Run (opening name hosts refusals) events outs hub
       → (place i : ℕ) (out : Outputs) (taken : Answers place i hub out new) (xid : ℕ) (call : Call) (host : Bytes)
-      → IsCall taken xid call → view_of_outcome out.outcome ≡ Applied
+      → IsCall taken xid call → view_of_event_outcome out.outcome ≡ Applied
       → monitored_by call ≡ Some host
       → tells_lock (telling hub.state (view_of_peer taken.link.peer) call (view_of_stored out.store) (kept_of taken)) ≡ true
       → has_row new.state.world.hosts host ≡ true
@@ -51,7 +51,7 @@ pub data Begins (old : Hub) (out : Outputs) (new : Hub) : Type 0 where
 -- and the store agreed to it
 pub record IsBegun (old : Hub) (out : Outputs) (new : Hub) : Type 0 where
   pub begins : Begins old out new
-  pub done : view_of_outcome out.outcome ≡ Applied
+  pub done : view_of_event_outcome out.outcome ≡ Applied
   pub agreed : view_of_stored out.store ≡ Yes
 
 abbrev pub DaemonBeginsAnew : Type 0
@@ -93,7 +93,7 @@ abbrev pub HonestReclaimsAreGranted : Type 0
 HonestReclaimsAreGranted =
     (list : List Setting) → AreCompatible list → (mid new : Hub) → ReclaimsAfterRestart list mid
     → (place i : ℕ) (out : Outputs) (taken : Answers place i mid out new) (xid : ℕ) (version : Version) (call : NlmCall) (a : LockArgs)
-    → IsCall taken xid (Nlm version call) → view_of_outcome out.outcome ≡ Applied
+    → IsCall taken xid (Nlm version call) → view_of_event_outcome out.outcome ≡ Applied
     → IsHonestReclaim list mid.state (view_of_peer taken.link.peer) taken.bytes call a (view_of_stored out.store) → IsGrantedOnWire taken version call a xid
 
 -- and until grace ends the world stays under the list

@@ -12,11 +12,11 @@ use std::marker::Model;
 
 // An entry, which contracts see as what it notes.
 #[derive(Drop)]
-struct Noted {
+struct ViewedEntry {
     entry: Entry,
 }
 
-impl Model for Noted {
+impl Model for ViewedEntry {
     ghost use Rattle.book.specs.Notes.{Note, view_of_entry};
 
     ghost Value = { Note };
@@ -28,7 +28,7 @@ impl Model for Noted {
 /// begins empty, and a hold alone adds to it.
 #[derive(Drop)]
 pub struct Transcript {
-    all: History<Noted>,
+    all: History<ViewedEntry>,
 }
 
 impl Model for Transcript {

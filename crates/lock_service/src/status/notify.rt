@@ -8,7 +8,7 @@ ghost use Rattle.lock_service.specs.Dropping.{dropped_if_room};
 
 use super::stat;
 use call_outcome::{CallResult, Outcome};
-use call_plans::{Answer, Asked, Change, Plan, Shared, Told, World};
+use call_plans::{Answer, Asked, Change, Plan, SharedOutcome, Told, World};
 use callbacks::ShortBytes;
 use hosts_db::HostStore;
 use nsm_types::{Name, StatChge};
@@ -44,7 +44,7 @@ fn dropped<R: RangeTable, S: HostStore>(
     }
     let gone = Vec::from_slice(alloc, name.bytes)?;
     let due = world.status_letters(name.bytes, state)?;
-    let outcome = Shared::of(alloc, Outcome::Success(CallResult::Nothing))?;
+    let outcome = SharedOutcome::of(alloc, Outcome::Success(CallResult::Nothing))?;
     let agreed = Answer {
         told: Told { outcome, due },
         change: Change::DropHost(gone),

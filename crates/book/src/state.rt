@@ -24,45 +24,45 @@ use std::alloc::Global;
 use std::marker::Model;
 
 /// What the events of the book act on. A contract sees it as the state of `definitions`, and how often the store refused.
-pub(crate) struct Shared<R: RangeTable, S: HostStore> {
+pub(crate) struct BookState<R: RangeTable, S: HostStore> {
     pub(crate) world: World<R, S>,
     pub(crate) kept: KeptReplies<KeptReply>,
 }
 
-impl<R: RangeTable, S: HostStore> Model for Shared<R, S> {
-    ghost use Rattle.book.specs.Shared.{Shared};
+impl<R: RangeTable, S: HostStore> Model for BookState<R, S> {
+    ghost use Rattle.book.specs.BookState.{BookState};
 
-    ghost Value = { Shared };
+    ghost Value = { BookState };
 
     ghost view = { λ s. record { state = record { world = s.world.world; kept = s.kept }; refusals = s.world.refusals } };
 }
 
 // It is written out, so that each part of a world is proved to be dropped once.
-impl<R: RangeTable + Drop, S: HostStore + Drop> Drop for Shared<R, S> {
+impl<R: RangeTable + Drop, S: HostStore + Drop> Drop for BookState<R, S> {
     fn drop(self) {
-        let Shared { world: _, kept: _ } = self;
+        let BookState { world: _, kept: _ } = self;
     }
 }
 
-impl<R: RangeTable + Drop, S: HostStore + Drop> Shared<R, S> {
+impl<R: RangeTable + Drop, S: HostStore + Drop> BookState<R, S> {
     pub(crate) fn new(
         alloc: Global,
         table: R,
         store: S,
         own_name: ShortBytes,
-    ) -> Result<Shared<R, S>, Starved>
+    ) -> Result<BookState<R, S>, Starved>
         requires { R.settings table ≡ [] }
         ensures { IfOk result (λ made. made ≡ record { state = opening_state own_name (S.rows store); refusals = S.refusals store }) }
     {
         let kept = KeptReplies::new(alloc)?;
-        Ok(Shared {
+        Ok(BookState {
             world: World::new(alloc, table, store, own_name)?,
             kept,
         })
     }
 }
 
-impl<R: RangeTable, S: HostStore> Shared<R, S> {
+impl<R: RangeTable, S: HostStore> BookState<R, S> {
     /// One event: what it comes to, and what the journal notes of it.
     pub(crate) fn apply(&mut self, event: BookEvent) -> (Upshot, Act)
         ensures step { Steps self.old.state (view_of_event event) result.0 self.new.state }

@@ -1,7 +1,7 @@
 use Rattle.std.proofs.Common.{refl}
 use Rattle.definitions.specs.Step.{Silent, GraceOver, Restart}
-use Rattle.book.proofs.shared.Shared.apply.Goals.{in-Take, in-Answer, in-Silent, in-GraceOver, in-Restart}
-use Rattle.book.proofs.shared.Shared.apply.Goals as goal
+use Rattle.book.proofs.state.BookState.apply.Goals.{in-Take, in-Answer, in-Silent, in-GraceOver, in-Restart}
+use Rattle.book.proofs.state.BookState.apply.Goals as goal
 
 pub returns-clause-step : goal.returns-clause-step
 returns-clause-step g c = elim c.match-event.branch [

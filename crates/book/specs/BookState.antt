@@ -2,6 +2,6 @@
 use Rattle.std.specs.Prelude.{ℕ}
 use Rattle.definitions.specs.Step.{State}
 
-pub record Shared : Type 0 where
+pub record BookState : Type 0 where
   pub state : State
   pub refusals : ℕ

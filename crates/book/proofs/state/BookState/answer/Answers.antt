@@ -1,7 +1,7 @@
 use Rattle.std.proofs.Common.{refl}
 use Rattle.definitions.specs.Step.{State, Answer}
 use Rattle.record_reading.specs.Answers.{view_of_answer}
-use Rattle.book.proofs.shared.Shared.answer.Goals as goal
+use Rattle.book.proofs.state.BookState.answer.Goals as goal
 
 pub returns-clause-step : goal.returns-clause-step
 returns-clause-step g c =

@@ -10,7 +10,7 @@ use Rattle.call_plans.specs.Planned.{view_of_stored}
 use Rattle.local_ops.specs.Answers.{view_of_local_answer}
 use Rattle.owner_ids.specs.Views.{view_of_owner}
 use Rattle.book.proofs.Lines.{done}
-use Rattle.book.proofs.shared.Shared.asked.Goals as goal
+use Rattle.book.proofs.state.BookState.asked.Goals as goal
 
 pub returns-in-Close-clause-ok : goal.returns-in-Close-clause-ok
 returns-in-Close-clause-ok g c =

@@ -4,7 +4,7 @@ use book::Doing;
 
 /// What became of an event.
 #[derive(Clone, Copy, PartialEq, Eq)]
-pub enum Outcome {
+pub enum EventOutcome {
     /// It was done.
     Applied,
     /// It met want of memory.
@@ -13,16 +13,16 @@ pub enum Outcome {
     NoSegment,
 }
 
-impl From<Doing> for Outcome {
+impl From<Doing> for EventOutcome {
     ghost use Rattle.std.specs.Prelude.{◌≡◌};
     ghost use Rattle.daemon_core.specs.Outcomes.{noted_as};
 
     ghost from_gives = { λ doing outcome. outcome ≡ noted_as doing };
 
-    fn from(doing: Doing) -> Outcome {
+    fn from(doing: Doing) -> EventOutcome {
         match doing {
-            Doing::Applied => Outcome::Applied,
-            Doing::Starved => Outcome::Starved,
+            Doing::Applied => EventOutcome::Applied,
+            Doing::Starved => EventOutcome::Starved,
         }
     }
 }

@@ -4,7 +4,7 @@ use Rattle.kept_replies.specs.Pairs.{view_of_peer}
 use Rattle.record_reading.specs.Values.{view_of_refusal, view_of_call}
 use Rattle.record_reading.specs.Readings.{IsReading}
 use Rattle.book.proofs.Records.{ignored, turned, asked}
-use Rattle.book.proofs.shared.Shared.take.Goals as goal
+use Rattle.book.proofs.state.BookState.take.Goals as goal
 
 pub returns-in-Ignored-clause-step : goal.returns-in-Ignored-clause-step
 returns-in-Ignored-clause-step g c =

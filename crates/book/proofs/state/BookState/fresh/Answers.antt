@@ -7,7 +7,7 @@ use Rattle.record_reading.specs.Values.{view_of_call}
 use Rattle.lock_service.specs.MayAsk.{may_ask}
 use Rattle.call_plans.specs.Planned.{view_of_stored, due_under, told_in}
 use Rattle.book.proofs.Calls.{starved_early, starved_late, kept_asks, same_kept, done}
-use Rattle.book.proofs.shared.Shared.fresh.Goals as goal
+use Rattle.book.proofs.state.BookState.fresh.Goals as goal
 
 pub returns-in_default-clause-step : goal.returns-in_default-clause-step
 returns-in_default-clause-step g c =

@@ -2,7 +2,7 @@ use Rattle.std.proofs.Common.{refl}
 use Rattle.definitions.specs.Replies.{BadLine, LineBad}
 use Rattle.local_ops.specs.Calls.{view_of_local_call}
 use Rattle.book.proofs.Lines.{answered, unanswered}
-use Rattle.book.proofs.shared.Shared.line.Goals as goal
+use Rattle.book.proofs.state.BookState.line.Goals as goal
 
 pub returns-in-Ok-clause-ok : goal.returns-in-Ok-clause-ok
 returns-in-Ok-clause-ok g c = answered _ _ c.args.connection c.args.bytes.now (view_of_local_call c.in-Ok.call) c.in-Ok.ensures c.asked.result c.asked.ensures.ok

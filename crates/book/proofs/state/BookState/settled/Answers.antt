@@ -1,7 +1,7 @@
 use Rattle.definitions.specs.Step.{State}
 use Rattle.local_ops.specs.Answers.{view_of_local_answer}
 use Rattle.book.proofs.Lines.{settled_so}
-use Rattle.book.proofs.shared.Shared.settled.Goals as goal
+use Rattle.book.proofs.state.BookState.settled.Goals as goal
 
 pub returns-clause-ok : goal.returns-clause-ok
 returns-clause-ok g c =
