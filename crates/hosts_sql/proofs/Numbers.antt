@@ -1,11 +1,11 @@
 -- The numbers of a row that fits.
-use Rattle.std.proofs.Common.{◌≡◌, ℕ, ◌+◌, ◌<◌, ◌≤◌, pos, negsuc, true, false, ◌&&◌, sym, arith}
+use Rattle.std.proofs.Common.{◌≡◌, ℕ, ◌<◌, pos, negsuc, true, ◌&&◌, sym, arith}
 use Rattle.std.proofs.lemmas.Bool.{true≢false, ltb-true, and_parts}
 use Rattle.std.specs.Prelude.{FitsSigned}
 use Rattle.std.specs.Int.{w32}
 use Rattle.sqlite_value.specs.declared.value.Value.{Value}
 use Rattle.sqlite_value.specs.declared.value.Value.TheVariants.{Null, Int, Real, Text, Blob}
-use Rattle.sqlite_value.specs.Order.{Row, column}
+use Rattle.sqlite_value.specs.Order.{column}
 use Rattle.sqlite_rules.specs.Edit.{id_in}
 use Rattle.sqlite_trees.specs.Objects.{number_in}
 use Rattle.hosts_sql.specs.Own.{is_below, is_signed}

@@ -1,4 +1,4 @@
-use Rattle.std.proofs.Common.{◌≡◌, arith}
+use Rattle.std.proofs.Common.{arith}
 use Rattle.range_table.specs.Runs.{cut, widened, run_of}
 use Rattle.range_table.specs.declared.run.Setting.{Setting}
 use Rattle.range_table.proofs.Inserting.{length-insert_run}
