@@ -47,12 +47,12 @@ IsNew hosts (Quota name runs) = Unit {0}
 IsNew hosts (Watched name my bytes) = Unit {0}
 IsNew hosts (Unwatched name my) = Unit {0}
 
--- what adds a row or a watch takes memory
-abbrev pub TakesMemory : StoreCall → Type 0
-TakesMemory Begin = ⊥
-TakesMemory (Monitor name state) = Unit {0}
-TakesMemory (Seen name state) = ⊥
-TakesMemory (Acked name epoch) = ⊥
-TakesMemory (Quota name runs) = ⊥
-TakesMemory (Watched name my bytes) = Unit {0}
-TakesMemory (Unwatched name my) = ⊥
+-- a row or a watch is added, which takes memory
+abbrev pub Adds : StoreCall → Type 0
+Adds Begin = ⊥
+Adds (Monitor name state) = Unit {0}
+Adds (Seen name state) = ⊥
+Adds (Acked name epoch) = ⊥
+Adds (Quota name runs) = ⊥
+Adds (Watched name my bytes) = Unit {0}
+Adds (Unwatched name my) = ⊥

@@ -3,7 +3,7 @@ ghost use Rattle.std.specs.Prelude.{◌≡◌, ◌<◌, ◌≤◌, ℕ, Bool, tr
 ghost use Rattle.std.specs.Option.{is_some, option_copied};
 ghost use Rattle.definitions.specs.Hosts.{Hosts, row_of, has_row, next_own, after_store, is_past_limit, Begin, Monitor, Seen, Acked, Watched, Unwatched, AreInOrder, Quota};
 ghost use Rattle.hosts_db.specs.Calls.{Counts, Leaves, Makes, IsNotStarved, IsPastLimit, OnRefused, OnStarved};
-ghost use Rattle.hosts_db.specs.Writings.{view_of_writing, Fits, IsNew, TakesMemory};
+ghost use Rattle.hosts_db.specs.Writings.{view_of_writing, Adds, Fits, IsNew};
 
 use crate::error::StoreError;
 use crate::host_rows::HostRows;
@@ -48,7 +48,7 @@ pub trait HostStore {
         ensures counts { Counts result (refusals self.old) (refusals self.new) }
         ensures refused { OnRefused result (may_refuse self.old (is_past_limit 4096 1024 (rows self.old) (view_of_writing asked.entry))) }
         ensures limit { IsPastLimit result (is_past_limit 4096 1024 (rows self.old) (view_of_writing asked.entry)) }
-        ensures starved { OnStarved result (TakesMemory (view_of_writing asked.entry)) }
+        ensures starved { OnStarved result (Adds (view_of_writing asked.entry)) }
         ensures crash { Leaves result (may_leave self.old) (may_leave self.new) (after_store (rows self.old) (view_of_writing asked.entry)) };
 
     /// All that is kept as it is now, of which the readings below are parts.

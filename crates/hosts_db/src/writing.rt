@@ -1,6 +1,6 @@
 //! What a store is asked to write.
 ghost use Rattle.std.specs.Prelude.{◌≡◌, IfOk, IfErr};
-ghost use Rattle.hosts_db.specs.Writings.{view_of_prepared, view_of_writing, Fits, IsOfHost, TakesMemory};
+ghost use Rattle.hosts_db.specs.Writings.{view_of_prepared, view_of_writing, Adds, Fits, IsOfHost};
 
 use crate::prepared::Prepared;
 use crate::rows::{MyId, Note, Watch};
@@ -37,7 +37,7 @@ impl<'a> Writing<'a> {
     pub fn prepare(self, alloc: Global) -> Result<Prepared<'a>, AllocError>
         requires { Fits (view_of_writing self) }
         ensures same { IfOk result (λ prepared. (view_of_prepared prepared ≡ view_of_writing self.entry) × IsOfHost prepared) }
-        ensures starved { IfErr result (λ _. TakesMemory (view_of_writing self.entry)) }
+        ensures starved { IfErr result (λ _. Adds (view_of_writing self.entry)) }
     {
         match self {
             Writing::Monitor { name, state } => {
