@@ -1,6 +1,6 @@
 -- Hosts that pass the table's UNIQUE have names of their own.
 use Rattle.std.proofs.Common.{◌≡◌, Bool, true, false, cond, not, ◌&&◌, List, [], ◌∷◌, map, None, Some, refl, sym, ap, ◌∙◌}
-use Rattle.std.proofs.lemmas.Bool.{true≢false, not-true, or_parts}
+use Rattle.std.proofs.lemmas.Bool.{true≢false, or_parts}
 use Rattle.std.specs.declared.cmp.Ordering.{Ordering}
 use Rattle.std.specs.declared.cmp.Ordering.TheVariants.{Less, Equal, Greater}
 use Rattle.std.specs.List.{AllByRecursion, list_any}
@@ -88,7 +88,3 @@ hosts_apart (r ∷ rs) own all apart = (
   none_found r rs (first_fits is_host r rs all) (rest_fits is_host r rs all) own.1 (or_parts (clash r r) (list_any (clash r) rs) apart.0).1,
   hosts_apart rs own.2 (rest_fits is_host r rs all) (fewer r rs rs apart.1),
 )
-
-pub unclashed : (all rows : List Row) → AllByRecursion (λ row. (not (list_any (clash row) all) && true) ≡ true) rows → AllByRecursion (λ row. list_any (clash row) all ≡ false) rows
-unclashed all [] h = tt
-unclashed all (r ∷ rs) h = (not-true (list_any (clash r) all) (first_so (not (list_any (clash r) all)) true h.0), unclashed all rs h.1)

@@ -1,6 +1,5 @@
 -- What making the three tables and the row of the own state does.
-use Rattle.std.proofs.Common.{◌≡◌, ℕ, pos, List, [], ◌∷◌, map, filter, Bool, false, None, Ok, Err, Result, refl, sym, ap, subst, ◌∙◌, arith}
-use Rattle.std.specs.List.{AllZip}
+use Rattle.std.proofs.Common.{◌≡◌, ℕ, pos, List, [], ◌∷◌, map, Bool, false, None, Ok, Err, Result, refl, sym, ap, subst, ◌∙◌, arith}
 use Rattle.std.specs.FinMap.{empty}
 use Rattle.sqlite_value.specs.declared.value.Value.TheVariants.{Null, Int}
 use Rattle.sqlite_value.specs.Order.{Row}
@@ -11,11 +10,10 @@ use Rattle.sqlite_schema.specs.declared.schema.Table.{Table}
 use Rattle.sqlite_schema.specs.declared.command.Source.TheVariants.{Values}
 use Rattle.sqlite_schema.specs.declared.command.Command.TheVariants.{Insert, CreateTable}
 use Rattle.sqlite_trees.specs.Tree.{Trees, put_row}
-use Rattle.sqlite_trees.specs.Objects.{catalog_tree}
 use Rattle.sqlite_resolve.specs.declared.compiled.Compiled.{Compiled}
 use Rattle.sqlite_resolve.specs.declared.error.CompileError.{CompileError}
 use Rattle.sqlite_catalog.specs.Change.{created, next_tree, KeepsRows}
-use Rattle.sqlite_catalog.specs.Listing.{IsSound, IsTableRow, is_table_row}
+use Rattle.sqlite_catalog.specs.Listing.{IsSound}
 use Rattle.sqlite_rules.specs.Edit.{edit_of, edited, Applies}
 use Rattle.sqlite_rules.specs.declared.error.Rowids.TheVariants.{Chosen}
 use Rattle.sqlite_tied.specs.Compute.{everything}
@@ -26,27 +24,28 @@ use Rattle.sqlite.specs.Listing.{understood}
 use Rattle.sqlite.specs.Given.{IsPlain}
 use Rattle.sqlite.proofs.Callers.{statement_of, runs_as, one_step}
 use Rattle.hosts_sql.specs.Maps.{no_rows, with_own}
-use Rattle.hosts_sql.specs.Tables.{Fresh, own_text, hosts_text, watches_text, first_own_text, own_table, hosts_table, watches_table, own_checks, host_schema, no_schema}
-use Rattle.hosts_sql.specs.Shown.{number_at, shown, shown_if_listed}
+use Rattle.hosts_sql.specs.Tables.{own_name, hosts_name, watches_name, own_text, hosts_text, watches_text, first_own_text, own_table, hosts_table, watches_table, own_checks, no_schema}
+use Rattle.hosts_sql.specs.Schemas.{table_in, tree_in, IsHostSchema}
+use Rattle.hosts_sql.specs.Shown.{number_at, shown}
 use Rattle.hosts_transactions.specs.Work.{command_in, Ran}
 use Rattle.hosts_transactions.proofs.Ran.{same_command}
 use Rattle.hosts_sql.specs.Making.{Defines, Created, MakesTable, text_in}
 use Rattle.hosts_sql.specs.Wrote.{HasOwnRow, IsWhole}
 use Rattle.hosts_sql.specs.declared.tables.Version.TheVariants.{Second}
-use Rattle.hosts_sql.proofs.Places.{IsSecond, whole_second}
+use Rattle.hosts_sql.proofs.Listings.{shows_version, shows_none}
 use Rattle.hosts_sql.specs.Own.{is_host, is_watched, AreOwn}
 use Rattle.hosts_sql.proofs.Texts.{own_is, hosts_is, watches_is}
 use Rattle.hosts_sql.proofs.Monitor.{cast_null, cast_number, inserted, went, same_value}
-use Rattle.hosts_sql.proofs.Rows.{Makes, version_is, listed_as_tables, did_at}
+use Rattle.hosts_sql.proofs.Rows.{Makes, version_is, did_at}
 
 -- the schema once the first table is made, and the second
 abbrev pub one_table : Schema
-one_table = created no_schema (own_table own_checks)
+one_table = created no_schema (own_table 0 own_checks)
 
 abbrev pub two_tables : Schema
 two_tables = created one_table (hosts_table 0)
 
-pub own_defines : Defines no_schema own_text (own_table own_checks)
+pub own_defines : Defines no_schema own_text (own_table 0 own_checks)
 unfolding understood everything
 own_defines = record { command = refl; statement = refl; plain = (refl, refl); defined = own_is; uncounted = refl }
 
@@ -58,9 +57,13 @@ pub watches_defines : Defines two_tables watches_text (watches_table 0)
 unfolding understood everything
 watches_defines = record { command = refl; statement = refl; plain = (refl, refl); defined = watches_is; uncounted = refl }
 
-pub all_tables : created two_tables (watches_table 0) ≡ host_schema Fresh own_checks
+-- all three, as a new file has them
+abbrev pub three_tables : Schema
+three_tables = created two_tables (watches_table 0)
+
+pub all_tables : IsHostSchema Second three_tables
 unfolding everything
-all_tables = refl
+all_tables = ((((refl, (refl, refl)), (refl, (refl, refl))), refl), ((refl, (refl, refl)), refl))
 
 same_text : (sql : List ℕ) (r : Result Compiled CompileError) → statement_of sql r ≡ text_in sql r
 same_text sql (Ok c) = refl
@@ -90,7 +93,7 @@ create_step schema text table a b count d has h =
 abbrev own_terms : List Term
 own_terms = lit (Int (pos 1)) ∷ lit Null ∷ lit (Int (pos 2)) ∷ col 0 0 ∷ []
 
-own_row_is : (command_in (understood (host_schema Fresh own_checks) first_own_text) ≡ Insert 0 (Values own_terms 4)) × IsPlain (understood (host_schema Fresh own_checks) first_own_text)
+own_row_is : (command_in (understood (three_tables) first_own_text) ≡ Insert 0 (Values own_terms 4)) × IsPlain (understood (three_tables) first_own_text)
 unfolding understood everything
 own_row_is = (refl, (refl, refl))
 
@@ -102,70 +105,64 @@ pub record OwnIsSet (own : ℕ) (old new : Trees) : Type 0 where
   pub hosts : new 1 ≡ old 1
   pub watches : new 3 ≡ old 3
 
-own_news : (db : Trees) (own : ℕ) → (edit_of db (own_table own_checks) [] Chosen 0 (own_row own ∷ [])).news ≡ own_row own ∷ []
+own_news : (db : Trees) (own : ℕ) → (edit_of db (own_table 0 own_checks) [] Chosen 0 (own_row own ∷ [])).news ≡ own_row own ∷ []
 own_news db own = rw (cast_null, cast_number (pos 1), cast_number (pos 2), cast_number (pos own))
 
-own_set : (db next : Trees) (keys : Keys) (own : ℕ) → Applies (host_schema Fresh own_checks) keys db (edit_of db (own_table own_checks) [] Chosen 0 (own_row own ∷ [])) next → OwnIsSet own db next
+own_set : (db next : Trees) (keys : Keys) (own : ℕ) → Applies (three_tables) keys db (edit_of db (own_table 0 own_checks) [] Chosen 0 (own_row own ∷ [])) next → OwnIsSet own db next
 own_set db next keys own a = record {
-  rows = a.rows ∙ ap (λ all. edited db (record { table = own_table own_checks; gone = []; news = all })) (own_news db own);
+  rows = a.rows ∙ ap (λ all. edited db (record { table = own_table 0 own_checks; gone = []; news = all })) (own_news db own);
   hosts = a.tables.1.0 (λ e. omega (arith, e));
   watches = a.tables.1.1.0 (λ e. omega (arith, e));
 }
 
-own_step : (own : ℕ) (a b : Database) → a.schema ≡ host_schema Fresh own_checks → Ran first_own_text (Int (pos own) ∷ []) a b → (b.schema ≡ host_schema Fresh own_checks) × OwnIsSet own a.trees b.trees × IsDatabase b
+own_step : (own : ℕ) (a b : Database) → a.schema ≡ three_tables → Ran first_own_text (Int (pos own) ∷ []) a b → (b.schema ≡ three_tables) × OwnIsSet own a.trees b.trees × IsDatabase b
 own_step own a b has ran =
     let given_params : Row = Int (pos own) ∷ [] in
-    let it = did_at (host_schema Fresh own_checks) first_own_text given_params (Insert 0 (Values own_terms 4)) a b has tt own_row_is.0 own_row_is.1 ran in
-    let done = inserted it.1 it.2 given_params (host_schema Fresh own_checks) (own_table own_checks) 0 (Values own_terms 4) a.trees it.3 b it.4 in
-    let applied = one_step (host_schema Fresh own_checks) _ a.trees b.trees (edit_of a.trees (own_table own_checks) [] Chosen 0 done.1) refl done.3 in
-    let exact = subst (λ all. Applies (host_schema Fresh own_checks) it.2.keys a.trees (edit_of a.trees (own_table own_checks) [] Chosen 0 all) b.trees) done.2.1 applied in
+    let it = did_at (three_tables) first_own_text given_params (Insert 0 (Values own_terms 4)) a b has tt own_row_is.0 own_row_is.1 ran in
+    let done = inserted it.1 it.2 given_params (three_tables) (own_table 0 own_checks) 0 (Values own_terms 4) a.trees it.3 b it.4 in
+    let applied = one_step (three_tables) _ a.trees b.trees (edit_of a.trees (own_table 0 own_checks) [] Chosen 0 done.1) refl done.3 in
+    let exact = subst (λ all. Applies (three_tables) it.2.keys a.trees (edit_of a.trees (own_table 0 own_checks) [] Chosen 0 all) b.trees) done.2.1 applied in
     (done.0, own_set a.trees b.trees it.2.keys own exact, it.5)
 
 -- ---- before and after
 
--- a list of no table
-unlisted : (objects : List Row) (db : Trees) → AllZip IsTableRow objects [] → shown_if_listed objects db ≡ no_rows
-unlisted [] db t = refl
-unlisted (o ∷ objects) db t = absurd t
-
 pub shown_fresh : (d : Database) → d.schema ≡ no_schema → IsDatabase d → shown d.trees ≡ no_rows
-shown_fresh d is sound = unlisted (filter is_table_row (d.trees catalog_tree)) d.trees (subst (λ s. IsSound s d.trees) is sound).lists.listed.tables
+shown_fresh d is sound = shows_none d sound.lists.listed.tables (λ name. ap (λ s. table_in s name) is)
 
 -- the tables are made and hold no row
 record AreMade (d : Database) : Type 0 where
-  is : d.schema ≡ host_schema Fresh own_checks
+  is : d.schema ≡ three_tables
   own : d.trees 0 ≡ []
   hosts : d.trees 1 ≡ []
   watches : d.trees 3 ≡ []
 
 made_all : (a b c d : Database) → a.schema ≡ no_schema → MakesTable own_text a b → MakesTable hosts_text b c → MakesTable watches_text c d → AreMade d
 made_all a b c d has one two three =
-    let first = one no_schema (own_table own_checks) has own_defines in
+    let first = one no_schema (own_table 0 own_checks) has own_defines in
     let second = two one_table (hosts_table 0) first.makes hosts_defines in
     let third = three two_tables (watches_table 0) second.makes watches_defines in
-    record { is = third.makes ∙ all_tables; own = third.others.0 ∙ second.others.0 ∙ first.empty; hosts = third.others.1.0 ∙ second.empty; watches = third.empty }
+    record { is = third.makes; own = third.others.0 ∙ second.others.0 ∙ first.empty; hosts = third.others.1.0 ∙ second.empty; watches = third.empty }
 
 pub none_own : (fits : Row → Bool) → AreOwn fits []
 none_own fits = (refl, λ id. omega arith)
 
 shown_first : (own : ℕ) (a b : Database) → AreMade a → Ran first_own_text (Int (pos own) ∷ []) a b → IsWhole Second b × (shown b.trees ≡ record no_rows { own = own })
+unfolding everything
 shown_first own a b made ran =
     let set = own_step own a b made.is ran in
     let rows = set.1.rows ∙ ap (put_row (own_row own)) made.own in
-    let after : IsSecond b = record {
-      place = Fresh;
-      checks = own_checks;
-      tables = set.0;
-      own = subst (HasOwnRow 2) (sym rows) refl;
-      hosts = subst (AreOwn is_host) (sym (set.1.hosts ∙ made.hosts)) (none_own is_host);
-      watches = subst (AreOwn is_watched) (sym (set.1.watches ∙ made.watches)) (none_own is_watched);
-    } in
-    let tables = (subst (λ s. IsSound s b.trees) set.0 set.2).lists.listed.tables in
-    let listed = listed_as_tables Fresh own_checks (filter is_table_row (b.trees catalog_tree)) b.trees (version_is 2 (b.trees 0) after.own) tables in
+    let hosts_none : b.trees 1 ≡ [] = set.1.hosts ∙ made.hosts in
+    let watches_none : b.trees 3 ≡ [] = set.1.watches ∙ made.watches in
+    let own_is : HasOwnRow 2 (b.trees 0) = subst (HasOwnRow 2) (sym rows) refl in
+    let after : IsWhole Second b =
+    subst (λ s. (IsHostSchema Second s × HasOwnRow 2 (b.trees (tree_in s own_name))) × (AreOwn is_host (b.trees (tree_in s hosts_name)) × AreOwn is_watched (b.trees (tree_in s watches_name)))) (sym set.0)
+    ((all_tables, own_is), (subst (AreOwn is_host) (sym hosts_none) (none_own is_host), subst (AreOwn is_watched) (sym watches_none) (none_own is_watched))) in
+    let as_made : Database = record { schema = three_tables; trees = b.trees } in
+    let listed = shows_version Second as_made (subst (λ s. IsSound s b.trees) set.0 set.2).lists.listed.tables all_tables (version_is 2 (b.trees 0) own_is) in
     let first = ap (λ all. number_at all 3) rows in
-    let hosts = ap (λ all. Rattle.std.specs.FinMap.from_entries (map Rattle.hosts_sql.specs.Shown.host_of all)) (set.1.hosts ∙ made.hosts) in
-    let watches = ap (λ all. Rattle.std.specs.FinMap.from_entries (map Rattle.hosts_sql.specs.Shown.watch_of all)) (set.1.watches ∙ made.watches) in
-    (whole_second b after, listed ∙ (λ i. record { own = first i; hosts = hosts i; watches = watches i }))
+    let hosts = ap (λ all. Rattle.std.specs.FinMap.from_entries (map Rattle.hosts_sql.specs.Shown.host_of all)) hosts_none in
+    let watches = ap (λ all. Rattle.std.specs.FinMap.from_entries (map Rattle.hosts_sql.specs.Shown.watch_of all)) watches_none in
+    (after, listed ∙ (λ i. record { own = first i; hosts = hosts i; watches = watches i }))
 
 -- three texts that make the tables, and one for the row of the own state
 abbrev pub MakesAll : ℕ → Database → Database → Type 0

@@ -1,6 +1,11 @@
 pub mod Places
 pub mod Schemas
+pub mod Selects
+pub mod Means
 pub mod Texts
+pub mod Conditions
+pub mod Edits
+pub mod Listings
 pub mod PutLemmas
 pub mod Lists
 pub mod Monitor
@@ -22,6 +27,7 @@ pub mod Listed
 pub mod Commits
 pub mod Changed
 pub mod Meant
+pub mod Added
 pub mod Moved
 pub mod Apart
 pub mod Typed

@@ -1,5 +1,5 @@
 -- What the statement of `monitor` does to the rows.
-use Rattle.std.proofs.Common.{◌≡◌, ◌⊎◌, inl, inr, ℕ, ℤ, pos, List, [], ◌∷◌, Bool, true, false, cond, not, ◌&&◌, None, Option, Ok, Err, Result, refl, sym, ap, subst, ◌∙◌}
+use Rattle.std.proofs.Common.{◌≡◌, ◌⊎◌, inl, inr, ℕ, ℤ, pos, List, [], ◌∷◌, Bool, true, false, cond, not, ◌&&◌, None, Some, Option, slice_get, Ok, Err, Result, refl, sym, ap, subst, ◌∙◌}
 use Rattle.sqlite_value.specs.declared.value.Value.{Value}
 use Rattle.sqlite_value.specs.declared.value.Value.TheVariants.{Null, Int, Blob}
 use Rattle.sqlite_value.specs.Order.{Row}
@@ -21,10 +21,13 @@ use Rattle.sqlite.specs.declared.run.Mode.{Mode}
 use Rattle.sqlite_rules.specs.Action.{Writes}
 use Rattle.sqlite.specs.Does.{Tally, Does, OnRows}
 use Rattle.sqlite.specs.Rows.{Written, Sourced, stamped}
-use Rattle.sqlite.specs.Effect.{Database}
-use Rattle.hosts_sql.specs.Tables.{Place, hosts_tree, hosts_at, hosts_table, host_schema}
+use Rattle.sqlite.specs.Effect.{Database, IsDatabase}
+use Rattle.sqlite_catalog.specs.Listing.{IsSound}
+use Rattle.hosts_sql.specs.Tables.{own_name, hosts_name, watches_name, hosts_table}
+use Rattle.hosts_sql.specs.Schemas.{tree_in, IsHostSchema}
 use Rattle.hosts_sql.specs.Maps.{Host}
-use Rattle.hosts_sql.proofs.Places.{at_hosts, on_table, one_change, stays, own_apart, watches_apart, catalog_apart}
+use Rattle.hosts_sql.specs.declared.tables.Version.TheVariants.{Second}
+use Rattle.hosts_sql.proofs.Places.{own_at, hosts_at, watches_at, tables_of, has_hosts, trees_apart, own_not_hosts, hosts_not_watches, on_table, one_change, stays, list_stays}
 
 abbrev pub stored : Value → List ℕ → Host → Row
 stored id name host = id ∷ Blob name ∷ Int (pos host.epoch) ∷ Int host.seen ∷ Int (pos host.quota) ∷ []
@@ -36,11 +39,11 @@ abbrev pub params : List ℕ → Host → Row
 params name host = Blob name ∷ Int (pos host.epoch) ∷ Int host.seen ∷ Int (pos host.quota) ∷ []
 
 -- the table has one more row, and the other tables are as they were
-pub record Grown (place : Place) (row : Row) (old new : Trees) : Type 0 where
-  pub rows : new (hosts_tree place) ≡ put_row row (old (hosts_tree place))
-  pub fresh : is_taken (old (hosts_tree place)) row ≡ false
-  pub own : new 0 ≡ old 0
-  pub watches : new 3 ≡ old 3
+pub record Grown (schema : Schema) (row : Row) (old new : Trees) : Type 0 where
+  pub rows : new (tree_in schema hosts_name) ≡ put_row row (old (tree_in schema hosts_name))
+  pub fresh : is_taken (old (tree_in schema hosts_name)) row ≡ false
+  pub own : new (tree_in schema own_name) ≡ old (tree_in schema own_name)
+  pub watches : new (tree_in schema watches_name) ≡ old (tree_in schema watches_name)
   pub listed : new catalog_tree ≡ old catalog_tree
 
 either : (b : Bool) (x : Value) → cond b x x ≡ x
@@ -90,27 +93,29 @@ the_edit tree db name host = edit_of db (hosts_table tree) [] Chosen 0 (source n
 news_is : (tree : ℕ) (db : Trees) (name : List ℕ) (host : Host) → (the_edit tree db name host).news ≡ stored (Int (next_rowid (db tree))) name host ∷ []
 news_is tree db name host = rw (cast_null, cast_number (pos host.epoch), cast_number host.seen, cast_number (pos host.quota))
 
-grown : (place : Place) (checks : List Term) (keys : Keys) (db next : Trees) (name : List ℕ) (host : Host) → Applies (host_schema place checks) keys db (the_edit (hosts_tree place) db name host) next
-    → Grown place (stored (Int (next_rowid (db (hosts_tree place)))) name host) db next
-grown place checks keys db next name host a =
-    let tree = hosts_tree place in
-    let news = news_is tree db name host in
-    let row = stored (Int (next_rowid (db tree))) name host in
-    let others = stays place checks keys db next (the_edit tree db name host) a in
-    record {
-      rows = a.rows ∙ ap (λ all. edited db (record { table = hosts_table tree; gone = []; news = all })) news;
-      fresh = untaken (is_taken (db tree) row) (subst (λ all. are_fresh (db tree) all ≡ true) news a.fresh);
-      own = others.own (own_apart place);
-      watches = others.watches (watches_apart place);
-      listed = others.listed (catalog_apart place);
-    }
+module _ (schema : Schema) (h : IsHostSchema Second schema) where
+  grown : (keys : Keys) (db next : Trees) (name : List ℕ) (host : Host) → IsSound schema next → Applies schema keys db (the_edit (tree_in schema hosts_name) db name host) next
+      → Grown schema (stored (Int (next_rowid (db (tree_in schema hosts_name)))) name host) db next
+  grown keys db next name host sound a =
+      let tree = tree_in schema hosts_name in
+      let news = news_is tree db name host in
+      let row = stored (Int (next_rowid (db tree))) name host in
+      let tables = tables_of Second schema h in
+      let hosts = has_hosts schema h in
+      record {
+        rows = a.rows ∙ ap (λ all. edited db (record { table = hosts_table tree; gone = []; news = all })) news;
+        fresh = untaken (is_taken (db tree) row) (subst (λ all. are_fresh (db tree) all ≡ true) news a.fresh);
+        own = stays schema keys db next (the_edit tree db name host) (own_at schema) a tables.own (trees_apart schema (own_at schema) (hosts_at schema) tables.own hosts own_not_hosts);
+        watches = stays schema keys db next (the_edit tree db name host) (watches_at schema) a tables.watches (λ e. trees_apart schema (hosts_at schema) (watches_at schema) hosts tables.watches hosts_not_watches (sym e));
+        listed = list_stays schema keys db next (the_edit tree db name host) a hosts sound;
+      }
 
-pub does_monitor : (place : Place) (limit : Option ℕ) (mode : Mode) (checks : List Term) (name : List ℕ) (host : Host) (db : Trees) (text : List ℕ) (tally : Tally) (after : Database)
-    → Does limit mode (params name host) (record { schema = host_schema place checks; trees = db }) text None (Insert (hosts_at place) (Values terms 5)) (Ok (tally, after))
-    → (after.schema ≡ host_schema place checks) × Grown place (stored (Int (next_rowid (db (hosts_tree place)))) name host) db after.trees
-does_monitor place limit mode checks name host db text tally after h =
-    let tree = hosts_tree place in
-    let ran = on_table limit mode (params name host) (record { schema = host_schema place checks; trees = db }) (hosts_at place) (hosts_table tree) (Insert (hosts_at place) (Values terms 5)) (Ok (tally, after)) (at_hosts place checks) h in
-    let done = inserted limit mode (params name host) (host_schema place checks) (hosts_table tree) (hosts_at place) (Values terms 5) db tally after ran in
-    let applied = one_change place checks _ db after.trees (edit_of db (hosts_table tree) [] Chosen 0 done.1) done.3 in
-    (done.0, grown place checks mode.keys db after.trees name host (subst (λ all. Applies (host_schema place checks) mode.keys db (edit_of db (hosts_table tree) [] Chosen 0 all) after.trees) done.2.1 applied))
+  pub does_monitor : (limit : Option ℕ) (mode : Mode) (at : ℕ) (name : List ℕ) (host : Host) (db : Trees) (text : List ℕ) (tally : Tally) (after : Database) → slice_get schema.tables at ≡ Some (hosts_at schema) → IsDatabase after
+      → Does limit mode (params name host) (record { schema = schema; trees = db }) text None (Insert at (Values terms 5)) (Ok (tally, after))
+      → (after.schema ≡ schema) × Grown schema (stored (Int (next_rowid (db (tree_in schema hosts_name)))) name host) db after.trees
+  does_monitor limit mode at name host db text tally after got sound does =
+      let tree = tree_in schema hosts_name in
+      let ran = on_table limit mode (params name host) (record { schema = schema; trees = db }) at (hosts_table tree) (Insert at (Values terms 5)) (Ok (tally, after)) got does in
+      let done = inserted limit mode (params name host) schema (hosts_table tree) at (Values terms 5) db tally after ran in
+      let applied = one_change schema _ db after.trees (edit_of db (hosts_table tree) [] Chosen 0 done.1) (tables_of Second schema h).no_other done.3 in
+      (done.0, grown mode.keys db after.trees name host (subst (λ s. IsSound s after.trees) done.0 sound) (subst (λ all. Applies schema mode.keys db (edit_of db (hosts_table tree) [] Chosen 0 all) after.trees) done.2.1 applied))

@@ -1,133 +1,58 @@
 -- What the queries show.
-use Rattle.std.proofs.Common.{not, ◌≡◌, ℕ, codes, pos, negsuc, List, [], ◌∷◌, map, filter, ◌==◌, if◌then◌else◌, false, None, refl, sym, ap, subst, ◌∙◌}
+use Rattle.std.proofs.Common.{not, ◌≡◌, ℕ, pos, List, [], ◌∷◌, map, refl, sym, ap, subst, ◌∙◌}
 use Rattle.std.specs.List.Sorted.{IsPermutation}
 use Rattle.std.proofs.lemmas.List.Sorted.{IsPermutation-map, IsPermutation-sym, list_any-IsPermutation}
 use Rattle.sqlite_value.specs.declared.value.Value.TheVariants.{Null, Int}
 use Rattle.sqlite_value.specs.Order.{Row, column}
 use Rattle.sqlite_value.specs.declared.keys.Key.{Key}
-use Rattle.sqlite_value.specs.declared.keys.Collation.TheVariants.{Binary}
 use Rattle.sqlite_trees.specs.Tree.{Trees}
-use Rattle.sqlite_trees.specs.Objects.{catalog_tree}
-use Rattle.sqlite_sql.specs.Term.{Term, Env, eval_all, lit, col}
-use Rattle.sqlite_sql.specs.Query.{Query, inner, end, IsAnswer, output, Output}
+use Rattle.sqlite_sql.specs.Term.{Term, Env, eval_all}
+use Rattle.sqlite_sql.specs.Query.{IsAnswer, output, Output}
 use Rattle.sqlite_sql.specs.Program.{overlay}
 use Rattle.sqlite_schema.specs.declared.command.Command.TheVariants.{Select}
-use Rattle.sqlite_tied.specs.Compute.{everything}
 use Rattle.sqlite.specs.Effect.{Database, IsDatabase, Answers}
-use Rattle.sqlite.specs.Listing.{understood, reads_listing}
+use Rattle.sqlite.specs.Listing.{understood}
 use Rattle.sqlite.specs.State.{State, Shown}
 use Rattle.sqlite.proofs.Callers.{IsPlain, reads_as, one_permutation}
-use Rattle.hosts_sql.specs.Tables.{Place, Fresh, Upgraded, hosts_tree, host_schema, first_schema, first_tables, read_own_text, read_hosts_text, read_first_hosts_text, read_watches_text}
-use Rattle.hosts_sql.specs.Wrote.{checks_in, place_of, number, hosts_of, hosts_text, own_shown, HasOwnRow, IsHostSchema}
+use Rattle.hosts_sql.specs.Tables.{own_name, hosts_name, watches_name, first_hosts_name, read_own_text, read_hosts_text, read_first_hosts_text, read_watches_text}
+use Rattle.hosts_sql.specs.Schemas.{tree_in, checks_in, IsHostSchema}
+use Rattle.hosts_sql.specs.Wrote.{number, rows_of, hosts_of, hosts_text, own_shown, HasOwnRow}
 use Rattle.hosts_sql.specs.declared.tables.Version.{Version}
 use Rattle.hosts_sql.specs.declared.tables.Version.TheVariants.{First, Second}
 use Rattle.sqlite_schema.specs.declared.schema.Schema.{Schema}
-use Rattle.sqlite_catalog.specs.Listing.{IsSound, IsTableRow, is_table_row}
-use Rattle.std.specs.List.{flat_map, AllZip}
+use Rattle.sqlite_schema.specs.declared.schema.Table.{Table}
+use Rattle.std.specs.List.{flat_map}
 use Rattle.std.specs.Cmp.Lexicographic.{nat_list_cmp_total}
 use Rattle.std.specs.FinMap.{from_entries, slice_cmp-IsAntisymmetric, nat_cmp-IsAntisymmetric}
 use Rattle.hosts_transactions.proofs.Ran.{same_command}
 use Rattle.hosts_sql.specs.Maps.{key_cmp}
 use Rattle.definitions.specs.Bytes.{bytes_cmp}
-use Rattle.hosts_sql.specs.Shown.{host_of, watch_of, number_at, upgraded_row, shown, shown_with, shown_if_listed, shown_in_tables, shown_in_first}
-use Rattle.hosts_transactions.specs.Work.{command_in}
+use Rattle.hosts_sql.specs.Shown.{host_of, watch_of, number_at, upgraded_row, shown, shown_rows}
 use Rattle.hosts_sql.specs.Reading.{host_shown, watch_shown, AreApart, ShowsOwn, Tells}
 use Rattle.hosts_sql.specs.Own.{is_host, is_watched, has_host_numbers, AreOwn, AllFit}
 use Rattle.hosts_sql.proofs.OwnIds.{own_moved, own_of_map, fit_of_map}
 use Rattle.hosts_sql.proofs.Permuted.{same_entries}
-use Rattle.hosts_sql.proofs.Places.{reads_tree}
-use Rattle.hosts_sql.proofs.Rows.{version_is, listed_as_tables}
+use Rattle.hosts_sql.proofs.Places.{Has, own_at, hosts_at, watches_at, first_at, tables_of, has_hosts, has_first, reads_tree}
+use Rattle.hosts_sql.proofs.Listings.{shows_version}
+use Rattle.hosts_sql.proofs.Means.{Is}
+use Rattle.hosts_sql.proofs.Texts.{query, alone, by_rowid, own_terms, hosts_terms, first_hosts_terms, watches_terms, own_named, hosts_named, first_named, watches_named, read_own_is, read_hosts_is, read_first_hosts_is, read_watches_is}
+use Rattle.hosts_sql.proofs.Rows.{version_is}
 use Rattle.hosts_sql.proofs.Watch.{watch_exact, watch_total}
 use Rattle.std.proofs.lemmas.List.Concat.{flat_map_single}
 
--- all rows of one table
-abbrev pub query : ℕ → List Term → List (Term × Key) → Query
-query table terms order = record {
-  from = inner table end;
-  filter = [];
-  group = None;
-  project = terms;
-  distinct = false;
-  collations = [];
-  order = order;
-  limit = lit (Int (negsuc 0));
-  offset = lit (Int (pos 0));
-}
+-- ---- what the texts mean
 
--- ORDER BY rowid
-abbrev by_rowid : List (Term × Key)
-by_rowid = (col 1 0, record { collation = Binary; descending = false }) ∷ []
+own_means : (version : Version) (schema : Schema) → IsHostSchema version schema → Is schema read_own_text (Select (alone (query (tree_in schema own_name) [] own_terms [])) (own_named 0).1)
+own_means version schema is = read_own_is schema (tree_in schema own_name) (checks_in schema own_name) (tables_of version schema is).own
 
-abbrev own_terms : List Term
-own_terms = col 1 0 ∷ col 1 2 ∷ col 1 3 ∷ []
+watches_mean : (version : Version) (schema : Schema) → IsHostSchema version schema → Is schema read_watches_text (Select (alone (query (tree_in schema watches_name) [] watches_terms by_rowid)) (watches_named 0).1)
+watches_mean version schema is = read_watches_is schema (tree_in schema watches_name) (tables_of version schema is).watches
 
-abbrev hosts_terms : List Term
-hosts_terms = col 1 0 ∷ col 1 1 ∷ col 1 2 ∷ col 1 3 ∷ col 1 4 ∷ []
+first_hosts_mean : (schema : Schema) → IsHostSchema First schema → Is schema read_first_hosts_text (Select (alone (query (tree_in schema first_hosts_name) [] first_hosts_terms by_rowid)) (first_named 0).1)
+first_hosts_mean schema is = read_first_hosts_is schema (tree_in schema first_hosts_name) (has_first schema is)
 
-abbrev watches_terms : List Term
-watches_terms = col 1 0 ∷ col 1 1 ∷ col 1 2 ∷ col 1 3 ∷ col 1 4 ∷ col 1 5 ∷ col 1 6 ∷ []
-
-abbrev own_names : List (List ℕ)
-own_names = codes "id" ∷ codes "version" ∷ codes "state" ∷ []
-
-abbrev hosts_names : List (List ℕ)
-hosts_names = codes "rowid" ∷ codes "name" ∷ codes "epoch" ∷ codes "seen" ∷ codes "quota" ∷ []
-
-abbrev watches_names : List (List ℕ)
-watches_names = codes "rowid" ∷ codes "mon" ∷ codes "my" ∷ codes "prog" ∷ codes "vers" ∷ codes "proc" ∷ codes "priv" ∷ []
-
-abbrev pub first_hosts_terms : List Term
-first_hosts_terms = col 1 0 ∷ col 1 1 ∷ col 1 2 ∷ col 1 3 ∷ lit (Int (pos 65536)) ∷ []
-
-abbrev pub first_hosts_names : List (List ℕ)
-first_hosts_names = codes "rowid" ∷ codes "name" ∷ codes "epoch" ∷ codes "seen" ∷ codes "65536" ∷ []
-
--- what a text shows under a schema
-pub record Means (schema : Schema) (sql : List ℕ) (q : Query) (names : List (List ℕ)) : Type 0 where
-  pub command : command_in (understood schema sql) ≡ Select (record { lets = []; body = q }) names
-  pub unlisted : reads_listing schema sql ≡ false
-  pub plain : IsPlain (understood schema sql)
-
-own_first : (checks : List Term) → Means (first_schema checks) read_own_text (query 0 own_terms []) own_names
-unfolding understood everything
-own_first checks = record { command = refl; unlisted = refl; plain = (refl, refl) }
-
-own_second : (place : Place) (checks : List Term) → Means (host_schema place checks) read_own_text (query 0 own_terms []) own_names
-unfolding understood everything
-own_second Fresh checks = record { command = refl; unlisted = refl; plain = (refl, refl) }
-own_second Upgraded checks = record { command = refl; unlisted = refl; plain = (refl, refl) }
-
-hosts_first : (checks : List Term) → Means (first_schema checks) read_first_hosts_text (query 1 first_hosts_terms by_rowid) first_hosts_names
-unfolding understood everything
-hosts_first checks = record { command = refl; unlisted = refl; plain = (refl, refl) }
-
-hosts_second : (place : Place) (checks : List Term) → Means (host_schema place checks) read_hosts_text (query (hosts_tree place) hosts_terms by_rowid) hosts_names
-unfolding understood everything
-hosts_second Fresh checks = record { command = refl; unlisted = refl; plain = (refl, refl) }
-hosts_second Upgraded checks = record { command = refl; unlisted = refl; plain = (refl, refl) }
-
-watches_first : (checks : List Term) → Means (first_schema checks) read_watches_text (query 3 watches_terms by_rowid) watches_names
-unfolding understood everything
-watches_first checks = record { command = refl; unlisted = refl; plain = (refl, refl) }
-
-watches_second : (place : Place) (checks : List Term) → Means (host_schema place checks) read_watches_text (query 3 watches_terms by_rowid) watches_names
-unfolding understood everything
-watches_second Fresh checks = record { command = refl; unlisted = refl; plain = (refl, refl) }
-watches_second Upgraded checks = record { command = refl; unlisted = refl; plain = (refl, refl) }
-
-own_means : (version : Version) (schema : Schema) → IsHostSchema version schema → Means schema read_own_text (query 0 own_terms []) own_names
-own_means First schema is = subst (λ s. Means s read_own_text (query 0 own_terms []) own_names) (sym is) (own_first (checks_in schema.tables))
-own_means Second schema is = subst (λ s. Means s read_own_text (query 0 own_terms []) own_names) (sym is) (own_second (place_of schema.tables) (checks_in schema.tables))
-
-watches_mean : (version : Version) (schema : Schema) → IsHostSchema version schema → Means schema read_watches_text (query 3 watches_terms by_rowid) watches_names
-watches_mean First schema is = subst (λ s. Means s read_watches_text (query 3 watches_terms by_rowid) watches_names) (sym is) (watches_first (checks_in schema.tables))
-watches_mean Second schema is = subst (λ s. Means s read_watches_text (query 3 watches_terms by_rowid) watches_names) (sym is) (watches_second (place_of schema.tables) (checks_in schema.tables))
-
-first_hosts_mean : (schema : Schema) → IsHostSchema First schema → Means schema read_first_hosts_text (query 1 first_hosts_terms by_rowid) first_hosts_names
-first_hosts_mean schema is = subst (λ s. Means s read_first_hosts_text (query 1 first_hosts_terms by_rowid) first_hosts_names) (sym is) (hosts_first (checks_in schema.tables))
-
-hosts_mean : (schema : Schema) → IsHostSchema Second schema → Means schema read_hosts_text (query (hosts_tree (place_of schema.tables)) hosts_terms by_rowid) hosts_names
-hosts_mean schema is = subst (λ s. Means s read_hosts_text (query (hosts_tree (place_of schema.tables)) hosts_terms by_rowid) hosts_names) (sym is) (hosts_second (place_of schema.tables) (checks_in schema.tables))
+hosts_mean : (schema : Schema) → IsHostSchema Second schema → Is schema read_hosts_text (Select (alone (query (tree_in schema hosts_name) [] hosts_terms by_rowid)) (hosts_named 0).1)
+hosts_mean schema is = read_hosts_is schema (tree_in schema hosts_name) (has_hosts schema is)
 
 pub own_plain_at : (version : Version) (db : Database) → IsHostSchema version db.schema → IsPlain (understood db.schema read_own_text)
 own_plain_at version db is = (own_means version db.schema is).plain
@@ -154,31 +79,33 @@ map_twice f g (x ∷ xs) = ap (λ ys. g (f x) ∷ ys) (map_twice f g xs)
 abbrev pub env_of : Row → Env
 env_of row = [] ∷ row ∷ []
 
-pub answer_is : (table : ℕ) (terms : List Term) (order : List (Term × Key)) (db : Trees) (rows : List Row) (a : IsAnswer (query table terms order) (overlay db []) [] rows) → a.staged ≡ map env_of (db table) → IsPermutation (map (λ row. eval_all terms (env_of row)) (db table)) rows
+pub answer_is : (table : ℕ) (terms : List Term) (order : List (Term × Key)) (db : Trees) (rows : List Row) (a : IsAnswer (query table [] terms order) (overlay db []) [] rows) → a.staged ≡ map env_of (db table) → IsPermutation (map (λ row. eval_all terms (env_of row)) (db table)) rows
 answer_is table terms order db rows a staged =
     let show : Row → Row = λ row. eval_all terms (env_of row) in
     let shown : map (λ (o : Output). o.1) a.kept ≡ map show (db table) =
-    ap (map (λ (o : Output). o.1)) (a.distinct ∙ ap (map (output (query table terms order))) staged) ∙ ap (map (λ (o : Output). o.1)) (map_twice env_of (output (query table terms order)) (db table))
-    ∙ map_twice (λ r. output (query table terms order) (env_of r)) (λ (o : Output). o.1) (db table) in
+    ap (map (λ (o : Output). o.1)) (a.distinct ∙ ap (map (output (query table [] terms order))) staged) ∙ ap (map (λ (o : Output). o.1)) (map_twice env_of (output (query table [] terms order)) (db table))
+    ∙ map_twice (λ r. output (query table [] terms order) (env_of r)) (λ (o : Output). o.1) (db table) in
     let moved = IsPermutation-map (λ (o : Output). o.1) a.kept a.ordered a.same in
     subst (λ out. IsPermutation (map show (db table)) out) (sym a.shown) (subst (λ xs. IsPermutation xs (map (λ (o : Output). o.1) a.ordered)) shown moved)
 
 -- all rows of a table, where a text shows them
-all_rows : (db : Database) (sql : List ℕ) (table : ℕ) (terms : List Term) (order : List (Term × Key)) (names : List (List ℕ)) (rows : List Row) → overlay db.trees [] table ≡ db.trees table → Means db.schema sql (query table terms order) names → Tells sql db rows
-    → IsPermutation (map (λ row. eval_all terms (env_of row)) (db.trees table)) rows
-all_rows db sql table terms order names rows base means h = let a = (h _ _ means.command means.unlisted).answer Null in answer_is table terms order db.trees rows a (a.grouped ∙ ap (flat_map (λ row. env_of row ∷ [])) base ∙ flat_map_single env_of (db.trees table))
+all_rows : (db : Database) (sql : List ℕ) (t : Table) (terms : List Term) (order : List (Term × Key)) (names : List (List ℕ)) (rows : List Row) → Has db.schema t → Is db.schema sql (Select (alone (query t.tree [] terms order)) names) → Tells sql db rows
+    → IsPermutation (map (λ row. eval_all terms (env_of row)) (db.trees t.tree)) rows
+all_rows db sql t terms order names rows has means h =
+    let a = (h _ _ means.command means.unlisted).answer Null in
+    answer_is t.tree terms order db.trees rows a (a.grouped ∙ ap (flat_map (λ row. env_of row ∷ [])) (reads_tree db.schema t has db.trees) ∙ flat_map_single env_of (db.trees t.tree))
 
-pub reads_own : (version : Version) (db : Database) (rows : List Row) → IsHostSchema version db.schema → Tells read_own_text db rows → IsPermutation (map own_shown (db.trees 0)) rows
-reads_own version db rows is h = all_rows db read_own_text 0 own_terms [] own_names rows refl (own_means version db.schema is) h
+pub reads_own : (version : Version) (db : Database) (rows : List Row) → IsHostSchema version db.schema → Tells read_own_text db rows → IsPermutation (map own_shown (rows_of own_name db)) rows
+reads_own version db rows is h = all_rows db read_own_text (own_at db.schema) own_terms [] (own_named 0).1 rows (tables_of version db.schema is).own (own_means version db.schema is) h
 
 pub reads_hosts : (version : Version) (db : Database) (rows : List Row) → IsHostSchema version db.schema → Tells (hosts_text version) db rows → IsPermutation (map host_shown (hosts_of version db)) rows
 reads_hosts First db rows is h =
-    let all = all_rows db read_first_hosts_text 1 first_hosts_terms by_rowid first_hosts_names rows refl (first_hosts_mean db.schema is) h in
-    subst (λ xs. IsPermutation xs rows) (sym (map_twice upgraded_row host_shown (db.trees 1))) all
-reads_hosts Second db rows is h = all_rows db read_hosts_text (hosts_tree (place_of db.schema.tables)) hosts_terms by_rowid hosts_names rows (reads_tree (place_of db.schema.tables) db.trees) (hosts_mean db.schema is) h
+    let all = all_rows db read_first_hosts_text (first_at db.schema) first_hosts_terms by_rowid (first_named 0).1 rows (has_first db.schema is) (first_hosts_mean db.schema is) h in
+    subst (λ xs. IsPermutation xs rows) (sym (map_twice upgraded_row host_shown (rows_of first_hosts_name db))) all
+reads_hosts Second db rows is h = all_rows db read_hosts_text (hosts_at db.schema) hosts_terms by_rowid (hosts_named 0).1 rows (has_hosts db.schema is) (hosts_mean db.schema is) h
 
-pub reads_watches : (version : Version) (db : Database) (rows : List Row) → IsHostSchema version db.schema → Tells read_watches_text db rows → IsPermutation (map watch_shown (db.trees 3)) rows
-reads_watches version db rows is h = all_rows db read_watches_text 3 watches_terms by_rowid watches_names rows refl (watches_mean version db.schema is) h
+pub reads_watches : (version : Version) (db : Database) (rows : List Row) → IsHostSchema version db.schema → Tells read_watches_text db rows → IsPermutation (map watch_shown (rows_of watches_name db)) rows
+reads_watches version db rows is h = all_rows db read_watches_text (watches_at db.schema) watches_terms by_rowid (watches_named 0).1 rows (tables_of version db.schema is).watches (watches_mean version db.schema is) h
 
 -- the one row, as the query shows it
 own_alone : (version : ℕ) (rows : List Row) (row : Row) (own : ℕ) → map own_shown rows ≡ row ∷ [] → column row 0 ≡ Int (pos 1) → column row 1 ≡ Int (pos version) → column row 2 ≡ Int (pos own) → HasOwnRow version rows × (number_at rows 3 ≡ own)
@@ -191,11 +118,11 @@ own_alone version (r ∷ []) row own one id is state =
     (rw (first, second, third), rw third)
 own_alone version (r ∷ next ∷ rows) row own one id is state = absurd cc
 
-pub own_from : (version : Version) (db : Database) (rows : List Row) (own : ℕ) → IsHostSchema version db.schema → Tells read_own_text db rows → ShowsOwn (number version) rows own → HasOwnRow (number version) (db.trees 0) × (number_at (db.trees 0) 3 ≡ own)
+pub own_from : (version : Version) (db : Database) (rows : List Row) (own : ℕ) → IsHostSchema version db.schema → Tells read_own_text db rows → ShowsOwn (number version) rows own → HasOwnRow (number version) (rows_of own_name db) × (number_at (rows_of own_name db) 3 ≡ own)
 own_from version db rows own is h shows =
-    let back = IsPermutation-sym (map own_shown (db.trees 0)) rows (reads_own version db rows is h) in
-    let one = one_permutation shows.0 (map own_shown (db.trees 0)) (subst (λ xs. IsPermutation xs (map own_shown (db.trees 0))) shows.1 back) in
-    own_alone (number version) (db.trees 0) shows.0 own one shows.2 shows.3 shows.4
+    let back = IsPermutation-sym (map own_shown (rows_of own_name db)) rows (reads_own version db rows is h) in
+    let one = one_permutation shows.0 (map own_shown (rows_of own_name db)) (subst (λ xs. IsPermutation xs (map own_shown (rows_of own_name db))) shows.1 back) in
+    own_alone (number version) (rows_of own_name db) shows.0 own one shows.2 shows.3 shows.4
 
 pub hosts_from : (version : Version) (db : Database) (rows : List Row) → IsHostSchema version db.schema → Tells (hosts_text version) db rows → AreApart bytes_cmp (map host_of rows) → from_entries {R = bytes_cmp} (map host_of rows) ≡ from_entries (map host_of (hosts_of version db))
 hosts_from version db rows is h apart =
@@ -204,37 +131,27 @@ hosts_from version db rows is h apart =
     let all = subst (λ es. IsPermutation es (map host_of rows)) (map_twice host_shown host_of hosts) moved in
     sym (same_entries nat_list_cmp_total (slice_cmp-IsAntisymmetric nat_cmp-IsAntisymmetric) (map host_of hosts) (map host_of rows) all apart)
 
-pub watches_from : (version : Version) (db : Database) (rows : List Row) → IsHostSchema version db.schema → Tells read_watches_text db rows → AreApart key_cmp (map watch_of rows) → from_entries {R = key_cmp} (map watch_of rows) ≡ from_entries (map watch_of (db.trees 3))
+pub watches_from : (version : Version) (db : Database) (rows : List Row) → IsHostSchema version db.schema → Tells read_watches_text db rows → AreApart key_cmp (map watch_of rows) → from_entries {R = key_cmp} (map watch_of rows) ≡ from_entries (map watch_of (rows_of watches_name db))
 watches_from version db rows is h apart =
-    let moved = IsPermutation-map watch_of (map watch_shown (db.trees 3)) rows (reads_watches version db rows is h) in
-    let all = subst (λ es. IsPermutation es (map watch_of rows)) (map_twice watch_shown watch_of (db.trees 3)) moved in
-    sym (same_entries watch_total watch_exact (map watch_of (db.trees 3)) (map watch_of rows) all apart)
+    let moved = IsPermutation-map watch_of (map watch_shown (rows_of watches_name db)) rows (reads_watches version db rows is h) in
+    let all = subst (λ es. IsPermutation es (map watch_of rows)) (map_twice watch_shown watch_of (rows_of watches_name db)) moved in
+    sym (same_entries watch_total watch_exact (map watch_of (rows_of watches_name db)) (map watch_of rows) all apart)
 
--- a list of the tables of schema 1
-listed_as_first : (checks : List Term) (objects : List Row) (db : Trees) → number_at (db 0) 2 ≡ 1 → AllZip IsTableRow objects (first_tables checks) → shown_if_listed objects db ≡ shown_in_first db
-listed_as_first checks [] db version h = absurd h
-listed_as_first checks (a ∷ []) db version h = absurd h.1
-listed_as_first checks (a ∷ b ∷ []) db version h = absurd h.1.1
-listed_as_first checks (a ∷ b ∷ c ∷ []) db version h = ap (λ n. if n == 1 then shown_in_first db else shown_in_tables Fresh db) version
-listed_as_first checks (a ∷ b ∷ c ∷ d ∷ more) db version h = absurd h.1.1.1
-
-pub shows_hosts : (version : Version) (db : Database) → IsHostSchema version db.schema → IsDatabase db → HasOwnRow (number version) (db.trees 0) → shown db.trees ≡ shown_with (hosts_of version db) db.trees
-shows_hosts First db is sound own = listed_as_first (checks_in db.schema.tables) (filter is_table_row (db.trees catalog_tree)) db.trees (version_is 1 (db.trees 0) own) (subst (λ s. IsSound s db.trees) is sound).lists.listed.tables
-shows_hosts Second db is sound own =
-    listed_as_tables (place_of db.schema.tables) (checks_in db.schema.tables) (filter is_table_row (db.trees catalog_tree)) db.trees (version_is 2 (db.trees 0) own) (subst (λ s. IsSound s db.trees) is sound).lists.listed.tables
+pub shows_hosts : (version : Version) (db : Database) → IsHostSchema version db.schema → IsDatabase db → HasOwnRow (number version) (rows_of own_name db) → shown db.trees ≡ shown_rows (rows_of own_name db) (hosts_of version db) (rows_of watches_name db)
+shows_hosts version db is sound own = shows_version version db sound.lists.listed.tables is (version_is (number version) (rows_of own_name db) own)
 
 -- the rows of the tables, as they were read
-pub all_shown : (version : Version) (db : Database) → IsHostSchema version db.schema → IsDatabase db → HasOwnRow (number version) (db.trees 0) → (own : ℕ) → number_at (db.trees 0) 3 ≡ own
-    → shown db.trees ≡ record { own = own; hosts = from_entries (map host_of (hosts_of version db)); watches = from_entries (map watch_of (db.trees 3)) }
-all_shown version db is sound row own state = shows_hosts version db is sound row ∙ (λ i. record { own = state i; hosts = from_entries (map host_of (hosts_of version db)); watches = from_entries (map watch_of (db.trees 3)) })
+pub all_shown : (version : Version) (db : Database) → IsHostSchema version db.schema → IsDatabase db → HasOwnRow (number version) (rows_of own_name db) → (own : ℕ) → number_at (rows_of own_name db) 3 ≡ own
+    → shown db.trees ≡ record { own = own; hosts = from_entries (map host_of (hosts_of version db)); watches = from_entries (map watch_of (rows_of watches_name db)) }
+all_shown version db is sound row own state = shows_hosts version db is sound row ∙ (λ i. record { own = state i; hosts = from_entries (map host_of (hosts_of version db)); watches = from_entries (map watch_of (rows_of watches_name db)) })
 
 pub own_hosts_from : (version : Version) (db : Database) (rows : List Row) → IsHostSchema version db.schema → Tells (hosts_text version) db rows → AreOwn is_host rows → AreOwn is_host (hosts_of version db)
 own_hosts_from version db rows is h own =
     let hosts = hosts_of version db in own_of_map is_host host_shown (λ r. refl) (λ r. refl) hosts (own_moved is_host rows (map host_shown hosts) (IsPermutation-sym (map host_shown hosts) rows (reads_hosts version db rows is h)) own)
 
-pub own_watches_from : (version : Version) (db : Database) (rows : List Row) → IsHostSchema version db.schema → Tells read_watches_text db rows → AreOwn is_watched rows → AreOwn is_watched (db.trees 3)
+pub own_watches_from : (version : Version) (db : Database) (rows : List Row) → IsHostSchema version db.schema → Tells read_watches_text db rows → AreOwn is_watched rows → AreOwn is_watched (rows_of watches_name db)
 own_watches_from version db rows is h own =
-    own_of_map is_watched watch_shown (λ r. refl) (λ r. refl) (db.trees 3) (own_moved is_watched rows (map watch_shown (db.trees 3)) (IsPermutation-sym (map watch_shown (db.trees 3)) rows (reads_watches version db rows is h)) own)
+    own_of_map is_watched watch_shown (λ r. refl) (λ r. refl) (rows_of watches_name db) (own_moved is_watched rows (map watch_shown (rows_of watches_name db)) (IsPermutation-sym (map watch_shown (rows_of watches_name db)) rows (reads_watches version db rows is h)) own)
 
 pub fitting_hosts_from : (version : Version) (db : Database) (rows : List Row) → IsHostSchema version db.schema → Tells (hosts_text version) db rows → AllFit has_host_numbers rows → AllFit has_host_numbers (hosts_of version db)
 fitting_hosts_from version db rows is h fit =

@@ -1,25 +1,42 @@
--- A schema that is that of the tables.
-use Rattle.std.proofs.Common.{◌≡◌, List, [], sym, ap, ◌∙◌}
+-- A schema that has a table.
+use Rattle.std.proofs.Common.{◌≡◌, ℕ, true, List, Some, None, Option, option_map, refl, sym, ap, subst, ◌∙◌}
+use Rattle.std.specs.Prelude.{nat_lt, unwrap_or, ◌==◌}
+use Rattle.std.specs.List.{position_from}
 use Rattle.sqlite_schema.specs.declared.schema.Schema.{Schema}
 use Rattle.sqlite_schema.specs.declared.schema.Table.{Table}
-use Rattle.sqlite_schema.specs.declared.schema.Index.{Index}
-use Rattle.hosts_sql.specs.Tables.{Place, Fresh, Upgraded, first_tables, first_indexes, host_tables, host_indexes}
-use Rattle.hosts_sql.specs.Wrote.{checks_in, place_of, IsHostSchema}
-use Rattle.hosts_sql.specs.declared.tables.Version.TheVariants.{First, Second}
+use Rattle.sqlite_schema.specs.Names.{table_named}
+use Rattle.hosts_sql.specs.Tables.{own_name, hosts_name, watches_name, first_hosts_name, own_table, hosts_table, watches_table, first_hosts_table}
+use Rattle.hosts_sql.specs.Schemas.{table_in, tree_in, checks_in, HasTable}
 
-of_parts : (schema : Schema) (tables : List Table) (indexes : List Index) → schema.tables ≡ tables → schema.indexes ≡ indexes → schema.views ≡ [] → schema ≡ record { tables = tables; indexes = indexes; views = [] }
-of_parts schema tables indexes t x v = λ i. record { tables = t i; indexes = x i; views = v i }
+module _ (schema : Schema) (t : Table) where
+  tree_is : (name : List ℕ) → table_in schema name ≡ Some t → t.tree ≡ tree_in schema name
+  tree_is name is = sym (ap (λ o. unwrap_or (option_map (λ (u : Table). u.tree) o) 0) is)
 
-pub first_is : (schema : Schema) → schema.tables ≡ first_tables (checks_in schema.tables) → schema.indexes ≡ first_indexes → schema.views ≡ [] → IsHostSchema First schema
-first_is schema t x v = of_parts schema (first_tables (checks_in schema.tables)) first_indexes t x v
+  abbrev Alone : List ℕ → Type 0
+  Alone name = position_from (λ u. u.tree == t.tree) 0 schema.tables ≡ table_named schema name
 
-placed : (place : Place) (schema : Schema) → place ≡ place_of schema.tables → schema.tables ≡ host_tables place (checks_in schema.tables) → schema.indexes ≡ host_indexes place → schema.views ≡ [] → IsHostSchema Second schema
-placed place schema p t x v =
-    of_parts schema (host_tables place (checks_in schema.tables)) (host_indexes place) t x v
-    ∙ ap (λ q. let s : Schema = record { tables = host_tables q (checks_in schema.tables); indexes = host_indexes q; views = [] } in s) p
+  there : (make : ℕ → Table) → ((n : ℕ) → (make n).tree ≡ n) → t ≡ make t.tree → table_in schema (make t.tree).name ≡ Some t → Alone (make t.tree).name → nat_lt t.tree 65536 ≡ true → HasTable schema (make t.tree)
+  there make trees same is alone low = (
+    is ∙ ap Some same,
+    (ap (λ n. position_from (λ (u : Table). u.tree == n) 0 schema.tables) (trees t.tree) ∙ alone, ap (λ n. nat_lt n 65536) (trees t.tree) ∙ low),
+  )
 
-pub fresh_is : (schema : Schema) → schema.tables ≡ host_tables Fresh (checks_in schema.tables) → schema.indexes ≡ host_indexes Fresh → schema.views ≡ [] → IsHostSchema Second schema
-fresh_is schema t x v = placed Fresh schema (sym (ap place_of t)) t x v
+  pub own_there : table_in schema own_name ≡ Some t → t ≡ own_table t.tree t.checks → Alone own_name → nat_lt t.tree 65536 ≡ true → HasTable schema (own_table (tree_in schema own_name) (checks_in schema own_name))
+  own_there is same alone low =
+      let checks : t.checks ≡ checks_in schema own_name = sym (ap (λ o. unwrap_or (option_map (λ (u : Table). u.checks) o) Rattle.std.proofs.Common.[]) is) in
+      subst (λ c. HasTable schema (own_table (tree_in schema own_name) c)) checks (subst (λ n. HasTable schema (own_table n t.checks)) (tree_is own_name is) (there (λ n. own_table n t.checks) (λ n. refl) same is alone low))
 
-pub upgraded_is : (schema : Schema) → schema.tables ≡ host_tables Upgraded (checks_in schema.tables) → schema.indexes ≡ host_indexes Upgraded → schema.views ≡ [] → IsHostSchema Second schema
-upgraded_is schema t x v = placed Upgraded schema (sym (ap place_of t)) t x v
+  pub hosts_there : table_in schema hosts_name ≡ Some t → t ≡ hosts_table t.tree → Alone hosts_name → nat_lt t.tree 65536 ≡ true → HasTable schema (hosts_table (tree_in schema hosts_name))
+  hosts_there is same alone low = subst (λ n. HasTable schema (hosts_table n)) (tree_is hosts_name is) (there hosts_table (λ n. refl) same is alone low)
+
+  pub first_there : table_in schema first_hosts_name ≡ Some t → t ≡ first_hosts_table t.tree → Alone first_hosts_name → nat_lt t.tree 65536 ≡ true → HasTable schema (first_hosts_table (tree_in schema first_hosts_name))
+  first_there is same alone low = subst (λ n. HasTable schema (first_hosts_table n)) (tree_is first_hosts_name is) (there first_hosts_table (λ n. refl) same is alone low)
+
+  pub watches_there : table_in schema watches_name ≡ Some t → t ≡ watches_table t.tree → Alone watches_name → nat_lt t.tree 65536 ≡ true → HasTable schema (watches_table (tree_in schema watches_name))
+  watches_there is same alone low = subst (λ n. HasTable schema (watches_table n)) (tree_is watches_name is) (there watches_table (λ n. refl) same is alone low)
+
+  pub old_there : table_in schema first_hosts_name ≡ Some t → t ≡ first_hosts_table t.tree → table_in schema first_hosts_name ≡ option_map (λ u. first_hosts_table u.tree) (table_in schema first_hosts_name)
+  old_there is same = is ∙ ap Some same ∙ sym (ap (option_map (λ (u : Table). first_hosts_table u.tree)) is)
+
+pub none_there : (schema : Schema) → table_in schema first_hosts_name ≡ None → table_in schema first_hosts_name ≡ option_map (λ u. first_hosts_table u.tree) (table_in schema first_hosts_name)
+none_there schema is = is ∙ sym (ap (option_map (λ (u : Table). first_hosts_table u.tree)) is)

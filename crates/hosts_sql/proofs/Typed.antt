@@ -57,6 +57,6 @@ typed_row (i ∷ a ∷ b ∷ c ∷ []) t p =
 typed_row (i ∷ a ∷ b ∷ c ∷ d ∷ more) t p =
     absurd (true≢false (sym (second_so (is_of kind.Integer c) false (second_so (is_of kind.Integer b) (is_of kind.Integer c && false) (second_so (is_of kind.Blob a) (is_of kind.Integer b && (is_of kind.Integer c && false)) t)))))
 
-pub typed_rows : (rows : List Row) → AllByRecursion (λ row. (are_typed None 0 first_hosts_columns (drop 1 row) && has_computed first_hosts_table row) ≡ true) rows → AllByRecursion (λ row. are_present None 0 first_hosts_columns row ≡ true) rows → AllByRecursion IsTyped rows
+pub typed_rows : (rows : List Row) → AllByRecursion (λ row. (are_typed None 0 first_hosts_columns (drop 1 row) && has_computed (first_hosts_table 0) row) ≡ true) rows → AllByRecursion (λ row. are_present None 0 first_hosts_columns row ≡ true) rows → AllByRecursion IsTyped rows
 typed_rows [] t p = tt
 typed_rows (r ∷ rs) t p = (typed_row r (first_so (are_typed None 0 first_hosts_columns (drop 1 r)) _ t.0) (has_all r p.0), typed_rows rs t.1 p.1)

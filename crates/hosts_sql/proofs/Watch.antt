@@ -1,5 +1,5 @@
 -- What the statement of a new watch does to the rows.
-use Rattle.std.proofs.Common.{◌≡◌, ℕ, ℤ, List, [], ◌∷◌, map, true, false, None, Option, Ok, sym, ap, subst, ◌∙◌, arith}
+use Rattle.std.proofs.Common.{◌≡◌, ℕ, ℤ, List, [], ◌∷◌, map, true, false, None, Some, Option, slice_get, Ok, sym, ap, subst, ◌∙◌}
 use Rattle.std.specs.Cmp.{IsTotalOrder, on_total, then_total, int_cmp_total}
 use Rattle.std.specs.Cmp.Lexicographic.{nat_list_cmp_total}
 use Rattle.std.specs.FinMap.{IsAntisymmetric, get, get-from_entries, from_entries, insert, find, slice_cmp-IsAntisymmetric, nat_cmp-IsAntisymmetric}
@@ -17,13 +17,18 @@ use Rattle.sqlite_rules.specs.Edit.{Edit, edit_of, edited, next_rowid, is_taken,
 use Rattle.sqlite_rules.specs.declared.error.Rowids.TheVariants.{Chosen}
 use Rattle.sqlite.specs.declared.run.Mode.{Mode}
 use Rattle.sqlite.specs.Does.{Tally, Does}
-use Rattle.sqlite.specs.Effect.{Database}
+use Rattle.sqlite.specs.Effect.{Database, IsDatabase}
+use Rattle.sqlite_catalog.specs.Listing.{IsSound}
+use Rattle.sqlite_schema.specs.declared.schema.Schema.{Schema}
+use Rattle.hosts_sql.specs.Schemas.{tree_in, IsHostSchema}
+use Rattle.hosts_sql.specs.declared.tables.Version.TheVariants.{Second}
 use Rattle.hosts_sql.specs.Given.{watch_params}
 use Rattle.hosts_sql.specs.Maps.{WatchKey, key_cmp, with_watch}
 use Rattle.definitions.specs.Nsm.{MyId}
-use Rattle.hosts_sql.specs.Tables.{Place, hosts_tree, watches_table, host_schema}
-use Rattle.hosts_sql.specs.Shown.{host_of, watch_of, number_at, shown_in_tables}
-use Rattle.hosts_sql.proofs.Places.{at_watches, on_table, one_change, stays, hosts_not_watches}
+use Rattle.hosts_sql.specs.Tables.{own_name, hosts_name, watches_name, watches_table}
+use Rattle.hosts_sql.specs.Shown.{host_of, watch_of, number_at}
+use Rattle.hosts_sql.proofs.Listings.{shown_in}
+use Rattle.hosts_sql.proofs.Places.{own_at, hosts_at, watches_at, tables_of, has_hosts, trees_apart, own_not_watches, hosts_not_watches, on_table, one_change, stays, list_stays}
 use Rattle.hosts_sql.proofs.PutLemmas.{put_is_insert}
 use Rattle.hosts_sql.proofs.Monitor.{cast_null, cast_number, inserted, untaken}
 
@@ -51,50 +56,55 @@ watch_row id k private = id ∷ Blob k.mon ∷ Blob k.my.my_name ∷ Int k.my.pr
 abbrev pub watch_terms : List Term
 watch_terms = lit Null ∷ col 0 0 ∷ col 0 1 ∷ col 0 2 ∷ col 0 3 ∷ col 0 4 ∷ col 0 5 ∷ []
 
-pub record GrownWatches (place : Place) (row : Row) (old new : Trees) : Type 0 where
-  pub rows : new 3 ≡ put_row row (old 3)
-  pub fresh : is_taken (old 3) row ≡ false
-  pub own : new 0 ≡ old 0
-  pub hosts : new (hosts_tree place) ≡ old (hosts_tree place)
+pub record GrownWatches (schema : Schema) (row : Row) (old new : Trees) : Type 0 where
+  pub rows : new (tree_in schema watches_name) ≡ put_row row (old (tree_in schema watches_name))
+  pub fresh : is_taken (old (tree_in schema watches_name)) row ≡ false
+  pub own : new (tree_in schema own_name) ≡ old (tree_in schema own_name)
+  pub hosts : new (tree_in schema hosts_name) ≡ old (tree_in schema hosts_name)
   pub listed : new catalog_tree ≡ old catalog_tree
 
-abbrev the_edit : Trees → WatchKey → List ℕ → Edit
-the_edit db k private = edit_of db (watches_table 3) [] Chosen 0 ((Null ∷ watch_params k private) ∷ [])
+abbrev the_edit : ℕ → Trees → WatchKey → List ℕ → Edit
+the_edit tree db k private = edit_of db (watches_table tree) [] Chosen 0 ((Null ∷ watch_params k private) ∷ [])
 
-news_is : (db : Trees) (k : WatchKey) (private : List ℕ) → (the_edit db k private).news ≡ watch_row (Int (next_rowid (db 3))) k private ∷ []
-news_is db k private = rw (cast_null, cast_number k.my.prog, cast_number k.my.vers, cast_number k.my.proc)
+news_is : (tree : ℕ) (db : Trees) (k : WatchKey) (private : List ℕ) → (the_edit tree db k private).news ≡ watch_row (Int (next_rowid (db tree))) k private ∷ []
+news_is tree db k private = rw (cast_null, cast_number k.my.prog, cast_number k.my.vers, cast_number k.my.proc)
 
-grown : (place : Place) (checks : List Term) (keys : Keys) (db next : Trees) (k : WatchKey) (private : List ℕ) → Applies (host_schema place checks) keys db (the_edit db k private) next
-    → GrownWatches place (watch_row (Int (next_rowid (db 3))) k private) db next
-grown place checks keys db next k private a =
-    let news = news_is db k private in
-    let row = watch_row (Int (next_rowid (db 3))) k private in
-    let others = stays place checks keys db next (the_edit db k private) a in
-    record {
-      rows = a.rows ∙ ap (λ all. edited db (record { table = watches_table 3; gone = []; news = all })) news;
-      fresh = untaken (is_taken (db 3) row) (subst (λ all. are_fresh (db 3) all ≡ true) news a.fresh);
-      own = others.own (λ e. omega (arith, e));
-      hosts = others.hosts (hosts_not_watches place);
-      listed = others.listed (λ e. omega (arith, e));
-    }
+module _ (schema : Schema) (h : IsHostSchema Second schema) where
+  grown : (keys : Keys) (db next : Trees) (k : WatchKey) (private : List ℕ) → IsSound schema next → Applies schema keys db (the_edit (tree_in schema watches_name) db k private) next
+      → GrownWatches schema (watch_row (Int (next_rowid (db (tree_in schema watches_name)))) k private) db next
+  grown keys db next k private sound a =
+      let tree = tree_in schema watches_name in
+      let news = news_is tree db k private in
+      let row = watch_row (Int (next_rowid (db tree))) k private in
+      let tables = tables_of Second schema h in
+      let hosts = has_hosts schema h in
+      record {
+        rows = a.rows ∙ ap (λ all. edited db (record { table = watches_table tree; gone = []; news = all })) news;
+        fresh = untaken (is_taken (db tree) row) (subst (λ all. are_fresh (db tree) all ≡ true) news a.fresh);
+        own = stays schema keys db next (the_edit tree db k private) (own_at schema) a tables.own (trees_apart schema (own_at schema) (watches_at schema) tables.own tables.watches own_not_watches);
+        hosts = stays schema keys db next (the_edit tree db k private) (hosts_at schema) a hosts (trees_apart schema (hosts_at schema) (watches_at schema) hosts tables.watches hosts_not_watches);
+        listed = list_stays schema keys db next (the_edit tree db k private) a tables.watches sound;
+      }
 
-pub does_watch : (place : Place) (limit : Option ℕ) (mode : Mode) (checks : List Term) (k : WatchKey) (private : List ℕ) (db : Trees) (text : List ℕ) (tally : Tally) (after : Database)
-    → Does limit mode (watch_params k private) (record { schema = host_schema place checks; trees = db }) text None (Insert 2 (Values watch_terms 7)) (Ok (tally, after))
-    → (after.schema ≡ host_schema place checks) × GrownWatches place (watch_row (Int (next_rowid (db 3))) k private) db after.trees
-does_watch place limit mode checks k private db text tally after h =
-    let ran = on_table limit mode (watch_params k private) (record { schema = host_schema place checks; trees = db }) 2 (watches_table 3) (Insert 2 (Values watch_terms 7)) (Ok (tally, after)) (at_watches place checks) h in
-    let done = inserted limit mode (watch_params k private) (host_schema place checks) (watches_table 3) 2 (Values watch_terms 7) db tally after ran in
-    let applied = one_change place checks _ db after.trees (edit_of db (watches_table 3) [] Chosen 0 done.1) done.3 in
-    (done.0, grown place checks mode.keys db after.trees k private (subst (λ all. Applies (host_schema place checks) mode.keys db (edit_of db (watches_table 3) [] Chosen 0 all) after.trees) done.2.1 applied))
+  pub does_watch : (limit : Option ℕ) (mode : Mode) (at : ℕ) (k : WatchKey) (private : List ℕ) (db : Trees) (text : List ℕ) (tally : Tally) (after : Database) → slice_get schema.tables at ≡ Some (watches_at schema) → IsDatabase after
+      → Does limit mode (watch_params k private) (record { schema = schema; trees = db }) text None (Insert at (Values watch_terms 7)) (Ok (tally, after))
+      → (after.schema ≡ schema) × GrownWatches schema (watch_row (Int (next_rowid (db (tree_in schema watches_name)))) k private) db after.trees
+  does_watch limit mode at k private db text tally after got sound does =
+      let tree = tree_in schema watches_name in
+      let ran = on_table limit mode (watch_params k private) (record { schema = schema; trees = db }) at (watches_table tree) (Insert at (Values watch_terms 7)) (Ok (tally, after)) got does in
+      let done = inserted limit mode (watch_params k private) schema (watches_table tree) at (Values watch_terms 7) db tally after ran in
+      let applied = one_change schema _ db after.trees (edit_of db (watches_table tree) [] Chosen 0 done.1) (tables_of Second schema h).no_other done.3 in
+      (done.0, grown mode.keys db after.trees k private (subst (λ s. IsSound s after.trees) done.0 sound) (subst (λ all. Applies schema mode.keys db (edit_of db (watches_table tree) [] Chosen 0 all) after.trees) done.2.1 applied))
 
 -- one more row is one more watch
-pub grown_watches : (place : Place) (k : WatchKey) (private : List ℕ) (row : Row) (old new : Trees) → GrownWatches place row old new → watch_of row ≡ (k, private)
-    → get (shown_in_tables place old).watches k ≡ None → shown_in_tables place new ≡ with_watch k private (shown_in_tables place old)
-grown_watches place k private row old new g is none =
+pub grown_watches : (schema : Schema) (k : WatchKey) (private : List ℕ) (row : Row) (old new : Trees) → GrownWatches schema row old new → watch_of row ≡ (k, private)
+    → get (shown_in schema old).watches k ≡ None → shown_in schema new ≡ with_watch k private (shown_in schema old)
+grown_watches schema k private row old new g is none =
+    let tree = tree_in schema watches_name in
     let key = ap (λ (p : WatchKey × List ℕ). p.0) is in
-    let absent = subst (λ x. find key_cmp x (map watch_of (old 3)) ≡ None) (sym key) (sym (get-from_entries watch_total (map watch_of (old 3)) k) ∙ none) in
-    let put = put_is_insert watch_total watch_exact watch_of (old 3) row g.fresh absent in
-    let watches = ap (λ rows. from_entries (map watch_of rows)) g.rows ∙ put ∙ ap (λ (p : WatchKey × List ℕ). insert (shown_in_tables place old).watches p.0 p.1) is in
+    let absent = subst (λ x. find key_cmp x (map watch_of (old tree)) ≡ None) (sym key) (sym (get-from_entries watch_total (map watch_of (old tree)) k) ∙ none) in
+    let put = put_is_insert watch_total watch_exact watch_of (old tree) row g.fresh absent in
+    let watches = ap (λ rows. from_entries (map watch_of rows)) g.rows ∙ put ∙ ap (λ (p : WatchKey × List ℕ). insert (shown_in schema old).watches p.0 p.1) is in
     let own = ap (λ rows. number_at rows 3) g.own in
     let hosts = ap (λ rows. from_entries (map host_of rows)) g.hosts in
     λ i. record { own = own i; hosts = hosts i; watches = watches i }

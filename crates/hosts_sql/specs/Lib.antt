@@ -1,4 +1,5 @@
 pub mod Tables
+pub mod Schemas
 pub mod Maps
 pub mod Given
 pub mod Shown
@@ -8,3 +9,4 @@ pub mod Wrote
 pub mod Making
 pub mod Holds
 pub mod Laws
+pub mod Refused

@@ -1,5 +1,5 @@
--- The tables, their indexes and their texts.
-use Rattle.std.specs.Prelude.{ℕ, ◌+◌, true, false, [], ◌∷◌, Some, None, codes, List, pos}
+-- The tables and their texts.
+use Rattle.std.specs.Prelude.{ℕ, true, false, [], ◌∷◌, Some, None, codes, List, pos}
 use Rattle.sqlite_value.specs.declared.value.Value.TheVariants.{Null, Int}
 use Rattle.sqlite_value.specs.declared.keys.Collation.TheVariants.{Binary}
 use Rattle.sqlite_value.specs.declared.keys.Order.{Order}
@@ -7,11 +7,23 @@ use Rattle.sqlite_schema.specs.declared.schema.Column.{Column}
 use Rattle.sqlite_schema.specs.declared.schema.Kind.{Kind}
 use Rattle.sqlite_schema.specs.declared.schema.Kind.TheVariants.{Integer, Blob}
 use Rattle.sqlite_schema.specs.declared.schema.Table.{Table}
-use Rattle.sqlite_schema.specs.declared.schema.Index.{Index}
 use Rattle.sqlite_schema.specs.declared.schema.Schema.{Schema}
 use Rattle.sqlite_sql.specs.Term.{Term, lit, col, op2}
 use Rattle.sqlite_sql.specs.declared.ops.BinaryOp.TheVariants.{Compare}
 use Rattle.sqlite_sql.specs.declared.ops.CompareOp.TheVariants.{Eq}
+
+abbrev pub own_name : List ℕ
+own_name = codes "own"
+
+abbrev pub hosts_name : List ℕ
+hosts_name = codes "hosts2"
+
+abbrev pub watches_name : List ℕ
+watches_name = codes "watches"
+
+-- that of the hosts in schema 1
+abbrev pub first_hosts_name : List ℕ
+first_hosts_name = codes "hosts"
 
 abbrev pub own_text : List ℕ
 own_text = codes "CREATE TABLE own (id INTEGER PRIMARY KEY CHECK (id = 1), version INTEGER NOT NULL, state INTEGER NOT NULL) STRICT"
@@ -59,10 +71,10 @@ abbrev pub five_keys : Order
 five_keys = record { digits = 0 }
 
 abbrev pub hosts_table : ℕ → Table
-hosts_table tree = keyed (codes "hosts2") tree hosts_columns (1 ∷ []) one_key
+hosts_table tree = keyed hosts_name tree hosts_columns (1 ∷ []) one_key
 
 abbrev pub watches_table : ℕ → Table
-watches_table tree = keyed (codes "watches") tree watches_columns (1 ∷ 2 ∷ 3 ∷ 4 ∷ 5 ∷ []) five_keys
+watches_table tree = keyed watches_name tree watches_columns (1 ∷ 2 ∷ 3 ∷ 4 ∷ 5 ∷ []) five_keys
 
 abbrev pub id_column : Column
 id_column = record { name = codes "id"; kind = Integer; is_strict = true; not_null = false; default = Null; collation = Binary }
@@ -71,10 +83,10 @@ abbrev pub own_columns : List Column
 own_columns = id_column ∷ required (codes "version") Integer ∷ required (codes "state") Integer ∷ []
 
 -- the table of the own state, whose one row has the id 1
-abbrev pub own_table : List Term → Table
-own_table checks = record {
-  name = codes "own";
-  tree = 0;
+abbrev pub own_table : ℕ → List Term → Table
+own_table tree checks = record {
+  name = own_name;
+  tree = tree;
   columns = own_columns;
   key = Some 0;
   primary = 0 ∷ [];
@@ -95,56 +107,8 @@ own_checks = op2 (Compare Eq Binary) (col 1 0) (lit (Int (pos 1))) ∷ []
 abbrev pub first_hosts_columns : List Column
 first_hosts_columns = required (codes "name") Blob ∷ required (codes "epoch") Integer ∷ required (codes "seen") Integer ∷ []
 
-abbrev pub first_hosts_table : Table
-first_hosts_table = keyed (codes "hosts") 1 first_hosts_columns (1 ∷ []) one_key
-
-abbrev pub key_index : List ℕ → ℕ → List ℕ → Order → Index
-key_index name tree columns order = record { name = name; tree = tree + 1; table = tree; columns = columns; order = order; is_unique = true }
-
-abbrev pub watches_index : Index
-watches_index = key_index (codes "sqlite_autoindex_watches_1") 3 (1 ∷ 2 ∷ 3 ∷ 4 ∷ 5 ∷ []) five_keys
-
-abbrev pub hosts_index : ℕ → Index
-hosts_index tree = key_index (codes "sqlite_autoindex_hosts2_1") tree (1 ∷ []) one_key
-
-abbrev pub first_hosts_index : Index
-first_hosts_index = key_index (codes "sqlite_autoindex_hosts_1") 1 (1 ∷ []) one_key
-
--- where the hosts of schema 2 lie: in a file that began with it, and in one that began with schema 1
-pub data Place : Type 0 where
-  Fresh : Place
-  Upgraded : Place
-
-abbrev pub hosts_tree : Place → ℕ
-hosts_tree Fresh = 1
-hosts_tree Upgraded = 5
-
--- the number of their table among the tables
-abbrev pub hosts_at : Place → ℕ
-hosts_at Fresh = 1
-hosts_at Upgraded = 3
-
-abbrev pub host_tables : Place → List Term → List Table
-host_tables Fresh checks = own_table checks ∷ hosts_table 1 ∷ watches_table 3 ∷ []
-host_tables Upgraded checks = own_table checks ∷ first_hosts_table ∷ watches_table 3 ∷ hosts_table 5 ∷ []
-
-abbrev pub host_indexes : Place → List Index
-host_indexes Fresh = hosts_index 1 ∷ watches_index ∷ []
-host_indexes Upgraded = first_hosts_index ∷ watches_index ∷ hosts_index 5 ∷ []
-
--- schema 2
-abbrev pub host_schema : Place → List Term → Schema
-host_schema place checks = record { tables = host_tables place checks; indexes = host_indexes place; views = [] }
-
--- schema 1
-abbrev pub first_tables : List Term → List Table
-first_tables checks = own_table checks ∷ first_hosts_table ∷ watches_table 3 ∷ []
-
-abbrev pub first_indexes : List Index
-first_indexes = first_hosts_index ∷ watches_index ∷ []
-
-abbrev pub first_schema : List Term → Schema
-first_schema checks = record { tables = first_tables checks; indexes = first_indexes; views = [] }
+abbrev pub first_hosts_table : ℕ → Table
+first_hosts_table tree = keyed first_hosts_name tree first_hosts_columns (1 ∷ []) one_key
 
 abbrev pub no_schema : Schema
 no_schema = record { tables = []; indexes = []; views = [] }
@@ -159,13 +123,13 @@ abbrev pub first_own_text : List ℕ
 first_own_text = codes "INSERT INTO own (id, version, state) VALUES (1, 2, ?1)"
 
 abbrev pub read_hosts_text : List ℕ
-read_hosts_text = codes "SELECT rowid, name, epoch, seen, quota FROM hosts2 ORDER BY rowid"
+read_hosts_text = codes "SELECT rowid AS id, * FROM hosts2 ORDER BY 1"
 
 abbrev pub read_own_text : List ℕ
-read_own_text = codes "SELECT id, version, state FROM own"
+read_own_text = codes "SELECT * FROM own"
 
 abbrev pub read_watches_text : List ℕ
-read_watches_text = codes "SELECT rowid, mon, my, prog, vers, proc, priv FROM watches ORDER BY rowid"
+read_watches_text = codes "SELECT rowid AS id, * FROM watches ORDER BY 1"
 
 abbrev pub set_own_text : List ℕ
 set_own_text = codes "UPDATE own SET state = ?1"
@@ -180,10 +144,10 @@ abbrev pub delete_watches_text : List ℕ
 delete_watches_text = codes "DELETE FROM watches WHERE my = ?1 AND prog = ?2 AND vers = ?3 AND proc = ?4"
 
 abbrev pub read_first_hosts_text : List ℕ
-read_first_hosts_text = codes "SELECT rowid, name, epoch, seen, 65536 FROM hosts ORDER BY rowid"
+read_first_hosts_text = codes "SELECT rowid AS id, *, 65536 FROM hosts ORDER BY 1"
 
 abbrev pub copy_hosts_text : List ℕ
-copy_hosts_text = codes "INSERT INTO hosts2 (name, epoch, seen, quota) SELECT name, epoch, seen, 65536 FROM hosts"
+copy_hosts_text = codes "INSERT INTO hosts2 (name, epoch, seen, quota) SELECT *, 65536 FROM hosts"
 
 abbrev pub empty_hosts_text : List ℕ
 empty_hosts_text = codes "DELETE FROM hosts"

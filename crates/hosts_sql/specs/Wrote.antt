@@ -5,43 +5,30 @@ use Rattle.sqlite_value.specs.Order.{Row, column}
 use Rattle.sqlite_value.specs.contracts.row.Row as row
 use Rattle.std.specs.Coded.{Coded-set, coded_list, →_prop, ×_prop}
 use Rattle.sqlite_schema.specs.contracts.schema.Schema.{the_row}
-use Rattle.sqlite_sql.specs.Term.{Term}
 use Rattle.sqlite_trees.specs.Tree.{Trees}
-use Rattle.sqlite_schema.specs.declared.schema.Table.{Table}
-use Rattle.sqlite_schema.specs.declared.schema.Schema.{Schema}
 use Rattle.sqlite.specs.State.{State, HasCleanDisk}
 use Rattle.definitions.specs.Hosts.{Hosts}
 use Rattle.hosts_sql.specs.Maps.{Rows, listed}
 use Rattle.sqlite.specs.Effect.{Database}
-use Rattle.hosts_sql.specs.Tables.{Place, Fresh, Upgraded, hosts_tree, host_schema, first_schema, no_schema, read_hosts_text, read_first_hosts_text}
+use Rattle.hosts_sql.specs.Tables.{own_name, hosts_name, watches_name, first_hosts_name, no_schema, read_hosts_text, read_first_hosts_text}
+use Rattle.hosts_sql.specs.Schemas.{tree_in, IsHostSchema, IsHostSchema-prop}
 use Rattle.hosts_sql.specs.declared.tables.Version.{Version}
 use Rattle.hosts_sql.specs.declared.tables.Version.TheVariants.{First, Second}
 use Rattle.hosts_sql.specs.Own.{is_host, is_watched, AreOwn, AreOwn-prop}
 use Rattle.hosts_sql.specs.Shown.{number_at, upgraded_row, shown}
 
--- the CHECKs of the first table
-abbrev pub checks_in : List Table → List Term
-checks_in [] = []
-checks_in (table ∷ tables) = table.checks
-
--- four tables are those of a file that was upgraded
-abbrev pub place_of : List Table → Place
-place_of (own ∷ hosts ∷ watches ∷ second ∷ more) = Upgraded
-place_of more = Fresh
-
 abbrev pub number : Version → ℕ
 number First = 1
 number Second = 2
 
--- the tables of a version, whatever the CHECK of the first is
-abbrev pub IsHostSchema : Version → Schema → Type 0
-IsHostSchema First schema = schema ≡ first_schema (checks_in schema.tables)
-IsHostSchema Second schema = schema ≡ host_schema (place_of schema.tables) (checks_in schema.tables)
+-- the rows of the table of this name
+abbrev pub rows_of : List ℕ → Database → List Row
+rows_of name d = d.trees (tree_in d.schema name)
 
 -- the rows of the hosts, as those of schema 2
 abbrev pub hosts_of : Version → Database → List Row
-hosts_of First d = map upgraded_row (d.trees 1)
-hosts_of Second d = d.trees (hosts_tree (place_of d.schema.tables))
+hosts_of First d = map upgraded_row (rows_of first_hosts_name d)
+hosts_of Second d = rows_of hosts_name d
 
 -- the text that reads them
 abbrev pub hosts_text : Version → List ℕ
@@ -71,16 +58,12 @@ HasOwnRow version rows = map own_shown rows ≡ (Int (pos 1) ∷ Int (pos versio
 -- the tables are there, the own state is, and the rows of the others are told apart by their rowids
 abbrev pub IsWhole : Version → Database → Type 0
 IsWhole version d =
-    (IsHostSchema version d.schema × HasOwnRow (number version) (d.trees 0))
-    × (AreOwn is_host (hosts_of version d) × AreOwn is_watched (d.trees 3))
-
-IsHostSchema-prop : (version : Version) (schema : Schema) → IsProp (IsHostSchema version schema)
-IsHostSchema-prop First schema = Coded-set the_row.coded _ _
-IsHostSchema-prop Second schema = Coded-set the_row.coded _ _
+    (IsHostSchema version d.schema × HasOwnRow (number version) (rows_of own_name d))
+    × (AreOwn is_host (hosts_of version d) × AreOwn is_watched (rows_of watches_name d))
 
 pub IsWhole-prop : (version : Version) (d : Database) → IsProp (IsWhole version d)
 IsWhole-prop version d =
-    ×_prop (×_prop (IsHostSchema-prop version d.schema) (Coded-set (coded_list row.the_row.coded) _ _)) (×_prop (AreOwn-prop is_host (hosts_of version d)) (AreOwn-prop is_watched (d.trees 3)))
+    ×_prop (×_prop (IsHostSchema-prop version d.schema) (Coded-set (coded_list row.the_row.coded) _ _)) (×_prop (AreOwn-prop is_host (hosts_of version d)) (AreOwn-prop is_watched (rows_of watches_name d)))
 
 -- the last commit holds the tables of this version
 abbrev pub HasTables : Version → State → Type 0

@@ -28,7 +28,7 @@ fn watch_id(row: &Row) -> Option<i64>
     ) else {
         return None;
     };
-    match (row.get::<i32>(3), row.get::<i32>(4), row.get::<i32>(5)) {
+    match (row.get::<i64>(3), row.get::<i64>(4), row.get::<i64>(5)) {
         (Ok(_), Ok(_), Ok(_)) => Some(id),
         _ => None,
     }

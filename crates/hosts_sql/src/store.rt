@@ -1,5 +1,9 @@
 //! A store over a database.
-ghost use Rattle.std.specs.Prelude.{◌≡◌, false, IsTrue, Some, Err, IfOk, IfErr, IfSome};
+ghost use Rattle.std.specs.Prelude.{◌≡◌, false, IsTrue, Some, Err, IfOk, IfErr, IfSome, OnOk, OnErr};
+ghost use Rattle.definitions.specs.Hosts.{Begin, after_store, is_past_limit, next_own};
+ghost use Rattle.hosts_db.specs.Calls.{Counts, Leaves, Makes, IsNotStarved, IsPastLimit, OnRefused, OnStarved};
+ghost use Rattle.hosts_db.specs.Writings.{view_of_writing, Adds, Fits, IsNew};
+ghost use Rattle.hosts_sql.specs.Wrote.{MayLeave};
 ghost use Rattle.sqlite.specs.State.{HasCleanDisk, KeepsCommit, Survives};
 ghost use Rattle.sqlite.specs.Held.{state};
 ghost use Rattle.hosts_sql.specs.Own.{has_host_numbers, AllFit};
@@ -8,8 +12,10 @@ ghost use Rattle.hosts_sql.specs.declared.tables.Version.TheVariants.{Second};
 ghost use Rattle.hosts_sql.specs.Holds.{Holds, Holds-prop};
 
 use crate::calls::{write_change, write_start};
+use crate::error::AdoptError;
 use crate::loading::load;
-use crate::tables::{Version, is_none, version_of};
+use crate::objects::version_of;
+use crate::tables::{Version, is_none};
 use definitions::own_state::next_own_state;
 use hosts_db::{HostRows, HostStore, Refusals, StoreError, Writing};
 use sqlite::{Alter, Connection, Error};
@@ -43,26 +49,28 @@ impl<S: Alter + Drop> Drop for SqlHosts<S> {
 }
 
 impl<S: Alter> SqlHosts<S> {
-    /// Takes a database that holds no object, or the tables of schema 1 or 2 with what they may hold, and writes
-    /// nothing. A host of schema 1 shows the full quota; the first `start` upgrades the file. Any other database is
-    /// `StoreRefused`, one with a number out of its range too, and the connection comes back.
+    /// Takes a database that holds no object, or the tables of schema 1 or 2 with what they may hold, in any order and with or
+    /// without tables of SQLite's own (sqlite_stat1), and writes nothing. A host of schema 1 shows the full quota; the first
+    /// `start` upgrades the file. Any other database is refused, one with a number out of its range too: the error says
+    /// why, and the connection comes back.
     pub fn adopt(
         alloc: Global,
         conn: Connection<S>,
-    ) -> Result<SqlHosts<S>, (StoreError, Connection<S>)>
+    ) -> Result<SqlHosts<S>, (AdoptError, Connection<S>)>
         ensures rows { IfOk result (λ s. IsAsKept (state S.Store s.conn) (⟦<SqlHosts<S> as HostStore>⟧.rows s)) }
         ensures numbers { IfOk result (λ s. HasCleanDisk (state S.Store s.conn) → IfSome s.version (λ version. AllFit has_host_numbers (hosts_of version (state S.Store s.conn).committed))) }
         ensures refusals { IfOk result (λ s. ⟦<SqlHosts<S> as HostStore>⟧.refusals s ≡ 0) }
+        ensures unstarted { IfOk result (λ s. s.is_started ≡ false) }
         ensures kept { IfOk result (λ s. HasCleanDisk (state S.Store s.conn) → KeepsCommit (state S.Store conn) (state S.Store s.conn)) }
         ensures crash { IfOk result (λ s. Survives (state S.Store conn) (state S.Store s.conn) (λ _. ⊥)) }
         ensures kept_back { IfErr result (λ e. HasCleanDisk (state S.Store e.1) → KeepsCommit (state S.Store conn) (state S.Store e.1)) }
         ensures crash_back { IfErr result (λ e. Survives (state S.Store conn) (state S.Store e.1) (λ _. ⊥)) }
     {
         let Ok(mut rows) = HostRows::new(alloc) else {
-            return Err((StoreError::Starved, conn));
+            return Err((AdoptError::Starved, conn));
         };
         if !conn.is_autocommit() {
-            return Err((StoreError::StoreRefused, conn));
+            return Err((AdoptError::InTransaction, conn));
         }
         if is_none(conn.schema()) {
             return Ok(SqlHosts {
@@ -74,8 +82,9 @@ impl<S: Alter> SqlHosts<S> {
                 alloc,
             });
         }
-        let Some(version) = version_of(conn.schema()) else {
-            return Err((StoreError::StoreRefused, conn));
+        let version = match version_of(alloc, conn.schema()) {
+            Ok(version) => version,
+            Err(error) => return Err((error, conn)),
         };
         let mut used = conn;
         if let Err(error) = load(alloc, &mut used, version, &mut rows) {
@@ -91,9 +100,17 @@ impl<S: Alter> SqlHosts<S> {
         })
     }
 
+    /// Whether a `start` was Ok. Until then each call that writes is refused, and changes nothing.
+    pub fn is_started(&self) -> bool
+        ensures { result ≡ self.now.is_started }
+    {
+        self.is_started
+    }
+
     // A start made or found the tables of schema 2.
     fn is_ready(&self) -> bool
-        ensures { IsTrue result → self.now.version ≡ Some Second }
+        ensures second { IsTrue result → self.now.version ≡ Some Second }
+        ensures started { IsTrue result → IsTrue self.now.is_started }
     {
         self.is_started && matches!(self.version, Some(Version::Second))
     }
@@ -115,24 +132,26 @@ impl<S: Alter> SqlHosts<S> {
 }
 
 impl<S: Alter + Drop> SqlHosts<S> {
-    /// The same of a database that had to be opened first: `StoreRefused`, too, where that failed. What isn't taken is dropped.
+    /// The same of a database that had to be opened first: what SQLite said, where that failed. What isn't taken is dropped.
     pub fn adopt_opened(
         alloc: Global,
         opened: Result<Connection<S>, Error>,
-    ) -> Result<SqlHosts<S>, StoreError>
-        ensures refused { IfErr opened (λ _. result ≡ Err StoreError.StoreRefused) }
+    ) -> Result<SqlHosts<S>, AdoptError>
+        ensures refused { IfErr opened (λ e. result ≡ Err (AdoptError.Unopened e)) }
         ensures rows { IfOk result (λ s. IsAsKept (state S.Store s.conn) (⟦<SqlHosts<S> as HostStore>⟧.rows s)) }
         ensures numbers { IfOk result (λ s. HasCleanDisk (state S.Store s.conn) → IfSome s.version (λ version. AllFit has_host_numbers (hosts_of version (state S.Store s.conn).committed))) }
         ensures refusals { IfOk result (λ s. ⟦<SqlHosts<S> as HostStore>⟧.refusals s ≡ 0) }
+        ensures unstarted { IfOk result (λ s. s.is_started ≡ false) }
         ensures kept { IfOk opened (λ conn. IfOk result (λ s. HasCleanDisk (state S.Store s.conn) → KeepsCommit (state S.Store conn) (state S.Store s.conn))) }
         ensures crash { IfOk opened (λ conn. IfOk result (λ s. Survives (state S.Store conn) (state S.Store s.conn) (λ _. ⊥))) }
     {
-        let Ok(conn) = opened else {
-            return Err(StoreError::StoreRefused);
+        let conn = match opened {
+            Ok(conn) => conn,
+            Err(error) => return Err(AdoptError::Unopened(error)),
         };
         match SqlHosts::adopt(alloc, conn) {
             Ok(store) => Ok(store),
-            Err((refusal, _conn)) => Err(refusal),
+            Err((error, _conn)) => Err(error),
         }
     }
 }
@@ -149,7 +168,17 @@ impl<S: Alter> HostStore for SqlHosts<S> {
 
     ghost may_refuse = { λ _ _. Unit {0} };
 
-    fn start(&mut self) -> Result<u32, StoreError> {
+    // What the trait says, and that an Ok begins the store.
+    fn start(&mut self) -> Result<u32, StoreError>
+        ensures own { IfOk result (λ own. own ≡ next_own self.old.rows.own) }
+        ensures makes { Makes result self.old.rows self.new.rows (after_store self.old.rows Begin) }
+        ensures counts { Counts result self.old.refusals self.new.refusals }
+        ensures refused { OnRefused result (Unit {0}) }
+        ensures not_starved { IsNotStarved result }
+        ensures crash { Leaves result (MayLeave (state S.Store self.old.conn)) (MayLeave (state S.Store self.new.conn)) (after_store self.old.rows Begin) }
+        ensures started { OnOk result (IsTrue self.new.is_started) }
+        ensures unstarted { OnErr result (self.new.is_started ≡ self.old.is_started) }
+    {
         let own = next_own_state(self.rows.own());
         if write_start(&mut self.conn, self.version, own).is_err() {
             return Err(self.refusals.refuse());
@@ -160,7 +189,21 @@ impl<S: Alter> HostStore for SqlHosts<S> {
         Ok(own)
     }
 
-    fn write(&mut self, asked: Writing<'_>) -> Result<(), StoreError> {
+    // What the trait says, and that a store which isn't begun refuses each change and does nothing. The calls by name are this one.
+    fn write(&mut self, asked: Writing<'_>) -> Result<(), StoreError>
+        requires fits { Fits (view_of_writing asked) }
+        requires new { IsNew self.old.rows (view_of_writing asked) }
+        ensures makes { Makes result self.old.rows self.new.rows (after_store self.old.rows (view_of_writing asked.entry)) }
+        ensures counts { Counts result self.old.refusals self.new.refusals }
+        ensures refused { OnRefused result (Unit {0}) }
+        ensures limit { IsPastLimit result (is_past_limit 4096 1024 self.old.rows (view_of_writing asked.entry)) }
+        ensures starved { OnStarved result (Adds (view_of_writing asked.entry)) }
+        ensures crash { Leaves result (MayLeave (state S.Store self.old.conn)) (MayLeave (state S.Store self.new.conn)) (after_store self.old.rows (view_of_writing asked.entry)) }
+        ensures begun { OnOk result (IsTrue self.old.is_started) }
+        ensures unstarted { self.old.is_started ≡ false → result ≡ Err StoreError.StoreRefused }
+        ensures untouched { self.old.is_started ≡ false → self.new.conn ≡ self.old.conn }
+        ensures same { self.new.is_started ≡ self.old.is_started }
+    {
         if !self.is_ready() || self.rows.is_past_limit(asked) {
             return Err(self.refusals.refuse());
         }

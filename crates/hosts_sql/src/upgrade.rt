@@ -2,7 +2,8 @@
 ghost use Rattle.std.specs.Prelude.{◌≡◌, [], IsTrue, OnOk, OnErr};
 ghost use Rattle.sqlite.specs.State.{HasCleanDisk, KeepsCommit, Survives};
 ghost use Rattle.sqlite.specs.Held.{state};
-ghost use Rattle.hosts_sql.specs.Wrote.{HasTables, MayWriteHosts, WroteHosts};
+ghost use Rattle.hosts_sql.specs.Tables.{first_hosts_name};
+ghost use Rattle.hosts_sql.specs.Wrote.{HasTables, MayWriteHosts, WroteHosts, rows_of};
 ghost use Rattle.hosts_sql.specs.declared.tables.Version.TheVariants.{First};
 
 use crate::making::{HOSTS, Make};
@@ -15,13 +16,13 @@ use sqlite::{Alter, Connection, Error, params};
 pub(crate) fn upgrade<S: Alter>(conn: &mut Connection<S>, own: u32) -> Result<(), Error>
     requires { HasTables First (state S.Store conn.old) }
     ensures ok { HasCleanDisk (state S.Store conn.new) → OnOk result (WroteHosts (λ h. record h { own = own }) (state S.Store conn.old) (state S.Store conn.new)) }
-    ensures emptied { HasCleanDisk (state S.Store conn.new) → OnOk result ((state S.Store conn.new).committed.trees 1 ≡ []) }
+    ensures emptied { HasCleanDisk (state S.Store conn.new) → OnOk result (rows_of first_hosts_name (state S.Store conn.new).committed ≡ []) }
     ensures err { HasCleanDisk (state S.Store conn.new) → OnErr result (KeepsCommit (state S.Store conn.old) (state S.Store conn.new)) }
     ensures crash { Survives (state S.Store conn.old) (state S.Store conn.new) (MayWriteHosts (λ h. record h { own = own }) (state S.Store conn.old)) }
 {
     let _schema = conn.schema();
     let copy = One(
-        "INSERT INTO hosts2 (name, epoch, seen, quota) SELECT name, epoch, seen, 65536 FROM hosts",
+        "INSERT INTO hosts2 (name, epoch, seen, quota) SELECT *, 65536 FROM hosts",
         &[],
     );
     let empty = One("DELETE FROM hosts", &[]);

@@ -9,6 +9,8 @@ mod daemons;
 #[cfg(test)]
 mod growths;
 #[cfg(test)]
+mod orders;
+#[cfg(test)]
 mod pairs;
 #[cfg(test)]
 mod rows;

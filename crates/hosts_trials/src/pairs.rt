@@ -56,22 +56,22 @@ impl Work for Both<'_> {
 
 /// Visits of one database.
 #[derive(Clone, Copy)]
-struct Story<'a> {
+pub(crate) struct Story<'a> {
     // What it holds, and the calls after which a store in memory holds the same.
-    sql: [&'a str; 2],
-    past: &'a str,
+    pub(crate) sql: [&'a str; 2],
+    pub(crate) past: &'a str,
     // The calls, and the script behind them.
-    first: &'a str,
-    script: &'a str,
+    pub(crate) first: &'a str,
+    pub(crate) script: &'a str,
     // What it is found to hold then, and the script of a store that is made again.
-    found: &'a str,
-    again: &'a str,
+    pub(crate) found: &'a str,
+    pub(crate) again: &'a str,
     // A change with which it is refused.
-    more: &'a str,
+    pub(crate) more: &'a str,
 }
 
-// What goes wrong.
-fn wrong<'a>(alloc: Global, story: Story<'a>) -> Option<&'a str> {
+/// What goes wrong.
+pub(crate) fn wrong<'a>(alloc: Global, story: Story<'a>) -> Option<&'a str> {
     match model(alloc) {
         Some(model) => wrong_from(alloc, model, story),
         None => Some("no memory"),

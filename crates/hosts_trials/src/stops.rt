@@ -213,6 +213,21 @@ const UPGRADE: &Script<'static> = &Script {
     script: "start",
 };
 
+/// The same over tables that were made the other way round, behind SQLite's own sqlite_sequence.
+const TURNED: &str = "\
+CREATE TABLE counted (id INTEGER PRIMARY KEY AUTOINCREMENT)
+CREATE TABLE watches (mon BLOB NOT NULL, my BLOB NOT NULL, prog INTEGER NOT NULL, vers INTEGER NOT NULL, proc INTEGER NOT NULL, priv BLOB NOT NULL, PRIMARY KEY (mon, my, prog, vers, proc)) STRICT
+DROP TABLE counted
+CREATE TABLE hosts (name BLOB NOT NULL PRIMARY KEY, epoch INTEGER NOT NULL, seen INTEGER NOT NULL) STRICT
+CREATE TABLE own (id INTEGER PRIMARY KEY CHECK (id = 1), version INTEGER NOT NULL, state INTEGER NOT NULL) STRICT
+";
+
+const TURNED_UPGRADE: &Script<'static> = &Script {
+    sql: [TURNED, ROWS],
+    past: "start\nmonitor a 3\nstart\nmonitor b 0",
+    script: "start",
+};
+
 #[test]
 fn stop_at_each_write(rt: HostRuntime) -> Result<(), &'static str> {
     for script in SCRIPTS {
@@ -220,9 +235,12 @@ fn stop_at_each_write(rt: HostRuntime) -> Result<(), &'static str> {
             return Err(*script);
         }
     }
-    if are_met(rt.alloc(), UPGRADE) {
+    if !are_met(rt.alloc(), UPGRADE) {
+        return Err("the upgrade");
+    }
+    if are_met(rt.alloc(), TURNED_UPGRADE) {
         Ok(())
     } else {
-        Err("the upgrade")
+        Err("the upgrade of tables in another order")
     }
 }

@@ -1,6 +1,6 @@
 //! A database that has a store made over it; one in two files is opened before, and closed again.
 use hosts_db::{HostStore, StoreError};
-use hosts_sql::SqlHosts;
+use hosts_sql::{AdoptError, SqlHosts};
 use sqlite::{Alter, Connection, FileStore, Files, Options};
 use sqlite_disk::{Disk, Fuse, Memory};
 use std::alloc::Global;
@@ -13,9 +13,11 @@ const OPTIONS: Options = Options {
     seed: 1,
 };
 
-/// What is done with a store.
+/// What is done with a store, or told where the database isn't taken.
 pub(crate) trait Work {
     fn work<S: HostStore>(&mut self, store: &mut S);
+
+    fn untaken(&mut self, _why: &AdoptError) {}
 }
 
 /// What came of a visit.
@@ -66,8 +68,14 @@ pub(crate) fn visit<S: Alter + Drop, W: Work>(
             work.work(&mut store);
             (Came::Worked, store.into_connection().into_store())
         }
-        Err((StoreError::StoreRefused, conn)) => (Came::Refused, conn.into_store()),
-        Err((StoreError::Starved, conn)) => (Came::Starved, conn.into_store()),
+        Err((why, conn)) => {
+            work.untaken(&why);
+            let came = match why.refusal() {
+                StoreError::StoreRefused => Came::Refused,
+                StoreError::Starved => Came::Starved,
+            };
+            (came, conn.into_store())
+        }
     }
 }
 

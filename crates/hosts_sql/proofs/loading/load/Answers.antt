@@ -5,7 +5,8 @@ use Rattle.definitions.specs.Hosts.{Hosts}
 use Rattle.sqlite.specs.Effect.{Database}
 use Rattle.sqlite.specs.State.{HasCleanDisk, IsUnchanged}
 use Rattle.sqlite.specs.Held.{state}
-use Rattle.hosts_sql.specs.Wrote.{hosts_of}
+use Rattle.hosts_sql.specs.Tables.{watches_name}
+use Rattle.hosts_sql.specs.Wrote.{rows_of, hosts_of}
 use Rattle.hosts_sql.specs.Maps.{listed}
 use Rattle.hosts_sql.specs.Reading.{hosts_of_tree, watches_of_tree}
 use Rattle.hosts_sql.proofs.Reading.{all_shown}
@@ -31,8 +32,8 @@ returns-clause-rows g c clean =
     let shown = ap listed (all_shown c.args.version old.committed (c.requires.tables open_now) (c.requires.live open_now).1 (c.in_ok-own.ensures.row same.0) c.in_ok-own.own own) in
     let both = c.set_own.ensures ∙ ap (λ (h : Hosts). record h { own = c.in_ok-own.own }) (hosts ∙ ap (λ (h : Hosts). record h { rows = hosts_of_tree (hosts_of c.args.version old.committed) }) c.requires.none) in
     on_then c.read_watches.result (c.read_watches.ensures.ok clean) (λ read.
-    let watches = read ∙ ap (λ (d : Database). record c.set_own.new.self { watches = watches_of_tree (d.trees 3) }) (same.3.0.committed_is ∙ committed) in
-    shown ∙ sym (watches ∙ ap (λ (h : Hosts). record h { watches = watches_of_tree (old.committed.trees 3) }) both))
+    let watches = read ∙ ap (λ (d : Database). record c.set_own.new.self { watches = watches_of_tree (rows_of watches_name d) }) (same.3.0.committed_is ∙ committed) in
+    shown ∙ sym (watches ∙ ap (λ (h : Hosts). record h { watches = watches_of_tree (rows_of watches_name old.committed) }) both))
 
 pub returns-clause-whole : goal.returns-clause-whole
 returns-clause-whole g c clean =
@@ -40,7 +41,7 @@ returns-clause-whole g c clean =
     let committed = same.2.0.committed_is in
     on_then c.read_watches.result (c.read_watches.ensures.own clean) (λ read. (
       (c.requires.tables same.2.0.was_open, c.in_ok-own.ensures.row same.0),
-      (subst (λ (d : Database). AreOwn is_host (hosts_of c.args.version d)) committed (c.in_ok-read_hosts.ensures.own same.1), subst (λ (d : Database). AreOwn is_watched (d.trees 3)) (same.3.0.committed_is ∙ committed) read),
+      (subst (λ (d : Database). AreOwn is_host (hosts_of c.args.version d)) committed (c.in_ok-read_hosts.ensures.own same.1), subst (λ (d : Database). AreOwn is_watched (rows_of watches_name d)) (same.3.0.committed_is ∙ committed) read),
     ))
 
 pub returns-clause-numbers : goal.returns-clause-numbers
