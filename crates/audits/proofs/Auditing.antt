@@ -13,7 +13,8 @@ use Rattle.book.specs.Notes.{view_of_entry, is_take, Happening, Takes, SendsNext
 use Rattle.book.specs.Given.{record_of}
 use Rattle.book.specs.Journal.{Journal}
 use Rattle.book.specs.Receipts.{Receipt, receipt_of, same_receipt, same_event, same_peer}
-use Rattle.audits.specs.Audits.{notes_of, RunOn, receipts_of, Agrees, taken_from, meet, meet_all}
+use Rattle.book.specs.Histories.{notes_of}
+use Rattle.audits.specs.Audits.{RunOn, receipts_of, Agrees, taken_from, meet, meet_all}
 
 abbrev At : Type 0
 At = ℕ × List Receipt

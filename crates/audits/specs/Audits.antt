@@ -1,12 +1,9 @@
 -- When receipts and segments agree.
-use Rattle.std.specs.Prelude.{◌≡◌, ◌==◌, ℕ, suc, Bool, true, false, cond, Option, Some, None, List, [], ◌∷◌, ◌++◌}
+use Rattle.std.specs.Prelude.{◌≡◌, ◌==◌, ℕ, suc, Bool, true, false, cond, Option, Some, None, List, [], ◌∷◌}
 use Rattle.book.specs.Notes.{Note, is_take}
 use Rattle.book.specs.Journal.{Journal}
+use Rattle.book.specs.Histories.{notes_of}
 use Rattle.book.specs.Receipts.{Receipt, receipt_of, same_receipt}
-
-abbrev pub notes_of : List Journal → List Note
-notes_of [] = []
-notes_of (j ∷ journals) = j.notes ++ notes_of journals
 
 -- numbers from the first on, without a gap
 abbrev pub RunOn : ℕ → List Note → Type 0

@@ -5,7 +5,8 @@
 ghost use Rattle.std.specs.Prelude.{◌≡◌, Some, None, map, IfSome, IfNone, MatchResult, IsPermutation};
 ghost use Rattle.std.specs.List.Sorted.{IsNonDecreasingBy};
 ghost use Rattle.book.specs.Notes.{is_take, view_of_entry};
-ghost use Rattle.audits.specs.Audits.{Agrees, meet, meet_all, notes_of};
+ghost use Rattle.book.specs.Histories.{notes_of};
+ghost use Rattle.audits.specs.Audits.{Agrees, meet, meet_all};
 
 use book::{Act, BookEvent, Closed, Entry, Receipt};
 use hosts_db::HostStore;

@@ -11,12 +11,12 @@ use Rattle.book.specs.Journal.{Journal, IsEntryOf, AreEntriesOf, IsLegal, begun,
 pub begun_is_legal : (first : ℕ) (s : State) → IsLegal (begun first s)
 begun_is_legal first s = record { entries = []; are = refl; legal = record { numbers = refl; given = refl; ends = refl; store = refl } }
 
-more_entries : (notes : List Note) (entries : List Entry) (n : Note) (e : Entry) → AreEntriesOf notes entries → IsEntryOf n e → AreEntriesOf (notes ++ n ∷ []) (entries ++ e ∷ [])
+pub more_entries : (notes : List Note) (entries : List Entry) (n : Note) (e : Entry) → AreEntriesOf notes entries → IsEntryOf n e → AreEntriesOf (notes ++ n ∷ []) (entries ++ e ∷ [])
 more_entries [] entries n e are is = subst (λ (es : List Entry). AreEntriesOf (n ∷ []) (es ++ e ∷ [])) (sym are) (is, refl)
 more_entries (m ∷ notes) [] n e are is = elim are [ ]
 more_entries (m ∷ notes) (d ∷ entries) n e are is = (are.0, more_entries notes entries n e are.1 is)
 
-as_many : (notes : List Note) (entries : List Entry) → AreEntriesOf notes entries → length entries ≡ length notes
+pub as_many : (notes : List Note) (entries : List Entry) → AreEntriesOf notes entries → length entries ≡ length notes
 as_many [] entries are = ap (λ (es : List Entry). length es) are
 as_many (n ∷ notes) [] are = elim are [ ]
 as_many (n ∷ notes) (e ∷ entries) are = let rest = as_many notes entries are.1 in omega arith

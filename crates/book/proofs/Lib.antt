@@ -1,4 +1,5 @@
 pub mod Journals
+pub mod Histories
 pub mod Entered
 pub mod Records
 pub mod Calls
@@ -8,3 +9,4 @@ pub mod Early
 pub mod Lines
 pub mod Newest
 pub mod Rooms
+pub mod Told

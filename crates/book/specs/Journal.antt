@@ -62,6 +62,11 @@ RoomLaw = (j : Journal) → length j.notes < 1024 → next_of j < 2 ^ 64 → 0 <
 abbrev pub rotated : Book → Book
 rotated b = record b { journal = begun (next_of b.journal) b.journal.end }
 
+-- there is room as it stands; or the segment is full, and is closed, and the next one begins
+abbrev pub MakesRoom : Book → Option Journal → Book → Type 0
+MakesRoom old None new = new ≡ old
+MakesRoom old (Some closed) new = (room_of old.journal ≡ 0) × (closed ≡ old.journal) × (new ≡ rotated old)
+
 abbrev pub noted : Journal → Note → State → Journal
 noted j n end = record j { notes = j.notes ++ n ∷ []; end = end }
 

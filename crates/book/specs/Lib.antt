@@ -2,6 +2,10 @@ pub mod Given
 pub mod Notes
 pub mod BookState
 pub mod Journal
+pub mod Histories
+pub mod Laws
+pub mod Refusals
+pub mod Repeats
 pub mod Kept
 pub mod Receipts
 pub mod Lines

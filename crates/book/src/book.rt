@@ -1,12 +1,12 @@
 //! The shared state and the segment of the journal that leads to it.
-ghost use Rattle.std.specs.Prelude.{◌≡◌, ◌<◌, [], Some, IfOk, is_some};
+ghost use Rattle.std.specs.Prelude.{◌≡◌, ◌⊎◌, ◌<◌, ◌^◌, [], Some, IfOk, IfErr, IsErr, is_some};
 ghost use Rattle.kept_replies.specs.Pairs.{view_of_peer};
 ghost use Rattle.definitions.specs.Outgoing.{next_due};
 ghost use Rattle.definitions.specs.Step.{opening_state};
 ghost use Rattle.book.specs.Notes.{view_of_event, Takes};
 ghost use Rattle.book.specs.Given.{view_of_reply};
 ghost use Rattle.book.specs.Receipts.{newest_event, newest_given, newest_receipt, is_noted};
-ghost use Rattle.book.specs.Journal.{begun, room_of, rotated, Enters, IsLegal, IsNext};
+ghost use Rattle.book.specs.Journal.{begun, next_of, room_of, rotated, Enters, IsLegal, IsNext, MakesRoom};
 
 use crate::entries::{Deed, Entries};
 use crate::entry::{Act, SEGMENT};
@@ -14,7 +14,7 @@ use crate::event::BookEvent;
 use crate::receipt::{Receipt, Taken};
 use crate::reply::Reply;
 use crate::seen::Seen;
-use crate::segment::{Closed, Segment};
+use crate::segment::{Closed, NoRoom, Segment};
 use crate::state::BookState;
 use crate::upshot::{Doing, Upshot};
 use call_records::Dest;
@@ -169,11 +169,49 @@ impl<R: RangeTable, S: HostStore> Book<R, S> {
         Some((sending.number, sending.to, sending.frame))
     }
 
+    /// Makes room for an entry where there is none: the segment, which is full, is closed, and a fresh one begins where it ends. It
+    /// is got here, once in `SEGMENT` entries, and none is kept in reserve. `NoRoom`: nothing has changed. It comes only where the
+    /// segment is full, and then where there is no memory for a fresh one, or no number for another entry.
+    pub fn make_room(&mut self, alloc: Global) -> Result<Option<Closed<R, S>>, NoRoom>
+        ensures room { IfOk result (λ _. 0 < room_of self.new.journal) }
+        ensures made { IfOk result (λ closed. MakesRoom self.old closed self.new) }
+        ensures legal { IfOk result (λ _. IsLegal self.new.journal) }
+        ensures full { IfErr result (λ _. room_of self.old.journal ≡ 0) }
+        ensures stays { IfErr result (λ _. self.new ≡ self.old) }
+    {
+        if self.room() > 0 {
+            return Ok(None);
+        }
+        let fresh = Segment::new(alloc);
+        Ok(Some(self.go_on_in(fresh)?))
+    }
+
+    // The segment, which is full, is closed, and the fresh one begins, where there is one and a number is left.
+    fn go_on_in(&mut self, fresh: Result<Segment, Starved>) -> Result<Closed<R, S>, NoRoom>
+        requires { room_of self.old.journal ≡ 0 }
+        ensures closed { IfOk result (λ closed. closed ≡ self.old.journal) }
+        ensures next { IfOk result (λ _. self.new ≡ rotated self.old) }
+        ensures room { IfOk result (λ _. 0 < room_of self.new.journal) }
+        ensures legal { IfOk result (λ _. IsLegal self.new.journal) }
+        ensures none { IfErr result (λ _. IsErr fresh ⊎ (next_of self.old.journal ≡ 2 ^ 64)) }
+        ensures stays { IfErr result (λ _. self.new ≡ self.old) }
+    {
+        if self.entries.newest == u64::MAX {
+            drop(fresh);
+            return Err(NoRoom);
+        }
+        match fresh {
+            Ok(fresh) => Ok(self.rotate(fresh)),
+            Err(Starved) => Err(NoRoom),
+        }
+    }
+
     /// Closes the segment, and begins the next one where it ends.
     pub fn rotate(&mut self, fresh: Segment) -> Closed<R, S>
         ensures closed { result ≡ self.old.journal }
         ensures legal { IsLegal result }
         ensures next { self.new ≡ rotated self.old }
+        ensures begun { IsLegal self.new.journal }
     {
         let end = Seen::of(&self.shared);
         let base = mem::replace(&mut self.base, Seen::of(&self.shared));

@@ -25,12 +25,17 @@ pub use call_records::{Dest, HostName};
 pub use entry::{Act, Entry, SEGMENT};
 pub use event::BookEvent;
 pub use kept_replies::Peer;
-pub use law::{newest_entered, one_step, room_to_the_last_number};
+pub use law::{
+    early_message_refusal_is_given, early_refusal_is_given, histories_are_sound,
+    histories_grant_reclaims_only, histories_tell_of_no_grant, history_goes_on,
+    kept_reply_is_given, newest_entered, one_step, room_to_the_last_number,
+    segments_are_one_history,
+};
 pub use local_ops::LocalAnswer;
 pub use lock_service::StoreAnswer;
 pub use owner_ids::Starved;
 pub use receipt::{Receipt, Taken};
 pub use reply::Reply;
 pub use seen::Seen;
-pub use segment::{Closed, Segment};
+pub use segment::{Closed, NoRoom, Segment};
 pub use upshot::{Doing, Upshot};

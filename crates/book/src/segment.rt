@@ -11,6 +11,7 @@ use owner_ids::Starved;
 use range_table::RangeTable;
 use std::alloc::Global;
 use std::marker::Model;
+use thiserror::Error;
 
 /// Room for the entries of one segment.
 #[derive(Drop)]
@@ -26,6 +27,18 @@ impl Segment {
         Ok(Segment {
             entries: Vec::with_capacity(alloc, SEGMENT)?,
         })
+    }
+}
+
+/// There is no room in the journal for an entry: its segment is full, and there is no memory for a fresh one, or for what is kept
+/// of the one that ends; or all numbers are given.
+#[derive(Clone, Copy, Debug, PartialEq, Eq, Error)]
+#[error("1 Starved")]
+pub struct NoRoom;
+
+impl From<Starved> for NoRoom {
+    fn from(_refused: Starved) -> NoRoom {
+        NoRoom
     }
 }
 

@@ -1,6 +1,6 @@
 pub mod RoomLemmas
 pub mod HubLemmas
 pub mod SameRun
-pub mod Replays
+pub mod Histories
 pub mod Told
 pub mod Fullness

@@ -1,193 +1,39 @@
--- What a call gets that is refused early, and one whose reply is kept.
-use Rattle.std.proofs.Common.{◌≡◌, ℕ, ◌<◌, ◌-◌, Bool, true, leb, cond, Option, Some, None, refl, sym, ◌∙◌, ap, subst, arith}
-use Rattle.std.proofs.lemmas.Bool.Decides.{nat_tests}
-use Rattle.definitions.specs.Bytes.{Bytes}
-use Rattle.definitions.specs.Hosts.{StoreAnswer, NotAsked, Yes, Refused}
-use Rattle.definitions.specs.Nlm.{Version, Stat, NlmCall, Test, Locks, Cancel, Unlock, TestMsg, LockMsg, CancelMsg, UnlockMsg, ShareCall, Unshare, NmLock}
-use Rattle.definitions.specs.Answer.{Answered, gives, ruling, nlm_answer, test_unless, lock_ask, caller_row, lock_unless, cancel_unless, unlock_unless, share_unless, unshare_unless, share_told, by_reply, by_call, by_message, sent_back, to_caller, lock_letter, cancel_letter, unlock_letter}
-use Rattle.definitions.specs.Phases.{Testing}
-use Rattle.definitions.specs.Outgoing.{Letter, Granted, GrantedMsg, TestResult}
-use Rattle.definitions.specs.Ranges.{request_of, range_refusal}
-use Rattle.definitions.specs.Replies.{Call, Nlm, Success, SystemErr, TestResResult, Asks}
-use Rattle.definitions.specs.Rulings.{Told, Ruling, ruled, stays, decided}
-use Rattle.definitions.specs.Shown.{shown_stat}
-use Rattle.definitions.specs.World.{World, LeavesRest, the_limits, slots_free, with_all_due, settled}
-use Rattle.definitions.specs.Step.{Event, Take, Peer, Doing, Applied, Starved, Given, Replies, State, Stepped, KeptPair, applied, taken, repeated, look, step, with_row_stored, asked_unless_kept, moved_to_front}
-use Rattle.definition_laws.proofs.RepeatLaws.{repeat_law}
+-- What a client is told whose call is refused early, and one whose reply is kept.
+use Rattle.std.proofs.Common.{◌≡◌, ℕ, ◌<◌, true, leb, length, Some, None, refl, ◌∙◌, ap}
+use Rattle.definitions.specs.Nlm.{Version, Stat, NlmCall}
+use Rattle.definitions.specs.Replies.{Call, Nlm, Asks}
+use Rattle.definitions.specs.World.{the_limits, slots_free}
+use Rattle.definitions.specs.Step.{Take, Applied, Given, KeptPair, look}
 use Rattle.kept_replies.specs.Pairs.{view_of_peer}
-use Rattle.call_plans.specs.Planned.{view_of_stored}
-use Rattle.book.specs.Given.{Upshot}
-use Rattle.book.specs.Notes.{IsStep}
+use Rattle.book.specs.Refusals.{early_refusal, early_message_refusal}
+use Rattle.book.specs.Refusals as step
+use Rattle.book.specs.Repeats as step_again
 use Rattle.daemon_core.specs.Outcomes.{view_of_event_outcome}
-use Rattle.daemon_core.specs.Outputs.{reply_to, upshot_of}
+use Rattle.daemon_core.specs.Outputs.{reply_to}
 use Rattle.daemon_core.specs.declared.outputs.Outputs.{Outputs}
 use Rattle.daemon_core.specs.Hub.{Hub, Answers}
-use Rattle.daemon_core.specs.Told.{early_refusal, stat_in, TellsStat, RefusalIsTold, early_message_refusal, refusal_letter, CallsBack, MessageRefusalIsTold, AnswersRepeat, KeptIsGivenAgain}
+use Rattle.daemon_core.specs.Told.{RefusalIsTold, MessageRefusalIsTold, KeptIsGivenAgain}
 
--- ---- an early refusal is what a call says
+-- what its step gives is sent to it
+sent : (place i : ℕ) (old new : Hub) (out : Outputs) (t : Answers place i old out new) (given : Given) → t.given ≡ given → out.sent ≡ reply_to t.link.number given
+sent place i old new out t given e = ap (λ (o : Outputs). o.sent) t.outputs ∙ ap (reply_to t.link.number) e
 
-abbrev SaysStat : Version → Stat → Answered → Type 0
-SaysStat version stat a = stat_in a.outcome ≡ Some (shown_stat version stat)
+pub refusal_is_told : step.RefusalIsTold → RefusalIsTold
+refusal_is_told law place i old new out t xid version call stat is none applied early =
+    let r = law old.state new.state _ _ t.step (view_of_peer t.link.peer) t.bytes xid version call stat is none applied early in
+    record { outcome = r.outcome; stat_is = r.stat_is; sent = sent place i old new out t _ r.gives }
 
-says_stays : (w : World) (version : Version) (stat : Stat) (cookie : Bytes) (store : StoreAnswer) → SaysStat version stat (ruled store (by_reply version cookie (stays w stat)))
-says_stays w version stat cookie NotAsked = refl
-says_stays w version stat cookie Yes = refl
-says_stays w version stat cookie Refused = refl
+pub message_refusal_is_told : step.MessageRefusalIsTold → MessageRefusalIsTold
+message_refusal_is_told law place i old new out t xid version call stat is none applied free early =
+    let r = law old.state new.state _ _ t.step (view_of_peer t.link.peer) t.bytes xid version call stat is none applied free early in
+    record { sent = sent place i old new out t _ r.gives; letter = r.letter; tells = r.tells; world = r.world }
 
-says_decided : (a : Answered) (version : Version) (stat : Stat) (store : StoreAnswer) → SaysStat version stat a → SaysStat version stat (ruled store (decided a))
-says_decided a version stat NotAsked h = h
-says_decided a version stat Yes h = h
-says_decided a version stat Refused h = h
-
-says_early : (w : World) (version : Version) (call : NlmCall) (stat : Stat) (store : StoreAnswer) → early_refusal w call ≡ Some stat → SaysStat version stat (ruled store (nlm_answer the_limits w version call))
-says_early w version (Test a) stat store e =
-    let answer : Option Stat → Answered = λ o. gives w (Success (TestResResult version (test_unless w version a o))) in
-    subst (λ (o : Option Stat). SaysStat version stat (ruled store (decided (answer o)))) (sym e) (says_decided (answer (Some stat)) version stat store refl)
-says_early w version (Locks a) stat store e =
-    subst (λ (o : Option Stat). SaysStat version stat (ruled store (by_reply version a.cookie (lock_unless the_limits w (lock_ask a (caller_row a) (Granted version a.exclusive a.alock) (slots_free the_limits w)) o)))) (sym e) (says_stays w version stat a.cookie store)
-says_early w version (NmLock a) stat store e =
-    subst (λ (o : Option Stat). SaysStat version stat (ruled store (by_reply version a.cookie (lock_unless the_limits w (lock_ask a None (Granted version a.exclusive a.alock) (slots_free the_limits w)) o)))) (sym e) (says_stays w version stat a.cookie store)
-says_early w version (Cancel a) stat store e =
-    subst (λ (o : Option Stat). SaysStat version stat (ruled store (by_reply version a.cookie (cancel_unless w (request_of a.exclusive a.alock) o)))) (sym e) (says_stays w version stat a.cookie store)
-says_early w version (Unlock a) stat store e =
-    subst (λ (o : Option Stat). SaysStat version stat (ruled store (by_reply version a.cookie (unlock_unless the_limits w a.alock o)))) (sym e) (says_stays w version stat a.cookie store)
-says_early w version (ShareCall a) stat store e =
-    let answer : Option Stat → Answered = λ o. share_told version a (share_unless the_limits w a o) in
-    subst (λ (o : Option Stat). SaysStat version stat (ruled store (decided (answer o)))) (sym e) (says_decided (answer (Some stat)) version stat store refl)
-says_early w version (Unshare a) stat store e =
-    let answer : Option Stat → Answered = λ o. share_told version a (unshare_unless w a o) in
-    subst (λ (o : Option Stat). SaysStat version stat (ruled store (decided (answer o)))) (sym e) (says_decided (answer (Some stat)) version stat store refl)
-says_early w version call stat store e = absurd cc
-
--- ---- and of a message form what the call says that becomes due for it
-
--- so it is answered by this call, where a place is free for it
-abbrev IsSentBack : World → Version → NlmCall → Stat → StoreAnswer → Type 0
-IsSentBack w version call stat store =
-    (letter : Letter) × (refusal_letter version call stat ≡ Some letter) × (ruled store (nlm_answer the_limits w version call) ≡ sent_back letter w)
-
-sent_back_stays : (w : World) (letter : Stat → Letter) (stat : Stat) (store : StoreAnswer) → ruled store (by_call letter (stays w stat)) ≡ sent_back (letter stat) w
-sent_back_stays w letter stat NotAsked = refl
-sent_back_stays w letter stat Yes = refl
-sent_back_stays w letter stat Refused = refl
-
-sent_back_decided : (a : Answered) (store : StoreAnswer) → ruled store (decided a) ≡ a
-sent_back_decided a NotAsked = refl
-sent_back_decided a Yes = refl
-sent_back_decided a Refused = refl
-
--- a ruling that needs one place, where it is made by what is refused early
-sent_back_early : (w : World) (letter : Stat → Letter) (verdict : Option Stat → Ruling (Told Stat)) (refusal : Option Stat) (stat : Stat) (store : StoreAnswer) → leb 1 (slots_free the_limits w) ≡ true → refusal ≡ Some stat → verdict (Some stat) ≡ stays w stat
-    → ruled store (by_message the_limits w letter (verdict refusal)) ≡ sent_back (letter stat) w
-sent_back_early w letter verdict refusal stat store free e is =
-    ap (λ (b : Bool). ruled store (cond b (by_call letter (verdict refusal)) (decided (gives w SystemErr)))) free
-    ∙ ap (λ (o : Option Stat). ruled store (by_call letter (verdict o))) e
-    ∙ ap (λ (r : Ruling (Told Stat)). ruled store (by_call letter r)) is
-    ∙ sent_back_stays w letter stat store
-
-sent_back_as : (w : World) (version : Version) (call : NlmCall) (stat : Stat) (store : StoreAnswer) → leb 1 (slots_free the_limits w) ≡ true → early_message_refusal w call ≡ Some stat → IsSentBack w version call stat store
-sent_back_as w version (TestMsg a) stat store free e =
-    let answer : Bool → Option Stat → Ruling Answered = λ b o. cond b (decided (sent_back (to_caller a.alock (TestResult version (test_unless w version a o))) w)) (decided (gives w SystemErr)) in (
-      to_caller a.alock (TestResult version (test_unless w version a (Some stat))),
-      refl,
-      ap (λ (b : Bool). ruled store (answer b (range_refusal w Testing a.alock))) free
-          ∙ ap (λ (o : Option Stat). ruled store (answer true o)) e
-          ∙ sent_back_decided _ store,
-    )
-sent_back_as w version (LockMsg a) stat store free e =
-    let ask = lock_ask a (caller_row a) (GrantedMsg version a.exclusive a.alock) (slots_free the_limits w - 1) in
-    (lock_letter version a stat, refl, sent_back_early w (lock_letter version a) (lock_unless the_limits w ask) _ stat store free e refl)
-sent_back_as w version (CancelMsg a) stat store free e =
-    (cancel_letter version a stat, refl, sent_back_early w (cancel_letter version a) (cancel_unless w (request_of a.exclusive a.alock)) _ stat store free e refl)
-sent_back_as w version (UnlockMsg a) stat store free e =
-    (unlock_letter version a stat, refl, sent_back_early w (unlock_letter version a) (unlock_unless the_limits w a.alock) _ stat store free e refl)
-sent_back_as w version call stat store free e = absurd cc
-
--- ---- what a step gives for a record that asks for a call
-
-module _ (s new : State) (said : Event) (u : Upshot) (h : IsStep s said u new) (peer : Peer) (asked : Bytes) (xid : ℕ) (call : Call) (is : said ≡ Take peer asked (Asks xid call)) where
-  steps : (doing : Doing) → u.doing ≡ doing → (u.given ≡ (step the_limits s (Take peer asked (Asks xid call)) doing u.store).given) × (new ≡ (step the_limits s (Take peer asked (Asks xid call)) doing u.store).state)
-  steps doing e =
-      let to : Event → Doing → Stepped = λ event d. step the_limits s event d u.store in
-      let same : to said u.doing ≡ to (Take peer asked (Asks xid call)) doing = ap (λ event. to event u.doing) is ∙ ap (to (Take peer asked (Asks xid call))) e in
-      (sym h.gives ∙ ap (λ (t : Stepped). t.given) same, sym h.leaves ∙ ap (λ (t : Stepped). t.state) same)
-
-  -- where its reply is not kept
-  anew : u.doing ≡ Applied → look s peer asked ≡ None → u.given ≡ Replies xid (ruled u.store (ruling the_limits s.world peer.local call)).outcome
-  anew e n = (steps Applied e).0 ∙ ap (λ (o : Option KeptPair). (taken the_limits s peer asked xid call u.store o).given) n
-
-  left_anew : u.doing ≡ Applied → look s peer asked ≡ None → new.world ≡ settled the_limits (ruled u.store (ruling the_limits s.world peer.local call)).world
-  left_anew e n = ap (λ (x : State). x.world) (steps Applied e).1 ∙ ap (λ (o : Option KeptPair). (taken the_limits s peer asked xid call u.store o).state.world) n
-
-  module _ (k : KeptPair) (there : look s peer asked ≡ Some k) where
-    again : u.doing ≡ Applied → (u.given ≡ (repeated the_limits s k).given) × (new ≡ (repeated the_limits s k).state)
-    again e =
-        let same : taken the_limits s peer asked xid call u.store (look s peer asked) ≡ repeated the_limits s k = ap (taken the_limits s peer asked xid call u.store) there in
-        ((steps Applied e).0 ∙ ap (λ (t : Stepped). t.given) same, (steps Applied e).1 ∙ ap (λ (t : Stepped). t.state) same)
-
-    wanting : u.doing ≡ Starved → (u.given ≡ Replies xid SystemErr) × (new ≡ s)
-    wanting e =
-        let row : Option KeptPair → State = λ o. with_row_stored s call (asked_unless_kept the_limits s peer call o) u.store in
-        ((steps Starved e).0, (steps Starved e).1 ∙ ap row there ∙ unstored call u.store)
-      where
-        unstored : (c : Call) (a : StoreAnswer) → with_row_stored s c None a ≡ s
-        unstored (Nlm version (Locks b)) a = refl
-        unstored (Nlm version (LockMsg b)) a = refl
-        unstored _ a = refl
-
--- ---- as a client is told
-
-module _ (place i : ℕ) (old new : Hub) (out : Outputs) (t : Answers place i old out new) where
-  sent : (given : Given) → t.given ≡ given → out.sent ≡ reply_to t.link.number given
-  sent given e = ap (λ (o : Outputs). o.sent) t.outputs ∙ ap (reply_to t.link.number) e
-
-  pub tells : (xid : ℕ) (version : Version) (call : NlmCall) (stat : Stat) → t.step.said ≡ Take (view_of_peer t.link.peer) t.bytes (Asks xid (Nlm version call)) → look old.state (view_of_peer t.link.peer) t.bytes ≡ None
-      → view_of_event_outcome out.outcome ≡ Applied → early_refusal old.state.world call ≡ Some stat → TellsStat t.link xid (shown_stat version stat) out
-  tells xid version call stat is none applied early = record {
-    outcome = (ruled (view_of_stored out.store) (nlm_answer the_limits old.state.world version call)).outcome;
-    stat_is = says_early old.state.world version call stat (view_of_stored out.store) early;
-    sent = sent _ (anew old.state new.state t.step.said (upshot_of out t.given) t.step.step (view_of_peer t.link.peer) t.bytes xid (Nlm version call) is applied none);
-  }
-
-  pub calls_back : (xid : ℕ) (version : Version) (call : NlmCall) (stat : Stat) → t.step.said ≡ Take (view_of_peer t.link.peer) t.bytes (Asks xid (Nlm version call)) → look old.state (view_of_peer t.link.peer) t.bytes ≡ None
-      → view_of_event_outcome out.outcome ≡ Applied → 0 < slots_free the_limits old.state.world → early_message_refusal old.state.world call ≡ Some stat → CallsBack t.link xid version call stat old out new
-  calls_back xid version call stat is none applied free early =
-      let store = view_of_stored out.store in
-      let back = sent_back_as old.state.world version call stat store (grind (arith, nat_tests)) early in
-      let upshot = upshot_of out t.given in
-      let peer = view_of_peer t.link.peer in
-      record {
-        sent = sent _ (anew old.state new.state t.step.said upshot t.step.step peer t.bytes xid (Nlm version call) is applied none) ∙ ap (λ (a : Answered). reply_to t.link.number (Replies xid a.outcome)) back.2;
-        letter = back.0;
-        tells = back.1;
-        world = left_anew old.state new.state t.step.said upshot t.step.step peer t.bytes xid (Nlm version call) is applied none ∙ ap (λ (a : Answered). settled the_limits a.world) back.2;
-      }
-
-  pub repeats : (xid : ℕ) (call : Call) (k : KeptPair) → t.step.said ≡ Take (view_of_peer t.link.peer) t.bytes (Asks xid call) → look old.state (view_of_peer t.link.peer) t.bytes ≡ Some k → AnswersRepeat t.link xid k old out new
-  repeats xid call k is there = record {
-    unapplied = subst (λ (s : State). LeavesRest old.state.world s.world) (sym (steps old.state new.state t.step.said (upshot_of out t.given) t.step.step (view_of_peer t.link.peer) t.bytes xid call is (view_of_event_outcome out.outcome) refl).1) (repeat_law the_limits old.state (view_of_peer t.link.peer) t.bytes xid call (view_of_event_outcome out.outcome) (view_of_stored out.store) k there);
-    again = λ applied slots.
-        let r = again old.state new.state t.step.said (upshot_of out t.given) t.step.step (view_of_peer t.link.peer) t.bytes xid call is k there applied in
-        let both : repeated the_limits old.state k ≡ record { given = Replies k.xid k.outcome; state = record { world = with_all_due old.state.world k.letters; kept = moved_to_front k old.state.kept } } = rw slots refl in
-        record {
-          sent = sent (Replies k.xid k.outcome) (r.0 ∙ ap (λ (x : Stepped). x.given) both);
-          world = ap (λ (s : State). s.world) r.1 ∙ ap (λ (x : Stepped). x.state.world) both;
-          kept = ap (λ (s : State). s.kept) r.1 ∙ ap (λ (x : Stepped). x.state.kept) both;
-        };
-    full = λ applied slots.
-        let r = again old.state new.state t.step.said (upshot_of out t.given) t.step.step (view_of_peer t.link.peer) t.bytes xid call is k there applied in
-        let both : repeated the_limits old.state k ≡ record { given = Replies k.xid SystemErr; state = old.state } = rw slots refl in
-        record { sent = sent (Replies k.xid SystemErr) (r.0 ∙ ap (λ (x : Stepped). x.given) both); state = r.1 ∙ ap (λ (x : Stepped). x.state) both };
-    starved = λ starves.
-        let r = wanting old.state new.state t.step.said (upshot_of out t.given) t.step.step (view_of_peer t.link.peer) t.bytes xid call is k there starves in
-        record { sent = sent (Replies xid SystemErr) r.0; state = r.1 };
-  }
-
-pub refusal_is_told : RefusalIsTold
-refusal_is_told place i old new out taken xid version call stat is none applied early = tells place i old new out taken xid version call stat is none applied early
-
-pub message_refusal_is_told : MessageRefusalIsTold
-message_refusal_is_told place i old new out taken xid version call stat is none applied free early = calls_back place i old new out taken xid version call stat is none applied free early
-
-pub kept_is_given_again : KeptIsGivenAgain
-kept_is_given_again place i old new out taken xid call k is there = repeats place i old new out taken xid call k is there
+pub kept_is_given_again : step_again.KeptIsGivenAgain → KeptIsGivenAgain
+kept_is_given_again law place i old new out t xid call k is there =
+    let r = law old.state new.state _ _ t.step (view_of_peer t.link.peer) t.bytes xid call k is there in
+    record {
+      unapplied = r.unapplied;
+      again = λ applied slots. let a = r.again applied slots in record { sent = sent place i old new out t _ a.gives; world = a.world; kept = a.kept };
+      full = λ applied slots. let a = r.full applied slots in record { sent = sent place i old new out t _ a.gives; state = a.state };
+      starved = λ starves. let a = r.starved starves in record { sent = sent place i old new out t _ a.gives; state = a.state };
+    }

@@ -1,38 +1,18 @@
--- What a call gets that is refused before its procedure's rules, and what one gets whose reply is kept.
+-- What a client gets whose call is refused before its procedure's rules, and one whose reply is kept.
 use Rattle.std.specs.Prelude.{◌≡◌, ℕ, ◌<◌, true, false, leb, length, Option, Some, None}
-use Rattle.definitions.specs.Answer.{to_caller, lock_letter, cancel_letter, unlock_letter}
-use Rattle.definitions.specs.Outgoing.{Letter, TestResult}
-use Rattle.definitions.specs.Phases.{Testing, Locking, Sharing, Cancelling, Unlocking, Unsharing}
-use Rattle.definitions.specs.Nlm.{Version, Stat, NlmCall, Test, Locks, Cancel, Unlock, TestMsg, LockMsg, CancelMsg, UnlockMsg, ShareCall, Unshare, NmLock}
-use Rattle.definitions.specs.Ranges.{range_refusal, file_refusal}
-use Rattle.definitions.specs.Replies.{Call, Nlm, Outcome, Success, SystemErr, NoResult, ResResult, TestResResult, ShareResult, Asks}
-use Rattle.definitions.specs.Shown.{shown_stat, free_test}
-use Rattle.definitions.specs.World.{World, LeavesRest, the_limits, slots_free, with_due, with_all_due, settled}
+use Rattle.definitions.specs.Outgoing.{Letter}
+use Rattle.definitions.specs.Nlm.{Version, Stat, NlmCall}
+use Rattle.definitions.specs.Replies.{Call, Nlm, Outcome, Success, SystemErr, NoResult, Asks}
+use Rattle.definitions.specs.Shown.{shown_stat}
+use Rattle.definitions.specs.World.{LeavesRest, the_limits, slots_free, with_due, with_all_due, settled}
 use Rattle.definitions.specs.Step.{Take, Applied, Starved, KeptPair, Replies, look, moved_to_front}
 use Rattle.kept_replies.specs.Pairs.{view_of_peer}
+use Rattle.book.specs.Refusals.{early_refusal, stat_in, early_message_refusal, refusal_letter}
 use Rattle.daemon_core.specs.Link.{Link}
 use Rattle.daemon_core.specs.Outcomes.{view_of_event_outcome}
 use Rattle.daemon_core.specs.Outputs.{reply_to}
 use Rattle.daemon_core.specs.declared.outputs.Outputs.{Outputs}
 use Rattle.daemon_core.specs.Hub.{Hub, Answers}
-
--- what a call is refused for before its procedure's own rules: its file handle, its range, the phase
-abbrev pub early_refusal : World → NlmCall → Option Stat
-early_refusal w (Test a) = range_refusal w Testing a.alock
-early_refusal w (Locks a) = range_refusal w (Locking a.reclaim) a.alock
-early_refusal w (NmLock a) = range_refusal w (Locking a.reclaim) a.alock
-early_refusal w (Cancel a) = range_refusal w Cancelling a.alock
-early_refusal w (Unlock a) = range_refusal w Unlocking a.alock
-early_refusal w (ShareCall a) = file_refusal w (Sharing a.reclaim) a.fh
-early_refusal w (Unshare a) = file_refusal w Unsharing a.fh
-early_refusal w _ = None
-
--- the status that a reply tells
-abbrev pub stat_in : Outcome → Option Stat
-stat_in (Success (ResResult r)) = Some r.stat
-stat_in (Success (TestResResult version t)) = Some t.stat
-stat_in (Success (ShareResult s)) = Some s.stat
-stat_in _ = None
 
 -- the record that was taken asks for this call
 abbrev pub IsCall : {place i : ℕ} {old new : Hub} {out : Outputs} → Answers place i old out new → ℕ → Call → Type 0
@@ -55,22 +35,6 @@ RefusalIsTold =
     (place i : ℕ) (old new : Hub) (out : Outputs) (taken : Answers place i old out new) (xid : ℕ) (version : Version) (call : NlmCall) (stat : Stat)
     → IsCall taken xid (Nlm version call) → kept_of taken ≡ None
     → view_of_event_outcome out.outcome ≡ Applied → early_refusal old.state.world call ≡ Some stat → TellsStat taken.link xid (shown_stat version stat) out
-
--- what a message form is refused for before its procedure's own rules
-abbrev pub early_message_refusal : World → NlmCall → Option Stat
-early_message_refusal w (TestMsg a) = range_refusal w Testing a.alock
-early_message_refusal w (LockMsg a) = range_refusal w (Locking a.reclaim) a.alock
-early_message_refusal w (CancelMsg a) = range_refusal w Cancelling a.alock
-early_message_refusal w (UnlockMsg a) = range_refusal w Unlocking a.alock
-early_message_refusal w _ = None
-
--- the call that tells the caller's host of it: its _RES, with the status as the version shows it
-abbrev pub refusal_letter : Version → NlmCall → Stat → Option Letter
-refusal_letter version (TestMsg a) stat = Some (to_caller a.alock (TestResult version (free_test version a.cookie stat)))
-refusal_letter version (LockMsg a) stat = Some (lock_letter version a stat)
-refusal_letter version (CancelMsg a) stat = Some (cancel_letter version a stat)
-refusal_letter version (UnlockMsg a) stat = Some (unlock_letter version a stat)
-refusal_letter version _ stat = None
 
 -- the client gets an empty reply, and the newest call that is due, before what waits is granted, tells the status to its host
 pub record CallsBack (link : Link) (xid : ℕ) (version : Version) (call : NlmCall) (stat : Stat) (old : Hub) (out : Outputs) (new : Hub) : Type 0 where

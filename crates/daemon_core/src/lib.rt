@@ -18,8 +18,8 @@ pub use crate::event::{Event, Refusal};
 pub use crate::event_outcome::EventOutcome;
 pub use crate::law::{
     early_message_refusal_is_told, early_refusal_is_told, grace_grants_reclaims_only,
-    grace_tells_of_no_grant, kept_reply_is_given_again, one_run, runs_are_sound,
-    starves_where_full,
+    grace_tells_of_no_grant, kept_reply_is_given_again, one_run, runs_are_histories,
+    runs_are_sound, starves_where_full,
 };
 pub use crate::outputs::Outputs;
 pub use crate::posted::Posted;

@@ -1,11 +1,11 @@
 //! Events take the book, in segments of its journal.
 
-ghost use Rattle.std.specs.Prelude.{◌≡◌, ◌<◌, List, true, false, is_some};
+ghost use Rattle.std.specs.Prelude.{◌≡◌, ◌<◌, List, true, is_some, IfOk, IfErr};
 ghost use Rattle.definitions.specs.Hosts.{NotAsked};
 ghost use Rattle.definitions.specs.Outgoing.{next_due};
 ghost use Rattle.call_plans.specs.Planned.{counted};
 ghost use Rattle.book.specs.Notes.{view_of_event, Steps};
-ghost use Rattle.book.specs.Journal.{room_of, rotated, TakesMemory};
+ghost use Rattle.book.specs.Journal.{room_of, TakesMemory};
 ghost use Rattle.daemon_core.specs.Hub.{SendStep, hub_of};
 ghost use Rattle.daemon_core.specs.Link.{Link};
 ghost use Rattle.daemon_core.specs.Outcomes.{view_of_event_outcome};
@@ -15,7 +15,7 @@ ghost use Rattle.daemon_core.specs.Rooms.{BeginsWhereFull, RoomAfter, room_of_jo
 use crate::event_outcome::EventOutcome;
 use crate::posted::Posted;
 use crate::posting::Posting;
-use book::{Book, BookEvent, Segment, Upshot};
+use book::{Book, BookEvent, NoRoom, Upshot};
 use hosts_db::HostStore;
 use range_table::RangeTable;
 use std::alloc::Global;
@@ -37,9 +37,9 @@ pub(crate) fn note<R: RangeTable, S: HostStore>(
     ensures unasked { result.0 ≡ EventOutcome.NoSegment → result.1.store ≡ NotAsked }
     ensures unchanged { result.0 ≡ EventOutcome.NoSegment → book.new.journal.end ≡ book.old.journal.end }
 {
-    if !has_room(alloc, book) {
+    let Ok(()) = make_room(alloc, book) else {
         return (EventOutcome::NoSegment, event.starved());
-    }
+    };
     let upshot = book.apply(event);
     (EventOutcome::from(upshot.doing), upshot)
 }
@@ -70,9 +70,9 @@ fn send_due<R: RangeTable, S: HostStore>(
     requires due { is_some (next_due book.old.journal.end.world.calls) ≡ true }
     ensures { (links : List Link) → SendStep (hub_of book.old links) (told_posted result posting.new) (hub_of book.new links) }
 {
-    if !has_room(alloc, book) {
+    let Ok(()) = make_room(alloc, book) else {
         return Posted::NoSegment;
-    }
+    };
     let Some((_, to, frame)) = book.next_call() else {
         return Posted::Nothing;
     };
@@ -80,31 +80,18 @@ fn send_due<R: RangeTable, S: HostStore>(
     Posted::Sent
 }
 
-/// Whether there is room for one entry more, in the segment that stands or, where that is full, in a fresh one. That none could
-/// be had where the answer is false is the allocator's word, which no contract names.
-fn has_room<R: RangeTable, S: HostStore>(alloc: Global, book: &mut Book<R, S>) -> bool
-    ensures room { result ≡ true → 0 < room_of book.new.journal }
-    ensures full { result ≡ false → room_of book.old.journal ≡ 0 }
-    ensures stays { result ≡ false → room_of_journal book.new.journal ≡ room_of_journal book.old.journal }
+// Makes room for one entry more: in the segment that stands or, where that is full, in a fresh one. The full one is let go of.
+fn make_room<R: RangeTable, S: HostStore>(
+    alloc: Global,
+    book: &mut Book<R, S>,
+) -> Result<(), NoRoom>
+    ensures room { IfOk result (λ _. 0 < room_of book.new.journal) }
+    ensures full { IfErr result (λ _. room_of book.old.journal ≡ 0) }
+    ensures stays { IfErr result (λ _. book.new ≡ book.old) }
     ensures begins { BeginsWhereFull book.old book.new }
     ensures end { book.new.journal.end ≡ book.old.journal.end }
     ensures refusals { book.new.refusals ≡ book.old.refusals }
 {
-    if book.room() > 0 {
-        return true;
-    }
-    match Segment::new(alloc) {
-        Ok(fresh) => begins(book, fresh),
-        Err(_) => false,
-    }
-}
-
-// The fresh segment begins. Whether it has room: it has none only where all numbers are given.
-fn begins<R: RangeTable, S: HostStore>(book: &mut Book<R, S>, fresh: Segment) -> bool
-    ensures room { result ≡ true → 0 < room_of book.new.journal }
-    ensures given { result ≡ false → room_of book.new.journal ≡ 0 }
-    ensures begins { book.new ≡ rotated book.old }
-{
-    drop(book.rotate(fresh));
-    book.room() > 0
+    drop(book.make_room(alloc)?);
+    Ok(())
 }

@@ -209,7 +209,8 @@ PipeStarves events start bound unread left before after =
     ⊎ BrokenPipe Starved events start bound unread left before after)
 
 -- at most `bound` pieces are read, and the end is a piece of no bytes; `end` is the state then. A ReadFault comes after `bound`
--- pieces, or where a read failed, which no contract can name: it left what is left to read as it was
+-- reads, or where a read failed otherwise than by an interruption, which no contract can name: a read that fails leaves what is left
+-- to read as it was
 abbrev pub StreamEnds : List Event → Hub → ℕ → Result (Unit {0}) Fault → Option (List ℕ) → Option (List ℕ) → Option (List ℕ) → Option (List ℕ) → Hub → Type 0
 StreamEnds events start bound (Ok done) unread left before after end =
     ((most : ℕ) × (most < bound) × EndsAt events start most unread left before after [] end) × IsAtEnd left

@@ -111,7 +111,7 @@ fn turn<T: RangeTable, S: HostStore, W: Write>(
     }
 }
 
-/// Reads to the end, and answers each piece as it comes.
+/// Reads to the end, and answers each piece as it comes. A read that was interrupted counts, and is tried again.
 fn answer_pieces<T: RangeTable, S: HostStore, R: Read, W: Write>(
     alloc: Global,
     daemon: &mut Daemon<T, S>,
@@ -128,11 +128,12 @@ fn answer_pieces<T: RangeTable, S: HostStore, R: Read, W: Write>(
     let mut places = Places::new();
     for _turn in 0..bound {
         let piece = place.as_mut_slice();
-        let count = read_piece(reader, piece)?;
-        if count == 0 {
-            return Ok(());
+        match read_piece(reader, piece) {
+            Ok(0) => return Ok(()),
+            Ok(count) => turn(daemon, &mut places, writer, &piece[..count])?,
+            Err(failed) if failed.is_interrupted => {}
+            Err(failed) => return Err(Fault::from(failed)),
         }
-        turn(daemon, &mut places, writer, &piece[..count])?;
     }
     Err(Fault::ReadFault)
 }
@@ -193,7 +194,8 @@ pub(crate) fn answer_stream<T: RangeTable, S: HostStore, R: Read, W: Write>(
 
 /// The server begins anew, reads a stream to its end, and writes what each whole record is answered, and the calls of the
 /// server's own that are due behind it, in order, and nothing else. Its table has no runs. An end inside a record is no
-/// fault. After `bound` reads that were not the end it gives up with `ReadFault`.
+/// fault. A read that was interrupted is tried again. After `bound` reads that were not the end, those among them, it gives up
+/// with `ReadFault`, as it does at once where a read fails otherwise.
 pub fn pipe_loop<T: RangeTable + Drop, S: HostStore + Drop, R: Read, W: Write>(
     alloc: Global,
     server: Server<T, S>,

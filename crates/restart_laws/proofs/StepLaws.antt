@@ -19,7 +19,7 @@ use Rattle.restart_laws.proofs.RowLaws.{IsRead, step_keeps, kept_rows, standing_
 use Rattle.restart_laws.proofs.RestartLaws.{begins_anew, begins_under}
 use Rattle.restart_laws.proofs.HonestLaws.{reclaim_granted}
 
-read_of : (event : Happening) (said : Event) → Reads event said → IsRead said
+pub read_of : (event : Happening) (said : Event) → Reads event said → IsRead said
 read_of (Takes peer asked) said r = subst IsRead (sym r.2) r.1
 read_of SendsNext said r = subst IsRead (sym r) tt
 read_of (HearsAnswer bytes) said r = subst IsRead (sym r.2) tt

@@ -20,7 +20,7 @@ use Rattle.written.specs.declared.WriteFault.{WriteFault}
 use Rattle.written.proofs.Appending.{WroteFront-whole}
 use Rattle.serve_loops.specs.declared.ending.Ending.{Ending}
 use Rattle.serve_loops.specs.declared.ending.Ending.TheVariants as ending
-use Rattle.serve_loops.specs.Lines.{IsOpen, Answer, AreOpen, ended, kept, text_of, texts, entries, IsAnswered, AreAnswered, Asks, Trace, trace, Goes, Serves, ServesFront, Breaks, Cuts, Ends, Turns, Takes, Hears, IsSaid, AnswersLine, Finishes, TellsOf}
+use Rattle.serve_loops.specs.Lines.{IsOpen, Answer, AreOpen, ended, kept, text_of, texts, entries, IsAnswered, AreAnswered, Asks, Trace, trace, Goes, Serves, ServesFront, Breaks, Cuts, Stops, Ends, Turns, Takes, Hears, IsSaid, AnswersLine, Finishes, TellsOf}
 
 open-all : (ls ms : List Answer) → AreOpen ls → AreOpen ms → AreOpen (ls ++ ms)
 open-all [] ms p q = q
@@ -108,22 +108,22 @@ module _ (c : ℕ) (p q : Bytes) (bs : Bytes) (x y : Trace) (s : Serves c p bs q
   Cuts-after : (e : Ending) (cs : Bytes) (z : Trace) → Cuts e c q cs y z → Cuts e c p (bs ++ cs) x z
   Cuts-after ending.Over cs z h = absurd h
   Cuts-after ending.Stopped cs z h = Front-after cs z h
-  Cuts-after ending.Starved cs z h = Front-after cs z h
+  Cuts-after ending.Starved cs z h = absurd h
   Cuts-after ending.ReadFault cs z h = Front-after cs z h
   Cuts-after ending.WriteFault cs z h = Breaks-after cs z h
 
-  pub Ends-after : (u m l : Option Bytes) → Consumes u m bs → (e : Ending) (z : Trace) → Ends e c q m l y z → Ends e c p u l x z
-  Ends-after u m l read ending.Over z h = (bs ++ h.0, Consumes-trans u m l bs h.0 read h.1, h.2, (h.3.0, Serves-append c p q h.3.0 bs h.0 x y z s h.3.1))
-  Ends-after u m l read ending.Stopped z h = (bs ++ h.0, Consumes-trans u m l bs h.0 read h.1, Front-after h.0 z h.2)
-  Ends-after u m l read ending.Starved z h = (bs ++ h.0, Consumes-trans u m l bs h.0 read h.1, Front-after h.0 z h.2)
-  Ends-after u m l read ending.ReadFault z h = (bs ++ h.0, Consumes-trans u m l bs h.0 read h.1, Front-after h.0 z h.2)
-  Ends-after u m l read ending.WriteFault z h = (bs ++ h.0, Consumes-trans u m l bs h.0 read h.1, Breaks-after h.0 z h.2)
+  pub Stops-after : (u m l : Option Bytes) → Consumes u m bs → (e : Ending) (z : Trace) → Stops e c q m l y z → Stops e c p u l x z
+  Stops-after u m l read ending.Over z h = (bs ++ h.0, Consumes-trans u m l bs h.0 read h.1, h.2, (h.3.0, Serves-append c p q h.3.0 bs h.0 x y z s h.3.1))
+  Stops-after u m l read ending.Stopped z h = (bs ++ h.0, Consumes-trans u m l bs h.0 read h.1, Front-after h.0 z h.2)
+  Stops-after u m l read ending.Starved z h = absurd h.2
+  Stops-after u m l read ending.ReadFault z h = (bs ++ h.0, Consumes-trans u m l bs h.0 read h.1, Front-after h.0 z h.2)
+  Stops-after u m l read ending.WriteFault z h = (bs ++ h.0, Consumes-trans u m l bs h.0 read h.1, Breaks-after h.0 z h.2)
 
 -- more bytes may stand behind those that cut it
 pub Cuts-longer : (e : Ending) (c : ℕ) (p bs cs : Bytes) (x y : Trace) → Cuts e c p bs x y → Cuts e c p (bs ++ cs) x y
 Cuts-longer ending.Over c p bs cs x y h = absurd h
 Cuts-longer ending.Stopped c p bs cs x y h = record { front = h.front; rest = h.rest ++ cs; is = ap (λ (l : Bytes). l ++ cs) h.is ∙ append_assoc h.front h.rest cs; left = h.left; serves = h.serves }
-Cuts-longer ending.Starved c p bs cs x y h = record { front = h.front; rest = h.rest ++ cs; is = ap (λ (l : Bytes). l ++ cs) h.is ∙ append_assoc h.front h.rest cs; left = h.left; serves = h.serves }
+Cuts-longer ending.Starved c p bs cs x y h = absurd h
 Cuts-longer ending.ReadFault c p bs cs x y h = record { front = h.front; rest = h.rest ++ cs; is = ap (λ (l : Bytes). l ++ cs) h.is ∙ append_assoc h.front h.rest cs; left = h.left; serves = h.serves }
 Cuts-longer ending.WriteFault c p bs cs x y h = record {
   front = h.front;
@@ -187,11 +187,16 @@ flush_failed a b d x p k = WroteFront-whole a d x (Appends-kept a b d x p k)
 pub nothing-read : (c : ℕ) (part : Bytes) (u l : Option Bytes) (x : Trace) → IsOpen part → Keeps u l → Turns None c part part u l x x
 nothing-read c part u l x o keeps = ([], Consumes-kept u u l [] (Consumes-nil u) keeps, Serves-none c part x o)
 
-pub read-failed : (c : ℕ) (part : Bytes) (u l : Option Bytes) (x : Trace) → IsOpen part → Keeps u l → Ends ending.ReadFault c part u l x x
+pub read-failed : (c : ℕ) (part : Bytes) (u l : Option Bytes) (x : Trace) → IsOpen part → Keeps u l → Stops ending.ReadFault c part u l x x
 read-failed c part u l x o keeps = ([], Consumes-kept u u l [] (Consumes-nil u) keeps, Front-none c part [] x o)
 
-pub unplaced : (c : ℕ) (part : Bytes) (u : Option Bytes) (x : Trace) → IsOpen part → Ends ending.Starved c part u u x x
-unplaced c part u x o = ([], Consumes-nil u, Front-none c part [] x o)
+-- how a turn ends it
+pub stopped : (e : Ending) (c : ℕ) (u l : Option Bytes) (x y : Trace) → Stops e c [] u l x y → Ends e c u l x y
+stopped ending.Over c u l x y h = h
+stopped ending.Stopped c u l x y h = h
+stopped ending.Starved c u l x y h = absurd h.2
+stopped ending.ReadFault c u l x y h = h
+stopped ending.WriteFault c u l x y h = h
 
 -- what was read was answered
 pub piece-heard : (e : Option Ending) (c count : ℕ) (part rest place : Bytes) (u l : Option Bytes) (x y : Trace) → (count ≤ length place) × Consumes u l (take count place) × (count ≡ 0 → IsAtEnd l) → Hears e c part (take count place) rest x y → Turns e c part rest u l x y
@@ -200,7 +205,7 @@ piece-heard (Some ending.Over) c count part rest place u l x y read h =
     let none : count ≡ 0 = sym (length-take-le count place read.0) ∙ ap length h.0 in
     ([], subst (Consumes u l) h.0 read.1, read.2 none, (rest, h.1))
 piece-heard (Some ending.Stopped) c count part rest place u l x y read h = (take count place, read.1, h)
-piece-heard (Some ending.Starved) c count part rest place u l x y read h = (take count place, read.1, h)
+piece-heard (Some ending.Starved) c count part rest place u l x y read h = absurd h
 piece-heard (Some ending.ReadFault) c count part rest place u l x y read h = (take count place, read.1, h)
 piece-heard (Some ending.WriteFault) c count part rest place u l x y read h = (take count place, read.1, h)
 

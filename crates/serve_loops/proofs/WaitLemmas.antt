@@ -17,7 +17,7 @@ IsPermutation-set xs i y within =
 same-read : {X : Type 0} (xs : List X) (i : ℕ) (x y : X) → i < length xs → x ≡ get_or xs i x → y ≡ get_or xs i y → x ≡ y
 same-read xs i x y within a b = a ∙ get_or_default xs i x y within ∙ sym b
 
-module _ (peer : ℕ) (bytes : Bytes) (xid : ℕ) (is : IsReplyTo xid bytes) (old new : Waits) (i : ℕ) (found : position (awaits peer xid) old.calls ≡ Some i) (call again : Waiting) (at : call ≡ get_or old.calls i call) (at-again : again ≡ get_or old.calls i again) (heard : new.heard ≡ old.heard ++ bytes ∷ []) where
+module _ (peer : ℕ) (bytes : Bytes) (xid : ℕ) (is : IsReplyTo xid bytes) (old new : Waits) (i : ℕ) (found : position (awaits peer xid) old.calls ≡ Some i) (call again : Waiting) (at : call ≡ get_or old.calls i call) (at-again : again ≡ get_or old.calls i again) (heard : new.heard ≡ old.heard ++ record { number = call.number; bytes = bytes } ∷ []) where
   within : i < length old.calls
   within = (position-Some (awaits peer xid) old.calls i call found).0
 

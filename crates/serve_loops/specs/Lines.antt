@@ -130,21 +130,26 @@ pub record Breaks (connection : ℕ) (part bytes : Bytes) (before after : Trace)
 abbrev pub Cuts : Ending → ℕ → Bytes → Bytes → Trace → Trace → Type 0
 Cuts ending.Over connection part bytes before after = ⊥
 Cuts ending.Stopped connection part bytes before after = ServesFront connection part bytes before after
-Cuts ending.Starved connection part bytes before after = ServesFront connection part bytes before after
+Cuts ending.Starved connection part bytes before after = ⊥
 Cuts ending.ReadFault connection part bytes before after = ServesFront connection part bytes before after
 Cuts ending.WriteFault connection part bytes before after = Breaks connection part bytes before after
 
--- some bytes were read. At the stream's end all their lines were answered
-abbrev pub Ends : Ending → ℕ → Bytes → Option Bytes → Option Bytes → Trace → Trace → Type 0
-Ends ending.Over connection part unread left before after =
+-- behind the part of a line some bytes were read. At the stream's end all their lines were answered
+abbrev pub Stops : Ending → ℕ → Bytes → Option Bytes → Option Bytes → Trace → Trace → Type 0
+Stops ending.Over connection part unread left before after =
     (bytes : Bytes) × Consumes unread left bytes × IsAtEnd left
     × ((rest : Bytes) × Serves connection part bytes rest before after)
-Ends e connection part unread left before after = (bytes : Bytes) × Consumes unread left bytes × Cuts e connection part bytes before after
+Stops e connection part unread left before after = (bytes : Bytes) × Consumes unread left bytes × Cuts e connection part bytes before after
+
+-- the same from the connection's start, where alone it may starve: nothing was read or answered then
+abbrev pub Ends : Ending → ℕ → Option Bytes → Option Bytes → Trace → Trace → Type 0
+Ends ending.Starved connection unread left before after = (left ≡ unread) × (after ≡ before)
+Ends e connection unread left before after = Stops e connection [] unread left before after
 
 -- or it goes on
 abbrev pub Turns : Option Ending → ℕ → Bytes → Bytes → Option Bytes → Option Bytes → Trace → Trace → Type 0
 Turns None connection part rest unread left before after = (bytes : Bytes) × Consumes unread left bytes × Serves connection part bytes rest before after
-Turns (Some e) connection part rest unread left before after = Ends e connection part unread left before after
+Turns (Some e) connection part rest unread left before after = Stops e connection part unread left before after
 
 -- the same of bytes
 abbrev pub Takes : Option Ending → ℕ → Bytes → Bytes → Bytes → Trace → Trace → Type 0

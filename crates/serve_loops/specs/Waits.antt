@@ -1,5 +1,5 @@
 -- The server's own calls that wait for their answers, and the answers that came.
-use Rattle.std.specs.Prelude.{◌≡◌, ◌⊎◌, ℕ, ◌%◌, ◌^◌, ◌+◌, ◌≤◌, ◌==◌, Bool, true, false, not, ◌&&◌, leb, eqb, slice_range, if◌then◌else◌, List, [], ◌∷◌, ◌++◌, length, Option, Some, None, position, slice_set, IsPermutation}
+use Rattle.std.specs.Prelude.{◌≡◌, ◌⊎◌, ℕ, ◌/◌, ◌%◌, ◌^◌, ◌+◌, ◌≤◌, ◌==◌, Bool, true, false, not, ◌&&◌, leb, eqb, slice_range, if◌then◌else◌, List, [], ◌∷◌, ◌++◌, length, Option, Some, None, position, slice_set, filter, IsPermutation}
 use Rattle.std.specs.Int.{from_be_bytes, w32}
 use Rattle.std.specs.Option.{option_eq}
 use Rattle.std.specs.Time.{instant_nanos}
@@ -25,13 +25,29 @@ ends_with_reply bytes = not (is_call_of 100021 10 bytes)
 
 -- ---- the calls that wait
 
+-- a reply that came, and the number of the call that it answers
+pub record HeardReply : Type 0 where
+  pub number : ℕ
+  pub bytes : Bytes
+
 -- the calls that wait, in no order, and the answers that came, the oldest first
 pub record Waits : Type 0 where
   pub calls : List Waiting
-  pub heard : List Bytes
+  pub heard : List HeardReply
 
 abbrev pub no_waits : Waits
 no_waits = record { calls = []; heard = [] }
+
+-- the call of this number became due under this own state (a number is its own state times 2^32, and a count)
+abbrev pub is_under : ℕ → ℕ → Bool
+is_under own_state number = number / 2 ^ 32 == own_state
+
+-- of the calls and the answers just those whose call became due under this own state, in the order in which they were
+abbrev pub kept_under : ℕ → Waits → Waits
+kept_under own_state waits = record {
+  calls = filter (λ (call : Waiting). is_under own_state call.number) waits.calls;
+  heard = filter (λ (heard : HeardReply). is_under own_state heard.number) waits.heard;
+}
 
 -- it is the call of this number
 abbrev pub is_numbered : ℕ → Waiting → Bool
@@ -82,7 +98,7 @@ pub record HearsReply (peer : ℕ) (bytes : Bytes) (old new : Waits) : Type 0 wh
   pub others : List Waiting
   pub waited : IsPermutation old.calls (call ∷ others)
   pub wait : IsPermutation new.calls (after_reply call ++ others)
-  pub heard : new.heard ≡ old.heard ++ bytes ∷ []
+  pub heard : new.heard ≡ old.heard ++ record { number = call.number; bytes = bytes } ∷ []
 
 -- this call waits no more, and all others wait on
 pub record TakesCall (call : Waiting) (old new : Waits) : Type 0 where

@@ -7,7 +7,7 @@ pub enum Ending {
     Over,
     /// The line `stop` was answered `ok`, or the server stops for another cause.
     Stopped,
-    /// There was no memory for a line, which was not answered.
+    /// There was no memory for its lines. Nothing was read.
     Starved,
     /// A read failed.
     ReadFault,

@@ -1,5 +1,5 @@
 //! The lines of a local program are answered.
-ghost use Rattle.std.specs.Prelude.{◌≡◌, ◌*◌, ◌∷◌, [], eqb};
+ghost use Rattle.std.specs.Prelude.{◌≡◌, ◌*◌, ◌∷◌, [], eqb, length};
 ghost use Rattle.book.specs.Given.{view_of_reply};
 ghost use Rattle.pieces.specs.Reads.{TakesAtMost};
 ghost use Rattle.written.specs.Written.{Wrote};
@@ -94,6 +94,20 @@ fn is_feed(byte: u8) -> bool
     byte == b'\n'
 }
 
+// There is no memory to hand the line on: it is answered `starved`, without an entry, and the connection goes on.
+fn starve_line<A: Answers, O: Write>(
+    clerk: &A,
+    connection: u64,
+    part: &mut Part,
+    output: &mut O,
+) -> Option<Ending>
+    ensures { Takes result connection part.old (10 ∷ []) part.new (trace (O.contents output.old) (A.told clerk.now)) (trace (O.contents output.new) (A.told clerk.now)) }
+{
+    let reply = part.starve(connection);
+    let told = tell(output, &reply);
+    finish(clerk, told, false, reply)
+}
+
 // The line is whole, and is answered.
 fn end_line<A: Answers, O: Write>(
     clerk: &mut A,
@@ -105,7 +119,7 @@ fn end_line<A: Answers, O: Write>(
 {
     match part.end() {
         Ok(line) => answer_line(clerk, connection, output, line),
-        Err(Starved) => Some(Ending::Starved),
+        Err(Starved) => starve_line(clerk, connection, part, output),
     }
 }
 
@@ -168,26 +182,22 @@ fn hear<A: Answers, O: Write>(
     take_piece(clerk, connection, part, output, piece)
 }
 
-// Reads once, and answers what came.
+// Reads once, into this place, and answers what came.
 fn turn<A: Answers, I: Read, O: Write>(
-    alloc: Global,
     clerk: &mut A,
     connection: u64,
     part: &mut Part,
+    place: &mut [u8],
     input: &mut I,
     output: &mut O,
 ) -> Option<Ending>
+    requires { length place.old ≡ MOST_READ_BYTES }
     ensures turns { Turns result connection part.old part.new (I.remaining input.old) (I.remaining input.new) (trace (O.contents output.old) (A.told clerk.old)) (trace (O.contents output.new) (A.told clerk.new)) }
     ensures few { TakesAtMost MOST_READ_BYTES (I.remaining input.old) (I.remaining input.new) }
 {
     part.has_no_feed();
-    // The place is got first, so that no byte is lost.
-    let Ok(mut place) = make_place(alloc, MOST_READ_BYTES) else {
-        return Some(Ending::Starved);
-    };
-    let piece = place.as_mut_slice();
-    match read_piece(input, piece) {
-        Ok(count) => hear(clerk, connection, part, output, &piece[..count]),
+    match read_piece(input, place) {
+        Ok(count) => hear(clerk, connection, part, output, &place[..count]),
         Err(failed) if failed.is_interrupted => None,
         Err(_) => Some(Ending::ReadFault),
     }
@@ -202,14 +212,19 @@ fn serve<A: Answers, I: Read, O: Write>(
     output: &mut O,
     bound: u64,
 ) -> Ending
-    ensures ends { Ends result connection [] (I.remaining input.old) (I.remaining input.new) (trace (O.contents output.old) (A.told clerk.old)) (trace (O.contents output.new) (A.told clerk.new)) }
+    ensures ends { Ends result connection (I.remaining input.old) (I.remaining input.new) (trace (O.contents output.old) (A.told clerk.old)) (trace (O.contents output.new) (A.told clerk.new)) }
     ensures few { TakesAtMost (MOST_READ_BYTES * bound) (I.remaining input.old) (I.remaining input.new) }
 {
+    // All memory that the connection needs is got before the first read, so that no line is lost for want of it.
     let Ok(mut part) = Part::new(alloc) else {
         return Ending::Starved;
     };
+    let Ok(mut bytes) = make_place(alloc, MOST_READ_BYTES) else {
+        return Ending::Starved;
+    };
+    let place = bytes.as_mut_slice();
     for _read in 0..bound {
-        match turn(alloc, clerk, connection, &mut part, input, output) {
+        match turn(clerk, connection, &mut part, place, input, output) {
             Some(ending) => return ending,
             None => {}
         }
@@ -240,7 +255,7 @@ where
     I: Read,
     O: Write,
     W: Wait,
-    ensures ends { Ends result.ending connection [] (I.remaining input.old) (I.remaining input.new) (trace (O.contents output.old) []) (trace (O.contents output.new) result.transcript) }
+    ensures ends { Ends result.ending connection (I.remaining input.old) (I.remaining input.new) (trace (O.contents output.old) []) (trace (O.contents output.new) result.transcript) }
     ensures few { TakesAtMost (MOST_READ_BYTES * bound) (I.remaining input.old) (I.remaining input.new) }
 {
     let mut clerk = Clerk::new(rt, shared, signals);

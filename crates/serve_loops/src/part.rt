@@ -1,9 +1,13 @@
 //! A line that comes in.
 ghost use Rattle.std.specs.Prelude.{◌≡◌, ◌≢◌, ◌≤◌, ◌<◌, ◌++◌, ◌∷◌, [], length, take, vec_capacity, IfOk, OnOk, OnErr};
-ghost use Rattle.serve_loops.specs.Lines.{IsOpen};
+ghost use Rattle.book.specs.Given.{view_of_reply};
+ghost use Rattle.book.specs.Notes.{AsksLine};
+ghost use Rattle.workers.specs.Answers.{StarvesAs};
+ghost use Rattle.serve_loops.specs.Lines.{IsOpen, kept};
 
-use book::Starved;
+use book::{LocalAnswer, Reply, Starved};
 use history::History;
+use local_ops::LocalCall;
 use std::alloc::Global;
 use std::marker::Model;
 use std::mem;
@@ -40,6 +44,16 @@ fn keep(kept: &mut Vec<u8>, byte: u8)
     if kept.len() < KEPT {
         kept.push_reserved(byte);
     }
+}
+
+// What a line is answered on the connection of this number where there was no memory for it before it took the book.
+fn starved_line(connection: u64, line: &[u8]) -> Reply
+    ensures { StarvesAs (AsksLine connection line.now) (view_of_reply result) }
+{
+    let _connection = connection;
+    // Whatever its reading is, it changes nothing.
+    let _reading = LocalCall::read(line);
+    Reply::Says(LocalAnswer::Starved)
 }
 
 impl Part {
@@ -82,5 +96,17 @@ impl Part {
         let fresh = Vec::with_capacity(self.alloc, KEPT)?;
         self.all = History::new();
         Ok(mem::replace(&mut self.kept, fresh))
+    }
+    /// The line is whole, and there is no memory to hand it on: what it is answered on the connection of this number. The next line
+    /// begins in the same place.
+    pub(crate) fn starve(&mut self, connection: u64) -> Reply
+        ensures said { StarvesAs (AsksLine connection (kept self.old)) (view_of_reply result) }
+        ensures next { self.new ≡ [] }
+        ensures no_feed { IsOpen self.old }
+    {
+        let reply = starved_line(connection, self.kept.as_slice());
+        self.kept.clear();
+        self.all = History::new();
+        reply
     }
 }

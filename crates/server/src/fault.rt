@@ -3,14 +3,35 @@ ghost use Rattle.std.specs.Prelude.{◌≡◌};
 
 use crate::staff::StaffFault;
 use std::alloc::AllocError;
+use std::io;
+use std::net::SocketAddr;
 use thiserror::Error;
+use workers::NotBegun;
 
-/// What ends a server, or what its audit finds. It is printed by number and name.
-#[derive(Clone, Copy, Debug, PartialEq, Eq, Error)]
+/// A listener that can't be had. Its text is the address, with the port, and what the system says: in use, not permitted, none of
+/// this machine's.
+#[derive(Clone, Copy, Debug, Error)]
+#[error("{at}: {error}")]
+pub struct NoListener {
+    /// Where it was to listen.
+    pub at: SocketAddr,
+    /// What the system says.
+    pub error: io::Error,
+}
+
+/// What ends a server, or what its audit finds. It is printed by number and name. What it carries says why, and is no part of
+/// that text.
+#[derive(Clone, Copy, Debug, Error)]
 pub enum Fault {
-    /// A growth was refused, or a thread could not be started.
+    /// A growth was refused.
     #[error("1 Starved")]
     Starved,
+    /// A thread could not be started.
+    #[error("1 Starved")]
+    NoThread,
+    /// What calls peers could not be had: memory, or what the system gives to wait on sockets.
+    #[error("1 Starved")]
+    NoSender(io::Error),
     /// The store of hosts refused.
     #[error("19 StoreRefused")]
     StoreRefused,
@@ -19,7 +40,7 @@ pub enum Fault {
     AuditMismatch,
     /// A listener can't be had.
     #[error("23 ReadFault")]
-    ReadFault,
+    ReadFault(NoListener),
     /// That it is ready could not be written.
     #[error("24 WriteFault")]
     WriteFault,
@@ -41,6 +62,15 @@ impl From<StaffFault> for Fault {
         match fault {
             StaffFault::Starved => Fault::Starved,
             StaffFault::AuditMismatch => Fault::AuditMismatch,
+        }
+    }
+}
+
+impl From<NotBegun> for Fault {
+    fn from(why: NotBegun) -> Fault {
+        match why {
+            NotBegun::Starved => Fault::Starved,
+            NotBegun::StoreRefused => Fault::StoreRefused,
         }
     }
 }

@@ -16,7 +16,7 @@ mod settings;
 mod signals;
 pub mod staff;
 
-pub use fault::Fault;
+pub use fault::{Fault, NoListener};
 pub use runtime::Runtime;
 pub use serve_loops::sender::Settings as CallSettings;
 pub use serving::serve;

@@ -3,16 +3,16 @@ ghost use Rattle.std.specs.Prelude.{◌≡◌, ◌+◌, [], IfOk};
 
 use crate::chief::Sends;
 use crate::context::{Context, Latches, Rosters};
-use crate::fault::Fault;
+use crate::fault::{Fault, NoListener};
 use crate::lines::LocalLines;
 use crate::runtime::Runtime;
 use crate::seats::{callers, locals, take_back};
 use crate::settings::{Backing, Settings};
 use crate::signals::Bells;
 use crate::staff::{Cutter, Gatherer};
-use book::{Book, BookEvent, Reply, Upshot};
+use book::Book;
 use callbacks::ShortBytes;
-use connections::{Door, NoThread, PLACES, Roster, Service, Staff, run};
+use connections::{Door, Latch, NoThread, PLACES, Roster, Service, Staff, run};
 use hosts_db::HostStore;
 use jobs::{Channel, Opened, Place};
 use outboxes::Gate;
@@ -27,7 +27,7 @@ use std::net::{Ipv4Addr, Net, SocketAddr, SocketAddrV4, TcpListener, TcpStream};
 use std::sync::ledger::{Blank, Book as Total, Ledger};
 use std::sync::{Mutex, Wait};
 use std::time::Clock;
-use workers::{Shared, Transcript, Worker};
+use workers::{Shared, Worker};
 
 /// The bytes of a thread's stack.
 const STACK: usize = 262_144;
@@ -44,12 +44,27 @@ fn loopback(port: u16) -> SocketAddr {
     SocketAddr::V4(SocketAddrV4::new(Ipv4Addr::LOCALHOST, port))
 }
 
-fn listen<R>(rt: &R, settings: &Settings) -> io::Result<Listening>
+// A door at this address, and what shuts it.
+fn open_door<R>(rt: &R, at: SocketAddr) -> Result<(Door, Latch), NoListener>
 where
     R: Net<Listener = TcpListener, Stream = TcpStream>,
 {
-    let (callers, callers_latch) = Door::new(TcpListener::bind(rt, settings.rpc)?)?;
-    let (locals, locals_latch) = Door::new(TcpListener::bind(rt, loopback(settings.local_port))?)?;
+    let opened = match TcpListener::bind(rt, at) {
+        Ok(listener) => Door::new(listener),
+        Err(error) => Err(error),
+    };
+    match opened {
+        Ok(door) => Ok(door),
+        Err(error) => Err(NoListener { at, error }),
+    }
+}
+
+fn listen<R>(rt: &R, settings: &Settings) -> Result<Listening, NoListener>
+where
+    R: Net<Listener = TcpListener, Stream = TcpStream>,
+{
+    let (callers, callers_latch) = open_door(rt, settings.rpc)?;
+    let (locals, locals_latch) = open_door(rt, loopback(settings.local_port))?;
     Ok(Listening {
         callers,
         locals,
@@ -58,21 +73,6 @@ where
             locals: locals_latch,
         },
     })
-}
-
-// Whether the server began anew, with the store's rows.
-fn restarted(applied: Result<Upshot, BookEvent>) -> Result<(), Fault> {
-    match applied {
-        Ok(upshot) => match upshot.reply {
-            Reply::Starved => Err(Fault::Starved),
-            Reply::StoreRefused => Err(Fault::StoreRefused),
-            _ => Ok(()),
-        },
-        Err(event) => {
-            drop(event);
-            Err(Fault::Starved)
-        }
-    }
 }
 
 // All threads, from their start to their end: what the workers had, once it was said that the server is ready.
@@ -100,7 +100,7 @@ fn if_told<W: Drop>(ran: Result<Vec<W>, NoThread>, is_told: bool) -> Result<Vec<
     match ran {
         Ok(back) if is_told => Ok(back),
         Ok(_) => Err(Fault::WriteFault),
-        Err(NoThread) => Err(Fault::Starved),
+        Err(NoThread) => Err(Fault::NoThread),
     }
 }
 
@@ -155,12 +155,12 @@ where
         latches,
     } = match listen(rt, settings) {
         Ok(listening) => listening,
-        Err(_) => return Err(Fault::ReadFault),
+        Err(refused) => return Err(Fault::ReadFault(refused)),
     };
     let lines = LocalLines::new(rt, &inside.rosters.locals);
     let Calling { sender, bells } = match call(rt, alloc, settings, peers, &lines) {
         Ok(calling) => calling,
-        Err(_) => return Err(Fault::Starved),
+        Err(error) => return Err(Fault::NoSender(error)),
     };
     let context = Context {
         alloc,
@@ -195,21 +195,8 @@ fn shared_over<T: RangeTable + Drop, S: HostStore + Drop, L: Ledger>(
     requires total { total.total ≡ 0 }
 {
     match Book::new(alloc, table, store, own_name) {
-        Ok(book) => begun_anew(Shared::new(alloc, book, total, is_audited)),
+        Ok(book) => Ok(Shared::new(alloc, book, total, is_audited)?),
         Err(_) => Err(Fault::Starved),
-    }
-}
-
-fn begun_anew<T: RangeTable + Drop, S: HostStore + Drop, L: Ledger>(
-    mut shared: Shared<T, S, L>,
-) -> Result<Shared<T, S, L>, Fault> {
-    let mut transcript = Transcript::new();
-    match restarted(shared.apply(BookEvent::Restart, &mut transcript)) {
-        Ok(()) => Ok(shared),
-        Err(fault) => {
-            drop(shared);
-            Err(fault)
-        }
     }
 }
 
@@ -373,9 +360,10 @@ fn end<P: Place, L: Ledger, T: RangeTable + Drop, S: HostStore + Drop>(
 /// anew over the store's hosts, opens both doors, starts the threads, and prints `ready`; in the end all threads are joined and
 /// what they did is settled. Before each job the gate is told.
 ///
-/// `Starved`: no memory, or a thread could not be started. `StoreRefused`: the store refused the new own state. `ReadFault`: a
-/// door could not be had; the store has the new own state by then. `WriteFault`: `ready` could not be written. `AuditMismatch`:
-/// the journal and the receipts don't agree, after all was served. With each of these every thread that was started has ended.
+/// `Starved`: no memory. `NoSender`: what calls peers could not be had. `NoThread`: a thread could not be started. `StoreRefused`:
+/// the store refused the new own state. `ReadFault`: a door could not be had; the store has the new own state by then.
+/// `WriteFault`: `ready` could not be written. `AuditMismatch`: the journal and the receipts don't agree, after all was served.
+/// With each of these every thread that was started has ended.
 pub fn serve<S, G, R>(
     rt: &R,
     alloc: Global,

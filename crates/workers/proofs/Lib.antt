@@ -2,3 +2,4 @@ pub mod Joins
 pub mod Holding
 pub mod Answering
 pub mod ReadingLemmas
+pub mod HoldLaws

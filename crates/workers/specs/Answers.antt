@@ -18,15 +18,27 @@ asks job = Takes job.peer job.asked
 abbrev pub view_of_taken : Taken → Happening
 view_of_taken t = Takes (view_of_peer t.peer) t.«record»
 
+-- the receipts of the calls that were taken, and whether they are kept
+pub record Papers : Type 0 where
+  pub receipts : List Receipt
+  pub keeps : Bool
+
+abbrev pub with_receipt : Papers → Receipt → Papers
+with_receipt papers receipt = record papers { receipts = papers.receipts ++ receipt ∷ [] }
+
 -- the call has one receipt more, which is of its peer and record, and the reply of that receipt is what is handed over
-abbrev pub TakesCall : Taken → ℕ → List Receipt → List Receipt → List Sent → List Sent → Type 0
-TakesCall taken connection receipts receipts' sent sent' =
+abbrev pub TakesCall : Taken → ℕ → Papers → Papers → List Sent → List Sent → Type 0
+TakesCall taken connection papers papers' sent sent' =
     (receipt : Receipt) × (given : Given) × (receipt.event ≡ view_of_taken taken) × (record_of given ≡ receipt.reply)
-    × (receipts' ≡ receipts ++ receipt ∷ []) × (sent' ≡ sent ++ posted connection given)
+    × (papers' ≡ with_receipt papers receipt) × (sent' ≡ sent ++ posted connection given)
 
 -- what an event gives that met want of memory before it began: a call SYSTEM_ERR, or nothing where its record is ignored
 abbrev pub StarvesAs : Happening → Given → Type 0
 StarvesAs event given = (s : State) → Steps s event (comes_to Starved NotAsked given) s
+
+-- that is what is handed over
+abbrev pub TurnsBack : Taken → ℕ → List Sent → List Sent → Type 0
+TurnsBack taken connection sent sent' = (given : Given) × StarvesAs (view_of_taken taken) given × (sent' ≡ sent ++ posted connection given)
 
 -- a job that was taken, the receipt of its entry, if there is one, and what it was given
 pub record Answer : Type 0 where

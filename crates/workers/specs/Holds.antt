@@ -1,10 +1,15 @@
 -- What the lock keeps, and what one hold of it does.
-use Rattle.std.specs.Prelude.{◌≡◌, ◌⊎◌, ℕ, ◌+◌, Bool, cond, Some, List, [], ◌∷◌, ◌++◌}
-use Rattle.definitions.specs.Step.{State}
-use Rattle.book.specs.Given.{Upshot}
-use Rattle.book.specs.Notes.{Happening, Note, is_take}
+use Rattle.std.specs.Prelude.{◌≡◌, ◌≢◌, ◌⊎◌, ℕ, ◌+◌, Bool, cond, Option, Some, None, List, [], ◌∷◌, ◌++◌}
+use Rattle.definitions.specs.Bytes.{Bytes}
+use Rattle.definitions.specs.Hosts.{Hosts, StoreAnswer, Yes}
+use Rattle.definitions.specs.Step.{State, Doing, Applied, Starved, Nothing, opening_state}
+use Rattle.book.specs.Given.{Upshot, comes_to}
+use Rattle.book.specs.Notes.{Happening, BeginsAnew, Note, is_take}
 use Rattle.book.specs.Receipts.{newest}
-use Rattle.book.specs.Journal.{Journal, Book, next_of, room_of, rotated, Enters}
+use Rattle.book.specs.Journal.{Journal, Book, begun, room_of, rotated, Enters}
+use Rattle.book.specs.Histories.{notes_of, Join, AreLegal, joined, IsHistory, BeginsWithRestart}
+use Rattle.workers.specs.declared.beginning.NotBegun.{NotBegun}
+use Rattle.workers.specs.declared.beginning.NotBegun.TheVariants as not_begun
 
 -- the journals of the segments that are closed, in order, and the book with its open one; and whether closed segments are kept
 pub record Held : Type 0 where
@@ -21,23 +26,63 @@ abbrev pub takes_of : List Journal → ℕ
 takes_of [] = 0
 takes_of (j ∷ journals) = takes_in j.notes + takes_of journals
 
--- each journal begins where the one before it ends, with the number behind its last
-abbrev pub Join : State → ℕ → List Journal → Type 0
-Join base first [] = Unit {0}
-Join base first (j ∷ journals) = (j.base ≡ base) × (j.first ≡ first) × Join j.end (next_of j) journals
-
--- the segments are one history, whose first number is 1
-abbrev pub IsOneHistory : List Journal → Type 0
-IsOneHistory journals = (base : State) × Join base 1 journals
+-- the segments are one history from the opening state of a name and of the store's rows: numbers begin with 1, each segment is
+-- legal, and the first entry is a restart that the store agreed to
+pub record IsOneHistory (journals : List Journal) : Type 0 where
+  pub name : Bytes
+  pub hosts : Hosts
+  pub joined : Join (opening_state name hosts) 1 journals
+  pub legal : AreLegal journals
+  pub restart : BeginsWithRestart (notes_of journals)
 
 -- the total is the number of calls that all segments took, the closed ones and the last, which are one history
 pub record IsInStep (total : ℕ) (closed : List Journal) (last : Journal) : Type 0 where
   pub counted : total ≡ takes_of closed + takes_in last.notes
-  pub joined : IsOneHistory (closed ++ last ∷ [])
+  pub history : IsOneHistory (closed ++ last ∷ [])
 
 -- the open segment is closed, and a fresh one begins where it ends
 abbrev pub turned : Held → Held
 turned h = record { closed = h.closed ++ h.book.journal ∷ []; book = rotated h.book; keeps = h.keeps }
+
+-- the state before the first entry
+abbrev pub base_of : List Journal → Journal → State
+base_of [] last = last.base
+base_of (j ∷ journals) last = j.base
+
+-- all that the book went through, closed segments and the open one, as one journal
+abbrev pub history_of : Held → Journal
+history_of held = joined (base_of held.closed held.book.journal) 1 held.closed held.book.journal
+
+-- it is a history from the opening state of a name and of the store's rows, and its first entry is a restart that the store agreed to
+pub record IsServed (held : Held) : Type 0 where
+  pub name : Bytes
+  pub hosts : Hosts
+  pub history : IsHistory name hosts (history_of held)
+  pub restart : BeginsWithRestart (history_of held).notes
+
+-- ---- the beginning
+
+-- an empty journal whose first number is 1, in the opening state of a name and of the store's rows
+abbrev pub IsNew : Journal → Type 0
+IsNew j = j ≡ begun 1 (opening_state j.base.world.own_name j.base.world.hosts)
+
+-- the book has one entry more: a restart that the store agreed to
+pub record Begins (book : Book) (is_kept : Bool) (new : Held) : Type 0 where
+  pub closed : new.closed ≡ []
+  pub keeps : new.keeps ≡ is_kept
+  pub enters : Enters book BeginsAnew (comes_to Applied Yes Nothing) new.book
+
+-- why a restart was not made, if it was not
+abbrev pub IsWhy : Option NotBegun → Upshot → Type 0
+IsWhy None upshot = (upshot.doing ≡ Applied) × (upshot.store ≡ Yes)
+IsWhy (Some not_begun.Starved) upshot = upshot.doing ≡ Starved
+IsWhy (Some not_begun.StoreRefused) upshot = (upshot.doing ≡ Applied) × (upshot.store ≢ Yes)
+
+-- a restart of this book comes to no more than that
+abbrev pub BeginsNot : Book → NotBegun → Type 0
+BeginsNot book why = (upshot : Upshot) × ((new : Book) × (Enters book BeginsAnew upshot new × IsWhy (Some why) upshot))
+
+-- ---- holds
 
 -- nothing happened, but perhaps a segment that was full was closed
 abbrev pub Rests : Held → Held → Type 0

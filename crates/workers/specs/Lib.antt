@@ -1,4 +1,5 @@
 pub mod Holds
+pub mod Laws
 pub mod Answers
 pub mod Places
 pub mod Sending

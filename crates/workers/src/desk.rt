@@ -1,15 +1,15 @@
 //! What a worker has beside its seat.
-ghost use Rattle.std.specs.Prelude.{◌≡◌, [], is_some, IfOk, IfErr, length};
-ghost use Rattle.workers.specs.Answers.{TakesCall};
+ghost use Rattle.std.specs.Prelude.{◌≡◌, [], is_some, IfOk, length};
 ghost use Rattle.workers.specs.Places.{HasPlace};
 
 use crate::archive::Archive;
+use crate::entering::Entering;
 use crate::patience::hold;
 use crate::shared::{Entered, Shared};
 use book::{Receipt, Starved, Taken};
 use bytes::Bytes;
 use hosts_db::HostStore;
-use outboxes::{Outbox, post};
+use outboxes::{Outbox, post, post_last};
 use range_table::RangeTable;
 use std::alloc::Global;
 use std::sync::ledger::{Ledger, Share};
@@ -62,26 +62,47 @@ impl<L: Ledger> Desk<L> {
         self.receipts.reserve()?;
         Ok(asked.clone()?)
     }
+}
 
-    /// Takes a call in one hold, and hands its reply over: whether a call of the server's own is due then. The call comes back
-    /// where no entry could be made.
-    pub(crate) fn take<R: RangeTable, S: HostStore, O: Outbox, W: Wait>(
-        &mut self,
-        rt: &W,
-        shared: &Mutex<Shared<R, S, L>>,
+/// The book, where it is shared under a lock.
+#[derive(Drop)]
+pub(crate) struct AtBook<'a, R: RangeTable, S: HostStore, L: Ledger, W> {
+    pub(crate) rt: &'a W,
+    pub(crate) shared: &'a Mutex<Shared<R, S, L>>,
+}
+
+impl<'a, R: RangeTable, S: HostStore, L: Ledger, W: Wait, O: Outbox> Entering<Desk<L>, O>
+    for AtBook<'a, R, S, L, W> {
+    ghost use Rattle.std.specs.Prelude.{◌≡◌, is_some};
+    ghost use Rattle.book.specs.Journal.{room_of};
+    ghost use Rattle.workers.specs.Holds.{Held};
+    ghost use Rattle.workers.specs.Places.{HasPlace};
+
+    // The allocator's word, which no contract names.
+    ghost IsUnprepared = { λ _. Unit {0} };
+
+    ghost FoundFull = { λ _. (held : Held) × (room_of held.book.journal ≡ 0) };
+
+    ghost papers = { λ desk. record { receipts = desk.receipts.all.items; keeps = is_some desk.receipts.kept } };
+
+    ghost HasPlace = { λ desk. HasPlace desk.receipts.kept };
+
+    ghost handed = { λ outbox. O.handed outbox };
+
+    fn prepare(&self, desk: &mut Desk<L>, taken: &Taken) -> Result<Bytes, Starved> {
+        desk.prepare(&taken.record)
+    }
+
+    fn enter(
+        &self,
+        desk: &mut Desk<L>,
         outbox: &mut O,
         connection: u64,
         taken: Taken,
-    ) -> Result<bool, Taken>
-        ensures taken { IfOk result (λ _. TakesCall taken connection self.old.receipts.all.items self.new.receipts.all.items (O.handed outbox.old) (O.handed outbox.new)) }
-        ensures none { IfErr result (λ back. (back ≡ taken) × (self.new.receipts.all.items ≡ self.old.receipts.all.items) × (O.handed outbox.new ≡ O.handed outbox.old)) }
-        ensures kept { is_some self.new.receipts.kept ≡ is_some self.old.receipts.kept }
-    {
-        let Ok(same) = self.prepare(&taken.record) else {
-            return Err(taken);
-        };
+        same: Bytes,
+    ) -> Result<bool, Taken> {
         // The book's lock is free again behind this line.
-        let got = hold(rt, shared).take(taken, same, &mut self.share);
+        let got = hold(self.rt, self.shared).take(taken, same, &mut desk.share);
         let Entered {
             receipt,
             is_due,
@@ -91,8 +112,12 @@ impl<L: Ledger> Desk<L> {
             Err(back) => return Err(back),
         };
         post(outbox, connection, receipt.reply());
-        self.receipts.add(receipt);
+        desk.receipts.add(receipt);
         drop(over);
         Ok(is_due)
+    }
+
+    fn turn_back(&self, outbox: &mut O, connection: u64, taken: Taken) {
+        post_last(outbox, connection, taken.starved());
     }
 }

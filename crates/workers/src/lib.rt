@@ -3,13 +3,21 @@
 #![tactic(auto)]
 
 mod archive;
+mod beginning;
 mod desk;
+mod entering;
+mod law;
 mod patience;
 mod reading;
 mod shared;
 mod transcript;
 mod worker;
 
+pub use beginning::NotBegun;
+pub use law::{
+    hold_is_step, holds_are_sound, holds_give_kept_replies, holds_grant_reclaims_only,
+    holds_tell_of_no_grant,
+};
 pub use reading::{MOST_READ_BYTES, Origin, Source};
 pub use record_intake::Ending;
 pub use shared::{Ends, Entered, Next, Shared};

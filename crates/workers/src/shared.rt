@@ -1,17 +1,21 @@
 //! What the lock keeps: the book, its closed segments, and the number of calls taken.
-ghost use Rattle.std.specs.Prelude.{◌≡◌, ℕ, ◌+◌, ◌<◌, true, false, is_some, [], ◌∷◌, ◌++◌, Some, IfOk, IfErr, IfSome};
+ghost use Rattle.std.specs.Prelude.{◌≡◌, ℕ, ◌+◌, ◌<◌, false, is_some, Some, IfOk, IfErr, IfSome};
 ghost use Rattle.definitions.specs.Outgoing.{next_due};
 ghost use Rattle.book.specs.Given.{Upshot as Became};
-ghost use Rattle.book.specs.Journal.{Journal, room_of};
+ghost use Rattle.book.specs.Journal.{room_of};
 ghost use Rattle.book.specs.Notes.{is_take, view_of_event};
 ghost use Rattle.book.specs.Receipts.{newest_receipt};
-ghost use Rattle.workers.specs.Holds.{takes_of, entry_of, IsOneHistory, Rests, Notes, Adds};
+ghost use Rattle.workers.specs.Holds.{takes_of, entry_of, IsOneHistory, IsServed, IsNew, Begins, BeginsNot, Rests, Notes, Adds};
 ghost use Rattle.workers.specs.Sending.{IsNextOf};
 ghost use Rattle.workers.specs.Answers.{view_of_taken};
 
 use crate::archive::Archive;
+use crate::beginning::{NotBegun, why_not};
 use crate::transcript::Transcript;
-use book::{Book, BookEvent, Closed, Receipt, Segment, Starved, Taken, Upshot, newest_entered};
+use book::{
+    Book, BookEvent, Closed, NoRoom, Receipt, Starved, Taken, Upshot, newest_entered,
+    segments_are_one_history,
+};
 use bytes::Bytes;
 use call_records::Dest;
 use hosts_db::HostStore;
@@ -21,8 +25,9 @@ use std::marker::Model;
 use std::sync::ledger::{Book as Total, Ledger, Share};
 use xdr_core::Frame;
 
-/// The book, its closed segments, and beside them how many calls were taken. Contracts see the journals, whose numbers and
-/// states join, and whether closed ones are kept. The total is that of their entries that took a record.
+/// The book, its closed segments, and beside them how many calls were taken. Contracts see the journals, and whether closed ones
+/// are kept. The journals are one legal history from the opening state of the store's rows and the own name, and its first entry is
+/// the restart. The total is that of their entries that took a record.
 pub struct Shared<R: RangeTable, S: HostStore, L: Ledger> {
     alloc: Global,
     book: Book<R, S>,
@@ -86,40 +91,29 @@ pub enum Next {
 }
 
 impl<R: RangeTable, S: HostStore, L: Ledger> Shared<R, S, L> {
-    /// Over a new book. `is_kept` keeps closed segments for an audit.
-    pub fn new(alloc: Global, book: Book<R, S>, total: Total<L>, is_kept: bool) -> Shared<R, S, L>
-        requires new { (book.journal.notes ≡ []) × (book.journal.first ≡ 1) }
-        requires total { total.total ≡ 0 }
-        ensures { result ≡ record { closed = []; book = book; keeps = is_kept } }
-    {
-        Shared {
-            alloc,
-            book,
-            archive: Archive::new(alloc, is_kept),
-            total,
-            over: None,
-        }
-    }
-
-    /// Closes the segment where it is full, if there is memory for a fresh one and a place for the one that is closed. Whether there
-    /// is room for an entry then. A fresh one is got here, once in `SEGMENT` entries, and none is kept in reserve.
-    pub fn make_room(&mut self) -> bool
-        ensures room { result ≡ true → 0 < room_of self.new.book.journal }
-        ensures full { result ≡ false → room_of self.old.book.journal ≡ 0 }
+    // Makes room for one entry more. A segment that is full is closed, and kept where closed ones are. A place for it is got first.
+    fn make_room(&mut self) -> Result<(), NoRoom>
+        ensures room { IfOk result (λ _. 0 < room_of self.new.book.journal) }
+        ensures full { IfErr result (λ _. room_of self.old.book.journal ≡ 0) }
         ensures rests { Rests self.old self.new }
     {
         if self.book.room() > 0 {
-            return true;
+            return Ok(());
         }
-        if self.archive.reserve().is_err() {
-            return false;
+        self.archive.reserve()?;
+        if let Some(closed) = self.book.make_room(self.alloc)? {
+            self.over = self.archive.add(closed);
         }
-        let Ok(fresh) = Segment::new(self.alloc) else {
-            return false;
-        };
-        let closed = self.book.rotate(fresh);
-        self.over = self.archive.add(closed);
-        self.book.room() > 0
+        Ok(())
+    }
+
+    /// All that the book went through, from the opening on, is one legal history, whose first entry is the restart. So what `book`
+    /// says of histories stands over each state that a hold of the lock sees.
+    pub fn history(&self)
+        ensures { IsServed self.now }
+    {
+        segments_are_one_history();
+        let _all = &self.archive.all;
     }
 
     /// One hold that takes a record: one entry, with its receipt. The call comes back where there was no room for its entry, and
@@ -139,9 +133,9 @@ impl<R: RangeTable, S: HostStore, L: Ledger> Shared<R, S, L> {
         ensures full { IfErr result (λ _. room_of self.old.book.journal ≡ 0) }
         ensures parts { share.new.parts ≡ share.old.parts }
     {
-        if !self.make_room() {
+        let Ok(()) = self.make_room() else {
             return Err(taken);
-        }
+        };
         let peer = taken.peer;
         let record = same;
         let upshot = self.book.apply(BookEvent::Take { peer, record });
@@ -170,9 +164,9 @@ impl<R: RangeTable, S: HostStore, L: Ledger> Shared<R, S, L> {
         ensures none { IfErr result (λ back. (back ≡ event) × Rests self.old self.new × (transcript.new ≡ transcript.old)) }
         ensures full { IfErr result (λ _. room_of self.old.book.journal ≡ 0) }
     {
-        if !self.make_room() {
+        let Ok(()) = self.make_room() else {
             return Err(event);
-        }
+        };
         let upshot = self.book.apply(event);
         newest_entered();
         transcript.add(&self.book);
@@ -186,9 +180,9 @@ impl<R: RangeTable, S: HostStore, L: Ledger> Shared<R, S, L> {
         if !self.book.has_due() {
             return Next::NothingDue;
         }
-        if !self.make_room() {
+        let Ok(()) = self.make_room() else {
             return Next::NoRoom;
-        }
+        };
         match self.book.next_call() {
             Some((number, to, frame)) => {
                 newest_entered();
@@ -206,6 +200,14 @@ impl<R: RangeTable, S: HostStore, L: Ledger> Shared<R, S, L> {
         self.book.has_due()
     }
 
+    /// The store of hosts, to be read: its rows are the hosts of the state.
+    pub fn store(&self) -> &S
+        ensures rows { S.rows result.now ≡ self.now.book.journal.end.world.hosts }
+        ensures refusals { S.refusals result.now ≡ self.now.book.refusals }
+    {
+        self.book.store()
+    }
+
     /// The own state's number, which each restart changes.
     pub fn own_state(&self) -> u32
         ensures { result ≡ self.now.book.journal.end.world.hosts.own }
@@ -215,6 +217,33 @@ impl<R: RangeTable, S: HostStore, L: Ledger> Shared<R, S, L> {
 }
 
 impl<R: RangeTable + Drop, S: HostStore + Drop, L: Ledger> Shared<R, S, L> {
+    /// Over a new book, whose server it begins anew: that is the first entry. `is_kept` keeps closed segments for an audit.
+    /// `NotBegun`: the restart was not made, for want of memory or since the store refused it, and the book is dropped.
+    pub fn new(
+        alloc: Global,
+        book: Book<R, S>,
+        total: Total<L>,
+        is_kept: bool,
+    ) -> Result<Shared<R, S, L>, NotBegun>
+        requires new { IsNew book.journal }
+        requires total { total.total ≡ 0 }
+        ensures begins { IfOk result (λ shared. Begins book is_kept shared) }
+        ensures refused { IfErr result (λ why. BeginsNot book why) }
+    {
+        let mut book = book;
+        let upshot = book.apply(BookEvent::Restart);
+        match why_not(&upshot) {
+            None => Ok(Shared {
+                alloc,
+                book,
+                archive: Archive::new(alloc, is_kept),
+                total,
+                over: None,
+            }),
+            Some(why) => Err(why),
+        }
+    }
+
     /// Ends it. The gathered shares sum to the number of the calls that its segments took, which are given where they were kept.
     pub fn finish(self, all: &mut Share<L>) -> Result<Ends<R, S>, Starved>
         requires whole { all.old.parts ≡ L.parts }

@@ -4,12 +4,13 @@ ghost use Rattle.jobs.specs.Passes.{with_put, with_taken};
 ghost use Rattle.outboxes.specs.Posted.{posted};
 ghost use Rattle.workers.specs.Answers.{Answer, Worked, IsMet, listed, with_seat};
 
-use crate::desk::Desk;
+use crate::desk::{AtBook, Desk};
+use crate::entering::answer_call;
 use crate::shared::Shared;
 use book::{Receipt, Taken};
 use hosts_db::HostStore;
 use jobs::{Channel, Closed, Job, Place, Seat};
-use outboxes::{Gate, Outbox, post_last};
+use outboxes::{Gate, Outbox};
 use range_table::RangeTable;
 use std::alloc::Global;
 use std::marker::Model;
@@ -215,13 +216,13 @@ impl<P: Place, L: Ledger> Worker<P, L> {
         let connection = job.connection();
         let peer = job.peer();
         let record = job.into_record();
-        let taken = Taken { peer, record };
-        match self.desk.take(rt, shared, outbox, connection, taken) {
-            Ok(is_due) => is_due,
-            Err(taken) => {
-                post_last(outbox, connection, taken.starved());
-                false
-            }
-        }
+        let book = AtBook { rt, shared };
+        answer_call(
+            &book,
+            &mut self.desk,
+            outbox,
+            connection,
+            Taken { peer, record },
+        )
     }
 }

@@ -1,5 +1,6 @@
 use Rattle.std.proofs.Common.{◌≡◌, Some, take}
-use Rattle.audits.specs.Audits.{meet_all, notes_of}
+use Rattle.book.specs.Histories.{notes_of}
+use Rattle.audits.specs.Audits.{meet_all}
 use Rattle.audits.proofs.follow.Given as goal
 
 abbrev pub invariant-loop-segment : goal.invariant-loop-segment

@@ -1,7 +1,7 @@
 //! Calls that wait for their answers, and the answers that came.
-ghost use Rattle.std.specs.Prelude.{◌≡◌, ◌≢◌, [], ◌∷◌, true, false, if◌then◌else◌, IfOk, OnErr, IfSome, IfNone, position, option_map};
+ghost use Rattle.std.specs.Prelude.{◌≡◌, ◌≢◌, [], ◌∷◌, true, false, if◌then◌else◌, IfOk, OnErr, IfSome, IfNone, position, option_map, filter, vec_capacity};
 ghost use Rattle.rpc_msg.specs.Answered.{IsNoAnswer};
-ghost use Rattle.serve_loops.specs.Waits.{no_waits, ends_with_reply, is_numbered, is_up, awaits, IsReplyTo, NobodyAwaits, AddsCall, HearsReply, TakesCall};
+ghost use Rattle.serve_loops.specs.Waits.{HeardReply, no_waits, ends_with_reply, is_numbered, is_under, is_up, awaits, kept_under, IsReplyTo, NobodyAwaits, AddsCall, HearsReply, TakesCall};
 
 use super::settings::ends_with_reply;
 use rpc_msg::Answer;
@@ -12,6 +12,44 @@ use std::time::Instant;
 
 /// So many calls have a place at the start. The server has no more of its own.
 const PLACES: usize = 8_192;
+
+/// Whether the call of this number became due under this own state: that is what the number's high 32 bits are.
+pub(crate) fn is_under(own_state: u32, number: u64) -> bool
+    ensures { result ≡ is_under own_state number }
+{
+    number >> 32 == u64::from(own_state)
+}
+
+/// A reply that came, and the number of the call that it answers.
+#[derive(Drop)]
+pub(crate) struct Heard {
+    number: u64,
+    bytes: Vec<u8>,
+}
+
+impl Model for Heard {
+    ghost use Rattle.serve_loops.specs.Waits.{HeardReply};
+
+    ghost Value = { HeardReply };
+
+    ghost view = { λ h. record { number = h.number; bytes = h.bytes.items } };
+}
+
+impl Heard {
+    /// The number of its call.
+    pub(crate) fn number(&self) -> u64
+        ensures { result ≡ self.now.number }
+    {
+        self.number
+    }
+
+    /// The reply.
+    pub(crate) fn into_bytes(self) -> Vec<u8>
+        ensures { result.items ≡ self.bytes }
+    {
+        self.bytes
+    }
+}
 
 /// A call that was sent.
 #[derive(Clone, Copy, Drop)]
@@ -84,18 +122,33 @@ impl Waiting {
 pub(crate) struct Awaited {
     alloc: Global,
     calls: Vec<Waiting>,
-    heard: VecDeque<Vec<u8>>,
+    heard: VecDeque<Heard>,
 }
 
 impl Model for Awaited {
-    ghost use Rattle.std.specs.Prelude.{map, ◌≤◌, vec_capacity};
+    ghost use Rattle.std.specs.Prelude.{◌≤◌, vec_capacity};
     ghost use Rattle.serve_loops.specs.Waits.{Waits};
 
     ghost Value = { Waits };
 
-    ghost view = { λ a. record { calls = a.calls.items; heard = map (λ v. v.items) a.heard.items } };
+    ghost view = { λ a. record { calls = a.calls.items; heard = a.heard.items } };
 
     ghost invariant = { λ a. 8192 ≤ vec_capacity a.calls };
+}
+
+// Keeps the calls that became due under this own state.
+fn keep_calls(calls: &mut Vec<Waiting>, own_state: u32)
+    ensures calls { calls.new.items ≡ filter (λ (call : Waiting). is_under own_state call.number) calls.old.items }
+    ensures room { vec_capacity calls.new ≡ vec_capacity calls.old }
+{
+    calls.retain(|call| is_under(own_state, call.number));
+}
+
+// Keeps the answers to such calls.
+fn keep_heard(heard: &mut VecDeque<Heard>, own_state: u32)
+    ensures { heard.new.items ≡ filter (λ (h : HeardReply). is_under own_state h.number) heard.old.items }
+{
+    heard.retain(|answer| is_under(own_state, answer.number));
 }
 
 // Where the call of this number stands.
@@ -165,9 +218,11 @@ impl Awaited {
         let Some(place) = awaiting(&self.calls, peer, xid) else {
             return Ok(false);
         };
-        let copy = Vec::from_slice(self.alloc, bytes)?;
-        self.heard.push_back(copy)?;
-        if self.calls[place].ends_with_reply {
+        let call = self.calls[place];
+        let number = call.number;
+        let bytes = Vec::from_slice(self.alloc, bytes)?;
+        self.heard.push_back(Heard { number, bytes })?;
+        if call.ends_with_reply {
             self.calls.swap_remove(place);
         } else {
             self.calls[place].is_answered = true;
@@ -176,8 +231,8 @@ impl Awaited {
     }
 
     /// Takes the answer that came first.
-    pub(crate) fn take_heard(&mut self) -> Option<Vec<u8>>
-        ensures some { IfSome result (λ first. self.old ≡ record self.new { heard = first.items ∷ self.new.heard }) }
+    pub(crate) fn take_heard(&mut self) -> Option<Heard>
+        ensures some { IfSome result (λ first. self.old ≡ record self.new { heard = first ∷ self.new.heard }) }
         ensures none { IfNone result ((self.new ≡ self.old) × (self.old.heard ≡ [])) }
     {
         self.heard.pop_front()
@@ -204,11 +259,11 @@ impl Awaited {
         self.calls.iter().map(|call| call.until).min()
     }
 
-    /// Nothing is awaited any more.
-    pub(crate) fn clear(&mut self)
-        ensures { self.new ≡ no_waits }
+    /// The own state is this one now: of the calls and the answers just those stay whose call became due under it.
+    pub(crate) fn keep_under(&mut self, own_state: u32)
+        ensures { self.new ≡ kept_under own_state self.old }
     {
-        self.calls.clear();
-        self.heard.clear();
+        keep_calls(&mut self.calls, own_state);
+        keep_heard(&mut self.heard, own_state);
     }
 }

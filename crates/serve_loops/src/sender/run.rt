@@ -5,7 +5,7 @@ use super::awaited::{Awaited, Waiting};
 use super::locals::Locals;
 use super::office::Office;
 use super::settings::Settings;
-use super::turn::Untaken;
+use super::turn::NonRecordEvent;
 use crate::{Courier, SentCall};
 use book::Dest;
 use history::History;
@@ -27,7 +27,7 @@ pub struct Sender<'a, R, D> {
     peers: Peers,
     pub(crate) office: Office,
     pub(crate) awaited: Awaited,
-    pub(crate) kept: Option<Untaken>,
+    pub(crate) kept: Option<NonRecordEvent>,
     pub(crate) now: Instant,
     all: History<SentCall>,
 }

@@ -2,7 +2,9 @@
 ghost use Rattle.std.specs.Prelude.{◌≡◌, false, []};
 ghost use Rattle.book.specs.Notes.{is_take, view_of_event};
 ghost use Rattle.serve_loops.specs.Handing.{HandsOn};
+ghost use Rattle.serve_loops.specs.Waits.{is_under};
 
+use super::awaited::{Heard, Waiting, is_under};
 use super::locals::Locals;
 use super::run::Sender;
 use super::watch::Watch;
@@ -23,11 +25,61 @@ const PAUSE_MILLIS: u64 = 10;
 /// How long it waits at most, since the server's own state is looked at now and then, in milliseconds.
 const LONGEST_MILLIS: u64 = 100;
 
-/// An event that takes no record.
+/// What is to be told of a call of the server's own: its answer, or that none came. It takes no record.
 #[derive(Drop)]
-pub(crate) struct Untaken {
+pub(crate) struct NonRecordEvent {
+    // The call's number.
+    number: u64,
     event: BookEvent,
     ghost untaken: { is_take (view_of_event event) ≡ false },
+}
+
+impl NonRecordEvent {
+    fn of_answer(heard: Heard) -> NonRecordEvent {
+        let number = heard.number();
+        let bytes = heard.into_bytes();
+        NonRecordEvent {
+            number,
+            event: BookEvent::Answer { bytes },
+        }
+    }
+
+    fn of_silence(call: Waiting) -> NonRecordEvent {
+        let number = call.number();
+        NonRecordEvent {
+            number,
+            event: BookEvent::Silent { number },
+        }
+    }
+
+    fn is_under(&self, own_state: u32) -> bool
+        ensures { result ≡ is_under own_state self.now.number }
+    {
+        is_under(own_state, self.number)
+    }
+}
+
+// One hold that tells it, where its call became due under the own state as it is now: a restart that acted since has ended the call,
+// and may have given its xid to another. It comes back where there was no room for its entry.
+fn tell_held<T: RangeTable, S: HostStore, L: Ledger>(
+    held: &mut Shared<T, S, L>,
+    told: NonRecordEvent,
+) -> Result<(), NonRecordEvent>
+    ensures stale { is_under held.old.book.journal.end.world.hosts.own told.number ≡ false → held.new ≡ held.old }
+{
+    if !told.is_under(held.own_state()) {
+        return Ok(());
+    }
+    let number = told.number;
+    // It sends no call, so its entry is let go.
+    let mut transcript = Transcript::new();
+    match held.apply(told.event, &mut transcript) {
+        Ok(upshot) => {
+            drop(upshot);
+            Ok(())
+        }
+        Err(event) => Err(NonRecordEvent { number, event }),
+    }
 }
 
 // What became of an end of grace.
@@ -64,45 +116,35 @@ impl<'a, R: Net + Clock + Wait, D: Locals> Sender<'a, R, D> {
     }
 
     // What is to be told next.
-    fn next_event(&mut self) -> Option<Untaken>
+    fn next_event(&mut self) -> Option<NonRecordEvent>
         ensures { self.new ≡ self.old }
     {
         if let Some(event) = self.kept.take() {
             return Some(event);
         }
-        if let Some(bytes) = self.awaited.take_heard() {
-            return Some(Untaken {
-                event: BookEvent::Answer { bytes },
-            });
+        if let Some(heard) = self.awaited.take_heard() {
+            return Some(NonRecordEvent::of_answer(heard));
         }
         let call = self.awaited.take_silent(self.now)?;
         if let Some((place, sent)) = call.mute_peer() {
             self.office.give_up(place, sent);
         }
-        let number = call.number();
-        Some(Untaken {
-            event: BookEvent::Silent { number },
-        })
+        Some(NonRecordEvent::of_silence(call))
     }
 
     // Tells an event in one hold. Where there is no room for its entry it is kept.
     fn tell<T: RangeTable, S: HostStore, L: Ledger>(
         &mut self,
         shared: &Mutex<Shared<T, S, L>>,
-        untaken: Untaken,
+        event: NonRecordEvent,
     ) -> bool
         ensures { self.new ≡ self.old }
     {
-        // It sends no call, so its entry is let go.
-        let mut transcript = Transcript::new();
-        let applied = shared.lock(self.rt).apply(untaken.event, &mut transcript);
-        match applied {
-            Ok(upshot) => {
-                drop(upshot);
-                true
-            }
+        let told = tell_held(&mut shared.lock(self.rt), event);
+        match told {
+            Ok(()) => true,
             Err(event) => {
-                self.kept = Some(Untaken { event });
+                self.kept = Some(event);
                 false
             }
         }
@@ -126,6 +168,21 @@ impl<'a, R: Net + Clock + Wait, D: Locals> Sender<'a, R, D> {
         true
     }
 
+    // A restart has acted: what was sent under another own state is awaited no more. Calls that were sent under this one are: the
+    // restart may have acted within a turn, before its sendings.
+    fn keep_under(&mut self, own_state: u32)
+        ensures { self.new ≡ self.old }
+    {
+        self.awaited.keep_under(own_state);
+        if self
+            .kept
+            .as_ref()
+            .is_some_and(|event| !event.is_under(own_state))
+        {
+            self.kept = None;
+        }
+    }
+
     // Looks at the server's own state and at the grace period. Whether there was room.
     fn tell_time<T: RangeTable, S: HostStore, L: Ledger>(
         &mut self,
@@ -136,9 +193,7 @@ impl<'a, R: Net + Clock + Wait, D: Locals> Sender<'a, R, D> {
     {
         let own_state = shared.lock(self.rt).own_state();
         if watch.look(own_state, self.now) {
-            // The calls before the restart are gone.
-            self.awaited.clear();
-            self.kept = None;
+            self.keep_under(own_state);
         }
         if !watch.is_over(self.now) {
             return true;

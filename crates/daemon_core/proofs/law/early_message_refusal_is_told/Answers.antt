@@ -2,4 +2,4 @@ use Rattle.daemon_core.proofs.Told.{message_refusal_is_told}
 use Rattle.daemon_core.proofs.law.early_message_refusal_is_told.Goals as goal
 
 pub returns : goal.returns
-returns c = message_refusal_is_told
+returns c = message_refusal_is_told c.early_message_refusal_is_given.ensures

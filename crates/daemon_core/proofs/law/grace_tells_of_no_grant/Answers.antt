@@ -1,5 +1,5 @@
-use Rattle.daemon_core.proofs.Replays.{grantless}
+use Rattle.daemon_core.proofs.Histories.{grace_tells_of_no_grant}
 use Rattle.daemon_core.proofs.law.grace_tells_of_no_grant.Goals as goal
 
 pub returns : goal.returns
-returns c = grantless
+returns c = grace_tells_of_no_grant c.runs_are_histories.ensures c.histories_tell_of_no_grant.ensures

@@ -10,14 +10,14 @@ pub returns : goal.returns
 returns g c = λ links.
     let sends = c.in-Some.ensures.sends in
     let due : needs_entry SendsNext c.args.book.now.journal.end ≡ true = cc in
-    let some : 0 < room_of c.has_room.new.book.journal = c.has_room.ensures.room (cc) in
+    let some : 0 < room_of c.make_room.new.book.journal = c.in-Ok.ensures.room in
     rw c.fill.ensures (record {
       given = Sends c.in-Some.field-0-0 sends.0;
-      step = rw (← c.has_room.ensures.end) sends.3.steps;
-      refusals = rw (← c.has_room.ensures.refusals) sends.3.refusals;
+      step = rw (← c.make_room.ensures.end) sends.3.steps;
+      refusals = rw (← c.make_room.ensures.refusals) sends.3.refusals;
       fed = λ met. cc;
       unnoted = λ met. absurd cc;
-      room = needed-room _ _ _ due (enters-room c.args.book.now c.has_room.new.book _ _ _ c.has_room.ensures.begins some sends.3);
+      room = needed-room _ _ _ due (enters-room c.args.book.now c.make_room.new.book _ _ _ c.make_room.ensures.begins some sends.3);
       links = refl;
       outputs = rw (sends.1, sends.2) refl;
     })

@@ -2,13 +2,10 @@ use Rattle.std.proofs.Common.{sym, subst}
 use Rattle.definitions.specs.Bytes.{Bytes}
 use Rattle.std.proofs.Common.{◌∷◌, []}
 use Rattle.serve_loops.specs.Lines.{Takes, trace}
-use Rattle.serve_loops.proofs.LineLemmas.{line-said, Front-none}
+use Rattle.serve_loops.proofs.LineLemmas.{line-said}
 use Rattle.serve_loops.proofs.lines.end_line.Goals as goal
 
 pub returns-in-Ok : goal.returns-in-Ok
 returns-in-Ok g c =
     subst (λ (l : Bytes). Takes c.answer_line.result c.args.connection c.args.part.now (10 ∷ []) l (trace (g.O.Write.contents c.args.output.now) (g.A.Answers.told c.args.clerk.now)) (trace (g.O.Write.contents c.answer_line.new.output) (g.A.Answers.told c.answer_line.new.clerk))) (sym c.in-Ok.ensures.next)
     (line-said c.answer_line.result c.args.connection c.args.part.now c.in-Ok.line.items _ _ c.in-Ok.ensures.no_feed c.in-Ok.ensures.line c.answer_line.ensures)
-
-pub returns-in-Err : goal.returns-in-Err
-returns-in-Err g c = Front-none _ _ _ _ c.in-Err.ensures.no_feed

@@ -1,11 +1,11 @@
 use Rattle.std.proofs.Common.{◌≤◌, ◌+◌, ◌*◌, [], ◌++◌, refl, arith}
 use Rattle.std.proofs.KnownBytes.{Consumes-nil, Consumes-trans, Keeps-refl}
 use Rattle.pieces.proofs.Taken.{taken-kept, taken-more, taken-within}
-use Rattle.serve_loops.proofs.LineLemmas.{Serves-none, Serves-append, Ends-after, Front-all, unplaced}
+use Rattle.serve_loops.proofs.LineLemmas.{Serves-none, Serves-append, Stops-after, Front-all, stopped}
 use Rattle.serve_loops.proofs.lines.serve.Goals as goal
 
 pub returns-in_default : goal.returns-in_default
-returns-in_default g c = record { ends = unplaced _ _ _ _ refl; few = taken-kept _ _ _ (Keeps-refl _) }
+returns-in_default g c = record { ends = (refl, refl); few = taken-kept _ _ _ (Keeps-refl _) }
 
 pub loop-read-init : goal.loop-read-init
 loop-read-init g c = ([], Consumes-nil _, rw c.in-Ok.ensures (Serves-none _ [] _ refl), taken-kept _ _ _ (Keeps-refl _))
@@ -15,7 +15,7 @@ returns-in-Some g c =
     let i = c.loop-read.invariant in
     let once_more : 4096 * c.loop-read._read + 4096 ≤ 4096 * c.args.bound = omega arith in
     record {
-      ends = Ends-after _ _ _ i.0 _ _ i.2 _ _ _ i.1 c.in-Some.ending _ c.in-Some.ensures.turns;
+      ends = stopped c.in-Some.ending _ _ _ _ _ (Stops-after _ _ _ i.0 _ _ i.2 _ _ _ i.1 c.in-Some.ending _ c.in-Some.ensures.turns);
       few = taken-within _ _ _ _ (taken-more _ _ _ _ _ i.3 c.in-Some.ensures.few) once_more;
     }
 

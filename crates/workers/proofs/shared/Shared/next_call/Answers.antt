@@ -6,10 +6,10 @@ use Rattle.workers.proofs.shared.Shared.next_call.Goals.{in-Some, in-None}
 use Rattle.workers.proofs.shared.Shared.next_call.Goals as goal
 
 pub invariant_of-self : goal.invariant_of-self
-invariant_of-self g c = next_in_step _ _ _ _ _ c.next_call.ensures.sends c.self-2.invariant
+invariant_of-self g c = next_in_step _ _ _ _ _ c.next_call.ensures.sends c.next_call.ensures.legal c.self-2.invariant
 
-pub returns-then-not-make_room : goal.returns-then-not-make_room
-returns-then-not-make_room g c = grind (arith, common_steps)
+pub returns-in_default : goal.returns-in_default
+returns-in_default g c = grind (arith, common_steps)
 
 pub returns : goal.returns
 returns g c = elim c.match-next_call.branch [

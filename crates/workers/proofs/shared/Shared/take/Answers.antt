@@ -17,7 +17,7 @@ receipt-receipt-requires-clause-reply g c =
     ∙ ap (λ (u : Upshot). Some u.given) (sym c.upshot.view_is)
 
 pub invariant_of-self : goal.invariant_of-self
-invariant_of-self g c = enters_in_step _ _ _ _ _ _ _ _ c.apply-upshot.ensures.enters c.add.ensures.total c.self.invariant
+invariant_of-self g c = enters_in_step _ _ _ _ _ _ _ _ c.apply-upshot.ensures.enters c.apply-upshot.ensures.legal c.add.ensures.total c.self.invariant
 
 pub returns-clause-told : goal.returns-clause-told
 returns-clause-told g c = (
