@@ -9,6 +9,12 @@ mod by_message;
 #[cfg(test)]
 mod client;
 #[cfg(test)]
+mod connections;
+#[cfg(test)]
+mod cuts;
+#[cfg(test)]
+mod full;
+#[cfg(test)]
 mod growths;
 #[cfg(test)]
 mod limits;

@@ -3,6 +3,7 @@
 //! each line. What they are made of stands in `script_parts`.
 #![tactic(auto)]
 
+mod counting;
 mod events;
 mod growths;
 mod page;

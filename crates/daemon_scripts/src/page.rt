@@ -1,4 +1,5 @@
 //! What comes to a server, what it is to send for that, and what it sends.
+use crate::counting::{Counting, filled};
 use daemon_core::{Addressee, EventOutcome, Frame, Outputs, Refusal, StoreAnswer};
 use script_parts::{Terms, put_message, put_terms, put_words, read_number};
 use std::alloc::Global;
@@ -143,6 +144,7 @@ impl<'a> Page<'a> {
                 Some(())
             }
             "times" => self.repeat(rest),
+            "counts" => self.count(rest),
             "locks" => self.lock_bytes(&Terms::read(0, rest)),
             "watches" => self.watch(rest),
             _ => self.ask(read_xid(verb)?, rest),
@@ -166,6 +168,16 @@ impl<'a> Page<'a> {
         for _ in 0..read_xid(count)? {
             self.ask(xid, asks)?;
             xid = xid.wrapping_add(1);
+        }
+        Some(())
+    }
+
+    // A call for each of these numbers, which stands for each `%` in it and in its reply.
+    fn count(&mut self, text: &str) -> Option<()> {
+        let (counting, asks) = Counting::read(text)?;
+        for number in counting.from..counting.to {
+            let asks = filled(self.alloc, asks, number).ok()?;
+            self.ask(counting.beside(number), asks.as_str())?;
         }
         Some(())
     }

@@ -2,14 +2,15 @@
 ghost use Rattle.std.specs.Prelude.{◌≡◌, ◌≤◌, map, string_bytes, IfOk, IfErr};
 ghost use Rattle.config.specs.Asked.{Asks};
 ghost use Rattle.config.specs.declared.settings.Config.{Config};
-ghost use Rattle.lockd_main.specs.Ends.{EndsBy};
+ghost use Rattle.lockd_serving.specs.Ran.{Ran, stand};
+ghost use Rattle.lockd_main.specs.Ends.{EndsBy, RunsWords};
 
 use config::{Config, ConfigFault, config};
-use lockd_serving::{end, serve_asked};
+use lockd_serving::{Console, end, serve_asked};
 use log::Log;
 use pipe_loops::Fault;
 use server::Runtime;
-use std::io::Print;
+use std::io::{BufWriter, Print, Read, Write};
 use std::net::{Net, TcpListener, TcpStream};
 use std::process::ExitCode;
 use std::sync::Wait;
@@ -60,27 +61,34 @@ fn refuse_for(rt: &HostRuntime, cause: &str) -> ExitCode
 }
 
 /// Does what is asked, or says why nothing is.
-fn run_asked<R: Runtime>(
+fn run_asked<R: Runtime, I: Read, O: Write>(
     host: &HostRuntime,
     rt: &R,
+    console: &mut Console<I, O>,
     asked: &Result<Config, ConfigFault>,
 ) -> ExitCode
-    ensures runs { IfOk asked.now (λ _. result.status ≤ 1) }
-    ensures refused { IfErr asked.now (λ fault. EndsBy fault result.status) }
+    ensures runs { IfOk asked.now (λ asked. Ran asked result.status (stand I.remaining O.contents console.old) (stand I.remaining O.contents console.new) × (result.status ≤ 1)) }
+    ensures refused { IfErr asked.now (λ fault. EndsBy fault result.status × (stand I.remaining O.contents console.new ≡ stand I.remaining O.contents console.old)) }
     ensures most { result.status ≤ 2 }
 {
     match asked {
-        Ok(asked) => serve_asked(host, rt, asked),
+        Ok(asked) => serve_asked(host, rt, console, asked),
         Err(fault) => refuse(host, fault),
     }
 }
 
-/// Does what the words ask, or says why they ask for nothing.
-fn run_words<R: Runtime>(host: &HostRuntime, rt: &R, words: &[String]) -> ExitCode
+/// Does what the words ask, or says why they ask for nothing, or that there is no memory to read them.
+fn run_words<R: Runtime, I: Read, O: Write>(
+    host: &HostRuntime,
+    rt: &R,
+    console: &mut Console<I, O>,
+    words: &[String],
+) -> ExitCode
+    ensures runs { RunsWords (Asks (map (λ w. string_bytes w) words.now)) result.status (stand I.remaining O.contents console.old) (stand I.remaining O.contents console.new) }
     ensures asked { (asked : Config) → Asks (map (λ w. string_bytes w) words.now) asked → result.status ≤ 1 }
     ensures most { result.status ≤ 2 }
 {
-    run_asked(host, rt, &config(host.alloc(), words))
+    run_asked(host, rt, console, &config(host.alloc(), words))
 }
 
 /// The whole program, with the words that it was called with. Its status is 0 where it came to the end of its input, where it
@@ -101,5 +109,10 @@ where
     let Ok(words) = arguments(host) else {
         return refuse_for(host, "the words can't be read");
     };
-    run_words(host, rt, &words)
+    let Ok(output) = BufWriter::new(host.alloc(), io::writer(host)) else {
+        return end(host, Err(Fault::Starved));
+    };
+    let input = host.reader();
+    let mut console = Console { input, output };
+    run_words(host, rt, &mut console, &words)
 }

@@ -1,7 +1,10 @@
 //! How the program ends.
 ghost use Rattle.std.specs.Prelude.{◌≡◌, ◌≤◌, IfOk, IfErr};
+ghost use Rattle.lockd_serving.specs.Ran.{IsStatus};
 
-use config::ServeConfig;
+use crate::notes::{Note, tell};
+use crate::sockets::ServeFault;
+use config::{ServeConfig, StreamConfig};
 use pipe_loops::Fault;
 use std::fmt::Display;
 use std::process::ExitCode;
@@ -20,11 +23,26 @@ pub fn end<F: Display + Drop>(rt: &HostRuntime, ended: Result<(), F>) -> ExitCod
     }
 }
 
+/// The end of a stream. The store refuses at its beginning alone.
+pub(crate) fn end_stream(
+    rt: &HostRuntime,
+    asked: &StreamConfig,
+    ended: Result<(), Fault>,
+) -> ExitCode
+    ensures { IsStatus ended result.status }
+{
+    if let (Some(path), Err(Fault::StoreRefused)) = (&asked.db, ended) {
+        let path = path.as_str();
+        tell(rt, Note::NotBegun { path });
+    }
+    end(rt, ended)
+}
+
 /// The server's end, and what its audit found.
-pub(crate) fn end_server<F: Display + Drop>(
+pub(crate) fn end_server(
     rt: &HostRuntime,
     asked: &ServeConfig,
-    ended: Result<u64, F>,
+    ended: Result<u64, ServeFault>,
 ) -> ExitCode
     ensures ok { IfOk ended (λ _. result.status ≤ 1) }
     ensures err { IfErr ended (λ _. result.status ≡ 1) }
@@ -35,6 +53,19 @@ pub(crate) fn end_server<F: Display + Drop>(
             Err(_) => end(rt, Err(Fault::WriteFault)),
         },
         Ok(_) => ExitCode::SUCCESS,
-        Err(fault) => end(rt, Err(fault)),
+        Err(fault) => {
+            tell_why(rt, asked, &fault);
+            end(rt, Err(fault))
+        }
+    }
+}
+
+// Tells why the server didn't start.
+fn tell_why(rt: &HostRuntime, asked: &ServeConfig, fault: &ServeFault) {
+    let ServeFault::Server(fault) = fault else {
+        return;
+    };
+    if let Some(note) = Note::of_server(asked.db.as_str(), fault) {
+        tell(rt, note);
     }
 }

@@ -2,10 +2,13 @@
 #![tactic(auto)]
 
 mod ends;
+mod notes;
 mod sockets;
 mod stores;
 mod streams;
 mod work;
 
 pub use ends::end;
+pub use notes::Note;
+pub use streams::Console;
 pub use work::serve_asked;

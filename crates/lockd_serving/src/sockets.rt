@@ -1,15 +1,15 @@
 //! A server on sockets.
-ghost use Rattle.std.specs.Prelude.{◌≡◌, Err, IfErr, IfOk};
+ghost use Rattle.std.specs.Prelude.{◌≡◌, IfOk};
 ghost use Rattle.std.specs.Net.Socket.{socket_ip, socket_port};
 ghost use Rattle.lockd_serving.specs.Times.{Lasts};
 
+use crate::notes::{Note, tell};
 use crate::streams::own_name;
 use config::ServeConfig;
 use hosts_db::HostStore;
 use jobs::Job;
 use outboxes::Gate;
 use peers::{Peers, PeersFault};
-use pipe_loops::Fault as StoreFault;
 use server::{Backing, CallSettings, Runtime, Settings, serve};
 use std::alloc::Global;
 use std::fs;
@@ -29,9 +29,6 @@ pub(crate) enum ServeFault {
     /// The file of peers can't be read.
     #[error("23 ReadFault")]
     ReadFault,
-    /// The store of hosts can't be had.
-    #[error("{0}")]
-    Store(StoreFault),
     /// The server ended.
     #[error("{0}")]
     Server(server::Fault),
@@ -48,18 +45,23 @@ impl Gate for Open {
     fn before(&self, _job: &Job) {}
 }
 
-/// The peers that a file names. Standard error says which line is wrong.
+/// The peers that a file names. Where they can't be had a note says which line is wrong, or what the system says.
 pub(crate) fn read_peers(host: &HostRuntime, path: &str) -> Result<Peers, ServeFault> {
-    let Ok(bytes) = fs::read(host, path) else {
-        return Err(ServeFault::ReadFault);
-    };
-    match Peers::read(host.alloc(), bytes.as_slice()) {
+    match fs::read(host, path) {
+        Ok(bytes) => peers_of(host, path, bytes.as_slice()),
+        Err(error) => {
+            tell(host, Note::Unread { path, error });
+            Err(ServeFault::ReadFault)
+        }
+    }
+}
+
+fn peers_of(host: &HostRuntime, path: &str, bytes: &[u8]) -> Result<Peers, ServeFault> {
+    match Peers::read(host.alloc(), bytes) {
         Ok(peers) => Ok(peers),
         Err(PeersFault::Starved) => Err(ServeFault::Starved),
         Err(PeersFault::BadLine(number)) => {
-            let _ = eprintln!(host;
-                "error: line {number} of {path} is no name, a space and an IP address, or a further line for a name"
-            );
+            tell(host, Note::BadLine { path, number });
             Err(ServeFault::BadLine)
         }
     }
@@ -107,25 +109,19 @@ fn backing_of<S: HostStore + Drop>(
     }
 }
 
-/// Serves over the store, where it could be had, until a local program says `stop`: how many calls were taken, where that was
-/// kept.
+/// Serves over the store until a local program says `stop`: how many calls were taken, where that was kept.
 pub(crate) fn serve_sockets<S, R>(
     rt: &R,
     alloc: Global,
     asked: &ServeConfig,
     peers: Peers,
-    store: Result<S, StoreFault>,
+    store: S,
 ) -> Result<u64, ServeFault>
 where
     S: HostStore + Drop + Send,
     R: Runtime,
-    ensures { IfErr store (λ fault. result ≡ Err (ServeFault.Store fault)) }
 {
-    let backed = match store {
-        Ok(store) => backing_of(alloc, asked, peers, store),
-        Err(fault) => Err(ServeFault::Store(fault)),
-    };
-    match backed {
+    match backing_of(alloc, asked, peers, store) {
         Ok(backing) => {
             serve(rt, alloc, &settings_of(asked), backing, &Open).map_err(ServeFault::Server)
         }

@@ -1,5 +1,8 @@
-//! The stream on standard input is served.
-ghost use Rattle.std.specs.Prelude.{◌≡◌, Err, IfErr, IfOk};
+//! A stream is served.
+ghost use Rattle.std.specs.Prelude.{◌≡◌, [], IfOk};
+ghost use Rattle.lockd_serving.specs.Ran.{Served, LoopEnds, stand};
+ghost use Rattle.daemon_core.specs.Hub.{opening};
+ghost use Rattle.pipe_loops.specs.Pipe.{beginning};
 
 use callbacks::ShortBytes;
 use config::{Name, StreamConfig};
@@ -7,8 +10,9 @@ use hosts_db::HostStore;
 use pieces::MOST_READS;
 use pipe_loops::{Fault, Server, pipe_loop, table_loop};
 use range_arena::ArenaTable;
+use range_table::RangeTable;
 use std::alloc::Global;
-use std::io::{self, BufWriter};
+use std::io::{Read, Write};
 
 /// What is written of the stream.
 #[derive(Clone, Copy)]
@@ -17,6 +21,13 @@ pub(crate) enum Output {
     Replies,
     /// The table of locks at its end.
     Table,
+}
+
+/// Where a stream comes from, and where what is answered goes.
+#[derive(Drop)]
+pub struct Console<I, O> {
+    pub input: I,
+    pub output: O,
 }
 
 /// A copy of the server's own name.
@@ -29,31 +40,55 @@ pub(crate) fn own_name(alloc: Global, name: &Name) -> Result<ShortBytes, Fault>
     }
 }
 
-/// Serves the stream on standard input over the store, where it could be had.
-pub(crate) fn serve_stream<S: HostStore + Drop>(
-    rt: &HostRuntime,
+// Serves the stream by the loop of this output.
+fn run_loop<T, S, I, O>(
+    alloc: Global,
+    console: &mut Console<I, O>,
+    output: Output,
+    server: Server<T, S>,
+) -> Result<(), Fault>
+where
+    T: RangeTable + Drop,
+    S: HostStore + Drop,
+    I: Read,
+    O: Write,
+    requires { T.settings server.table ≡ [] }
+    ensures { LoopEnds output (beginning server.is_grace) (opening server.own_name (S.rows server.store) (S.refusals server.store)) MOST_READS result (stand I.remaining O.contents console.old) (stand I.remaining O.contents console.new) }
+{
+    let input = &mut console.input;
+    let writer = &mut console.output;
+    match output {
+        Output::Replies => pipe_loop(alloc, server, input, writer, MOST_READS),
+        Output::Table => table_loop(alloc, server, input, writer, MOST_READS),
+    }
+}
+
+/// Serves the stream over the store, in at most so many reads as the program does.
+#[tactic(auto, using(crate::proofs::Unbegun::starved))]
+pub(crate) fn serve_stream<S, I, O>(
+    alloc: Global,
+    console: &mut Console<I, O>,
     output: Output,
     asked: &StreamConfig,
-    store: Result<S, Fault>,
+    store: S,
 ) -> Result<(), Fault>
-    ensures { IfErr store (λ fault. result ≡ Err fault) }
+where
+    S: HostStore + Drop,
+    I: Read,
+    O: Write,
+    ensures { Served output asked.now (S.rows store) (S.refusals store) result (stand I.remaining O.contents console.old) (stand I.remaining O.contents console.new) }
 {
-    let store = store?;
-    let alloc = rt.alloc();
-    let own_name = own_name(alloc, &asked.name)?;
-    let table = ArenaTable::new(alloc)?;
+    let Ok(own_name) = own_name(alloc, &asked.name) else {
+        return Err(Fault::Starved);
+    };
+    let Ok(table) = ArenaTable::new(alloc) else {
+        return Err(Fault::Starved);
+    };
     let server = Server {
         table,
         store,
         own_name,
         is_grace: asked.grace,
     };
-    let mut reader = rt.reader();
-    let Ok(mut writer) = BufWriter::new(alloc, io::writer(rt)) else {
-        return Err(Fault::Starved);
-    };
-    match output {
-        Output::Replies => pipe_loop(alloc, server, &mut reader, &mut writer, MOST_READS),
-        Output::Table => table_loop(alloc, server, &mut reader, &mut writer, MOST_READS),
-    }
+    run_loop(alloc, console, output, server)
 }

@@ -5,7 +5,8 @@
 //! `#0` is the first number of the script's line as a word, `##0` the same in 8 bytes. The file is 01020304.
 use crate::words::{Terms, put_words};
 
-/// Of the lock manager, version 4. Behind offset and length of a lock stand whether it is a reclaim, and the state 3.
+/// Of the lock manager, version 4. Behind offset and length of a lock stand whether it is a reclaim, and the state 3. The host of a
+/// name that ends in `-by` is the four bytes of a number.
 const LOCK_CALLS: &[&str] = &[
     "null: 80000028 xid 0 2 186b5 4 0 0 0 0 0",
     "test: 80000060 xid 0 2 186b5 4 1 0 0 0 0 4 xid 1 1 name 4 1020304 1 handle svid ##0 ##1",
@@ -28,6 +29,9 @@ const LOCK_CALLS: &[&str] = &[
     "unshare: 80000054 xid 0 2 186b5 4 15 0 0 0 0 4 xid 1 name 4 1020304 1 handle 0 1 0",
     "nm-lock: 8000006c xid 0 2 186b5 4 16 0 0 0 0 4 xid 0 1 1 name 4 1020304 1 handle svid ##0 ##1 0 3",
     "nm-block: 8000006c xid 0 2 186b5 4 16 0 0 0 0 4 xid 1 1 1 name 4 1020304 1 handle svid ##0 ##1 0 3",
+    "lock-by: 8000006c xid 0 2 186b5 4 2 0 0 0 0 4 xid 0 0 4 #0 4 1020304 1 handle svid ##1 ##2 0 3",
+    "nm-lock-by: 8000006c xid 0 2 186b5 4 16 0 0 0 0 4 xid 0 0 4 #0 4 1020304 1 handle svid ##1 ##2 0 3",
+    "share-by: 80000054 xid 0 2 186b5 4 14 0 0 0 0 4 xid 4 #0 4 1020304 1 handle #1 #2 0",
     "free-all: 80000034 xid 0 2 186b5 4 17 0 0 0 0 1 name 5",
 ];
 
@@ -55,6 +59,7 @@ const STATUS_CALLS: &[&str] = &[
     "unmon-all: 80000040 xid 0 2 186b8 1 4 0 0 0 0 6 73657276 65720000 30d40 1 #0",
     "crash: 80000028 xid 0 2 186b8 1 5 0 0 0 0",
     "notify: 80000034 xid 0 2 186b8 1 6 0 0 0 0 1 name #0",
+    "notify-by: 80000034 xid 0 2 186b8 1 6 0 0 0 0 4 #0 #1",
     "notify-guest: 80000038 xid 0 2 186b8 1 6 0 0 0 0 5 67756573 74000000 #0",
 ];
 
@@ -86,6 +91,7 @@ const REPLIES: &[&str] = &[
     "held-by-nobody: 80000038 xid 1 0 0 0 0 4 xid 1 0 0 0 0 0",
     "shared: 80000028 xid 1 0 0 0 0 4 xid 0 0",
     "not-shared: 80000028 xid 1 0 0 0 0 4 xid 1 0",
+    "no-shares: 80000028 xid 1 0 0 0 0 4 xid 2 0",
     "monitored: 80000020 xid 1 0 0 0 0 0 #0",
     "not-monitored: 80000020 xid 1 0 0 0 0 1 #0",
     "state: 8000001c xid 1 0 0 0 0 #0",

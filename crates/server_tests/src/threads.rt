@@ -6,5 +6,6 @@ mod memory;
 mod overlapping;
 pub(crate) mod parts;
 mod reading;
+mod restarting;
 mod rounds;
 mod sending;

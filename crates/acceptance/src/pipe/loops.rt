@@ -24,8 +24,9 @@ pub(crate) enum Loop {
 /// How the stream comes, and what can be written.
 #[derive(Clone, Copy)]
 pub(crate) struct Ends {
-    /// The most bytes that one read gives, and how many reads go well.
+    /// The most bytes that one read gives, how often each read is interrupted first, and how many reads go well.
     pub(crate) most: usize,
+    pub(crate) interruptions: u32,
     pub(crate) reads: usize,
     /// The bytes of the stream that come before its end, and those for which the writer has room.
     pub(crate) bytes: usize,
@@ -37,6 +38,7 @@ pub(crate) struct Ends {
 /// All at once, with room for all.
 pub(crate) const AMPLE: Ends = Ends {
     most: 8_192,
+    interruptions: 0,
     reads: 2_000,
     bytes: usize::MAX,
     room: 4_096,
@@ -119,7 +121,7 @@ fn serve(
 fn written(alloc: Global, which: Loop, comes: &[u8], ends: Ends) -> (Vec<u8>, Result<(), Fault>) {
     let pace = Pace {
         most: ends.most,
-        interruptions: 0,
+        interruptions: ends.interruptions,
         reads: ends.reads,
     };
     let mut source = Source::new(front(comes, ends.bytes), pace);

@@ -214,11 +214,13 @@ const STREAMS: &[Stream] = &[
     STORED,
 ];
 
-// The first of the stream's pieces by which something else is written, or the loop ends otherwise.
-fn unserved(alloc: Global, stream: &Stream) -> Option<usize> {
+// The first of the stream's pieces by which something else is written, or the loop ends otherwise, where each read is
+// interrupted so often first.
+fn unserved(alloc: Global, stream: &Stream, interruptions: u32) -> Option<usize> {
     for most in stream.pieces {
         let ends = Ends {
             most: *most,
+            interruptions,
             ..AMPLE
         };
         if !is_served(alloc, stream, ends) {
@@ -231,11 +233,57 @@ fn unserved(alloc: Global, stream: &Stream) -> Option<usize> {
 #[test]
 fn streams_in_pieces(rt: HostRuntime) -> Result<(), (&'static str, usize)> {
     for stream in STREAMS {
-        if let Some(most) = unserved(rt.alloc(), stream) {
+        if let Some(most) = unserved(rt.alloc(), stream, 0) {
             return Err((stream.name, most));
         }
     }
     Ok(())
+}
+
+// The first of the streams that is served otherwise.
+fn unserved_of(alloc: Global, streams: &[Stream], interruptions: u32) -> Option<&'static str> {
+    for stream in streams {
+        if unserved(alloc, stream, interruptions).is_some() {
+            return Some(stream.name);
+        }
+    }
+    None
+}
+
+// An interrupted read takes nothing from the stream, and is no fault of it.
+#[test]
+fn interrupted_reads(rt: HostRuntime) -> Result<(), (&'static str, u32)> {
+    for interruptions in 1..4 {
+        if let Some(name) = unserved_of(rt.alloc(), STREAMS, interruptions) {
+            return Err((name, interruptions));
+        }
+    }
+    Ok(())
+}
+
+/// Reads that are interrupted for ever end at the bound of reads, with nothing read.
+const NEVER_READ: &[Stream] = &[
+    Stream {
+        name: "pipe",
+        pieces: &[8_192],
+        told: "",
+        ended: Err(Fault::ReadFault),
+        ..NULL
+    },
+    Stream {
+        name: "table",
+        told: "",
+        ended: Err(Fault::ReadFault),
+        ..TABLE
+    },
+];
+
+#[test]
+fn endless_interruptions(rt: HostRuntime) -> Result<(), &'static str> {
+    match unserved_of(rt.alloc(), NEVER_READ, u32::MAX) {
+        None => Ok(()),
+        Some(name) => Err(name),
+    }
 }
 
 // The number of its bytes is the error.

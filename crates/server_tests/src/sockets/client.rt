@@ -31,6 +31,12 @@ pub(crate) fn read<const N: usize>(mut from: &TcpStream) -> io::Result<[u8; N]> 
     Ok(room)
 }
 
+/// Whether the server closes the connection, and sends nothing more.
+pub(crate) fn is_closed(mut from: &TcpStream) -> io::Result<bool> {
+    let mut room = [0u8; 1];
+    Ok(from.read(&mut room)? == 0)
+}
+
 /// Sends bytes.
 pub(crate) fn write(mut to: &TcpStream, bytes: &[u8]) -> io::Result<()> {
     to.write_all(bytes)

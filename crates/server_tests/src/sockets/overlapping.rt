@@ -24,3 +24,10 @@ fn more_calls_at_once_than_wait(rt: HostRuntime) {
     let served = served_to(&rt, rt.alloc(), 2, 0, Talk::AtOnce(600));
     assert!(rt; served == Some((600, Told::of(600), true)));
 }
+
+// The 257th connection is closed, and the others are answered.
+#[test]
+fn more_connections_than_places(rt: HostRuntime) {
+    let served = served_to(&rt, rt.alloc(), 2, 0, Talk::Full);
+    assert!(rt; served == Some((256, Told::of(256), true)));
+}

@@ -1,9 +1,10 @@
 //! A server, and who talks to it.
+use super::noted::{Noted, misbehaves};
 use super::talks::{Talk, Told};
 use crate::hall::{Hall, LONG};
 use callbacks::ShortBytes;
 use hosts_db::MemHosts;
-use log::Log;
+use log::{LevelFilter, Log, Logged};
 use peers::Peers;
 use server::{Backing, CallSettings, Runtime, Settings, serve};
 use std::alloc::Global;
@@ -44,7 +45,7 @@ impl Ports {
         })
     }
 
-    fn settings(&self, workers: u16) -> Settings {
+    fn settings(&self, workers: u16, silence: Duration) -> Settings {
         Settings {
             rpc: loopback(self.rpc),
             local_port: self.local,
@@ -53,7 +54,7 @@ impl Ports {
                 nsm_port: self.peer,
                 watch_port: self.peer,
                 grace: Duration::from_millis(1),
-                silence: Duration::from_secs(5),
+                silence,
             },
             idle: Duration::from_secs(60),
             workers,
@@ -118,8 +119,57 @@ where
 {
     match (Ports::free(rt), backing(alloc)) {
         (Ok(ports), Some(backing)) => {
-            let settings = ports.settings(workers);
-            served(rt, alloc, settings, backing, wanted, (ports, talk))
+            let settings = ports.settings(workers, talk.silence());
+            let noted = Noted::new(rt, alloc);
+            let rt = Logged::new(rt, LevelFilter::Info, &noted);
+            served(&rt, alloc, settings, backing, wanted, (ports, talk))
+        }
+        _ => None,
+    }
+}
+
+// The server, and who misbehaves.
+fn noted_of<R: Runtime, N: Wait + Clock + Sync>(
+    rt: &R,
+    alloc: Global,
+    settings: Settings,
+    backing: Backing<MemHosts>,
+    ports: Ports,
+    noted: &Noted<'_, N>,
+) -> Option<usize> {
+    let hall = Hall::new(rt, 0, LONG);
+    let gate = &hall;
+    let (taken, count) = thread::join(
+        rt,
+        move || serve(rt, alloc, &settings, backing, gate),
+        move || misbehaves(rt, alloc, ports, noted),
+    );
+    match (taken, count) {
+        (Ok(_), Ok(count)) => Some(count),
+        _ => None,
+    }
+}
+
+/// How many misdeeds a server notes, each with why it closes the connection, and with nothing else. None where one of both fails.
+pub(crate) fn noted_by<R>(rt: &R, alloc: Global) -> Option<usize>
+where
+    R: Net<Listener = TcpListener, Stream = TcpStream>
+        + Threads
+        + Wait
+        + Clock
+        + Print
+        + Log
+        + Sync,
+{
+    match (Ports::free(rt), backing(alloc)) {
+        (Ok(ports), Some(backing)) => {
+            let settings = Settings {
+                idle: Duration::from_millis(100),
+                ..ports.settings(2, Duration::from_secs(5))
+            };
+            let noted = Noted::new(rt, alloc);
+            let rt = Logged::new(rt, LevelFilter::Info, &noted);
+            noted_of(&rt, alloc, settings, backing, ports, &noted)
         }
         _ => None,
     }

@@ -2,7 +2,8 @@
 use super::calls::{
     Call, DENIED, LOCK_BY_FIRST, LOCK_BY_SECOND, NO_REPLY, NULL, UNLOCK_BY_FIRST, put_call,
 };
-use super::client::{answer, ask, dial, read, stop, write};
+use super::client::{answer, ask, dial, is_closed, read, stop, write};
+use super::local::{begin_anew, stay_mute, wait};
 use super::servers::{Ports, loopback};
 use crate::hall::Hall;
 use std::alloc::Global;
@@ -11,19 +12,22 @@ use std::time::{Clock, Duration};
 use std::{io, thread};
 
 /// The bytes of a reply to NULL, with its mark.
-const REPLY: usize = 28;
+pub(crate) const REPLY: usize = 28;
 
 /// The bytes of a reply to LOCK and to UNLOCK with a cookie of one byte, with its mark.
 const LOCK_REPLY: usize = 40;
 
 /// The bytes of a call of the server's own up to its procedure, with its mark.
-const CALLED: usize = 28;
+pub(crate) const CALLED: usize = 28;
 
 /// The status of a lock that waits.
 const BLOCKED: u8 = 3;
 
 /// The status of a call that comes in the grace period.
-const GRACE: u8 = 4;
+pub(crate) const GRACE: u8 = 4;
+
+/// How many connections for calls there may be.
+const PLACES: u32 = 256;
 
 /// How often a lock is asked for until it is told otherwise.
 const TRIES: u32 = 900;
@@ -37,10 +41,18 @@ pub(crate) enum Talk {
     One(u32),
     // One connection asks as often as this in one write.
     AtOnce(u32),
+    // As many connections as there are places ask, and one more comes.
+    Full,
     // One owner locks, another waits, the first unlocks: the second is granted.
     Granting,
     // Then its peer sends what is no reply, and denies the grant: the first has the lock again.
     Denying,
+    // Its peer says nothing.
+    Mute,
+    // A local program waits for the lock of another.
+    Waiting,
+    // The server restarts, and its grace period ends once more.
+    Anew,
 }
 
 /// How many calls were answered, and of a grant the statuses of the replies, 0 where there were fewer, and the procedure of the
@@ -126,6 +138,38 @@ where
     count_replies(rt, ports, &connection, calls)
 }
 
+// As many connections as there are places ask. All that have asked are in the list.
+fn ask_at_each<R>(
+    rt: &R,
+    alloc: Global,
+    port: u16,
+    asked: &mut Vec<(u32, TcpStream)>,
+) -> io::Result<()>
+where
+    R: Net<Stream = TcpStream> + Clock,
+{
+    for xid in 0..PLACES {
+        let connection = dial(rt, port)?;
+        ask(&connection, alloc, xid, &NULL)?;
+        asked.push((xid, connection))?;
+    }
+    Ok(())
+}
+
+// Each place is taken and answered, and one more is closed. How many were answered.
+fn fill<R>(rt: &R, alloc: Global, ports: Ports) -> io::Result<Told>
+where
+    R: Net<Stream = TcpStream> + Clock,
+{
+    let mut asked = Vec::new(alloc);
+    ask_at_each(rt, alloc, ports.rpc, &mut asked)?;
+    let count = count_answers(&asked)?;
+    let is_turned_away = is_closed(&dial(rt, ports.rpc)?)?;
+    let is_stopped = stop(rt, ports.local)?;
+    let goes = is_turned_away && is_stopped;
+    Ok(Told::of(if goes { count } else { 0 }))
+}
+
 // Sends so many calls in one write.
 fn write_calls(connection: &TcpStream, alloc: Global, calls: u32) -> io::Result<()> {
     let mut all = Vec::new(alloc);
@@ -160,14 +204,19 @@ where
 }
 
 // Sends the call: the status that ends its reply.
-fn answered(connection: &TcpStream, alloc: Global, xid: u32, call: &Call) -> io::Result<u8> {
+pub(crate) fn answered(
+    connection: &TcpStream,
+    alloc: Global,
+    xid: u32,
+    call: &Call,
+) -> io::Result<u8> {
     ask(connection, alloc, xid, call)?;
     let reply = read::<LOCK_REPLY>(connection)?;
     Ok(reply[LOCK_REPLY - 1])
 }
 
 // Asks for the first owner's lock, under the xids from this one on, until the status is another one than this.
-fn lock_first<R: Clock>(
+pub(crate) fn lock_first<R: Clock>(
     rt: &R,
     alloc: Global,
     connection: &TcpStream,
@@ -185,7 +234,11 @@ fn lock_first<R: Clock>(
 }
 
 // One owner locks, another waits, the first unlocks.
-fn lock_both<R: Clock>(rt: &R, alloc: Global, connection: &TcpStream) -> io::Result<[u8; 3]> {
+pub(crate) fn lock_both<R: Clock>(
+    rt: &R,
+    alloc: Global,
+    connection: &TcpStream,
+) -> io::Result<[u8; 3]> {
     let held = lock_first(rt, alloc, connection, 100, GRACE)?;
     let waits = answered(connection, alloc, 2, &LOCK_BY_SECOND)?;
     let freed = answered(connection, alloc, 3, &UNLOCK_BY_FIRST)?;
@@ -245,8 +298,20 @@ impl Talk {
             Talk::Sixteen => ask_sixteen(rt, alloc, ports, hall),
             Talk::One(calls) => ask_all(rt, alloc, ports, calls),
             Talk::AtOnce(calls) => ask_at_once(rt, alloc, ports, calls),
+            Talk::Full => fill(rt, alloc, ports),
             Talk::Granting => grant(rt, alloc, ports, false),
             Talk::Denying => grant(rt, alloc, ports, true),
+            Talk::Mute => stay_mute(rt, alloc, ports),
+            Talk::Waiting => wait(rt, ports),
+            Talk::Anew => begin_anew(rt, alloc, ports),
+        }
+    }
+
+    /// How long the server waits for an answer: not long where none comes.
+    pub(crate) fn silence(self) -> Duration {
+        match self {
+            Talk::Mute => Duration::from_millis(100),
+            _ => Duration::from_secs(5),
         }
     }
 }

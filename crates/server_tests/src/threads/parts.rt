@@ -1,5 +1,6 @@
 //! What the tests share: a book, records to be answered, and what goes through a worker's seat.
-ghost use Rattle.std.specs.Prelude.{◌≡◌, [], IfSome};
+ghost use Rattle.std.specs.Prelude.{IfSome};
+ghost use Rattle.workers.specs.Holds.{IsNew};
 
 use crate::words::{are, put_header};
 use book::Book;
@@ -10,6 +11,7 @@ use jobs::{Channel, Job, Place};
 use kept_replies::Peer;
 use outboxes::{Gate, SentReply};
 use range_arena::ArenaTable;
+use script_parts::put_plain;
 use std::alloc::Global;
 use std::sync::Wait;
 use std::sync::ledger::Ledger;
@@ -32,11 +34,18 @@ pub(crate) type Kept<L> = Shared<ArenaTable, MemHosts, L>;
 
 /// The book of a server named `server`, over a table without runs and no hosts. None where there is no memory.
 pub(crate) fn begun(alloc: Global) -> Option<Book<ArenaTable, MemHosts>>
-    ensures { IfSome result (λ book. (book.journal.notes ≡ []) × (book.journal.first ≡ 1)) }
+    ensures { IfSome result (λ book. IsNew book.journal) }
+{
+    let store = MemHosts::new(alloc, 0, Vec::new(alloc), Vec::new(alloc)).ok()?;
+    begun_over(alloc, store)
+}
+
+/// The same over these hosts.
+pub(crate) fn begun_over(alloc: Global, store: MemHosts) -> Option<Book<ArenaTable, MemHosts>>
+    ensures { IfSome result (λ book. IsNew book.journal) }
 {
     let name = ShortBytes::copy_of(alloc, b"server").ok()?;
     let table = ArenaTable::new(alloc).ok()?;
-    let store = MemHosts::new(alloc, 0, Vec::new(alloc), Vec::new(alloc)).ok()?;
     Book::new(alloc, table, store, name).ok()
 }
 
@@ -64,13 +73,29 @@ pub(crate) fn sent<P: Place, L: Ledger, R: Wait>(
     }
 }
 
-/// Whether these are the replies, in order: in the words, two with the number of its connection stand before each. Where there
-/// is no memory they are not.
-pub(crate) fn are_replies(alloc: Global, sent: &[SentReply], words: &str) -> bool {
+/// The replies, in order, each behind the number of its connection, as far as there is memory for them.
+pub(crate) fn bytes_of(alloc: Global, sent: &[SentReply]) -> Vec<u8> {
     let mut all = Vec::new(alloc);
     for reply in sent {
         let _ = all.extend_from_slice(reply.connection.to_be_bytes().as_slice());
         let _ = all.extend_from_slice(reply.record.as_slice());
     }
-    are(alloc, all.as_slice(), "", words)
+    all
+}
+
+/// Whether these are the replies, in order: in the words, two with the number of its connection stand before each. Where there
+/// is no memory they are not.
+pub(crate) fn are_replies(alloc: Global, sent: &[SentReply], words: &str) -> bool {
+    are(alloc, bytes_of(alloc, sent).as_slice(), "", words)
+}
+
+/// The words, so often. None where there is no memory.
+pub(crate) fn repeated(alloc: Global, words: &str, times: u32) -> Option<Vec<u8>> {
+    let mut bytes = Vec::new(alloc);
+    for _ in 0..times {
+        if !put_plain(&mut bytes, words) {
+            return None;
+        }
+    }
+    Some(bytes)
 }

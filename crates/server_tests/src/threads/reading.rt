@@ -1,10 +1,11 @@
 //! A connection's own thread over memory.
 use super::memory::MemoryOutbox;
-use super::parts::{Kept, Open, are_replies};
+use super::parts::{Kept, Open, bytes_of, repeated};
 use super::rounds::{Crew, Turn, audited};
 use jobs::{Channel, Place};
 use kept_replies::Peer;
-use script_parts::{Pace, Source, put_plain};
+use outboxes::SentReply;
+use script_parts::{Pace, Source};
 use std::alloc::Global;
 use std::sync::ledger::Ledger;
 use std::sync::{Mutex, Wait};
@@ -21,6 +22,8 @@ const CONNECTION: u64 = 300;
 pub(crate) struct Reading<'a> {
     name: &'a str,
     stream: &'a str,
+    /// How often these words come, one behind the other.
+    times: u32,
     /// The most bytes that one read gives, and how many reads go well. Each is interrupted once before.
     most: usize,
     reads: usize,
@@ -31,8 +34,10 @@ pub(crate) struct Reading<'a> {
     ending: Ending,
     /// How many jobs are put. As many are answered.
     put: u64,
-    /// As `are_replies` has them.
+    /// As `are_replies` has them, of the words that come once.
     replies: &'a str,
+    /// Whether what is done is kept for the audit, which finds as many calls then.
+    is_audited: bool,
 }
 
 impl Reading<'_> {
@@ -51,8 +56,9 @@ impl Reading<'_> {
         if self.is_closed {
             channel.close();
         }
-        let mut bytes = Vec::new(alloc);
-        let are_words = put_plain(&mut bytes, self.stream);
+        let Some(bytes) = repeated(alloc, self.stream, self.times) else {
+            return false;
+        };
         let mut outbox = MemoryOutbox::new(alloc);
         let pace = Pace {
             most: self.most,
@@ -69,26 +75,32 @@ impl Reading<'_> {
             },
         };
         let ending = reader.read(rt, channel, shared, &Open, &mut outbox, &mut source);
-        are_words
-            && ending == self.ending
+        ending == self.ending
             && source.origin.put == self.put
-            && are_replies(alloc, outbox.kept(), self.replies)
+            && self.are_replied(alloc, outbox.kept())
+    }
+
+    fn are_replied(&self, alloc: Global, sent: &[SentReply]) -> bool {
+        match repeated(alloc, self.replies, self.times) {
+            Some(wanted) => bytes_of(alloc, sent).as_slice() == wanted.as_slice(),
+            None => false,
+        }
     }
 }
 
-/// Nothing is kept for the audit.
-const READER: Crew = Crew {
-    count: 1,
-    is_audited: false,
-};
-
 fn is_so<R: Threads + Wait + Clock + Sync>(rt: &R, alloc: Global, reading: &Reading<'_>) -> bool {
-    audited(rt, alloc, READER, Turn::Reads(reading)) == Some(0)
+    let crew = Crew {
+        count: 1,
+        is_audited: reading.is_audited,
+    };
+    let found = if reading.is_audited { reading.put } else { 0 };
+    audited(rt, alloc, crew, Turn::Reads(reading)) == Some(found)
 }
 
 const THREE: Reading<'static> = Reading {
     name: "three records",
     stream: "80000028 5 0 2 186b5 4 0 0 0 0 0 80000028 6 0 2 186b5 4 0 0 0 0 0 80000028 7 0 2 186b5 4 0 0 0 0 0",
+    times: 1,
     most: 65_536,
     reads: usize::MAX,
     bound: u64::MAX,
@@ -96,6 +108,7 @@ const THREE: Reading<'static> = Reading {
     ending: Ending::Over,
     put: 3,
     replies: "0 12c 5 1 0 0 0 0 0 12c 6 1 0 0 0 0 0 12c 7 1 0 0 0 0",
+    is_audited: false,
 };
 
 /// A part of a record, and its end.
@@ -146,6 +159,24 @@ const BOUNDED: Reading<'static> = Reading {
     ..THREE
 };
 
+/// As many as fill two segments of the journal, and some more: no more of them come at once than the channel has places.
+const MANY: Reading<'static> = Reading {
+    name: "2,200 records",
+    stream: "80000028 5 0 2 186b5 4 0 0 0 0 0",
+    times: 2_200,
+    most: 8_800,
+    put: 2_200,
+    replies: "0 12c 5 1 0 0 0 0",
+    ..THREE
+};
+
+/// The audit goes over three segments then.
+const MANY_AUDITED: Reading<'static> = Reading {
+    name: "2,200 records for the audit",
+    is_audited: true,
+    ..MANY
+};
+
 /// A record with its mark has 44 bytes.
 const READINGS: &[Reading<'static>] = &[
     Reading { most: 1, ..THREE },
@@ -158,6 +189,8 @@ const READINGS: &[Reading<'static>] = &[
     LONG,
     CLOSED,
     BOUNDED,
+    MANY,
+    MANY_AUDITED,
 ];
 
 #[test]

@@ -1,7 +1,8 @@
 //! A round: workers are cut, do what a test tells them, and are gathered. There are no early ends once there is a book: each
 //! would drop all that is alive, and is a proof of its own.
-ghost use Rattle.std.specs.Prelude.{◌≡◌, false, []};
+ghost use Rattle.std.specs.Prelude.{◌≡◌, false};
 ghost use Rattle.book.specs.Notes.{is_take, view_of_event};
+ghost use Rattle.workers.specs.Holds.{IsNew};
 
 use super::answering::Waiting;
 use super::local::Talk;
@@ -53,7 +54,7 @@ fn ended<P: Place, L: Ledger>(
 }
 
 // Whether there was room for the event. What it gives falls by a call, which is proved once.
-fn enters<L: Ledger>(shared: &mut Kept<L>, event: BookEvent) -> bool
+pub(crate) fn enters<L: Ledger>(shared: &mut Kept<L>, event: BookEvent) -> bool
     requires { is_take (view_of_event event) ≡ false }
 {
     let mut transcript = Transcript::new();
@@ -69,9 +70,9 @@ fn enters<L: Ledger>(shared: &mut Kept<L>, event: BookEvent) -> bool
     }
 }
 
-// The server begins, and its grace period is over: whether there was room.
-fn opens<L: Ledger>(shared: &mut Kept<L>) -> bool {
-    enters(shared, BookEvent::Restart) && enters(shared, BookEvent::GraceOver)
+// The grace period is over: whether there was room.
+pub(crate) fn opens<L: Ledger>(shared: &mut Kept<L>) -> bool {
+    enters(shared, BookEvent::GraceOver)
 }
 
 fn goes<P: Place + Send + Sync, L: Ledger + Send + Sync, R: Threads + Wait + Clock + Sync>(
@@ -124,11 +125,31 @@ fn staff<P: Place + Send + Sync, L: Ledger + Send + Sync, R: Threads + Wait + Cl
 ) -> Option<u64>
     requires name { blank.name ≡ L.name }
     requires parts { (blank.parts ≡ L.parts) × (blank.parts ≡ crew.count) }
-    requires new { (book.journal.notes ≡ []) × (book.journal.first ≡ 1) }
+    requires new { IsNew book.journal }
 {
     let (total, share) = blank.open::<L>();
     let cutter = Cutter::new(alloc, keeper, share, u64::from(crew.count), crew.is_audited);
-    let mut shared = Shared::new(alloc, book, total, crew.is_audited);
+    match Shared::new(alloc, book, total, crew.is_audited) {
+        Ok(shared) => open(rt, alloc, channel, cutter, shared, crew, turn),
+        Err(_) => {
+            drop(cutter);
+            None
+        }
+    }
+}
+
+// The server has begun.
+fn open<P: Place + Send + Sync, L: Ledger + Send + Sync, R: Threads + Wait + Clock + Sync>(
+    rt: &R,
+    alloc: Global,
+    channel: &Channel<P>,
+    cutter: Cutter<P, L>,
+    mut shared: Kept<L>,
+    crew: Crew,
+    turn: Turn<'_>,
+) -> Option<u64>
+    requires { crew.count ≡ L.parts }
+{
     let is_open = opens(&mut shared);
     let audited = work(rt, alloc, channel, cutter, shared, crew, turn);
     if is_open { audited } else { None }
@@ -147,7 +168,7 @@ fn play<P: Place + Send + Sync, L: Ledger + Send + Sync, R: Threads + Wait + Clo
     requires key { opened.slip.me.0.of ≡ P.key }
     requires name { blank.name ≡ L.name }
     requires parts { (blank.parts ≡ L.parts) × (blank.parts ≡ crew.count) }
-    requires new { (book.journal.notes ≡ []) × (book.journal.first ≡ 1) }
+    requires new { IsNew book.journal }
 {
     let (channel, keeper) = opened.named::<P>();
     staff::<P, L, R>(rt, alloc, &channel, keeper, blank, book, crew, turn)

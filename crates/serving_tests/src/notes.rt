@@ -1,0 +1,61 @@
+//! The texts of the notes in front of a fault.
+use hosts_sql::AdoptError;
+use lockd_serving::Note;
+use server::NoListener;
+use sqlite::ErrorCode;
+use std::alloc::AllocError;
+use std::fmt::Write;
+use std::io;
+use std::net::{Ipv4Addr, SocketAddr, SocketAddrV4};
+use std::test::*;
+
+fn no_listener() -> NoListener {
+    NoListener {
+        at: SocketAddr::V4(SocketAddrV4::new(Ipv4Addr::LOCALHOST, 4045)),
+        error: io::Error::from_raw_os_error(98),
+    }
+}
+
+fn put_files(to: &mut String) -> Result<(), AllocError> {
+    let path = "peers";
+    let error = io::Error::from_raw_os_error(2);
+    let unread = Note::Unread { path, error };
+    let bad_line = Note::BadLine { path, number: 3 };
+    write!(to, "{unread}\n{bad_line}\n")
+}
+
+fn put_databases(to: &mut String) -> Result<(), AllocError> {
+    let path = "hosts.db";
+    let unopened = AdoptError::Unopened(sqlite::Error::SqliteFailure(ErrorCode::CannotOpen));
+    let no_hosts = Note::NoHosts {
+        path,
+        why: &unopened,
+    };
+    let refused = Note::NotBegun { path };
+    write!(to, "{no_hosts}\n{refused}\n")
+}
+
+fn put_others(to: &mut String) -> Result<(), AllocError> {
+    let listener = Note::NoListener(no_listener());
+    let sender = Note::NoSender(io::Error::from_raw_os_error(24));
+    let thread = Note::NoThread;
+    write!(to, "{listener}\n{sender}\n{thread}\n")
+}
+
+const TEXTS: &str = "peers: No such file or directory (os error 2)
+peers: line 3 is no name, a space and an IP address, names a host again, or comes behind 4096 others
+hosts.db: it can't be opened: unable to open database file
+hosts.db: the new own state can't be stored
+127.0.0.1:4045: Address already in use (os error 98)
+sockets can't be waited for: Too many open files (os error 24)
+a thread can't be started
+";
+
+#[test]
+fn texts(rt: HostRuntime) {
+    let mut to = String::new(rt.alloc());
+    let are_put = put_files(&mut to).is_ok()
+        && put_databases(&mut to).is_ok()
+        && put_others(&mut to).is_ok();
+    assert!(rt; are_put && to.as_str() == TEXTS);
+}

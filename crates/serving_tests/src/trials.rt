@@ -1,0 +1,78 @@
+//! What is tried, each by a test of its own.
+use crate::files::begins_anew;
+use crate::servers::{is_unstarted, serves, shares_a_port};
+use crate::streams::unserved;
+use log::Log;
+use std::io::Print;
+use std::net::{Net, TcpListener, TcpStream};
+use std::sync::Wait;
+use std::test::*;
+use std::thread::Threads;
+use std::time::Clock;
+
+#[derive(Clone, Copy)]
+enum Trial {
+    // `lockd pipe` and `lockd table`, with hosts in memory.
+    Streams,
+    // `lockd pipe` twice over one file.
+    OneFile,
+    // `lockd serve` until it is told to stop, with these words more.
+    Serves(&'static str),
+    // `lockd serve` with both listeners on one port.
+    OnePort,
+    // `lockd serve` over a file in no folder.
+    NoFolder,
+}
+
+const BAD: Result<(), &str> = Err("it goes otherwise");
+
+// The kit's borrow checker covers no call of these with `server::Runtime` as the bound.
+fn tried<R>(host: &HostRuntime, rt: &R, trial: Trial) -> Result<(), &'static str>
+where
+    R: Net<Listener = TcpListener, Stream = TcpStream>
+        + Threads
+        + Wait
+        + Clock
+        + Print
+        + Log
+        + Sync,
+{
+    let goes = match trial {
+        Trial::Streams => return unserved(host, rt),
+        Trial::OneFile => begins_anew(host, rt),
+        Trial::Serves(more) => serves(host, rt, more),
+        Trial::OnePort => shares_a_port(host, rt),
+        Trial::NoFolder => is_unstarted(host, rt, "/dev/null/hosts.db"),
+    };
+    if goes == Some(true) { Ok(()) } else { BAD }
+}
+
+#[test]
+fn streams(rt: HostRuntime) -> Result<(), &'static str> {
+    tried(&rt, &rt, Trial::Streams)
+}
+
+#[test]
+fn two_servers_over_one_file(rt: HostRuntime) -> Result<(), &'static str> {
+    tried(&rt, &rt, Trial::OneFile)
+}
+
+#[test]
+fn serves_until_it_is_told_to_stop(rt: HostRuntime) -> Result<(), &'static str> {
+    tried(&rt, &rt, Trial::Serves(""))
+}
+
+#[test]
+fn serves_with_an_audit(rt: HostRuntime) -> Result<(), &'static str> {
+    tried(&rt, &rt, Trial::Serves("--audit --workers 2"))
+}
+
+#[test]
+fn port_in_use(rt: HostRuntime) -> Result<(), &'static str> {
+    tried(&rt, &rt, Trial::OnePort)
+}
+
+#[test]
+fn database_in_no_folder(rt: HostRuntime) -> Result<(), &'static str> {
+    tried(&rt, &rt, Trial::NoFolder)
+}
