@@ -1,0 +1,197 @@
+"""Tests of how the built program starts and ends: what it writes, its status, and which note stands in front of a fault."""
+
+import contextlib
+import socket
+import subprocess
+import tempfile
+from pathlib import Path
+
+from tried import CONTRIB, cases, equal
+
+PROGRAM = CONTRIB.parent / "crates/lockd_main/out/lockd_main"
+WAIT_SECONDS = 30
+
+# RFC 1813, appendix II, and XNFS: a LOCK of the bytes 0 to 9 by a process of host `a`, that it is granted, and SM_NOTIFY of the
+# own state 3, each behind its mark (RFC 5531, section 11).
+LOCK = bytes.fromhex(
+    "8000006c 00000002 00000000 00000002 000186b5 00000004 00000002 00000000 00000000 00000000 00000000 00000004 00000002"
+    "00000000 00000001 00000001 61000000 00000004 01020304 00000001 41000000 00000007 00000000 00000000 00000000 0000000a"
+    "00000000 00000003"
+)
+GRANTED = bytes.fromhex("80000024 00000002 00000001 00000000 00000000 00000000 00000000 00000004 00000002 00000000")
+NOTICE = bytes.fromhex(
+    "80000038 00000001 00000000 00000002 000186b8 00000001 00000006 00000000 00000000 00000000 00000000 00000006 73657276"
+    "65720000 00000003"
+)
+
+
+# NULL of the lock manager's version 4 (RFC 1813, appendix II), and its reply.
+NULL = bytes.fromhex("80000028 00000001 00000000 00000002 000186b5 00000004 00000000 00000000 00000000 00000000 00000000")
+NULL_REPLY = bytes.fromhex("80000018 00000001 00000001 00000000 00000000 00000000 00000000")
+
+
+@contextlib.contextmanager
+def room():
+    with tempfile.TemporaryDirectory() as path:
+        yield Path(path)
+
+
+def ran(*words, stream=b""):
+    """Status, standard output, and the lines of standard error."""
+    done = subprocess.run([PROGRAM, *words], input=stream, capture_output=True, timeout=WAIT_SECONDS)
+    return done.returncode, done.stdout, done.stderr.decode().splitlines()
+
+
+def free_port():
+    with socket.create_server(("127.0.0.1", 0)) as one:
+        return one.getsockname()[1]
+
+
+def serve_words(path, **other):
+    """The words of a server over the files of this folder. None leaves one out."""
+    given = {
+        "port": free_port(),
+        "local-port": free_port(),
+        "db": path / "hosts.db",
+        "peers": path / "peers",
+        "peer-nlm-port": 1,
+        "peer-nsm-port": 1,
+        "watch-port": 1,
+        "bind": "127.0.0.1",
+    }
+    given |= {name.replace("_", "-"): value for name, value in other.items()}
+    return ["serve", *(word for name, value in given.items() for word in (f"--{name}", str(value)))]
+
+
+def refuses(found, status_line, note):
+    """Nothing on standard output, and the note in front of the fault."""
+    equal(found, (1, b"", [f"lockd: note: {note}", f"lockd: {status_line}"]))
+
+
+def peers_file_with_a_bad_line(peers, number):
+    with room() as path:
+        (path / "peers").write_text(peers)
+        refuses(
+            ran(*serve_words(path)),
+            "20 BadLine",
+            f"{path}/peers: line {number} is no name, a space and an IP address, names a host again, or comes behind 4096 others",
+        )
+        equal((path / "hosts.db").exists(), False)
+
+
+def peers_file_that_cannot_be_read(name, said):
+    with room() as path:
+        refuses(ran(*serve_words(path, peers=path / name)), "23 ReadFault", f"{path / name}: {said}")
+        equal((path / "hosts.db").exists(), False)
+
+
+def no_database(words):
+    with room() as path:
+        db = path / "hosts.db"
+        db.write_bytes(b"no database " * 700)
+        refuses(
+            ran(*words, "--db", db, stream=LOCK) if words else ran_serve(path),
+            "19 StoreRefused",
+            f"{db}: it can't be opened: file is not a database that obeys its schema",
+        )
+        equal(db.read_bytes(), b"no database " * 700)
+
+
+def ran_serve(path, **other):
+    """The server over a file of no peers."""
+    (path / "peers").write_text("")
+    return ran(*serve_words(path, **other))
+
+
+def database_in_no_folder(words):
+    with room() as path:
+        db = path / "none" / "hosts.db"
+        refuses(
+            ran(*words, "--db", db, stream=LOCK) if words else ran_serve(path, db=db),
+            "19 StoreRefused",
+            f"{db}: it can't be opened: unable to open database file",
+        )
+
+
+def port_in_use(option):
+    with room() as path, socket.create_server(("127.0.0.1", 0)) as taken:
+        port = taken.getsockname()[1]
+        refuses(
+            ran_serve(path, **{option: port}),
+            "23 ReadFault",
+            f"127.0.0.1:{port}: Address already in use (os error 98)",
+        )
+
+
+def address_of_another_machine():
+    with room() as path:
+        # RFC 5737: no machine has it.
+        found = ran_serve(path, bind="192.0.2.1", port=4045)
+        refuses(found, "23 ReadFault", "192.0.2.1:4045: Cannot assign requested address (os error 99)")
+
+
+def pipe_twice_on_one_file():
+    with room() as path:
+        words = ("pipe", "--db", path / "hosts.db")
+        equal(ran(*words, stream=LOCK), (0, GRANTED, []))
+        equal(ran(*words, stream=LOCK), (0, GRANTED + NOTICE, []))
+
+
+def table_at_the_end(db):
+    with room() as path:
+        equal(ran("table", *(["--db", path / "hosts.db"] if db else []), stream=LOCK), (0, b"01020304 w 0 9 h61/7/41\n", []))
+
+
+def pipe_of_no_hosts():
+    equal(ran("pipe", stream=LOCK), (0, GRANTED, []))
+
+
+def record_too_long(words):
+    # A mark of 8,193 bytes. It is no fault of a start.
+    equal(ran(*words, stream=bytes.fromhex("80002001")), (1, b"", ["lockd: 10 RecordTooLong"]))
+
+
+def said_by(port, said):
+    """All that comes until the connection ends, which is not written any more."""
+    with socket.create_connection(("127.0.0.1", port), timeout=WAIT_SECONDS) as one:
+        one.sendall(said)
+        one.shutdown(socket.SHUT_WR)
+        return b"".join(iter(lambda: one.recv(4096), b""))
+
+
+def serves_until_it_is_told_to_stop(audit):
+    with room() as path:
+        (path / "peers").write_text("client 127.0.0.1\n")
+        port, local_port = free_port(), free_port()
+        words = serve_words(path, port=port, local_port=local_port) + (["--audit"] if audit else [])
+        server = subprocess.Popen([PROGRAM, *words], stdout=subprocess.PIPE, stderr=subprocess.PIPE)
+        try:
+            equal(server.stdout.readline(), b"ready\n")
+            equal(said_by(port, NULL + NULL), NULL_REPLY + NULL_REPLY)
+            equal(said_by(local_port, b"hosts\nstop\n"), b"end\nok\n")
+            told = server.communicate(timeout=WAIT_SECONDS)
+        finally:
+            server.kill()
+            server.communicate()
+        equal((server.returncode, *told), (0, b"audit yes 2\n" if audit else b"", b""))
+
+
+STREAMS = dict(pipe=(("pipe",),), table=(("table",),))
+SERVER = dict(serve=((),))
+
+if PROGRAM.exists():
+    cases(no_address=("client 127.0.0.1\nclient2\n", 2), twice=("a 127.0.0.1\nb ::1\na 127.0.0.2\n", 3))(peers_file_with_a_bad_line)
+    cases(
+        missing=("peers", "No such file or directory (os error 2)"), folder=("", "Is a directory (os error 21)")
+    )(peers_file_that_cannot_be_read)
+    cases(**STREAMS, **SERVER)(no_database)
+    cases(**STREAMS, **SERVER)(database_in_no_folder)
+    cases(calls=("port",), lines=("local_port",))(port_in_use)
+    cases(none=())(address_of_another_machine)
+    cases(two=())(pipe_twice_on_one_file)
+    cases(memory=(False,), file=(True,))(table_at_the_end)
+    cases(none=())(pipe_of_no_hosts)
+    cases(**STREAMS)(record_too_long)
+    cases(plain=(False,), audited=(True,))(serves_until_it_is_told_to_stop)
+else:
+    print(f"skipped: how the program starts and ends, since it isn't built ({PROGRAM.relative_to(CONTRIB.parent)})", flush=True)
