@@ -1,7 +1,7 @@
 //! A connection that is open.
 ghost use Rattle.std.specs.Prelude.{◌≡◌, ◌≤◌, length, take, IfOk, OnErr};
 ghost use Rattle.std.specs.Io.KnownBytes.{Appends, Keeps};
-ghost use Rattle.written.specs.Written.{Wrote};
+ghost use Rattle.byte_io.specs.Written.{Wrote};
 
 use std::io::{self, ErrorKind, Write};
 use std::marker::Model;

@@ -26,6 +26,6 @@ pub use crate::posted::Posted;
 pub use crate::posting::Posting;
 pub use crate::sent::{Addressee, Sent};
 pub use book::StoreAnswer;
+pub use byte_io::WriteFault;
 pub use kept_replies::Peer;
-pub use written::WriteFault;
 pub use xdr_core::Frame;

@@ -5,14 +5,14 @@ ghost use Rattle.call_records.specs.Dests.{view_of_dest};
 ghost use Rattle.daemon_core.specs.Addressed.{view_of_addressee};
 ghost use Rattle.daemon_core.specs.Outputs.{bytes_sent};
 ghost use Rattle.daemon_core.specs.Sending.{ToLocal, addressee};
-ghost use Rattle.written.specs.Written.{Wrote};
+ghost use Rattle.byte_io.specs.Written.{Wrote};
 
 use crate::sent::Addressee;
 use book::Dest;
+use byte_io::{WriteFault, write_whole};
 use record_writing::write_record;
 use std::io::Write;
 use std::marker::Model;
-use written::{WriteFault, write_whole};
 use xdr_core::Frame;
 
 /// The place of a call of the server's own: whom the newest one is for, and its record. It has some 5 KiB, and is lent to

@@ -7,14 +7,14 @@ ghost use Rattle.daemon_core.specs.Addressed.{view_of_addressee};
 ghost use Rattle.daemon_core.specs.Outputs.{bytes_sent};
 ghost use Rattle.local_ops.specs.Answers.{view_of_local_answer};
 ghost use Rattle.local_ops.specs.Texts.{reply_text};
-ghost use Rattle.written.specs.Written.{Wrote};
+ghost use Rattle.byte_io.specs.Written.{Wrote};
 
 use crate::posting::Posting;
 use book::{LocalAnswer, Reply};
+use byte_io::WriteFault;
 use record_writing::{Spelled, write_spelled};
 use std::io::Write;
 use std::marker::Model;
-use written::WriteFault;
 use xdr_core::Frame;
 
 /// Whom something is sent to.

@@ -6,8 +6,8 @@ use Rattle.std.specs.List.{flat_map}
 use Rattle.std.proofs.KnownBytes.{Appends-trans}
 use Rattle.hex.specs.Hex.{encode_with}
 use Rattle.local_ops.specs.Texts.{spaced, line}
-use Rattle.written.specs.Written.{WroteFront, Wrote}
-use Rattle.written.proofs.Appending.{WroteFront-after, WroteFront-longer, Wrote-failed}
+use Rattle.byte_io.specs.Written.{WroteFront, Wrote}
+use Rattle.byte_io.proofs.Appending.{WroteFront-after, WroteFront-longer, Wrote-failed}
 
 pub encode_with-append : (t xs ys : List ℕ) → encode_with t (xs ++ ys) ≡ encode_with t xs ++ encode_with t ys
 unfolding encode_with

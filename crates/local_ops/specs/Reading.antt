@@ -9,7 +9,7 @@ use Rattle.definitions.specs.Owners.{Owner, Process, Description}
 use Rattle.definitions.specs.Settings.{Mode, Shared, Exclusive}
 use Rattle.definitions.specs.Outgoing.{LocalLock}
 use Rattle.hex.specs.Hex.{decode_of}
-use Rattle.byte_parts.specs.Parts.{parts_at}
+use Rattle.byte_io.specs.Parts.{parts_at}
 
 -- what was returned is what reading gives
 abbrev pub Gives : {X Y E : Type 0} → (X → Y) → Result X E → Option Y → Type 0

@@ -8,16 +8,16 @@ ghost use Rattle.definitions.specs.Owners.{Remote};
 ghost use Rattle.definitions.specs.Replies.{LineHeld};
 ghost use Rattle.local_ops.specs.Texts.{reply_text, owner_text, mode_text, spaced};
 ghost use Rattle.local_ops.specs.Answers.{view_of_local_answer};
-ghost use Rattle.written.specs.Written.{Wrote};
+ghost use Rattle.byte_io.specs.Written.{Wrote};
 
 use crate::listing::{HostsText, TableText};
 use crate::output::{write_hex, write_parts};
 use crate::text::mode_text_of;
+use byte_io::{WriteFault, write_whole};
 use itoa::Buffer;
 use owner_ids::Owner;
 use range_table::Mode;
 use std::io::Write;
-use written::{WriteFault, write_whole};
 
 /// What a line is answered.
 #[derive(Drop)]

@@ -10,7 +10,7 @@ ghost use Rattle.callbacks.specs.Meanings.{view_of_local_lock};
 ghost use Rattle.local_ops.specs.Words.{word_in};
 
 use crate::host_name::HostName;
-use byte_parts::split_once;
+use byte_io::split_once;
 use callbacks::LocalLock;
 use itoa::Buffer;
 use owner_ids::Owner;
@@ -176,7 +176,7 @@ pub(crate) struct Fields<'a> {
 
 impl<'a> Model for Fields<'a> {
     ghost use Rattle.std.specs.Prelude.{List, ℕ};
-    ghost use Rattle.byte_parts.specs.Parts.{parts_left};
+    ghost use Rattle.byte_io.specs.Parts.{parts_left};
 
     ghost Value = { List (List ℕ) };
 

@@ -14,6 +14,7 @@ mod quota;
 mod text;
 
 pub use answer::LocalAnswer;
+pub use byte_io::WriteFault;
 pub use call::LocalCall;
 pub use fields::BadLine;
 pub use granted::put_granted;
@@ -21,4 +22,3 @@ pub use host_name::HostName;
 pub use law::one_line;
 pub use listing::{HostsText, ListedHost, ListedRun, TableText};
 pub use quota::Quota;
-pub use written::WriteFault;

@@ -2,11 +2,11 @@
 
 ghost use Rattle.std.specs.List.{flat_map};
 ghost use Rattle.hex.specs.Hex.{encode_lower};
-ghost use Rattle.written.specs.Written.{Wrote};
+ghost use Rattle.byte_io.specs.Written.{Wrote};
 
 use crate::text::short_hex;
+use byte_io::{WriteFault, write_whole};
 use std::io::Write;
-use written::{WriteFault, write_whole};
 
 /// Writes the parts, one behind the other.
 pub(crate) fn write_parts<W: Write>(writer: &mut W, parts: &[&[u8]]) -> Result<(), WriteFault>

@@ -3,7 +3,7 @@ use Rattle.std.specs.Prelude.{◌≡◌, ◌≤◌, ◌⊎◌, ℕ, List, [], Op
 use Rattle.definitions.specs.Hosts.{Hosts}
 use Rattle.daemon_core.specs.declared.event.Event.{Event}
 use Rattle.daemon_core.specs.Hub.{Hub, opening}
-use Rattle.pieces.specs.declared.TheConstants.{MOST_READS}
+use Rattle.byte_io.specs.declared.pieces.TheConstants.{MOST_READS}
 use Rattle.pipe_loops.specs.declared.fault.Fault.{Fault}
 use Rattle.pipe_loops.specs.Pipe.{beginning, PipeEnds}
 use Rattle.pipe_loops.specs.Table.{TableEnds}

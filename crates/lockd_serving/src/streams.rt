@@ -4,10 +4,10 @@ ghost use Rattle.lockd_serving.specs.Ran.{Served, LoopEnds, stand};
 ghost use Rattle.daemon_core.specs.Hub.{opening};
 ghost use Rattle.pipe_loops.specs.Pipe.{beginning};
 
+use byte_io::MOST_READS;
 use callbacks::ShortBytes;
 use config::{Name, StreamConfig};
 use hosts_db::HostStore;
-use pieces::MOST_READS;
 use pipe_loops::{Fault, Server, pipe_loop, table_loop};
 use range_arena::ArenaTable;
 use range_table::RangeTable;

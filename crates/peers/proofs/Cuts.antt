@@ -1,7 +1,7 @@
 -- Where a file is cut into lines.
 use Rattle.std.proofs.Common.{◌≡◌, ℕ, ◌<◌, List, [], ◌∷◌, length, refl, sym, ap, ◌∙◌, subst, arith}
-use Rattle.byte_parts.specs.Parts.{parts_at}
-use Rattle.byte_parts.proofs.Cuts.{some_part, only_part}
+use Rattle.byte_io.specs.Parts.{parts_at}
+use Rattle.byte_io.proofs.Cuts.{some_part, only_part}
 use Rattle.peers.specs.File.{whole_lines, lines_of}
 
 whole-more : (line : List ℕ) (parts : List (List ℕ)) → (parts ≡ [] → ⊥) → whole_lines (line ∷ parts) ≡ line ∷ whole_lines parts

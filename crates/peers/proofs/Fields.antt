@@ -3,8 +3,8 @@ use Rattle.std.proofs.Common.{◌≡◌, ℕ, true, false, List, [], ◌∷◌, 
 use Rattle.std.specs.Prelude.{is_some}
 use Rattle.std.specs.Borrow.{Bor}
 use Rattle.std.specs.Net.Grammar.{IsIpText}
-use Rattle.byte_parts.specs.Parts.{parts_at, parts_left}
-use Rattle.byte_parts.proofs.Cuts.{some_part, only_part}
+use Rattle.byte_io.specs.Parts.{parts_at, parts_left}
+use Rattle.byte_io.proofs.Cuts.{some_part, only_part}
 use Rattle.peers.specs.File.{Peer, Spells, is_name}
 
 heads : (a b : List ℕ) (xs ys : List (List ℕ)) → a ∷ xs ≡ b ∷ ys → a ≡ b

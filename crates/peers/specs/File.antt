@@ -4,7 +4,7 @@ use Rattle.std.specs.List.{find, list_any}
 use Rattle.std.specs.Option.{option_map}
 use Rattle.std.specs.Net.Grammar.{IsIpText}
 use Rattle.std.specs.declared.net.ip_addr.IpAddr.{IpAddr}
-use Rattle.byte_parts.specs.Parts.{parts_at}
+use Rattle.byte_io.specs.Parts.{parts_at}
 
 pub record Peer : Type 0 where
   pub name : List ℕ

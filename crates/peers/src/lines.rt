@@ -5,7 +5,7 @@ ghost use Rattle.std.specs.List.{list_any};
 ghost use Rattle.peers.specs.File.{is_name, lines_of};
 ghost use Rattle.peers.specs.Readings.{ReadsLine};
 
-use byte_parts::split_once;
+use byte_io::split_once;
 use std::net::IpAddr;
 
 /// The first line, without its line feed, and what is behind it.

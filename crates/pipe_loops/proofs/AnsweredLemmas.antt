@@ -10,7 +10,7 @@ use Rattle.daemon_core.specs.declared.outputs.Outputs.{Outputs}
 use Rattle.daemon_core.specs.Outputs.{bytes_sent}
 use Rattle.daemon_core.specs.Hub.{Hub, HubStep, SendStep, all_bytes_sent}
 use Rattle.pipe_loops.specs.declared.fault.Fault.{Fault}
-use Rattle.written.specs.Written.{WroteFront}
+use Rattle.byte_io.specs.Written.{WroteFront}
 use Rattle.pipe_loops.specs.Answered.{NothingDue, Sends, AnswersRecord, AnswersEach, in_order, SendsAll, SendsSome, SendsDue, AnswersBegun, AnswersNext}
 use Rattle.pipe_loops.proofs.PipeLemmas.{bytes-append, bytes-more, Breaks-after}
 

@@ -21,10 +21,10 @@ use Rattle.daemon_core.specs.Link.{Link, Hears as HearsOn, Receives}
 use Rattle.daemon_core.specs.Hub.{Hub, place_of, Pieces, Connects, Waits, HubStep, Run, all_bytes_sent}
 use Rattle.pipe_loops.specs.declared.fault.Fault.{Fault}
 use Rattle.pipe_loops.specs.FaultOf.{fault_of}
-use Rattle.written.specs.Written.{WroteFront}
+use Rattle.byte_io.specs.Written.{WroteFront}
 use Rattle.pipe_loops.specs.Answered.{in_order, Breaks}
 use Rattle.pipe_loops.specs.Pipe.{IsPiece, Hears, Turn, Turns, met_by, beginning, PipeRun, joined, IsShort, AnswersAll, AnswersSome, WholeTurn, BrokenTurn, TurnEnds, BeginsAll, BeginsSome, EndsAt, BrokenPipe, StreamEnds}
-use Rattle.written.proofs.Appending.{WroteFront-whole, WroteFront-after}
+use Rattle.byte_io.proofs.Appending.{WroteFront-whole, WroteFront-after}
 
 pub bytes-append : (outs more : List Outputs) → all_bytes_sent (outs ++ more) ≡ all_bytes_sent outs ++ all_bytes_sent more
 bytes-append outs more = flat_map-append (λ (o : Outputs). bytes_sent o.sent) outs more

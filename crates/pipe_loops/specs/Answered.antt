@@ -9,7 +9,7 @@ use Rattle.daemon_core.specs.Outputs.{bytes_sent}
 use Rattle.daemon_core.specs.Hub.{Hub, HubStep, SendStep, all_bytes_sent}
 use Rattle.pipe_loops.specs.declared.fault.Fault.{Fault}
 use Rattle.pipe_loops.specs.declared.fault.Fault.TheVariants.{Starved, RecordTooLong, StoreRefused, ReadFault, WriteFault}
-use Rattle.written.specs.Written.{WroteFront}
+use Rattle.byte_io.specs.Written.{WroteFront}
 
 -- no call of the server's own is due
 abbrev pub NothingDue : Hub → Type 0

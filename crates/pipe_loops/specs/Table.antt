@@ -6,7 +6,7 @@ use Rattle.definitions.specs.Starts.{runs}
 use Rattle.daemon_core.specs.declared.event.Event.{Event}
 use Rattle.daemon_core.specs.Hub.{Hub}
 use Rattle.table_text.specs.Texts.{runs_text}
-use Rattle.written.specs.Written.{WroteFront}
+use Rattle.byte_io.specs.Written.{WroteFront}
 use Rattle.pipe_loops.specs.declared.fault.Fault.{Fault}
 use Rattle.pipe_loops.specs.declared.fault.Fault.TheVariants.{Starved, RecordTooLong, StoreRefused, ReadFault, WriteFault}
 use Rattle.pipe_loops.specs.Pipe.{StreamEnds}

@@ -2,11 +2,10 @@
 
 ghost use Rattle.std.specs.Prelude.{◌≡◌};
 
+use byte_io::{FailedRead, WriteFault};
 use daemon_core::Refusal;
 use owner_ids::Starved;
-use pieces::FailedRead;
 use thiserror::Error;
-use written::WriteFault;
 
 /// What ends a loop before its input does. It is printed by number and name.
 #[derive(Clone, Copy, Debug, PartialEq, Eq, Error)]

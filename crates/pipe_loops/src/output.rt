@@ -1,11 +1,11 @@
 //! What is written.
 
 ghost use Rattle.daemon_core.specs.Outputs.{bytes_sent};
-ghost use Rattle.written.specs.Written.{Wrote};
+ghost use Rattle.byte_io.specs.Written.{Wrote};
 
+use byte_io::WriteFault;
 use daemon_core::{Frame, Outputs, Posting};
 use std::io::Write;
-use written::WriteFault;
 
 /// The places of what is sent: of a reply's record, and of a call of the server's own. They have some 9 KiB, which are got and
 /// cleared once, and are lent to each sending.

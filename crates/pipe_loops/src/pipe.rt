@@ -10,9 +10,9 @@ ghost use Rattle.pipe_loops.specs.Pipe.{beginning, AnswersWaiting, TurnEnds, IsS
 use crate::fault::Fault;
 use crate::output::{Places, write_outputs};
 use crate::server::Server;
+use byte_io::{make_place, read_piece};
 use daemon_core::{Daemon, Event, Peer, Posted, Posting};
 use hosts_db::HostStore;
-use pieces::{make_place, read_piece};
 use range_table::RangeTable;
 use std::alloc::Global;
 use std::io::{Read, Write};

@@ -4,18 +4,18 @@ ghost use Rattle.std.specs.Prelude.{◌≡◌, []};
 ghost use Rattle.daemon_core.specs.Hub.{opening};
 ghost use Rattle.pipe_loops.specs.Pipe.{beginning};
 ghost use Rattle.pipe_loops.specs.Table.{table_of, TableEnds};
-ghost use Rattle.written.specs.Written.{Wrote};
+ghost use Rattle.byte_io.specs.Written.{Wrote};
 
 use crate::fault::Fault;
 use crate::pipe::answer_stream;
 use crate::server::Server;
+use byte_io::WriteFault;
 use daemon_core::Daemon;
 use hosts_db::HostStore;
 use range_table::RangeTable;
 use std::alloc::Global;
 use std::io::{self, Read, Write};
 use table_text::print_table;
-use written::WriteFault;
 
 /// Prints all locks, and hands them on.
 fn print_locks<T: RangeTable, S: HostStore, W: Write>(

@@ -1,12 +1,12 @@
 //! What a stream is cut with.
 ghost use Rattle.std.specs.Prelude.{◌≡◌, ◌≢◌, ℕ, ◌<◌, ◌≤◌, true, false, length, [], List, Err, IfOk, IfErr};
 ghost use Rattle.std.specs.Io.KnownBytes.{Consumes};
-ghost use Rattle.pieces.specs.Reads.{TakesAtMost};
+ghost use Rattle.byte_io.specs.Reads.{TakesAtMost};
 ghost use Rattle.record_mark.specs.Assembled.{IsSplit};
 ghost use Rattle.record_intake.specs.Intakes.{heard, EndsSo, Cuts};
 
 use crate::ending::Ending;
-use pieces::read_piece;
+use byte_io::read_piece;
 use record_mark::{Assembler, MarkError, Records};
 use std::alloc::Global;
 use std::io::Read;

@@ -3,11 +3,11 @@
 
 ghost use Rattle.std.specs.Prelude.{◌≡◌, []};
 ghost use Rattle.record_mark.specs.Sent.{marked};
-ghost use Rattle.written.specs.Written.{Wrote};
+ghost use Rattle.byte_io.specs.Written.{Wrote};
 
+use byte_io::{WriteFault, write_whole};
 use record_mark::last_mark;
 use std::io::Write;
-use written::{WriteFault, write_whole};
 use xdr_core::Frame;
 
 /// What has a record that fits into an empty frame.

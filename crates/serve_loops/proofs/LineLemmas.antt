@@ -15,9 +15,9 @@ use Rattle.book.specs.Given.{Upshot}
 use Rattle.book.specs.Notes.{Happening, AsksLine, Note, Steps, view_of_event}
 use Rattle.workers.specs.Holds.{Held, entry_of, Notes, Adds}
 use Rattle.workers.specs.Answers.{StarvesAs}
-use Rattle.written.specs.Written.{Wrote, WroteFront}
-use Rattle.written.specs.declared.WriteFault.{WriteFault}
-use Rattle.written.proofs.Appending.{WroteFront-whole}
+use Rattle.byte_io.specs.Written.{Wrote, WroteFront}
+use Rattle.byte_io.specs.declared.written.WriteFault.{WriteFault}
+use Rattle.byte_io.proofs.Appending.{WroteFront-whole}
 use Rattle.serve_loops.specs.declared.ending.Ending.{Ending}
 use Rattle.serve_loops.specs.declared.ending.Ending.TheVariants as ending
 use Rattle.serve_loops.specs.Lines.{IsOpen, Answer, AreOpen, ended, kept, text_of, texts, entries, IsAnswered, AreAnswered, Asks, Trace, trace, Goes, Serves, ServesFront, Breaks, Cuts, Stops, Ends, Turns, Takes, Hears, IsSaid, AnswersLine, Finishes, TellsOf}

@@ -12,8 +12,8 @@ use Rattle.book.specs.Notes.{AsksLine, Note, view_of_event}
 use Rattle.book.specs.Receipts.{newest}
 use Rattle.workers.specs.Holds.{Held, Notes}
 use Rattle.workers.specs.Answers.{StarvesAs}
-use Rattle.written.specs.declared.WriteFault.{WriteFault}
-use Rattle.written.specs.Written.{WroteFront}
+use Rattle.byte_io.specs.declared.written.WriteFault.{WriteFault}
+use Rattle.byte_io.specs.Written.{WroteFront}
 use Rattle.serve_loops.specs.declared.ending.Ending.{Ending}
 use Rattle.serve_loops.specs.declared.ending.Ending.TheVariants as ending
 

@@ -1,8 +1,8 @@
 //! The lines of a local program are answered.
 ghost use Rattle.std.specs.Prelude.{◌≡◌, ◌*◌, ◌∷◌, [], eqb, length};
 ghost use Rattle.book.specs.Given.{view_of_reply};
-ghost use Rattle.pieces.specs.Reads.{TakesAtMost};
-ghost use Rattle.written.specs.Written.{Wrote};
+ghost use Rattle.byte_io.specs.Reads.{TakesAtMost};
+ghost use Rattle.byte_io.specs.Written.{Wrote};
 ghost use Rattle.serve_loops.specs.Lines.{AnswersLine, Ends, Finishes, Hears, Takes, Turns, text_of, trace};
 
 use crate::clerk::{Answers, Clerk};
@@ -10,15 +10,14 @@ use crate::ending::Ending;
 use crate::part::Part;
 use crate::signals::Signals;
 use book::{LocalAnswer, Reply, Starved};
+use byte_io::{WriteFault, make_place, read_piece};
 use hosts_db::HostStore;
-use pieces::{make_place, read_piece};
 use range_table::RangeTable;
 use std::alloc::Global;
 use std::io::{Read, Write};
 use std::sync::ledger::Ledger;
 use std::sync::{Mutex, Wait};
 use workers::{Shared, Transcript};
-use written::WriteFault;
 
 /// The most bytes that are read at once.
 pub const MOST_READ_BYTES: usize = 4_096;

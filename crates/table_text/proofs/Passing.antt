@@ -7,8 +7,8 @@ use Rattle.std.specs.List.{flat_map}
 use Rattle.std.specs.Io.KnownBytes.{Appends}
 use Rattle.std.proofs.KnownBytes.{Appends-nil, Appends-trans}
 use Rattle.hex.specs.Hex.{encode_with}
-use Rattle.written.specs.Written.{WroteFront, Wrote}
-use Rattle.written.proofs.Appending.{WroteFront-longer, Wrote-after}
+use Rattle.byte_io.specs.Written.{WroteFront, Wrote}
+use Rattle.byte_io.proofs.Appending.{WroteFront-longer, Wrote-after}
 use Rattle.local_ops.proofs.Writing.{encode_with-append, parts-around}
 use Rattle.table_text.specs.Blocks.{WroteAllBut, Passed}
 

@@ -1,7 +1,7 @@
 -- Bytes on their way to a writer, which gets them a block at a time.
 use Rattle.std.specs.Prelude.{◌≡◌, List, ℕ, ◌++◌, Option, Result, Ok, Err}
 use Rattle.std.specs.Io.KnownBytes.{Appends}
-use Rattle.written.specs.Written.{WroteFront}
+use Rattle.byte_io.specs.Written.{WroteFront}
 
 -- a front of the bytes was appended, and the rest waits
 pub record WroteAllBut (old new : Option (List ℕ)) (waiting bytes : List ℕ) : Type 0 where

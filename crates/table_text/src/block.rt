@@ -5,8 +5,8 @@ ghost use Rattle.std.specs.List.{flat_map};
 ghost use Rattle.hex.specs.Hex.{encode_lower};
 ghost use Rattle.table_text.specs.Blocks.{Passed};
 
+use byte_io::{WriteFault, write_whole};
 use std::io::Write;
-use written::{WriteFault, write_whole};
 use xdr_core::Frame;
 
 /// Adds bytes to a block. What waits in it is written where they don't fit behind it, and they are, too, where they are

@@ -5,5 +5,5 @@ mod block;
 mod lines;
 mod print;
 
+pub use byte_io::WriteFault;
 pub use print::{print_end, print_hosts, print_table};
-pub use written::WriteFault;

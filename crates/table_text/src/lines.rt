@@ -10,13 +10,13 @@ ghost use Rattle.local_ops.specs.Texts.{run_line, host_line, owner_text, mode_te
 ghost use Rattle.table_text.specs.Blocks.{Passed};
 
 use crate::block::{put_hex, put_parts};
+use byte_io::WriteFault;
 use held_locks::Holder;
 use hosts_db::HostRow;
 use itoa::Buffer;
 use owner_ids::Owner;
 use range_table::Mode;
 use std::io::Write;
-use written::WriteFault;
 use xdr_core::Frame;
 
 /// Adds a lock's line, `FH MODE FIRST LAST OWNER`.

@@ -6,14 +6,14 @@ ghost use Rattle.held_locks.specs.Asked.{view_of_lock_holder};
 ghost use Rattle.held_locks.specs.Listing.{IsListing};
 ghost use Rattle.local_ops.specs.Texts.{line};
 ghost use Rattle.table_text.specs.Texts.{runs_text, rows_text};
-ghost use Rattle.written.specs.Written.{Wrote};
+ghost use Rattle.byte_io.specs.Written.{Wrote};
 
 use crate::lines::{put_host, put_run};
+use byte_io::{WriteFault, write_whole};
 use held_locks::{Holder, Listing, Locks};
 use hosts_db::HostRow;
 use range_table::RangeTable;
 use std::io::Write;
-use written::{WriteFault, write_whole};
 use xdr_core::Frame;
 
 /// Prints all locks, one line for each run `FH MODE FIRST LAST OWNER`, in order of file, first byte and owner. FH and the

@@ -1,6 +1,6 @@
 use Rattle.std.proofs.Common.{◌≡◌, length, ap, ◌∙◌}
 use Rattle.record_mark.specs.Sent.{mark_of_last}
-use Rattle.written.proofs.Appending.{WroteFront-longer, Wrote-after, Wrote-failed}
+use Rattle.byte_io.proofs.Appending.{WroteFront-longer, Wrote-after, Wrote-failed}
 use Rattle.record_writing.proofs.write_record.Goals as goal
 
 pub returns-in_err-write_whole : goal.returns-in_err-write_whole

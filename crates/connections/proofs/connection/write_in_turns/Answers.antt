@@ -1,6 +1,6 @@
 use Rattle.std.proofs.Common.{◌++◌, take}
 use Rattle.std.proofs.KnownBytes.{Appends-trans}
-use Rattle.byte_parts.proofs.Fronts.{front_moves}
+use Rattle.byte_io.proofs.Fronts.{front_moves}
 use Rattle.connections.proofs.connection.write_in_turns.Goals as goal
 
 pub loop-preserved : goal.loop-preserved

@@ -4,8 +4,8 @@ use Rattle.std.specs.Prelude.{codes}
 use Rattle.owner_ids.specs.Views.{view_of_owner}
 use Rattle.range_table.specs.Modes.{view_of_mode}
 use Rattle.local_ops.specs.Texts.{spaced, owner_text, mode_text}
-use Rattle.written.specs.Written.{Wrote}
-use Rattle.written.proofs.Appending.{Wrote-after}
+use Rattle.byte_io.specs.Written.{Wrote}
+use Rattle.byte_io.proofs.Appending.{Wrote-after}
 use Rattle.local_ops.proofs.Writing.{failed-first, failed-then, held_text}
 use Rattle.local_ops.proofs.answer.write_held.Goals as goal
 

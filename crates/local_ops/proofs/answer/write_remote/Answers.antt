@@ -5,8 +5,8 @@ use Rattle.std.specs.Io.KnownBytes.{Appends}
 use Rattle.std.specs.Fmt.{signed_decimal}
 use Rattle.std.proofs.KnownBytes.{Appends-trans}
 use Rattle.hex.specs.Hex.{encode_lower}
-use Rattle.written.specs.Written.{Wrote, WroteFront}
-use Rattle.written.proofs.Appending.{Wrote-after}
+use Rattle.byte_io.specs.Written.{Wrote, WroteFront}
+use Rattle.byte_io.proofs.Appending.{Wrote-after}
 use Rattle.local_ops.proofs.Writing.{failed-first, failed-then, remote_text}
 use Rattle.local_ops.proofs.answer.write_remote.Goals as goal
 

@@ -1,7 +1,7 @@
 use Rattle.std.proofs.Common.{[], refl}
 use Rattle.std.proofs.KnownBytes.{Appends-nil}
 use Rattle.hex.specs.Hex.{encode_with, lower_digits}
-use Rattle.written.proofs.Appending.{Wrote-failed}
+use Rattle.byte_io.proofs.Appending.{Wrote-failed}
 use Rattle.local_ops.proofs.Writing.{front-next, hex-next, hex-failed, split-next}
 use Rattle.local_ops.proofs.output.write_hex.Goals as goal
 

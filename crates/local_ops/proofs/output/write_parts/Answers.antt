@@ -1,4 +1,4 @@
-use Rattle.written.proofs.Appending.{Wrote-failed}
+use Rattle.byte_io.proofs.Appending.{Wrote-failed}
 use Rattle.local_ops.proofs.Writing.{WroteFront-parts}
 use Rattle.local_ops.proofs.output.write_parts.Goals as goal
 

@@ -1,6 +1,6 @@
 use Rattle.std.proofs.Common.{◌≤◌, ◌+◌, ◌*◌, [], ◌++◌, refl, arith}
 use Rattle.std.proofs.KnownBytes.{Consumes-nil, Consumes-trans, Keeps-refl}
-use Rattle.pieces.proofs.Taken.{taken-kept, taken-more, taken-within}
+use Rattle.byte_io.proofs.Taken.{taken-kept, taken-more, taken-within}
 use Rattle.serve_loops.proofs.LineLemmas.{Serves-none, Serves-append, Stops-after, Front-all, stopped}
 use Rattle.serve_loops.proofs.lines.serve.Goals as goal
 

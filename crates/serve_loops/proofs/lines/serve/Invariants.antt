@@ -1,6 +1,6 @@
 use Rattle.std.proofs.Common.{ℕ, ◌*◌, List, []}
 use Rattle.std.specs.Io.KnownBytes.{Consumes}
-use Rattle.pieces.specs.Reads.{TakesAtMost}
+use Rattle.byte_io.specs.Reads.{TakesAtMost}
 use Rattle.serve_loops.specs.Lines.{Serves, trace}
 use Rattle.serve_loops.proofs.lines.serve.Given as goal
 

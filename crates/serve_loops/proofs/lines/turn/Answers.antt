@@ -1,7 +1,7 @@
 use Rattle.std.proofs.Common.{◌≤◌, length, take, arith}
 use Rattle.std.proofs.lemmas.Grind.{common_steps}
 use Rattle.std.proofs.lemmas.List.{length-take-le}
-use Rattle.pieces.proofs.Taken.{taken-kept, taken-bytes}
+use Rattle.byte_io.proofs.Taken.{taken-kept, taken-bytes}
 use Rattle.serve_loops.proofs.LineLemmas.{nothing-read, piece-heard, read-failed}
 use Rattle.serve_loops.proofs.lines.turn.Goals as goal
 

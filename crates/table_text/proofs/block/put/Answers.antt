@@ -1,5 +1,5 @@
 use Rattle.std.proofs.Common.{◌++◌, rules}
-use Rattle.written.proofs.Appending.{WroteFront-longer, Wrote-after}
+use Rattle.byte_io.proofs.Appending.{WroteFront-longer, Wrote-after}
 use Rattle.table_text.proofs.Passing.{Passed-failed, Passed-whole, WroteAllBut-behind, WroteAllBut-front}
 use Rattle.table_text.proofs.block.put.Goals as goal
 

@@ -2,7 +2,7 @@ use Rattle.std.proofs.Common.{List, ℕ, [], ◌∷◌, ◌++◌, subst}
 use Rattle.std.specs.Fmt.{decimal, signed_decimal}
 use Rattle.hex.specs.Hex.{encode_lower}
 use Rattle.local_ops.specs.Texts.{line}
-use Rattle.written.specs.Written.{WroteFront}
+use Rattle.byte_io.specs.Written.{WroteFront}
 use Rattle.table_text.specs.Blocks.{WroteAllBut}
 use Rattle.table_text.proofs.Passing.{Passed-last, failed-first}
 use Rattle.table_text.proofs.Pieces.{row_pieces}

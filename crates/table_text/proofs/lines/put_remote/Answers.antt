@@ -3,7 +3,7 @@ use Rattle.std.specs.Prelude.{ℤ}
 use Rattle.std.proofs.lemmas.Int.{to_z-of_z}
 use Rattle.std.specs.Fmt.{signed_decimal}
 use Rattle.hex.specs.Hex.{encode_lower}
-use Rattle.written.specs.Written.{WroteFront}
+use Rattle.byte_io.specs.Written.{WroteFront}
 use Rattle.table_text.specs.Blocks.{WroteAllBut}
 use Rattle.local_ops.proofs.Writing.{remote_text}
 use Rattle.table_text.proofs.Passing.{WroteAllBut-then, Passed-last, failed-first, failed-then}

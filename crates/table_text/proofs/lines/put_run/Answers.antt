@@ -6,7 +6,7 @@ use Rattle.range_table.specs.Modes.{view_of_mode}
 use Rattle.held_locks.specs.Asked.{view_of_lock_holder}
 use Rattle.held_locks.specs.declared.asked.Holder.{Holder}
 use Rattle.local_ops.specs.Texts.{spaced, owner_text, mode_text, run_line}
-use Rattle.written.specs.Written.{WroteFront}
+use Rattle.byte_io.specs.Written.{WroteFront}
 use Rattle.table_text.specs.Blocks.{WroteAllBut}
 use Rattle.table_text.proofs.Passing.{WroteAllBut-then, Passed-last, failed-first, failed-then}
 use Rattle.table_text.proofs.Pieces.{run_pieces}

@@ -1,8 +1,8 @@
 use Rattle.std.proofs.Common.{◌≡◌, [], Option, subst}
 use Rattle.std.specs.Borrow.{Bor}
 use Rattle.definitions.specs.Bytes.{Bytes}
-use Rattle.byte_parts.specs.Parts.{parts_left}
-use Rattle.byte_parts.proofs.Cuts.{some_part}
+use Rattle.byte_io.specs.Parts.{parts_left}
+use Rattle.byte_io.proofs.Cuts.{some_part}
 use Rattle.local_ops.proofs.fields.Fields.end.Goals as goal
 
 pub returns-in-Some : goal.returns-in-Some

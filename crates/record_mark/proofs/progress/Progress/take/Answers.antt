@@ -1,5 +1,5 @@
 use Rattle.std.proofs.Common.{◌++◌, ◌-◌, drop, length, take, ap, ◌∙◌, append_assoc}
-use Rattle.byte_parts.proofs.Fronts.{front_moves}
+use Rattle.byte_io.proofs.Fronts.{front_moves}
 use Rattle.record_mark.proofs.StreamLemmas.{Reads-filled, Splits-faulty}
 use Rattle.record_mark.proofs.progress.Progress.take.Goals as goal
 

@@ -1,5 +1,5 @@
 use Rattle.std.proofs.Common.{◌≡◌, ◌*◌, vec_len}
-use Rattle.pieces.specs.Reads.{TakesAtMost}
+use Rattle.byte_io.specs.Reads.{TakesAtMost}
 use Rattle.workers.proofs.ReadingLemmas.{SoFar}
 use Rattle.workers.proofs.worker.Worker.read.Given as goal
 

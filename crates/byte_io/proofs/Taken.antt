@@ -1,7 +1,7 @@
 -- How much reads take at most.
 use Rattle.std.proofs.Common.{ℕ, ◌+◌, ◌≤◌, List, length, Option, Some, None, ap, arith, length-append}
 use Rattle.std.specs.Io.KnownBytes.{Keeps, Consumes}
-use Rattle.pieces.specs.Reads.{TakesAtMost}
+use Rattle.byte_io.specs.Reads.{TakesAtMost}
 
 pub taken-kept : (old new : Option (List ℕ)) (most : ℕ) → Keeps old new → TakesAtMost most old new
 taken-kept None new most k = tt

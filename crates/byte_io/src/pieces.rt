@@ -1,8 +1,7 @@
 //! A stream is read piece by piece, each into the same place.
-#![tactic(auto)]
 
 ghost use Rattle.std.specs.Prelude.{◌≡◌, ◌<◌, length, IfOk, vec_len};
-ghost use Rattle.pieces.specs.Reads.{ReadsPiece};
+ghost use Rattle.byte_io.specs.Reads.{ReadsPiece};
 
 use std::alloc::{AllocError, Global};
 use std::io::{ErrorKind, Read};

@@ -1,9 +1,8 @@
 //! Bytes are cut at a byte.
-#![tactic(auto)]
 
 ghost use Rattle.std.specs.Prelude.{◌≡◌, ◌∷◌, eqb};
 ghost use Rattle.std.specs.List.{position};
-ghost use Rattle.byte_parts.specs.Parts.{parts_at, parts_left};
+ghost use Rattle.byte_io.specs.Parts.{parts_at, parts_left};
 
 /// The place of the first of these bytes.
 fn first_at(bytes: &[u8], wanted: u8) -> Option<usize>

@@ -1,7 +1,6 @@
 //! Bytes are written whole, or a front of them where a write fails.
-#![tactic(auto)]
 
-ghost use Rattle.written.specs.Written.{Wrote};
+ghost use Rattle.byte_io.specs.Written.{Wrote};
 
 use std::io::Write;
 use thiserror::Error;

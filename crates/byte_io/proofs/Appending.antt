@@ -4,7 +4,7 @@ use Rattle.std.proofs.lemmas.List.{append-nil}
 use Rattle.std.specs.Io.KnownBytes.{Appends}
 use Rattle.std.proofs.KnownBytes.{Appends-trans}
 use Rattle.std.specs.Prelude.{Result, Ok, Err, IsErr}
-use Rattle.written.specs.Written.{WroteFront, Wrote}
+use Rattle.byte_io.specs.Written.{WroteFront, Wrote}
 
 -- a front, and then a front of the rest
 pub WroteFront-after : (a b d : Option (List ℕ)) (x y : List ℕ) → Appends a b x → WroteFront b d y → WroteFront a d (x ++ y)

@@ -8,7 +8,7 @@ use Rattle.std.proofs.lemmas.List.Elements.{All-from_get_or}
 use Rattle.std.proofs.lemmas.List.Splits.{slice_split_none, slice_split_first, length-slice_split, join_with_byte-slice_split}
 use Rattle.std.proofs.lemmas.List.Sums.{fails_before_first}
 use Rattle.std.proofs.lemmas.List.{take_rest}
-use Rattle.byte_parts.specs.Parts.{parts_at}
+use Rattle.byte_io.specs.Parts.{parts_at}
 
 abbrev is_at : ℕ → ℕ → Bool
 is_at byte = λ b. eqb b byte

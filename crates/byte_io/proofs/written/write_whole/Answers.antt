@@ -1,7 +1,7 @@
 use Rattle.std.proofs.Common.{◌++◌, take}
 use Rattle.std.proofs.KnownBytes.{Appends-trans}
-use Rattle.byte_parts.proofs.Fronts.{front_moves}
-use Rattle.written.proofs.write_whole.Goals as goal
+use Rattle.byte_io.proofs.Fronts.{front_moves}
+use Rattle.byte_io.proofs.written.write_whole.Goals as goal
 
 pub loop-rest-preserved : goal.loop-rest-preserved
 loop-rest-preserved g c =

@@ -1,0 +1,4 @@
+pub mod Cuts
+pub mod Fronts
+pub mod Appending
+pub mod Taken
