@@ -10,7 +10,7 @@ ghost use Rattle.byte_io.specs.Written.{Wrote};
 use crate::sent::Addressee;
 use book::Dest;
 use byte_io::{WriteFault, write_whole};
-use record_writing::write_record;
+use record_mark::write_record;
 use std::io::Write;
 use std::marker::Model;
 use xdr_core::Frame;

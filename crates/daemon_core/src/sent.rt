@@ -12,7 +12,7 @@ ghost use Rattle.byte_io.specs.Written.{Wrote};
 use crate::posting::Posting;
 use book::{LocalAnswer, Reply};
 use byte_io::WriteFault;
-use record_writing::{Spelled, write_spelled};
+use record_mark::{Spelled, write_spelled};
 use std::io::Write;
 use std::marker::Model;
 use xdr_core::Frame;

@@ -7,3 +7,4 @@ pub mod Sent
 pub mod Untaken
 pub mod Received
 pub mod Queue
+pub mod Intakes

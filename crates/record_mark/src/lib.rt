@@ -4,14 +4,18 @@
 
 mod assembler;
 mod inbox;
+mod intake;
 mod law;
 mod progress;
 mod sent;
+mod writing;
 
 pub use crate::assembler::{Assembler, MarkError};
 pub use crate::inbox::{Heard, Inbox};
+pub use crate::intake::{Ending, Intake};
 pub use crate::law::{one_reading, sent_is_one_record};
 pub use crate::sent::last_mark;
+pub use crate::writing::{Spelled, write_record, write_spelled};
 use bytes::Bytes;
 
 /// The most bytes that a record may have.

@@ -10,9 +10,9 @@ use Rattle.jobs.specs.declared.passes.View.{View}
 use Rattle.jobs.specs.Passes.{with_put, with_hand}
 use Rattle.record_mark.specs.Stream.{Splits}
 use Rattle.record_mark.specs.Assembled.{Assembled, IsSplit}
-use Rattle.record_intake.specs.declared.ending.Ending.{Ending}
-use Rattle.record_intake.specs.declared.ending.Ending.TheVariants.{Over, Failed, TooLong, Closed, Starved}
-use Rattle.record_intake.specs.Intakes.{EndsSo, Fed, Cuts}
+use Rattle.record_mark.specs.declared.intake.ending.Ending.{Ending}
+use Rattle.record_mark.specs.declared.intake.ending.Ending.TheVariants.{Over, Failed, TooLong, Closed, Starved}
+use Rattle.record_mark.specs.Intakes.{EndsSo, Fed, Cuts}
 use Rattle.workers.specs.declared.reading.Origin.{Origin}
 use Rattle.outboxes.specs.Posted.{Sent}
 use Rattle.workers.specs.Answers.{sent_for, listed, Answer, AreMet, all_sent, all_receipts, Worker, with_seat, Worked}

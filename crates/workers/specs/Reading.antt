@@ -3,8 +3,8 @@ use Rattle.std.specs.Prelude.{◌≡◌, ℕ, ◌+◌, ◌<◌, Bool, true, fals
 use Rattle.std.specs.Io.KnownBytes.{Consumes, IsAtEnd}
 use Rattle.definitions.specs.Bytes.{Bytes}
 use Rattle.record_mark.specs.Stream.{Splits}
-use Rattle.record_intake.specs.declared.ending.Ending.{Ending}
-use Rattle.record_intake.specs.declared.ending.Ending.TheVariants.{Over, Failed, TooLong, Closed, Starved}
+use Rattle.record_mark.specs.declared.intake.ending.Ending.{Ending}
+use Rattle.record_mark.specs.declared.intake.ending.Ending.TheVariants.{Over, Failed, TooLong, Closed, Starved}
 use Rattle.kept_replies.specs.Pairs.{view_of_peer}
 use Rattle.jobs.specs.Task.{Task}
 use Rattle.jobs.specs.Passes.{with_hand}

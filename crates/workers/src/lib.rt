@@ -19,7 +19,7 @@ pub use law::{
     holds_tell_of_no_grant,
 };
 pub use reading::{MOST_READ_BYTES, Origin, Source};
-pub use record_intake::Ending;
+pub use record_mark::Ending;
 pub use shared::{Ends, Entered, Next, Shared};
 pub use transcript::Transcript;
 pub use worker::{Leaves, Worker};

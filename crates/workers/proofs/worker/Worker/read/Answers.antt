@@ -2,7 +2,7 @@ use Rattle.std.proofs.Common.{◌≤◌, ◌+◌, ◌*◌, arith}
 use Rattle.std.proofs.KnownBytes.{Consumes-nil, Keeps-refl}
 use Rattle.std.proofs.lemmas.Grind.{common_steps}
 use Rattle.byte_io.proofs.Taken.{taken-kept, taken-more, taken-within}
-use Rattle.record_intake.specs.declared.ending.Ending.TheVariants.{Failed}
+use Rattle.record_mark.specs.declared.intake.ending.Ending.TheVariants.{Failed}
 use Rattle.workers.proofs.ReadingLemmas.{unread, SoFar-none, stops, ended_so, not_ended}
 use Rattle.workers.proofs.worker.Worker.read.Goals as goal
 

@@ -1,12 +1,11 @@
 //! Records are written behind their marks (RFC 5531, section 11).
-#![tactic(auto)]
 
 ghost use Rattle.std.specs.Prelude.{◌≡◌, []};
 ghost use Rattle.record_mark.specs.Sent.{marked};
 ghost use Rattle.byte_io.specs.Written.{Wrote};
 
+use crate::last_mark;
 use byte_io::{WriteFault, write_whole};
-use record_mark::last_mark;
 use std::io::Write;
 use xdr_core::Frame;
 

@@ -1,13 +1,15 @@
-//! What a stream is cut with.
+//! A stream is read piece by piece, and cut in records.
 ghost use Rattle.std.specs.Prelude.{◌≡◌, ◌≢◌, ℕ, ◌<◌, ◌≤◌, true, false, length, [], List, Err, IfOk, IfErr};
 ghost use Rattle.std.specs.Io.KnownBytes.{Consumes};
 ghost use Rattle.byte_io.specs.Reads.{TakesAtMost};
 ghost use Rattle.record_mark.specs.Assembled.{IsSplit};
-ghost use Rattle.record_intake.specs.Intakes.{heard, EndsSo, Cuts};
+ghost use Rattle.record_mark.specs.Intakes.{heard, EndsSo, Cuts};
 
-use crate::ending::Ending;
+mod ending;
+
+use crate::{Assembler, MarkError, Records};
 use byte_io::read_piece;
-use record_mark::{Assembler, MarkError, Records};
+pub use ending::Ending;
 use std::alloc::Global;
 use std::io::Read;
 use std::marker::Model;

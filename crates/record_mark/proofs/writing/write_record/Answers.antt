@@ -1,7 +1,7 @@
 use Rattle.std.proofs.Common.{◌≡◌, length, ap, ◌∙◌}
 use Rattle.record_mark.specs.Sent.{mark_of_last}
 use Rattle.byte_io.proofs.Appending.{WroteFront-longer, Wrote-after, Wrote-failed}
-use Rattle.record_writing.proofs.write_record.Goals as goal
+use Rattle.record_mark.proofs.writing.write_record.Goals as goal
 
 pub returns-in_err-write_whole : goal.returns-in_err-write_whole
 returns-in_err-write_whole g c =

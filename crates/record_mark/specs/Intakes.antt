@@ -3,8 +3,8 @@ use Rattle.std.specs.Prelude.{◌≡◌, ◌≢◌, ℕ, Bool, true, false, List
 use Rattle.std.specs.Io.KnownBytes.{IsAtEnd}
 use Rattle.definitions.specs.Bytes.{Bytes}
 use Rattle.record_mark.specs.Assembled.{Assembled, IsSplit}
-use Rattle.record_intake.specs.declared.ending.Ending.{Ending}
-use Rattle.record_intake.specs.declared.ending.Ending.TheVariants.{Over, Failed, TooLong, Closed, Starved}
+use Rattle.record_mark.specs.declared.intake.ending.Ending.{Ending}
+use Rattle.record_mark.specs.declared.intake.ending.Ending.TheVariants.{Over, Failed, TooLong, Closed, Starved}
 
 -- the bytes of a read
 abbrev pub heard : Result ℕ Ending → List ℕ → List ℕ
