@@ -1,8 +1,8 @@
 //! A stock Linux 6.1 kernel client, as it was seen on the wire: each of its calls is read as what it asks, and answered by
 //! the rules.
+use call_codec::{Call, Reading};
 use daemon_scripts::{Misplayed, play, read_xid};
 use nlm4_types::{Lock, LockArgs, Netobj, NlmCall, TestArgs, Version, WIDE};
-use record_reading::{Call, Reading};
 use script_parts::{Terms, put_message};
 use std::alloc::Global;
 use std::test::*;

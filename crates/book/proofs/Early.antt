@@ -4,8 +4,8 @@ use Rattle.definitions.specs.Bytes.{Bytes}
 use Rattle.definitions.specs.Hosts.{NotAsked}
 use Rattle.definitions.specs.Replies.{Reading, Ignored, Turned, Asks, AnswerReading, Line, LineStarved}
 use Rattle.definitions.specs.Step.{Peer, State, Take, Answer, Local, Silent, GraceOver, Restart, Starved, IsStarved, Says}
-use Rattle.record_reading.specs.Readings.{IsReading}
-use Rattle.record_reading.specs.Answers.{IsAnswerReading}
+use Rattle.call_codec.specs.Readings.{IsReading}
+use Rattle.call_codec.specs.Answers.{IsAnswerReading}
 use Rattle.local_ops.specs.Grammar.{Reads as LineReads}
 use Rattle.book.specs.Given.{starved_reading, comes_to}
 use Rattle.book.specs.Notes.{Takes, HearsAnswer, AsksLine, FallsSilent, GraceEnds, BeginsAnew, Steps}

@@ -4,7 +4,7 @@ use Rattle.definitions.specs.Bytes.{Bytes}
 use Rattle.definitions.specs.Hosts.{NotAsked}
 use Rattle.definitions.specs.Replies.{Call, Refusal, Ignored, Turned, Asks, Refuses}
 use Rattle.definitions.specs.Step.{Peer, State, Take, Applied, Nothing, Replies}
-use Rattle.record_reading.specs.Readings.{IsReading}
+use Rattle.call_codec.specs.Readings.{IsReading}
 use Rattle.book.specs.Given.{Upshot, comes_to}
 use Rattle.book.specs.Notes.{Takes, IsStep, Steps}
 

@@ -4,8 +4,8 @@ use Rattle.definitions.specs.Replies.{Reading, AnswerReading, Line}
 use Rattle.definitions.specs.World.{the_limits}
 use Rattle.definitions.specs.Step.{Event, Take, Answer, Local}
 use Rattle.definitions.specs.Replay.{Done, after}
-use Rattle.record_reading.specs.Readings.{OneReading}
-use Rattle.record_reading.specs.Answers.{OneAnswerReading}
+use Rattle.call_codec.specs.Readings.{OneReading}
+use Rattle.call_codec.specs.Answers.{OneAnswerReading}
 use Rattle.local_ops.specs.Grammar.{OneLine}
 use Rattle.book.specs.Notes.{Happening, Takes, SendsNext, HearsAnswer, AsksLine, FallsSilent, GraceEnds, BeginsAnew, Reads, OneStep}
 

@@ -4,10 +4,10 @@ use Rattle.definitions.specs.Bytes.{Bytes}
 use Rattle.definitions.specs.Hosts.{StoreAnswer}
 use Rattle.definitions.specs.Replies.{Refuses, SystemErr, Reading, Ignored, Turned, Asks}
 use Rattle.definitions.specs.Step.{Doing, Applied, Starved, Given, Nothing, Replies, Says, Sends, IsStarved, IsRefused}
-use Rattle.record_reading.specs.Values.{view_of_refusal}
-use Rattle.call_outcome.specs.Values.{view_of_outcome}
-use Rattle.call_outcome.specs.Replies.{reply_bytes}
-use Rattle.call_records.specs.Records.{call_record}
+use Rattle.call_codec.specs.CallValues.{view_of_refusal}
+use Rattle.call_codec.specs.OutcomeValues.{view_of_outcome}
+use Rattle.call_codec.specs.Replies.{reply_bytes}
+use Rattle.call_codec.specs.Records.{call_record}
 use Rattle.local_ops.specs.Answers.{view_of_local_answer}
 use Rattle.book.specs.declared.reply.Reply.{Reply}
 use Rattle.book.specs.declared.reply.Reply.TheVariants as reply

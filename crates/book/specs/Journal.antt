@@ -7,8 +7,8 @@ use Rattle.definitions.specs.World.{the_limits}
 use Rattle.definitions.specs.Step.{State, Applied, Starved, Sends}
 use Rattle.definitions.specs.Replay.{Entry, IsLegal as IsLegalFrom}
 use Rattle.call_plans.specs.Planned.{counted}
-use Rattle.call_records.specs.declared.dest.Dest.{Dest}
-use Rattle.call_records.specs.Dests.{view_of_dest}
+use Rattle.call_codec.specs.declared.records.dest.Dest.{Dest}
+use Rattle.call_codec.specs.Dests.{view_of_dest}
 use Rattle.book.specs.Given.{Upshot, comes_to, record_of}
 use Rattle.book.specs.Notes.{Note, Happening, Takes, SendsNext, HearsAnswer, AsksLine, FallsSilent, GraceEnds, BeginsAnew, Reads, Steps}
 

@@ -15,8 +15,8 @@ use Rattle.book.specs.declared.entry.Act.TheVariants as act
 use Rattle.book.specs.declared.entry.Entry.{Entry}
 use Rattle.local_ops.specs.Answers.{view_of_local_answer}
 use Rattle.book.specs.Given.{Upshot, comes_to, view_of_doing, view_of_reply}
-use Rattle.record_reading.specs.Answers.{IsAnswerReading}
-use Rattle.record_reading.specs.Readings.{IsReading}
+use Rattle.call_codec.specs.Answers.{IsAnswerReading}
+use Rattle.call_codec.specs.Readings.{IsReading}
 use Rattle.local_ops.specs.Grammar.{Reads as LineReads}
 
 pub data Happening : Type 0 where

@@ -17,7 +17,7 @@ use crate::seen::Seen;
 use crate::segment::{Closed, NoRoom, Segment};
 use crate::state::BookState;
 use crate::upshot::{Doing, Upshot};
-use call_records::Dest;
+use call_codec::Dest;
 use callbacks::ShortBytes;
 use held_locks::Locks;
 use hosts_db::HostStore;

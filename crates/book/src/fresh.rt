@@ -5,7 +5,7 @@ ghost use Rattle.definitions.specs.Replies.{Asks};
 ghost use Rattle.definitions.specs.Step.{Take, is_kept_kind, is_restart as restarts, kept_after};
 ghost use Rattle.kept_replies.specs.Pairs.{view_of_peer, at_key};
 ghost use Rattle.call_plans.specs.Planned.{view_of_stored, counted, told_in, IsForgotten};
-ghost use Rattle.record_reading.specs.Values.{view_of_call};
+ghost use Rattle.call_codec.specs.CallValues.{view_of_call};
 ghost use Rattle.book.specs.Given.{view_of_reply};
 ghost use Rattle.book.specs.Notes.{IsStep};
 
@@ -13,7 +13,7 @@ use crate::kept::KeptReply;
 use crate::reply::Reply;
 use crate::state::BookState;
 use crate::upshot::{Upshot, answers, starved};
-use call_outcome::is_kept;
+use call_codec::is_kept;
 use call_plans::Told;
 use hosts_db::HostStore;
 use kept_replies::{KeptReplies, Key, Peer};

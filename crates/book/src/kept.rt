@@ -2,12 +2,12 @@
 ghost use Rattle.std.specs.Prelude.{◌≡◌, IfOk};
 ghost use Rattle.definitions.specs.Hosts.{NotAsked};
 ghost use Rattle.definitions.specs.Step.{Applied, Replies};
-ghost use Rattle.call_outcome.specs.Values.{view_of_outcome};
+ghost use Rattle.call_codec.specs.OutcomeValues.{view_of_outcome};
 ghost use Rattle.book.specs.Given.{comes_to, view_of_reply};
 
 use crate::reply::Reply;
 use crate::upshot::{Upshot, answers};
-use call_outcome::Outcome;
+use call_codec::Outcome;
 use call_plans::Told;
 use callbacks::Letter;
 use kept_replies::Kept;
@@ -25,7 +25,7 @@ pub(crate) struct KeptReply {
 }
 
 impl Kept for KeptReply {
-    ghost use Rattle.call_outcome.specs.Values.{view_of_outcome};
+    ghost use Rattle.call_codec.specs.OutcomeValues.{view_of_outcome};
 
     ghost xid = { λ k. k.xid };
 

@@ -7,8 +7,8 @@ ghost use Rattle.book.specs.Receipts.{NewestLaw};
 ghost use Rattle.book.specs.Refusals.{MessageRefusalIsTold, RefusalIsTold};
 ghost use Rattle.book.specs.Repeats.{KeptIsGivenAgain};
 
+use call_codec::{one_answer_reading, one_reading};
 use local_ops::one_line;
-use record_reading::{one_answer_reading, one_reading};
 
 /// An event, what became of it and the store's answer fix what it gives and the state after it.
 pub fn one_step()

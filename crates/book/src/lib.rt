@@ -21,7 +21,7 @@ mod take;
 mod upshot;
 
 pub use book::Book;
-pub use call_records::{Dest, HostName};
+pub use call_codec::{Dest, HostName};
 pub use entry::{Act, Entry, SEGMENT};
 pub use event::BookEvent;
 pub use kept_replies::Peer;

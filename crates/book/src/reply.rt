@@ -2,10 +2,9 @@
 ghost use Rattle.std.specs.Prelude.{◌≡◌, ◌+◌, ◌≤◌, ◌++◌, ◌↔◌, length, IsOk, OnOk, OnErr};
 ghost use Rattle.book.specs.Given.{view_of_reply, record_of};
 
-use call_outcome::Outcome;
+use call_codec::{Outcome, Refusal};
 use local_ops::LocalAnswer;
 use owner_ids::Starved;
-use record_reading::Refusal;
 use std::alloc::Global;
 use std::sync::Arc;
 use xdr_core::{Frame, FrameFull};

@@ -3,14 +3,14 @@ ghost use Rattle.std.specs.Prelude.{◌≡◌, None, IfSome, IfNone};
 ghost use Rattle.definitions.specs.Hosts.{NotAsked};
 ghost use Rattle.definitions.specs.Outgoing.{next_due};
 ghost use Rattle.definitions.specs.Step.{Applied, Send, Sends};
-ghost use Rattle.call_records.specs.Dests.{view_of_dest};
-ghost use Rattle.call_records.specs.Records.{call_record};
+ghost use Rattle.call_codec.specs.Dests.{view_of_dest};
+ghost use Rattle.call_codec.specs.Records.{call_record};
 ghost use Rattle.book.specs.Given.{comes_to};
 ghost use Rattle.book.specs.Notes.{IsStep};
 
 use crate::seen::Seen;
 use crate::state::BookState;
-use call_records::{Dest, put_record};
+use call_codec::{Dest, put_record};
 use callbacks::Letter;
 use hosts_db::HostStore;
 use range_table::RangeTable;

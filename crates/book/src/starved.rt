@@ -2,7 +2,7 @@
 ghost use Rattle.std.specs.Prelude.{◌≡◌};
 ghost use Rattle.definitions.specs.Hosts.{NotAsked};
 ghost use Rattle.definitions.specs.Step.{State, Starved};
-ghost use Rattle.record_reading.specs.Values.{view_of_reading};
+ghost use Rattle.call_codec.specs.CallValues.{view_of_reading};
 ghost use Rattle.book.specs.Given.{comes_to, view_of_reply, starved_reading};
 ghost use Rattle.kept_replies.specs.Pairs.{view_of_peer};
 ghost use Rattle.book.specs.Notes.{view_of_event, Steps, Takes};
@@ -12,10 +12,10 @@ use crate::receipt::Taken;
 use crate::reply::Reply;
 use crate::upshot::{Doing, Upshot};
 use bytes::Bytes;
+use call_codec::{AnswerReading, Reading};
 use kept_replies::Peer;
 use local_ops::{LocalAnswer, LocalCall};
 use lock_service::StoreAnswer;
-use record_reading::{AnswerReading, Reading};
 
 impl BookEvent {
     /// What the event comes to where there was no memory for it before it began: a call gets SYSTEM_ERR, and nothing changes.

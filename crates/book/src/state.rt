@@ -12,6 +12,7 @@ use crate::kept::KeptReply;
 use crate::reply::Reply;
 use crate::seen::Seen;
 use crate::upshot::{Doing, Upshot, nothing};
+use call_codec::AnswerReading;
 use callbacks::ShortBytes;
 use hosts_db::{HostStore, StoreError};
 use kept_replies::KeptReplies;
@@ -19,7 +20,6 @@ use local_ops::LocalAnswer;
 use lock_service::{StoreAnswer, World, answered};
 use owner_ids::Starved;
 use range_table::RangeTable;
-use record_reading::AnswerReading;
 use std::alloc::Global;
 use std::marker::Model;
 

@@ -3,7 +3,7 @@ ghost use Rattle.std.specs.Prelude.{◌≡◌};
 ghost use Rattle.definitions.specs.Replies.{Asks};
 ghost use Rattle.definitions.specs.Step.{Take};
 ghost use Rattle.kept_replies.specs.Pairs.{view_of_peer};
-ghost use Rattle.record_reading.specs.Values.{view_of_call};
+ghost use Rattle.call_codec.specs.CallValues.{view_of_call};
 ghost use Rattle.call_plans.specs.Planned.{counted};
 ghost use Rattle.book.specs.Given.{view_of_reply};
 ghost use Rattle.book.specs.Notes.{IsStep, Steps, Takes};
@@ -12,12 +12,12 @@ use crate::reply::Reply;
 use crate::state::BookState;
 use crate::upshot::{Upshot, nothing, refuses, starved};
 use bytes::Bytes;
+use call_codec::Reading;
 use hosts_db::HostStore;
 use kept_replies::{Answering, Key, Peer, answer_once};
 use lock_service::{Call, StoreAnswer};
 use owner_ids::Starved;
 use range_table::RangeTable;
-use record_reading::Reading;
 
 impl<R: RangeTable, S: HostStore> BookState<R, S> {
     /// A record of a peer: it is ignored, turned away, or given to its procedure, unless its reply is kept.
@@ -59,7 +59,7 @@ impl<'a, 'c, R: RangeTable, S: HostStore> Answering<Asking<'a, 'c>, (Upshot, Rep
     ghost use Rattle.definitions.specs.Replies.{Asks};
     ghost use Rattle.definitions.specs.Step.{Take};
     ghost use Rattle.kept_replies.specs.Pairs.{view_of_peer, at_key};
-    ghost use Rattle.record_reading.specs.Values.{view_of_call};
+    ghost use Rattle.call_codec.specs.CallValues.{view_of_call};
     ghost use Rattle.book.specs.Told.{IsTold};
 
     ghost Answers = { λ old key asked told new. IsTold (Take (view_of_peer key.peer) key.«record» (Asks asked.xid (view_of_call asked.call.now))) old told new };

@@ -3,15 +3,14 @@ ghost use Rattle.std.specs.Prelude.{◌≡◌};
 ghost use Rattle.definitions.specs.Hosts.{NotAsked};
 ghost use Rattle.definitions.specs.Step.{Applied, Starved as IsStarved, Nothing, Replies};
 ghost use Rattle.definitions.specs.Replies.{SystemErr, Refuses};
-ghost use Rattle.call_outcome.specs.Values.{view_of_outcome};
-ghost use Rattle.record_reading.specs.Values.{view_of_refusal};
+ghost use Rattle.call_codec.specs.OutcomeValues.{view_of_outcome};
+ghost use Rattle.call_codec.specs.CallValues.{view_of_refusal};
 ghost use Rattle.call_plans.specs.Planned.{view_of_stored};
 ghost use Rattle.book.specs.Given.{comes_to, view_of_reply};
 
 use crate::reply::Reply;
-use call_outcome::Outcome;
+use call_codec::{Outcome, Refusal};
 use lock_service::StoreAnswer;
-use record_reading::Refusal;
 use std::alloc::Global;
 use std::marker::Model;
 use std::sync::Arc;

@@ -12,8 +12,8 @@ use Rattle.definitions.specs.Step.{settled_after}
 use Rattle.hosts_db.specs.declared.error.StoreError.{StoreError}
 use Rattle.callbacks.specs.Grants.{granted_lock}
 use Rattle.nlm4_types.specs.declared.stat.Stat.TheVariants.{Denied}
-use Rattle.record_reading.specs.declared.answer.AnswerReading.{AnswerReading}
-use Rattle.record_reading.specs.declared.answer.AnswerReading.TheVariants as reading
+use Rattle.call_codec.specs.declared.reading.answer.AnswerReading.{AnswerReading}
+use Rattle.call_codec.specs.declared.reading.answer.AnswerReading.TheVariants as reading
 use Rattle.lock_state.specs.Answered.{lock_at}
 use Rattle.lock_state.specs.Seen.{Seen}
 use Rattle.call_plans.specs.Planned.{counted, IsForgottenIfIdle}

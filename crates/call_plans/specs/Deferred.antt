@@ -1,6 +1,6 @@
 -- What is done once the store has answered.
 use Rattle.std.specs.Prelude.{◌≡◌}
-use Rattle.call_outcome.specs.Values.{view_of_outcome}
+use Rattle.call_codec.specs.OutcomeValues.{view_of_outcome}
 use Rattle.definitions.specs.Answer.{Answered}
 use Rattle.lock_state.specs.Seen.{Seen}
 use Rattle.call_plans.specs.declared.plans.Answer.{Answer}

@@ -17,7 +17,7 @@ use Rattle.callbacks.specs.Meanings.{view_of_told_my_id}
 use Rattle.nlm4_types.specs.Stat.{view_of_stat}
 use Rattle.owner_ids.specs.Views.{view_of_owner}
 use Rattle.range_table.specs.Modes.{view_of_mode, view_of_held_mode}
-use Rattle.call_outcome.specs.Values.{view_of_outcome}
+use Rattle.call_codec.specs.OutcomeValues.{view_of_outcome}
 use Rattle.lock_state.specs.Seen.{Seen, Knows, KeepsKnown, IsIdle}
 use Rattle.call_plans.specs.declared.plans.Range as range
 use Rattle.call_plans.specs.declared.plans.Wanted as wanted

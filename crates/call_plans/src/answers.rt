@@ -12,19 +12,19 @@ ghost use Rattle.definitions.specs.Step.{KeptPair, Answer, Applied, settled_afte
 ghost use Rattle.definitions.specs.Replay.{fits};
 ghost use Rattle.nlm4_types.specs.Stat.{view_of_stat};
 ghost use Rattle.out_calls.specs.Found.{found};
-ghost use Rattle.record_reading.specs.Answers.{view_of_answer};
+ghost use Rattle.call_codec.specs.Answers.{view_of_answer};
 ghost use Rattle.call_plans.specs.Planned.{view_of_stored, counted};
 ghost use Rattle.lock_state.specs.Answered.{call_at, lock_at};
 ghost use Rattle.lock_state.specs.Seen.{IsIdle, Knows};
 ghost use Rattle.call_plans.specs.Answers.{IsDone, IsFoundForgotten, IsGrant, IsGrantForgotten, IsNotice, IsTurnedForgotten, is_granted, grant_told, change_by, view_of_store_result};
 
+use call_codec::AnswerReading;
 use callbacks::Message;
 use hosts_db::{HostStore, StoreError};
 use lock_state::{AnswerKey, World};
 use nlm4_types::Stat;
 use out_calls::Call;
 use range_table::RangeTable;
-use record_reading::AnswerReading;
 use store_answers::StoreAnswer;
 
 /// Does what an answer to one of the server's own calls asks for, and grants what waited for it. An answer that belongs to

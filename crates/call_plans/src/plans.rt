@@ -1,11 +1,11 @@
 //! What is to be done for a call.
 ghost use Rattle.std.specs.Prelude.{◌≡◌, ◌≤◌, ◌<◌, ◌^◌};
-ghost use Rattle.call_outcome.specs.Values.{view_of_outcome};
+ghost use Rattle.call_codec.specs.OutcomeValues.{view_of_outcome};
 ghost use Rattle.owner_ids.specs.Views.{view_of_owner};
 ghost use Rattle.lock_state.specs.Whole.{IsShown};
 ghost use Rattle.lock_state.proofs.OneProof.{shown_prop};
 
-use call_outcome::Outcome;
+use call_codec::Outcome;
 use callbacks::{Letter, MyId, ShortBytes};
 use nlm4_types::Stat;
 use owner_ids::Owner;

@@ -2,7 +2,7 @@
 ghost use Rattle.std.specs.Prelude.{◌≡◌};
 ghost use Rattle.definitions.specs.World.{World as SaidWorld};
 ghost use Rattle.definitions.specs.Rulings.{ruled};
-ghost use Rattle.call_outcome.specs.Values.{view_of_outcome};
+ghost use Rattle.call_codec.specs.OutcomeValues.{view_of_outcome};
 ghost use Rattle.definitions.specs.Settings.{setting_of};
 ghost use Rattle.held_locks.specs.Asked.{view_of_request, view_of_new_setting};
 ghost use Rattle.call_plans.specs.Planned.{view_of_stored, planned, view_of_wanted, view_of_range};

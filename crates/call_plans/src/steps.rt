@@ -4,7 +4,7 @@ ghost use Rattle.definitions.specs.Hosts.{after_store, is_past_limit};
 ghost use Rattle.definitions.specs.World.{with_hosts, with_setting};
 ghost use Rattle.hosts_db.specs.Calls.{Counts, Makes, IsPastLimit};
 ghost use Rattle.definitions.specs.Starts.{refuses};
-ghost use Rattle.call_outcome.specs.Values.{view_of_outcome};
+ghost use Rattle.call_codec.specs.OutcomeValues.{view_of_outcome};
 ghost use Rattle.callbacks.specs.Meanings.{view_of_told_my_id};
 ghost use Rattle.std.specs.Option.{option_copied};
 ghost use Rattle.owner_ids.specs.Views.{view_of_owner};

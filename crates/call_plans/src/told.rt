@@ -1,12 +1,12 @@
 //! What is told, made of its parts.
 ghost use Rattle.std.specs.Prelude.{◌≡◌, ◌≤◌, IfOk};
-ghost use Rattle.call_outcome.specs.Values.{view_of_outcome};
+ghost use Rattle.call_codec.specs.OutcomeValues.{view_of_outcome};
 ghost use Rattle.definitions.specs.Answer.{gives, sent_back};
 ghost use Rattle.definitions.specs.World.{World as SaidWorld, slots_free, the_limits};
 ghost use Rattle.call_plans.specs.Planned.{told_in, FitsDue};
 
 use crate::plans::{SharedOutcome, Told};
-use call_outcome::{CallResult, Outcome};
+use call_codec::{CallResult, Outcome};
 use callbacks::Letter;
 use owner_ids::Starved;
 use std::alloc::Global;

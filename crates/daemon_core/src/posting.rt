@@ -1,7 +1,7 @@
 //! A call of the server's own, as it is sent.
 
 ghost use Rattle.std.specs.Prelude.{◌≡◌, [], Some};
-ghost use Rattle.call_records.specs.Dests.{view_of_dest};
+ghost use Rattle.call_codec.specs.Dests.{view_of_dest};
 ghost use Rattle.daemon_core.specs.Addressed.{view_of_addressee};
 ghost use Rattle.daemon_core.specs.Outputs.{bytes_sent};
 ghost use Rattle.daemon_core.specs.Sending.{ToLocal, addressee};
@@ -24,7 +24,7 @@ pub struct Posting {
 }
 
 impl Model for Posting {
-    ghost use Rattle.call_records.specs.Dests.{view_of_dest};
+    ghost use Rattle.call_codec.specs.Dests.{view_of_dest};
     ghost use Rattle.daemon_core.specs.Sending.{Sending, addressee};
 
     ghost Value = { Sending };

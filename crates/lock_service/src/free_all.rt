@@ -5,7 +5,7 @@ ghost use Rattle.definitions.specs.World.{World as SaidWorld, the_limits};
 ghost use Rattle.definitions.specs.Answer.{nlm_answer};
 ghost use Rattle.call_plans.specs.Planned.{IsPlan, AsksOnlyIf};
 
-use call_outcome::{CallResult, Outcome};
+use call_codec::{CallResult, Outcome};
 use call_plans::{Answer, Change, Plan, Told};
 use nlm4_types::Notify;
 use owner_ids::Starved;

@@ -7,7 +7,7 @@ ghost use Rattle.nlm4_types.specs.Results.{view_of_res};
 ghost use Rattle.call_plans.specs.Planned.{IsPlan, AsksOnlyIf};
 
 use crate::copies::cookie_of;
-use call_outcome::{CallResult, Outcome};
+use call_codec::{CallResult, Outcome};
 use call_plans::{Answer, Change, Plan, Told};
 use nlm4_types::Res;
 use owner_ids::Starved;

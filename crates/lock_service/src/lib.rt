@@ -23,11 +23,11 @@ mod unlock;
 mod unshare;
 mod verdict;
 
+pub use call_codec::Call;
 pub use call_plans::{
     Plan, Starved, StoreAnswer, World, abandon, agree, answered, commit, prepare,
 };
 pub use listing::{list_hosts, list_table};
 pub use local::{LinePlan, SetLine, close_file, get_lock, plan_set, set_lock};
 pub use quota::set_quota;
-pub use record_reading::Call;
 pub use steps::{agreed, plan};

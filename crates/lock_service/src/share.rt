@@ -12,7 +12,7 @@ ghost use Rattle.call_plans.specs.Planned.{IsPlan, AsksOnlyIf, FitsChange, FitsD
 
 use crate::checks::check_file;
 use crate::copies::cookie_of;
-use call_outcome::{CallResult, Outcome, ShareRes};
+use call_codec::{CallResult, Outcome, ShareRes};
 use call_plans::{Answer, Change, Plan, Told};
 use dos_shares::{Access, Share, ShareError};
 use grace::CallKind;

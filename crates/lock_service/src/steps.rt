@@ -6,7 +6,7 @@ ghost use Rattle.definitions.specs.Answer.{nlm_answer, ruling};
 ghost use Rattle.definitions.specs.Replay.{may_leave_row};
 ghost use Rattle.nlm4_types.specs.Call.{view_of_call as view_of_nlm_call};
 ghost use Rattle.nlm4_types.specs.Version.{view_of_version};
-ghost use Rattle.record_reading.specs.Values.{view_of_call};
+ghost use Rattle.call_codec.specs.CallValues.{view_of_call};
 ghost use Rattle.call_plans.specs.Planned.{view_of_stored, counted, stored, AsksOnlyIf, FitsUnder, IsAnswerTo, IsPlan, IsReady, IsWithin};
 ghost use Rattle.call_plans.specs.Forgotten.{LeavesNobody};
 ghost use Rattle.lock_service.specs.MayAsk.{may_ask};
@@ -14,13 +14,13 @@ ghost use Rattle.lock_service.specs.MayAsk.{may_ask};
 use crate::lock::LockCall;
 use crate::telling::Form;
 use crate::{cancel, free_all, granted, lock, null, share, status, test, unlock, unshare};
+use call_codec::Call;
 use call_plans::{Plan, StoreAnswer, agree};
 use hosts_db::HostStore;
 use lock_state::World;
 use nlm4_types::{NlmCall, Version};
 use owner_ids::Starved;
 use range_table::RangeTable;
-use record_reading::Call;
 
 /// What is to be done for a call, by the rules of its procedure, whether its peer is local or not. Changes nothing.
 pub fn plan<R: RangeTable, S: HostStore>(

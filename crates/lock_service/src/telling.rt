@@ -14,7 +14,7 @@ ghost use Rattle.lock_service.specs.Verdicts.{OnlyAsksIf};
 
 use crate::copies::cookie_of;
 use crate::verdict::Verdict;
-use call_outcome::{CallResult, Outcome};
+use call_codec::{CallResult, Outcome};
 use call_plans::{Answer, Change, Plan, Told};
 use callbacks::{Destination, Letter, Message, Res, ShortBytes};
 use nlm4_types::{Name, Netobj, Stat, Version};

@@ -17,7 +17,7 @@ ghost use Rattle.call_plans.specs.Planned.{IsPlan, AsksOnlyIf};
 use crate::checks::place_of;
 use crate::copies::{cookie_of, mode_of, owner_of};
 use crate::telling::no_place;
-use call_outcome::{CallResult, Outcome};
+use call_codec::{CallResult, Outcome};
 use call_plans::{Answer, Change, Plan, Told};
 use callbacks::{Destination, Holder, Letter, Message, ShortBytes, TestRes};
 use grace::CallKind;

@@ -2,7 +2,7 @@
 use Rattle.std.specs.Prelude.{ℕ, List, [], ◌∷◌}
 use Rattle.definitions.specs.Bytes.{Bytes}
 use Rattle.definitions.specs.Step.{Given, Nothing, Replies, Says, Sends, IsStarved, IsRefused}
-use Rattle.call_outcome.specs.Replies.{reply_bytes}
+use Rattle.call_codec.specs.Replies.{reply_bytes}
 
 -- a record that was handed over, and the connection that it is for
 pub record Sent : Type 0 where

@@ -14,7 +14,7 @@ use Rattle.definitions.specs.Replay.{Done, Entry, after, state_after, done_of, f
 use Rattle.definition_laws.specs.Numbers.{is_beginning}
 use Rattle.definition_laws.proofs.RunLaws.{grace_run_law}
 use Rattle.definition_laws.proofs.HistoryLaws.{history_grows}
-use Rattle.record_reading.specs.Readings.{OneReading}
+use Rattle.call_codec.specs.Readings.{OneReading}
 use Rattle.book.specs.Given.{Upshot}
 use Rattle.book.specs.Notes.{Note, Happening, Steps}
 use Rattle.book.specs.Journal.{Journal, AreEntriesOf, IsLegal, begun, next_of, noted}

@@ -7,7 +7,7 @@ use Rattle.definitions.specs.Reclaims.{IsUnder}
 use Rattle.definitions.specs.Step.{State, Event, Take, Doing, Applied, Given, applied, step}
 use Rattle.definitions.specs.Replay.{fits}
 use Rattle.definition_laws.proofs.StepLaws.{grace_law}
-use Rattle.record_reading.specs.Readings.{OneReading}
+use Rattle.call_codec.specs.Readings.{OneReading}
 use Rattle.book.specs.Given.{Upshot}
 use Rattle.book.specs.Notes.{Happening, Takes, SendsNext, HearsAnswer, AsksLine, FallsSilent, GraceEnds, BeginsAnew, Reads, Steps}
 use Rattle.restart_laws.specs.Rows.{KeptHaveRows}

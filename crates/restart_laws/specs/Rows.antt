@@ -9,7 +9,7 @@ use Rattle.definitions.specs.Replies.{Call, Nlm, Nsm, Outcome, Success, ResResul
 use Rattle.definitions.specs.World.{the_limits}
 use Rattle.definitions.specs.Answer.{Answered, answer}
 use Rattle.definitions.specs.Step.{Peer, KeptPair, State}
-use Rattle.record_reading.specs.Readings.{IsReading}
+use Rattle.call_codec.specs.Readings.{IsReading}
 
 -- whom a LOCK or a LOCK_MSG has monitored: its caller's host
 abbrev pub monitored_by : Call → Option Bytes

@@ -8,11 +8,11 @@ ghost use Rattle.restart_laws.specs.Runs.{RunsKeepRows};
 ghost use Rattle.workers.specs.Laws.{state_of};
 
 use book::Book;
+use call_codec::one_reading;
 use daemon_core::{Daemon, runs_are_histories};
 use hosts_db::HostStore;
 use hosts_lasting::Lasting;
 use range_table::RangeTable;
-use record_reading::one_reading;
 use std::sync::ledger::Ledger;
 use workers::{Shared, hold_is_step};
 

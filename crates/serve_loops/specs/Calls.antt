@@ -1,7 +1,7 @@
 -- The server's own calls, as they are handed over.
 use Rattle.std.specs.Prelude.{◌≡◌, ◌≤◌, ℕ, List, [], ◌∷◌, ◌++◌, Some, length}
 use Rattle.definitions.specs.Bytes.{Bytes}
-use Rattle.call_records.specs.declared.dest.Dest.{Dest}
+use Rattle.call_codec.specs.declared.records.dest.Dest.{Dest}
 use Rattle.book.specs.Notes.{Note}
 use Rattle.book.specs.Receipts.{newest}
 use Rattle.workers.specs.Holds.{Held}

@@ -6,7 +6,7 @@ use Rattle.definitions.specs.World.{the_limits}
 use Rattle.definitions.specs.Step.{State, Event, Restart, Doing, Applied, Given, Nothing, opening_state}
 use Rattle.definitions.specs.Hosts.{StoreAnswer}
 use Rattle.definitions.specs.Replay.{after}
-use Rattle.call_records.specs.declared.dest.Dest.{Dest}
+use Rattle.call_codec.specs.declared.records.dest.Dest.{Dest}
 use Rattle.book.specs.Given.{Upshot, comes_to}
 use Rattle.std.specs.Prelude.{option_map}
 use Rattle.book.specs.Notes.{Note, Happening, Takes, SendsNext, BeginsAnew, Steps, is_take}

@@ -4,8 +4,8 @@ use Rattle.definitions.specs.Bytes.{Bytes}
 use Rattle.definitions.specs.Hosts.{NotAsked}
 use Rattle.definitions.specs.Outgoing.{Letter, next_due}
 use Rattle.definitions.specs.Step as step
-use Rattle.call_records.specs.declared.dest.Dest.{Dest}
-use Rattle.call_records.specs.Dests.{view_of_dest}
+use Rattle.call_codec.specs.declared.records.dest.Dest.{Dest}
+use Rattle.call_codec.specs.Dests.{view_of_dest}
 use Rattle.book.specs.Given.{comes_to, record_of}
 use Rattle.book.specs.Notes.{SendsNext, Note}
 use Rattle.book.specs.Journal.{IsNext, room_of}

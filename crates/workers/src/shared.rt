@@ -17,7 +17,7 @@ use book::{
     segments_are_one_history,
 };
 use bytes::Bytes;
-use call_records::Dest;
+use call_codec::Dest;
 use hosts_db::HostStore;
 use range_table::RangeTable;
 use std::alloc::Global;

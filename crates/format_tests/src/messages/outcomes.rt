@@ -3,11 +3,10 @@ ghost use Rattle.std.specs.Prelude.{◌≤◌, length};
 
 use super::memory::Memory;
 use crate::words::is_words;
-use call_outcome::{CallResult, Outcome, ShareRes};
+use call_codec::{CallResult, Outcome, Refusal, ShareRes};
 use callbacks::Holder;
 use nlm4_types::{Stat, Version};
 use nsm_types::{MonitorRes, SmStat, SmStatRes};
-use record_reading::Refusal;
 use std::process::Abort;
 use xdr_core::Frame;
 

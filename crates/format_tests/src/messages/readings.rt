@@ -1,8 +1,8 @@
 //! What records and answers are read as: headers and arguments in turn.
 use crate::words::words;
+use call_codec::{AnswerReading, Call, Reading, Refusal, one_answer_reading, one_reading};
 use nlm4_types::{NlmCall, Stat, Version};
 use nsm_types::NsmCall;
-use record_reading::{AnswerReading, Call, Reading, Refusal, one_answer_reading, one_reading};
 
 /// Whether the record of the call 7 is refused so.
 fn is_refused(text: &str, expected: Refusal) -> bool {

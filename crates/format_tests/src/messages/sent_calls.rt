@@ -1,7 +1,7 @@
 //! Records of the server's own calls, word by word.
 use super::memory::Memory;
 use crate::words::is_words;
-use call_records::{Dest, put_record};
+use call_codec::{Dest, put_record};
 use callbacks::{Destination, Letter, Message};
 use std::alloc::Global;
 use xdr_core::Frame;

@@ -6,7 +6,7 @@ ghost use Rattle.definitions.specs.Answer.{nsm_answer};
 ghost use Rattle.call_plans.specs.Planned.{IsPlan};
 
 use super::stat;
-use call_outcome::{CallResult, Outcome};
+use call_codec::{CallResult, Outcome};
 use call_plans::{Answer, Asked, Change, Plan, Told, World};
 use hosts_db::HostStore;
 use owner_ids::Starved;

@@ -7,7 +7,7 @@ ghost use Rattle.call_plans.specs.Planned.{view_of_asked, CanAskFor, IsPlan};
 ghost use Rattle.lock_service.specs.Dropping.{dropped_if_room};
 
 use super::stat;
-use call_outcome::{CallResult, Outcome};
+use call_codec::{CallResult, Outcome};
 use call_plans::{Answer, Asked, Change, Plan, SharedOutcome, Told, World};
 use callbacks::ShortBytes;
 use hosts_db::HostStore;

@@ -7,7 +7,7 @@ ghost use Rattle.definitions.specs.Answer.{gives, gives_state, own_state, says};
 ghost use Rattle.nsm_types.specs.Results.{view_of_monitor_res};
 ghost use Rattle.call_plans.specs.Planned.{told_in, FitsDue, IsPlan};
 
-use call_outcome::{CallResult, Outcome};
+use call_codec::{CallResult, Outcome};
 use call_plans::{Answer, Change, Plan, Told, World};
 use hosts_db::HostStore;
 use nsm_types::{MonitorRes, SmStat, SmStatRes};

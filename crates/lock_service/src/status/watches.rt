@@ -10,7 +10,7 @@ ghost use Rattle.nsm_types.specs.Arguments.{view_of_my_id};
 ghost use Rattle.call_plans.specs.Planned.{view_of_asked, CanAskFor, IsPlan};
 
 use super::stat;
-use call_outcome::Outcome;
+use call_codec::Outcome;
 use call_plans::{Answer, Asked, Change, Plan, Told, World};
 use callbacks::{self, ShortBytes};
 use hosts_db::HostStore;

@@ -1,7 +1,7 @@
 use Rattle.std.proofs.Common.{subst, ℕ, List}
 use Rattle.kept_replies.specs.Pairs.{view_of_peer}
-use Rattle.record_reading.specs.Values.{view_of_reading}
-use Rattle.record_reading.specs.Readings.{IsReading}
+use Rattle.call_codec.specs.CallValues.{view_of_reading}
+use Rattle.call_codec.specs.Readings.{IsReading}
 use Rattle.book.proofs.Early.{taken}
 use Rattle.book.proofs.starved.starved_take.Goals as goal
 

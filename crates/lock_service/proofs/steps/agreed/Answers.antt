@@ -1,7 +1,7 @@
 use Rattle.std.proofs.Common.{inr, subst, sym}
 use Rattle.definitions.specs.Answer.{ruling}
 use Rattle.definitions.specs.World.{World, the_limits}
-use Rattle.record_reading.specs.Values.{view_of_call}
+use Rattle.call_codec.specs.CallValues.{view_of_call}
 use Rattle.call_plans.specs.Planned.{IsPlan}
 use Rattle.lock_service.proofs.steps.agreed.Goals as goal
 

@@ -1,5 +1,5 @@
 use Rattle.std.proofs.Common.{subst, ℕ, List, inl, inr}
-use Rattle.record_reading.specs.Answers.{IsAnswerReading, view_of_answer}
+use Rattle.call_codec.specs.Answers.{IsAnswerReading, view_of_answer}
 use Rattle.local_ops.specs.Calls.{view_of_line_read}
 use Rattle.local_ops.specs.Grammar.{Reads as LineReads}
 use Rattle.book.proofs.Early.{answer, line, silent, grace, anew}

@@ -1,6 +1,6 @@
 use Rattle.std.proofs.Common.{refl}
 use Rattle.definitions.specs.Step.{State, Answer}
-use Rattle.record_reading.specs.Answers.{view_of_answer}
+use Rattle.call_codec.specs.Answers.{view_of_answer}
 use Rattle.book.proofs.state.BookState.answer.Goals as goal
 
 pub returns-clause-step : goal.returns-clause-step

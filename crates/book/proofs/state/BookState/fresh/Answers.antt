@@ -2,8 +2,8 @@ use Rattle.std.proofs.Common.{sym, ap, ◌∙◌}
 use Rattle.definitions.specs.Answer.{Answered}
 use Rattle.definitions.specs.Step.{State}
 use Rattle.kept_replies.specs.Pairs.{view_of_peer}
-use Rattle.call_outcome.specs.Values.{view_of_outcome}
-use Rattle.record_reading.specs.Values.{view_of_call}
+use Rattle.call_codec.specs.OutcomeValues.{view_of_outcome}
+use Rattle.call_codec.specs.CallValues.{view_of_call}
 use Rattle.lock_service.specs.MayAsk.{may_ask}
 use Rattle.call_plans.specs.Planned.{view_of_stored, due_under, told_in}
 use Rattle.book.proofs.Calls.{starved_early, starved_late, kept_asks, same_kept, done}

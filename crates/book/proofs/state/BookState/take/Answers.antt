@@ -1,8 +1,8 @@
 use Rattle.std.proofs.Common.{subst, ℕ, List}
 use Rattle.definitions.specs.Replies.{Ignored, Turned, Asks}
 use Rattle.kept_replies.specs.Pairs.{view_of_peer}
-use Rattle.record_reading.specs.Values.{view_of_refusal, view_of_call}
-use Rattle.record_reading.specs.Readings.{IsReading}
+use Rattle.call_codec.specs.CallValues.{view_of_refusal, view_of_call}
+use Rattle.call_codec.specs.Readings.{IsReading}
 use Rattle.book.proofs.Records.{ignored, turned, asked}
 use Rattle.book.proofs.state.BookState.take.Goals as goal
 

@@ -2,7 +2,7 @@ use Rattle.std.proofs.Common.{◌≤◌, length, sym, ap, ◌∙◌, arith, w32}
 use Rattle.std.proofs.lemmas.Int.{to_z-of_z}
 use Rattle.definitions.specs.Hosts.{watches_of}
 use Rattle.definitions.specs.World.{the_limits, slots_free}
-use Rattle.call_outcome.specs.Values.{view_of_outcome}
+use Rattle.call_codec.specs.OutcomeValues.{view_of_outcome}
 use Rattle.call_plans.specs.Planned.{view_of_asked, told_in}
 use Rattle.lock_service.proofs.Dropping.{same, with_room, fits}
 use Rattle.lock_service.proofs.status.notify.dropped.Goals as goal
