@@ -17,7 +17,7 @@ use Rattle.range_table.specs.File.{file_cmp}
 use Rattle.range_table.proofs.Files.{file_same_cmp, file_cmp_total, file_cmp_exact}
 use Rattle.range_table.proofs.Tests.{by_test}
 use Rattle.range_table.proofs.Orderings.{lt_is, le_not, not_le}
-use Rattle.range_owners.proofs.Words.{file_same}
+use Rattle.held_locks.proofs.Words.{file_same}
 use Rattle.blocked_list.specs.ByFile.{below, places_of, AreByFile, IsIndex, IsPoint, moved_up, without_place}
 use Rattle.blocked_list.proofs.Places.{all_both, all_first, all_between, all_kept, all_map, take_each, drop_each, kept_same, kept_all, kept_none, kept_twice, kept_within, kept_map, all_below, one_below, without_below}
 use Rattle.range_table.proofs.Lists.{all_by, all_filter, all_at, Falls, partitioned}

@@ -4,7 +4,7 @@ use Rattle.std.proofs.Math.Nat.{mod-lt}
 use Rattle.std.proofs.lemmas.List.{get_or-set_same, get_or-set_other, length-set, take_more}
 use Rattle.std.specs.List.{list_any, remove}
 use Rattle.range_table.proofs.Tests.{by_test}
-use Rattle.range_owners.proofs.Words.{number_is, number_same, number_other}
+use Rattle.held_locks.proofs.Words.{number_is, number_same, number_other}
 use Rattle.blocked_list.specs.ByOwner.{tally, AreCounted}
 use Rattle.blocked_list.specs.Waiting.{Waiting}
 

@@ -7,9 +7,9 @@ use Rattle.definitions.specs.Bytes.{Bytes, same_bytes, is_any, without, without_
 use Rattle.definitions.specs.Owners.{Owner, Process, same_owner, is_of_host}
 use Rattle.definitions.specs.Waits.{Waiter, modes_are_same, same_request}
 use Rattle.owner_ids.specs.Names.{Names, AreDistinct, is_owned_by, is_some_of_host}
-use Rattle.range_owners.specs.Same.{IsSameRequest}
+use Rattle.held_locks.specs.Same.{IsSameRequest}
 use Rattle.range_table.specs.Modes.{view_of_mode}
-use Rattle.range_owners.proofs.Words.{owner_test}
+use Rattle.held_locks.proofs.Words.{owner_test}
 use Rattle.range_table.specs.Settings.{same_mode}
 use Rattle.range_table.specs.declared.run.Mode.{Mode}
 use Rattle.range_table.specs.declared.run.Mode.TheVariants.{Shared, Exclusive}

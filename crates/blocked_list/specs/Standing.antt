@@ -5,7 +5,7 @@ use Rattle.definitions.specs.Settings.{Setting, Request}
 use Rattle.definitions.specs.Starts.{is_short, used_of}
 use Rattle.definitions.specs.Waits.{Waiter}
 use Rattle.owner_ids.specs.Names.{Names}
-use Rattle.range_owners.specs.Stands.{WhereStands}
+use Rattle.held_locks.specs.Stands.{WhereStands}
 use Rattle.range_table.specs.declared.run.Run.{Run}
 use Rattle.range_table.specs.declared.run.Setting.{Setting as NumberSetting}
 use Rattle.blocked_list.specs.Waiting.{Waiting, AreKnown, request_by, waiter_by, waiters_by}

@@ -43,7 +43,7 @@ impl Slots {
         while let Some(place) = pending(reached, followed, self.waiters.len()) {
             followed[place] = true;
             let next = self.waiters[place].asked();
-            if range_owners::conflicts_with(table, owners, next, wanted.run().owner) {
+            if held_locks::conflicts_with(table, owners, next, wanted.run().owner) {
                 return true;
             }
             self.reach(table, owners, next, reached);
@@ -93,7 +93,7 @@ impl Slots {
         ensures { WhereWants (named owners.now) (T.settings table.now) self.now.waiters wanted.now (λ settings waiters r. (x : OwnerWaiter) → slice_get waiters place ≡ Some x → result ≡ leads settings r x) }
     {
         let owner = self.waiters[place].wanted().owner;
-        is_step(owners, owner) && range_owners::conflicts_with(table, owners, wanted, owner)
+        is_step(owners, owner) && held_locks::conflicts_with(table, owners, wanted, owner)
     }
 }
 

@@ -7,7 +7,7 @@ ghost use Rattle.blocked_list.specs.Ready.{IsFirstReady, IsFirstReadyOn, is_read
 
 use crate::quotas::Quotas;
 use crate::slots::Slots;
-use host_runs::RunsOfHosts;
+use held_locks::RunsOfHosts;
 use owner_ids::Owners;
 use range_table::{FileId, RangeTable};
 
@@ -24,7 +24,7 @@ impl Slots {
         ensures bound { IfSome result (λ place. place < length self.now.waiters) }
         ensures first { WhereCounted (named owners.now) (T.settings table.now) self.now.waiters (H.runs hosts.now) (λ settings waiters. IsFirstReady (Q.by_host quotas.now) settings waiters result) }
     {
-        if range_owners::is_short(table, owners) {
+        if held_locks::is_short(table, owners) {
             return None;
         }
         for place in 0..self.waiters.len() {
@@ -64,7 +64,7 @@ impl Slots {
         ensures bound { IfSome result (λ place. place < length self.now.waiters) }
         ensures first { WhereCounted (named owners.now) (T.settings table.now) self.now.waiters (H.runs hosts.now) (λ settings waiters. IsFirstPlace (is_ready_on file.now (Q.by_host quotas.now) settings) waiters result) }
     {
-        if range_owners::is_short(table, owners) {
+        if held_locks::is_short(table, owners) {
             return None;
         }
         for place in self.by_file.part(&self.waiters, file) {

@@ -10,9 +10,8 @@ ghost use Rattle.blocked_list.specs.Standing.{WhereFree, AreRunsOf};
 
 use crate::quotas::{Quotas, limit_of};
 use callbacks::Letter;
-use host_runs::RunsOfHosts;
+use held_locks::{Allowance, RunsOfHosts};
 use owner_ids::Owners;
-use range_owners::Allowance;
 use range_table::{FileId, RangeTable, Ranged, Run, Setting, Wanted};
 use std::marker::Model;
 
@@ -70,7 +69,7 @@ impl Waiter {
     }
 
     // Whether it waits for this lock: of one owner, file, range and mode.
-    #[tactic(auto, using(crate::proofs::Waits::modes_same, range_owners::proofs::Words::file_same))]
+    #[tactic(auto, using(crate::proofs::Waits::modes_same, held_locks::proofs::Words::file_same))]
     pub(crate) fn is_for(&self, wanted: &Run) -> bool
         ensures { result ≡ same_wanted self.now.wanted wanted.now }
     {
@@ -82,7 +81,7 @@ impl Waiter {
             && run.mode.is_same(wanted.mode)
     }
 
-    #[tactic(auto, using(range_owners::proofs::Words::file_same))]
+    #[tactic(auto, using(held_locks::proofs::Words::file_same))]
     pub(crate) fn is_on(&self, file: &FileId) -> bool
         ensures { result ≡ same_bytes self.now.wanted.file file.now }
     {
@@ -99,7 +98,7 @@ impl Waiter {
     ) -> bool
         ensures { WhereFree (named owners.now) (T.settings table.now) self.now (λ settings waiter. AreRunsOf (H.runs hosts.now) settings → result ≡ is_ready the_limits (Q.by_host quotas.now) settings waiter) }
     {
-        !range_owners::conflicts(table, owners, &self.wanted)
+        !held_locks::conflicts(table, owners, &self.wanted)
             && !self.is_held_back(table, owners, hosts, quotas)
     }
 
@@ -123,7 +122,7 @@ impl Waiter {
             used: hosts.runs_of(limit.host),
             quota: limit.quota,
         };
-        range_owners::is_past(table, owners, limit.host, allowance, &self.setting())
+        held_locks::is_past(table, owners, limit.host, allowance, &self.setting())
     }
 
     // What it sets once it is granted.

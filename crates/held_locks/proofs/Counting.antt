@@ -1,6 +1,6 @@
 -- Runs are counted by number.
 use Rattle.std.proofs.Common.{◌≡◌, ◌+◌, ℕ, ltb, ap, ◌∙◌, List}
-use Rattle.range_owners.proofs.Counting.{two_less}
+use Rattle.held_locks.proofs.OwnerCounting.{two_less}
 use Rattle.definitions.specs.Settings.{Setting}
 use Rattle.definitions.specs.Starts.{used, is_short}
 

@@ -7,10 +7,10 @@ use Rattle.owner_ids.specs.Views.{view_of_owner}
 use Rattle.owner_ids.specs.Names.{Names, IsNumberFor}
 use Rattle.range_table.specs.Settings.{IsUsed, mode_at, held_after}
 use Rattle.range_table.specs.declared.run.Setting.{Setting as NumberSetting}
-use Rattle.range_owners.specs.Same.{IsSameSetting}
-use Rattle.range_owners.specs.Stands.{Stands}
-use Rattle.range_owners.proofs.Keeping.{interned}
-use Rattle.range_owners.proofs.Counting.{used_after_over}
+use Rattle.held_locks.specs.Same.{IsSameSetting}
+use Rattle.held_locks.specs.Stands.{Stands}
+use Rattle.held_locks.proofs.Keeping.{interned}
+use Rattle.held_locks.proofs.OwnerCounting.{used_after_over}
 use Rattle.held_locks.specs.declared.asked.NewSetting.{NewSetting}
 use Rattle.held_locks.specs.Asked.{view_of_new_setting, new_setting_by_number}
 use Rattle.held_locks.proofs.Strangers.{named_too, renames_too}

@@ -11,13 +11,13 @@ use Rattle.definitions.proofs.QuotaLaws.{others_keep}
 use Rattle.definitions.proofs.RunCounts.{as_many_of}
 use Rattle.definitions.proofs.SettingLaws.{drop_owner, drop_host}
 use Rattle.owner_ids.specs.Names.{named, is_owned_by}
-use Rattle.host_runs.specs.HostRuns.{Counted, runs_of, IsRecounted, Puts}
+use Rattle.held_locks.specs.HostRuns.{Counted, runs_of, IsRecounted, Puts}
 use Rattle.range_table.specs.Settings.{Held, IsUsed, mode_at as held_at, held_by}
 use Rattle.range_table.specs.declared.run.Setting.{Setting as NumberSetting}
 use Rattle.range_table.proofs.Counts.{used_once}
-use Rattle.range_owners.specs.Stands.{Stands}
-use Rattle.range_owners.proofs.Counting.{used_over, used_of_is, of_host}
-use Rattle.range_owners.proofs.Allowances.{own_left}
+use Rattle.held_locks.specs.Stands.{Stands}
+use Rattle.held_locks.proofs.OwnerCounting.{used_over, used_of_is, of_host}
+use Rattle.held_locks.proofs.Allowances.{own_left}
 use Rattle.held_locks.specs.Tied.{IsTied, IsCounted, AreHostRuns, IsCountedAnew}
 use Rattle.held_locks.proofs.Ties.{tied_nothing}
 

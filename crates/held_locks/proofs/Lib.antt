@@ -4,3 +4,12 @@ pub mod Ties
 pub mod Sweeps
 pub mod Guests
 pub mod HostCounts
+pub mod Words
+pub mod Keeping
+pub mod OwnerCounting
+pub mod FirstConflicts
+pub mod Released
+pub mod RunOrders
+pub mod InWay
+pub mod Allowances
+pub mod RunCounts

@@ -13,13 +13,13 @@ use Rattle.owner_ids.proofs.Orders.{number_agrees}
 use Rattle.range_table.specs.Settings.{Held, IsConflict, IsFirstConflict, IsUpTo, conflicts, excludes}
 use Rattle.range_table.specs.File.{same_file}
 use Rattle.range_table.specs.declared.run.Run.{Run as NumberRun}
-use Rattle.range_owners.specs.Same.{IsSameRun, IsSameFound}
+use Rattle.held_locks.specs.Same.{IsSameRun, IsSameFound}
 use Rattle.range_table.specs.Modes.{view_of_mode}
-use Rattle.range_owners.specs.Stands.{Stands}
-use Rattle.range_owners.proofs.Words.{number_same, number_other}
-use Rattle.range_owners.proofs.Keeping.{interned}
-use Rattle.range_owners.proofs.FirstConflicts.{first_over}
-use Rattle.range_owners.proofs.InWay.{conflicts_over}
+use Rattle.held_locks.specs.Stands.{Stands}
+use Rattle.held_locks.proofs.Words.{number_same, number_other}
+use Rattle.held_locks.proofs.Keeping.{interned}
+use Rattle.held_locks.proofs.FirstConflicts.{first_over}
+use Rattle.held_locks.proofs.InWay.{conflicts_over}
 use Rattle.held_locks.specs.declared.asked.Request.{Request as HeldRequest}
 use Rattle.held_locks.specs.Asked.{view_of_request, run_by_number}
 

@@ -19,16 +19,16 @@ use Rattle.range_table.proofs.Tests.{by_test}
 use Rattle.range_table.proofs.Tables.{mode_at-append, mode_at-filter}
 use Rattle.range_table.proofs.Counts.{used_once, IsUsed-same}
 use Rattle.range_table.proofs.Splitting.{part_used, used_parts}
-use Rattle.range_owners.specs.Stands.{Stands}
-use Rattle.range_owners.proofs.Words.{number_same, number_other, number_is, covers_owner, none_or}
-use Rattle.range_owners.proofs.Keeping.{cleared, stands_after, released, had_or_interned, stands_without_owner, stands_without_host}
-use Rattle.range_owners.specs.Same.{IsSameSetting}
+use Rattle.held_locks.specs.Stands.{Stands}
+use Rattle.held_locks.proofs.Words.{number_same, number_other, number_is, covers_owner, none_or}
+use Rattle.held_locks.proofs.Keeping.{cleared, stands_after, released, had_or_interned, stands_without_owner, stands_without_host}
+use Rattle.held_locks.specs.Same.{IsSameSetting}
 use Rattle.range_table.specs.Modes.{view_of_held_mode}
 use Rattle.owner_ids.specs.Views.{view_of_owner}
 use Rattle.held_locks.specs.declared.asked.NewSetting.{NewSetting}
 use Rattle.held_locks.specs.Asked.{view_of_new_setting, new_setting_by_number}
-use Rattle.range_owners.proofs.Counting.{used_is, of_host}
-use Rattle.range_owners.proofs.Released.{nothing_used, release_test}
+use Rattle.held_locks.proofs.OwnerCounting.{used_is, of_host}
+use Rattle.held_locks.proofs.Released.{nothing_used, release_test}
 use Rattle.held_locks.specs.Tied.{IsTied, AreCounts, Spares, WereCounted}
 
 nothing_at : {X : Type 0} (d : X) (n : ℕ) → slice_index_or [] n d ≡ d

@@ -2,3 +2,8 @@ pub mod Asked
 pub mod Held
 pub mod Tied
 pub mod Listing
+pub mod Same
+pub mod Stands
+pub mod Allowances
+pub mod HostRuns
+pub mod Kept

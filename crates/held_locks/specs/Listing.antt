@@ -1,7 +1,7 @@
 -- All runs by number, in the order of their owners.
 use Rattle.std.specs.Prelude.{List}
 use Rattle.owner_ids.specs.Names.{named, number_cmp}
-use Rattle.range_owners.specs.Stands.{Stands}
+use Rattle.held_locks.specs.Stands.{Stands}
 use Rattle.range_table.specs.Settings.{AreRuns, Held as NumberHeld}
 use Rattle.range_table.specs.declared.run.Run.{Run as NumberRun}
 use Rattle.held_locks.specs.Held.{Held}

@@ -5,11 +5,11 @@ use Rattle.definitions.specs.Owners.{Owner}
 use Rattle.definitions.specs.Settings.{Setting}
 use Rattle.range_table.specs.declared.run.Setting.{Setting as NumberSetting}
 use Rattle.definitions.specs.Starts.{used_of}
-use Rattle.host_runs.specs.HostRuns.{Counted, runs_of, IsRecounted}
+use Rattle.held_locks.specs.HostRuns.{Counted, runs_of, IsRecounted}
 use Rattle.range_table.specs.File.{File}
 use Rattle.range_table.specs.Settings.{Held, mode_at, held_by, IsUsed}
 use Rattle.owner_ids.specs.Names.{named}
-use Rattle.range_owners.specs.Stands.{Stands}
+use Rattle.held_locks.specs.Stands.{Stands}
 
 -- how many runs each number has
 abbrev pub AreCounts : List NumberSetting → List ℕ → Type 0

@@ -58,7 +58,7 @@ impl<'a> Request<'a> {
 
 impl<'a> Holder<'a> {
     ghost use Rattle.held_locks.specs.Asked.{view_of_lock_holder};
-    ghost use Rattle.range_owners.specs.Same.{view_of_run};
+    ghost use Rattle.held_locks.specs.Same.{view_of_run};
     ghost use Rattle.owner_ids.specs.Views.{view_of_owner};
 
     /// Of a run, and the owner of its number.

@@ -9,7 +9,7 @@ ghost use Rattle.owner_ids.specs.Views.{view_of_owner};
 ghost use Rattle.held_locks.specs.Tied.{AreCounts, IsCountedAnew, WereCounted};
 
 use crate::asked::NewSetting;
-use host_runs::HostRuns;
+use crate::host_runs::HostRuns;
 use owner_ids::{Host, HostOf, Owner, OwnerId, Owners, Starved};
 use range_table::{FileId, NoRuns, RangeTable};
 

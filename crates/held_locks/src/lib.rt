@@ -4,10 +4,14 @@
 
 mod asked;
 mod counts;
+mod host_runs;
 mod listing;
 mod locks;
+mod owners;
 mod quotas;
 
 pub use asked::{Holder, NewSetting, Request};
+pub use host_runs::{HostRuns, RunsOfHosts};
 pub use listing::Listing;
 pub use locks::Locks;
+pub use owners::{Allowance, conflicts, conflicts_with, is_past, is_short, used_of};

@@ -6,7 +6,7 @@ ghost use Rattle.definitions.specs.Conflict.{conflicts};
 ghost use Rattle.definitions.specs.Starts.{first_conflict, is_short, refuses, used, used_of, runs};
 ghost use Rattle.owner_ids.specs.Views.{view_of_owner};
 ghost use Rattle.owner_ids.specs.Names.{named};
-ghost use Rattle.range_owners.specs.Stands.{Stands};
+ghost use Rattle.held_locks.specs.Stands.{Stands};
 ghost use Rattle.range_table.specs.Settings.{mode_at};
 ghost use Rattle.held_locks.specs.Asked.{view_of_request, view_of_new_setting, setting_by, view_of_lock_holder, view_of_found_holder};
 ghost use Rattle.held_locks.specs.Held.{IsKnown, KeepsKnown, KeepsNames, SameNames, HoldsNothing};
@@ -15,9 +15,9 @@ ghost use Rattle.owner_ids.specs.Names.{IsNumberFor};
 
 use crate::asked::{Holder, NewSetting, Request};
 use crate::counts::{self, make_place};
+use crate::host_runs::HostRuns;
 use crate::listing::Listing;
 use history::History;
-use host_runs::HostRuns;
 use owner_ids::{HostOf, NOBODY, Owner, OwnerId, Owners, Starved};
 use range_table::{FileId, NoRuns, RangeTable, Wanted};
 use std::alloc::Global;
@@ -104,7 +104,7 @@ impl<R: RangeTable> Locks<R> {
             return self.hosts.get(host);
         }
         let (table, owners) = self.parts();
-        range_owners::used_of(table, owners, host)
+        crate::owners::used_of(table, owners, host)
     }
 
     // How many there would be after the setting, also by an owner who isn't known.

@@ -7,9 +7,9 @@ ghost use Rattle.owner_ids.specs.Views.{view_of_owner};
 ghost use Rattle.held_locks.specs.Asked.{view_of_new_setting};
 
 use crate::asked::NewSetting;
+use crate::host_runs::RunsOfHosts;
 use crate::locks::Locks;
-use host_runs::RunsOfHosts;
-use range_owners::Allowance;
+use crate::owners::Allowance;
 use range_table::RangeTable;
 
 impl<R: RangeTable> Locks<R> {

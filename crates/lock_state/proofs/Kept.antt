@@ -6,7 +6,7 @@ use Rattle.std.proofs.lemmas.Bool.{false≢true, or_right, or_parts}
 use Rattle.definitions.specs.Bytes.{Bytes, is_any}
 use Rattle.definitions.specs.Owners.{Owner, Process, is_of_host, same_owner}
 use Rattle.definitions.proofs.OwnerLaws.{same_owner-Decides}
-use Rattle.range_owners.proofs.Words.{number_is}
+use Rattle.held_locks.proofs.Words.{number_is}
 use Rattle.definitions.specs.Outgoing.{Outgoing}
 use Rattle.definitions.specs.Settings.{Setting, without_host}
 use Rattle.definitions.specs.Quotas.{Quotas}

@@ -9,7 +9,7 @@ use Rattle.definitions.specs.Conflict.{excludes, holds_against, tested, conflict
 use Rattle.definitions.specs.Waits.{Waiter, same_request, is_waiting, waits_for, reached_from, closes_cycle}
 use Rattle.range_table.specs.Settings.{Held}
 use Rattle.owner_ids.specs.Names.{Names, named}
-use Rattle.range_owners.specs.Stands.{Stands}
+use Rattle.held_locks.specs.Stands.{Stands}
 use Rattle.blocked_list.specs.Waiting.{Waiting, AreNamed, waiter_by, waiters_by}
 use Rattle.lock_state.proofs.Closed.{not_same}
 use Rattle.lock_state.proofs.Kept.{some_of}

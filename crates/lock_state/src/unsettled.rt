@@ -25,7 +25,7 @@ pub(crate) enum Unsettled {
 
 impl Unsettled {
     /// There, or on this file.
-    #[tactic(auto, using(range_owners::proofs::Words::file_same))]
+    #[tactic(auto, using(held_locks::proofs::Words::file_same))]
     pub(crate) fn with_file(&self, file: &FileId) -> Unsettled
         ensures { result ≡ with_file self.now file.now }
     {

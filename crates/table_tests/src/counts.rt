@@ -1,6 +1,6 @@
 //! How many runs hosts have.
 use crate::owner::read_owner;
-use host_runs::HostRuns;
+use held_locks::HostRuns;
 use std::alloc::Global;
 use std::test::*;
 

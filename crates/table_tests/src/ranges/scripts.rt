@@ -4,8 +4,8 @@ ghost use Rattle.std.specs.Prelude.{◌<◌};
 use super::plain::{first_against, nth_on, starts_on};
 use super::table::{nth, set};
 use crate::owner::intern;
+use held_locks::used_of;
 use owner_ids::{HostOf, OwnerId, Owners};
-use range_owners::used_of;
 use range_table::{FileId, FlatTable, Mode, RangeTable, Ranged, Setting, Wanted};
 use std::alloc::Global;
 

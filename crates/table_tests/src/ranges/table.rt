@@ -3,8 +3,8 @@ use super::beside::goes_beside_arena;
 use super::scripts::goes_in_rounds;
 use crate::owner::{intern, number};
 use crate::row::{Case, Row, Span};
+use held_locks::used_of;
 use owner_ids::{OneOwner, OwnerId, Owners};
-use range_owners::used_of;
 use range_table::{FileId, FlatTable, Mode, RangeTable, Ranged, Run, Setting, Wanted};
 use std::alloc::Global;
 

@@ -5,7 +5,7 @@ use crate::owner::{intern, number};
 use crate::row::{Case, Row, Span};
 use blocked_list::{NoSlots, NotWaiting, Quotas, Slots, Waiter};
 use callbacks::{Destination, Letter, Message, ShortBytes};
-use host_runs::RunsOfHosts;
+use held_locks::RunsOfHosts;
 use owner_ids::{OwnerId, Owners};
 use range_table::{FileId, FlatTable, Mode, RangeTable, Run, Wanted};
 use std::alloc::{AllocError, Global};

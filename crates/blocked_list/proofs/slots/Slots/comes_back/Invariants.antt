@@ -2,7 +2,7 @@ use Rattle.std.proofs.Common.{◌≡◌, List, length}
 use Rattle.std.specs.Prelude.{IsSome}
 use Rattle.definitions.specs.Settings.{Setting}
 use Rattle.owner_ids.specs.Names.{named}
-use Rattle.range_owners.specs.Stands.{Stands}
+use Rattle.held_locks.specs.Stands.{Stands}
 use Rattle.range_table.specs.Settings.{mode_at}
 use Rattle.blocked_list.specs.Waiting.{AreKnown, request_by, waiters_by}
 use Rattle.blocked_list.proofs.Following.{IsSearched, unmarked}

@@ -2,7 +2,7 @@ use Rattle.std.proofs.Common.{◌≡◌, false, List, take}
 use Rattle.definitions.specs.Bytes.{is_any}
 use Rattle.definitions.specs.Settings.{Setting}
 use Rattle.owner_ids.specs.Names.{named}
-use Rattle.range_owners.specs.Stands.{Stands}
+use Rattle.held_locks.specs.Stands.{Stands}
 use Rattle.range_table.specs.Settings.{mode_at}
 use Rattle.blocked_list.specs.Ready.{is_ready_on}
 use Rattle.blocked_list.specs.Standing.{AreRunsOf}

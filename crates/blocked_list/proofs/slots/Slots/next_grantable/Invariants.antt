@@ -3,7 +3,7 @@ use Rattle.definitions.specs.Bytes.{is_any}
 use Rattle.definitions.specs.Settings.{Setting}
 use Rattle.definitions.specs.World.{is_ready, the_limits}
 use Rattle.owner_ids.specs.Names.{named}
-use Rattle.range_owners.specs.Stands.{Stands}
+use Rattle.held_locks.specs.Stands.{Stands}
 use Rattle.range_table.specs.Settings.{mode_at}
 use Rattle.blocked_list.specs.Standing.{AreRunsOf}
 use Rattle.blocked_list.specs.Waiting.{AreKnown, waiters_by}

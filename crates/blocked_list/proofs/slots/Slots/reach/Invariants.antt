@@ -3,7 +3,7 @@ use Rattle.std.specs.Prelude.{slice_get, slice_index_or, IsSome}
 use Rattle.definitions.specs.Settings.{Setting}
 use Rattle.definitions.specs.Waits.{Waiter}
 use Rattle.owner_ids.specs.Names.{named}
-use Rattle.range_owners.specs.Stands.{Stands}
+use Rattle.held_locks.specs.Stands.{Stands}
 use Rattle.range_table.specs.Settings.{mode_at}
 use Rattle.blocked_list.specs.Reach.{leads}
 use Rattle.blocked_list.specs.Waiting.{AreKnown, request_by, waiters_by}

@@ -3,8 +3,8 @@ use Rattle.definitions.specs.Starts.{used}
 use Rattle.owner_ids.specs.Views.{view_of_owner}
 use Rattle.owner_ids.specs.Names.{named}
 use Rattle.range_table.specs.Settings.{mode_at}
-use Rattle.range_owners.proofs.RunOrders.{run_order_over}
-use Rattle.range_owners.proofs.Counting.{used_is}
+use Rattle.held_locks.proofs.RunOrders.{run_order_over}
+use Rattle.held_locks.proofs.OwnerCounting.{used_is}
 use Rattle.held_locks.proofs.Strangers.{same_shown, some_named}
 use Rattle.held_locks.proofs.locks.Locks.holder.Goals as goal
 

@@ -1,7 +1,7 @@
 use Rattle.std.proofs.Common.{◌≡◌, ◌+◌, ◌++◌, ◌∷◌, [], false, ltb, sym, ap, ◌∙◌}
 use Rattle.definitions.specs.Starts.{used}
-use Rattle.range_owners.specs.Allowances.{allowance, goes_past}
-use Rattle.range_owners.proofs.Allowances.{past_by_all}
+use Rattle.held_locks.specs.Allowances.{allowance, goes_past}
+use Rattle.held_locks.proofs.Allowances.{past_by_all}
 use Rattle.held_locks.specs.Asked.{view_of_new_setting}
 use Rattle.held_locks.proofs.locks.Locks.is_past.Goals as goal
 

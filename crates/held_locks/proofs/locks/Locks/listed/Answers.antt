@@ -1,7 +1,7 @@
 use Rattle.std.proofs.Common.{◌<◌, Some, sym, ap, ◌∙◌, subst, IsSome}
 use Rattle.owner_ids.specs.Views.{view_of_owner}
 use Rattle.owner_ids.specs.Names.{named}
-use Rattle.range_owners.proofs.RunOrders.{run_order_over, length_over}
+use Rattle.held_locks.proofs.RunOrders.{run_order_over, length_over}
 use Rattle.held_locks.proofs.Strangers.{same_shown, some_named}
 use Rattle.held_locks.proofs.locks.Locks.listed.Goals as goal
 

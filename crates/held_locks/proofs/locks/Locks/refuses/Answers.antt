@@ -6,7 +6,7 @@ use Rattle.owner_ids.specs.Views.{view_of_owner}
 use Rattle.owner_ids.specs.Names.{named}
 use Rattle.range_table.specs.Settings.{mode_at}
 use Rattle.definitions.proofs.Lists.{none_from_is_some}
-use Rattle.range_owners.proofs.Counting.{refusal_over}
+use Rattle.held_locks.proofs.OwnerCounting.{refusal_over}
 use Rattle.range_table.specs.Modes.{view_of_held_mode}
 use Rattle.held_locks.specs.Asked.{view_of_new_setting, new_setting_by_number}
 use Rattle.held_locks.proofs.Ties.{stranger_is_not_refused, same_new_setting}

@@ -4,7 +4,7 @@ use Rattle.std.proofs.lemmas.Bool.{false≢true}
 use Rattle.owner_ids.specs.Views.{view_of_owner}
 use Rattle.owner_ids.specs.Names.{named}
 use Rattle.range_table.specs.Settings.{mode_at}
-use Rattle.range_owners.proofs.Counting.{refusal_over}
+use Rattle.held_locks.proofs.OwnerCounting.{refusal_over}
 use Rattle.range_table.specs.Modes.{view_of_held_mode}
 use Rattle.held_locks.specs.Held.{IsKnown}
 use Rattle.held_locks.specs.Asked.{view_of_new_setting, new_setting_by_number}

@@ -8,8 +8,8 @@ use Rattle.owner_ids.specs.Names.{named}
 use Rattle.range_table.specs.Settings.{Held, IsRefused, mode_at}
 use Rattle.range_table.specs.declared.run.Run.{Run}
 use Rattle.range_table.specs.declared.run.Setting.{Setting as NumberSetting}
-use Rattle.range_owners.proofs.Counting.{refusal_over}
-use Rattle.range_owners.specs.Stands.{Stands}
+use Rattle.held_locks.proofs.OwnerCounting.{refusal_over}
+use Rattle.held_locks.specs.Stands.{Stands}
 use Rattle.held_locks.specs.Asked.{view_of_new_setting, setting_by}
 use Rattle.held_locks.specs.declared.asked.NewSetting.{NewSetting}
 use Rattle.held_locks.proofs.Ties.{tied_set}

@@ -1,6 +1,6 @@
 use Rattle.owner_ids.specs.Names.{named}
 use Rattle.range_table.specs.Settings.{mode_at}
-use Rattle.range_owners.proofs.Counting.{used_over}
+use Rattle.held_locks.proofs.OwnerCounting.{used_over}
 use Rattle.held_locks.proofs.locks.Locks.used.Goals as goal
 
 pub returns : goal.returns

@@ -9,7 +9,7 @@ use Rattle.definitions.specs.Quotas.{quotas_of}
 use Rattle.owner_ids.specs.Names.{named}
 use Rattle.range_table.specs.Settings.{mode_at}
 use Rattle.range_table.specs.declared.run.Setting.{Setting as NumberSetting}
-use Rattle.range_owners.specs.Stands.{Stands}
+use Rattle.held_locks.specs.Stands.{Stands}
 use Rattle.definitions.specs.First.{IsFirstPlace}
 use Rattle.blocked_list.specs.Ready.{IsFirstReady, IsFirstReadyOn}
 use Rattle.blocked_list.specs.Standing.{WhereCounted}

@@ -1,0 +1,5 @@
+use Rattle.held_locks.proofs.OwnerCounting.{used_of_over}
+use Rattle.held_locks.proofs.owners.laws.used_of_goes_over.Goals as goal
+
+pub returns : goal.returns
+returns c = used_of_over

@@ -1,2 +1,0 @@
-pub mod HostRuns
-pub mod Kept

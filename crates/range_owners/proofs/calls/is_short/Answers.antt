@@ -1,6 +1,0 @@
-use Rattle.std.proofs.Common.{◌+◌, ltb, ap, ◌∙◌}
-use Rattle.range_owners.proofs.Counting.{two_less}
-use Rattle.range_owners.proofs.calls.is_short.Goals as goal
-
-pub returns : goal.returns
-returns g c = λ settings h. two_less c.used.result ∙ ap (λ n. ltb 65536 (n + 2)) (c.used.ensures settings h)

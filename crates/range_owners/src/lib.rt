@@ -1,9 +1,0 @@
-//! What owners hold and what their numbers hold in a table is one thing.
-#![tactic(auto)]
-
-mod allowance;
-mod calls;
-mod laws;
-
-pub use allowance::Allowance;
-pub use calls::{conflicts, conflicts_with, is_past, is_short, used_of};
