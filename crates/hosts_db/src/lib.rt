@@ -3,6 +3,7 @@
 
 mod error;
 mod host_rows;
+mod lasting;
 mod memory;
 mod prepared;
 mod refusals;
@@ -14,6 +15,7 @@ mod writing;
 pub use definitions::quotas::FULL_QUOTA;
 pub use error::StoreError;
 pub use host_rows::HostRows;
+pub use lasting::{KeptHosts, Lasting};
 pub use memory::MemHosts;
 pub use prepared::Prepared;
 pub use refusals::Refusals;

@@ -1,13 +1,12 @@
 //! Where hosts are stored.
 ghost use Rattle.std.specs.Prelude.{◌≡◌, Err, Some, IfOk, IfErr, IfSome, option_map};
-ghost use Rattle.hosts_lasting.specs.Kept.{IsStored};
+ghost use Rattle.hosts_db.specs.KeptHosts.{IsStored};
 ghost use Rattle.hosts_sql.specs.Refused.{refusal_of};
 ghost use Rattle.lockd_serving.specs.Ran.{AreStored};
 
 use crate::notes::{Note, tell};
 use config::FilePath;
-use hosts_db::{HostStore, MemHosts, StoreError};
-use hosts_lasting::KeptHosts;
+use hosts_db::{HostStore, KeptHosts, MemHosts, StoreError};
 use hosts_sql::{AdoptError, SqlHosts};
 use pipe_loops::Fault;
 use sqlite::{Alter, Connection};

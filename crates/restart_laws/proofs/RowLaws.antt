@@ -22,7 +22,7 @@ use Rattle.definition_laws.proofs.StoreLaws.{store_law}
 use Rattle.definition_laws.proofs.StandingLaws.{shown_law}
 use Rattle.definition_laws.proofs.MonitoredLaws.{monitored_law}
 use Rattle.definition_laws.proofs.SideSteps.{settle_keeps}
-use Rattle.hosts_lasting.proofs.Stays.{store_keeps}
+use Rattle.hosts_db.proofs.Stays.{store_keeps}
 use Rattle.call_codec.specs.Readings.{IsReading, OneReading}
 use Rattle.restart_laws.specs.Rows.{monitored_by, tells_lock, telling_of, telling, PairHasRow, KeptHaveRows}
 use Rattle.definitions.proofs.Lists.{holds_first}

@@ -1,6 +1,6 @@
 //! Who holds a monitored lock, or waits for one, is a host with a row (XNFS, NSM).
 ghost use Rattle.std.specs.Prelude.{◌≡◌, IfSome};
-ghost use Rattle.hosts_lasting.specs.Outlives.{Outlives};
+ghost use Rattle.hosts_db.specs.Outlives.{Outlives};
 ghost use Rattle.restart_laws.specs.Histories.{HistoriesKeepRows, HistoriesMonitorHosts, MonitorsHosts};
 ghost use Rattle.restart_laws.specs.Holds.{HoldsKeepRows};
 ghost use Rattle.restart_laws.specs.Laws.{KeptRowsStay, RowsStay, StandingHasRow};
@@ -10,8 +10,7 @@ ghost use Rattle.workers.specs.Laws.{state_of};
 use book::Book;
 use call_codec::one_reading;
 use daemon_core::{Daemon, runs_are_histories};
-use hosts_db::HostStore;
-use hosts_lasting::Lasting;
+use hosts_db::{HostStore, Lasting};
 use range_table::RangeTable;
 use std::sync::ledger::Ledger;
 use workers::{Shared, hold_is_step};

@@ -1,6 +1,5 @@
 //! A store of hosts is begun by its `start`.
-use hosts_db::{HostStore, MemHosts};
-use hosts_lasting::Lasting;
+use hosts_db::{HostStore, Lasting, MemHosts};
 use std::alloc::Global;
 
 // Whether it is begun behind a start, and not before.

@@ -1,8 +1,11 @@
-//! A store, and whether it was begun.
+//! Stores of hosts over stores: one whose rows outlive a crash, and one of either of two kinds.
 ghost use Rattle.std.specs.Prelude.{◌≡◌, true, IfOk};
-ghost use Rattle.hosts_lasting.specs.Outlives.{Outlives};
+ghost use Rattle.hosts_db.specs.Outlives.{Outlives};
 
-use hosts_db::{HostRows, HostStore, StoreError, Writing};
+mod kept;
+
+use crate::{HostRows, HostStore, StoreError, Writing};
+pub use kept::KeptHosts;
 
 /// A store of hosts whose rows outlive a crash from its first `start` on: whatever a crash leaves at any moment, between calls
 /// or behind one that was refused, each host with a row has one in it. So a host that was told that a lock is granted, or waits, is

@@ -1,5 +1,5 @@
 //! The hosts of a program, which may have no database.
-use hosts_db::{HostRows, HostStore, StoreError, Writing};
+use crate::{HostRows, HostStore, StoreError, Writing};
 
 /// Hosts in memory alone, or those that a store keeps. It is one type, so that what stands above it is built once in a program
 /// which may have either.
@@ -12,7 +12,7 @@ pub enum KeptHosts<M, S> {
 }
 
 impl<M: HostStore, S: HostStore> HostStore for KeptHosts<M, S> {
-    ghost use Rattle.hosts_lasting.specs.Kept.{in_either, IsInEither};
+    ghost use Rattle.hosts_db.specs.KeptHosts.{in_either, IsInEither};
 
     ghost rows = { in_either M.rows S.rows };
 

@@ -4,8 +4,8 @@ use Rattle.definitions.specs.Hosts.{Hosts, StoreCall, has_row, after_store}
 use Rattle.hosts_db.specs.Calls.{Leaves, Makes}
 use Rattle.hosts_db.specs.declared.error.StoreError.{StoreError}
 use Rattle.hosts_db.specs.declared.error.StoreError.TheVariants.{Starved, StoreRefused}
-use Rattle.hosts_lasting.specs.Outlives.{HasRowsOf, Outlives}
-use Rattle.hosts_lasting.proofs.Stays.{store_keeps}
+use Rattle.hosts_db.specs.Outlives.{HasRowsOf, Outlives}
+use Rattle.hosts_db.proofs.Stays.{store_keeps}
 
 same_rows : {one other : Hosts} → one ≡ other → HasRowsOf one other
 same_rows e name h = subst (λ hosts. has_row hosts name ≡ true) e h

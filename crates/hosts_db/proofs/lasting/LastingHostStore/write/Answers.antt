@@ -1,6 +1,6 @@
 use Rattle.hosts_db.specs.Writings.{view_of_writing}
-use Rattle.hosts_lasting.proofs.Lasts.{call_outlives}
-use Rattle.hosts_lasting.proofs.lasting.LastingHostStore.write.Goals as goal
+use Rattle.hosts_db.proofs.Lasts.{call_outlives}
+use Rattle.hosts_db.proofs.lasting.LastingHostStore.write.Goals as goal
 
 pub invariant_of-self : goal.invariant_of-self
 invariant_of-self g c =

@@ -1,6 +1,6 @@
 -- What hosts show, wherever they are kept.
-use Rattle.hosts_lasting.specs.declared.kept.KeptHosts.{KeptHosts}
-use Rattle.hosts_lasting.specs.declared.kept.KeptHosts.TheVariants.{InMemory, Stored}
+use Rattle.hosts_db.specs.declared.lasting.kept.KeptHosts.{KeptHosts}
+use Rattle.hosts_db.specs.declared.lasting.kept.KeptHosts.TheVariants.{InMemory, Stored}
 
 -- a store keeps them
 abbrev pub IsStored : {M S : Type 0} → KeptHosts M S → Type 0

@@ -1,2 +1,0 @@
-pub mod Stays
-mod Lasts

@@ -1,2 +1,0 @@
-pub mod Outlives
-pub mod Kept
