@@ -6,7 +6,7 @@ use Rattle.definitions.specs.Hosts.{StoreAnswer, NotAsked}
 use Rattle.definitions.specs.Replay.{fits}
 use Rattle.definitions.specs.Rulings.{ruled, stays}
 use Rattle.call_plans.specs.Planned.{view_of_stored}
-use Rattle.store_answers.specs.declared.StoreAnswer.{StoreAnswer as CodedAnswer}
+use Rattle.step_order.specs.declared.store.StoreAnswer.{StoreAnswer as CodedAnswer}
 use Rattle.definitions.specs.Replies.{Line, LineReply, LineStarved}
 use Rattle.definitions.specs.Lines.{line_answer}
 use Rattle.definitions.specs.World.{World, the_limits, settled}

@@ -8,7 +8,7 @@ use Rattle.definitions.specs.Rulings.{stays}
 use Rattle.definitions.specs.Step.{State, Local, Applied, Says}
 use Rattle.definitions.specs.World.{the_limits}
 use Rattle.call_plans.specs.Planned.{view_of_stored}
-use Rattle.store_answers.specs.declared.StoreAnswer.{StoreAnswer as CodedAnswer}
+use Rattle.step_order.specs.declared.store.StoreAnswer.{StoreAnswer as CodedAnswer}
 use Rattle.local_ops.specs.declared.answer.LocalAnswer.{LocalAnswer}
 use Rattle.local_ops.specs.Answers.{view_of_local_answer}
 use Rattle.book.specs.Given.{comes_to}

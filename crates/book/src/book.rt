@@ -22,12 +22,12 @@ use callbacks::ShortBytes;
 use held_locks::Locks;
 use hosts_db::HostStore;
 use lock_service::StoreAnswer;
-use noted_changes::{Noting, change_noted};
 use owner_ids::Starved;
 use range_table::RangeTable;
 use std::alloc::Global;
 use std::marker::Model;
 use std::mem;
+use step_order::{Noting, change_noted};
 use xdr_core::Frame;
 
 /// The world, the kept replies, and the journal of this segment. Contracts see the journal, whose end is the state, and how

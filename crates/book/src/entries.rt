@@ -5,8 +5,8 @@ use crate::state::BookState;
 use crate::upshot::{Doing, Upshot};
 use hosts_db::HostStore;
 use lock_service::StoreAnswer;
-use noted_changes::{Changing, Noting};
 use range_table::RangeTable;
+use step_order::{Changing, Noting};
 
 /// What an entry tells beside its number.
 #[derive(Drop)]

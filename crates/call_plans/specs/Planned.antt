@@ -29,8 +29,8 @@ use Rattle.call_plans.specs.declared.plans.Change.TheVariants as change
 use Rattle.call_plans.specs.declared.plans.Answer as answer
 use Rattle.call_plans.specs.declared.plans.Plan.{Plan}
 use Rattle.call_plans.specs.declared.plans.Plan.TheVariants as plan
-use Rattle.store_answers.specs.declared.StoreAnswer.{StoreAnswer as CodedAnswer}
-use Rattle.store_answers.specs.declared.StoreAnswer.TheVariants as store
+use Rattle.step_order.specs.declared.store.StoreAnswer.{StoreAnswer as CodedAnswer}
+use Rattle.step_order.specs.declared.store.StoreAnswer.TheVariants as store
 
 abbrev pub view_of_range : range.Range → Setting
 view_of_range r = record { file = r.file; owner = view_of_owner r.owner; first = r.first; last = r.last; mode = view_of_held_mode r.mode }

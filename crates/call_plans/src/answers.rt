@@ -25,7 +25,7 @@ use lock_state::{AnswerKey, World};
 use nlm4_types::Stat;
 use out_calls::Call;
 use range_table::RangeTable;
-use store_answers::StoreAnswer;
+use step_order::StoreAnswer;
 
 /// Does what an answer to one of the server's own calls asks for, and grants what waited for it. An answer that belongs to
 /// no call that was sent changes nothing. It takes no memory. The world, and the question to the store, are those of the

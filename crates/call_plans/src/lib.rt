@@ -12,5 +12,5 @@ pub use answers::{answered, granted_res};
 pub use lock_state::World;
 pub use owner_ids::Starved;
 pub use plans::{Answer, Asked, Change, Plan, Range, SharedOutcome, Told, Wanted};
+pub use step_order::StoreAnswer;
 pub use steps::{abandon, agree, ask, commit, make_change, prepare, prepare_change};
-pub use store_answers::StoreAnswer;

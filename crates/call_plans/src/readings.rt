@@ -8,7 +8,7 @@ ghost use Rattle.held_locks.specs.Asked.{view_of_request, view_of_new_setting};
 ghost use Rattle.call_plans.specs.Planned.{view_of_stored, planned, view_of_wanted, view_of_range};
 
 use crate::plans::{Plan, Range, Told, Wanted};
-use store_answers::StoreAnswer;
+use step_order::StoreAnswer;
 
 impl Range {
     /// The same, as the locks are told.

@@ -21,7 +21,7 @@ use hosts_db::{HostStore, StoreError};
 use lock_state::World;
 use owner_ids::Starved;
 use range_table::{NoRuns, RangeTable};
-use store_answers::{Pending, StoreAnswer, rule};
+use step_order::{Pending, StoreAnswer, rule};
 
 /// Gets all memory that doing the plan takes. The world stays, and who was known is known. Starved: the plan can't be
 /// done, and nobody has become known.

@@ -4,8 +4,8 @@ use Rattle.std.proofs.lemmas.Bool.Decides.{nat_tests}
 use Rattle.definitions.specs.Hosts.{NotAsked}
 use Rattle.definitions.specs.Step.{Given, State}
 use Rattle.kept_replies.specs.Pairs.{view_of_peer}
-use Rattle.store_answers.specs.declared.StoreAnswer.{StoreAnswer as Told}
-use Rattle.store_answers.specs.declared.StoreAnswer.TheVariants as told
+use Rattle.step_order.specs.declared.store.StoreAnswer.{StoreAnswer as Told}
+use Rattle.step_order.specs.declared.store.StoreAnswer.TheVariants as told
 use Rattle.call_plans.specs.Planned.{view_of_stored, counted}
 use Rattle.book.specs.Given.{Upshot}
 use Rattle.book.specs.Journal.{TakesMemory}

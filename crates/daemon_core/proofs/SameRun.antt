@@ -4,7 +4,7 @@ use Rattle.record_mark.specs.Stream.{Splits, HasOneReading}
 use Rattle.definitions.specs.Step.{Given, State}
 use Rattle.kept_replies.specs.declared.key.Peer.{Peer}
 use Rattle.kept_replies.specs.Pairs.{view_of_peer}
-use Rattle.store_answers.specs.declared.StoreAnswer.{StoreAnswer}
+use Rattle.step_order.specs.declared.store.StoreAnswer.{StoreAnswer}
 use Rattle.call_plans.specs.Planned.{view_of_stored, counted}
 use Rattle.book.specs.Given.{comes_to}
 use Rattle.book.specs.Notes.{Happening, Takes, SendsNext, HearsAnswer, AsksLine, FallsSilent, GraceEnds, BeginsAnew, Steps, OneStep}

@@ -6,8 +6,8 @@ use Rattle.definitions.specs.Hosts.{Hosts}
 use Rattle.definitions.specs.Step.{Given, State, opening_state}
 use Rattle.kept_replies.specs.declared.key.Peer.{Peer}
 use Rattle.kept_replies.specs.Pairs.{view_of_peer}
-use Rattle.store_answers.specs.declared.StoreAnswer.{StoreAnswer}
-use Rattle.store_answers.specs.declared.StoreAnswer.TheVariants.{NotAsked, Yes, Refused}
+use Rattle.step_order.specs.declared.store.StoreAnswer.{StoreAnswer}
+use Rattle.step_order.specs.declared.store.StoreAnswer.TheVariants.{NotAsked, Yes, Refused}
 use Rattle.call_plans.specs.Planned.{view_of_stored, counted}
 use Rattle.book.specs.Journal.{Book, TakesMemory}
 use Rattle.book.specs.Notes.{Happening, Takes, SendsNext, HearsAnswer, AsksLine, FallsSilent, GraceEnds, BeginsAnew, Steps}

@@ -7,8 +7,8 @@ use Rattle.call_plans.specs.Planned.{view_of_stored}
 use Rattle.daemon_core.specs.declared.event_outcome.EventOutcome.{EventOutcome}
 use Rattle.daemon_core.specs.declared.event_outcome.EventOutcome.TheVariants.{Applied, Starved, NoSegment}
 use Rattle.daemon_core.specs.Outcomes.{view_of_event_outcome}
-use Rattle.store_answers.specs.declared.StoreAnswer.{StoreAnswer}
-use Rattle.store_answers.specs.declared.StoreAnswer.TheVariants.{NotAsked}
+use Rattle.step_order.specs.declared.store.StoreAnswer.{StoreAnswer}
+use Rattle.step_order.specs.declared.store.StoreAnswer.TheVariants.{NotAsked}
 use Rattle.book.specs.Given.{Upshot, comes_to, record_of}
 use Rattle.daemon_core.specs.Sending.{Sending, ToClient, ToLocal, addressee, gets_records}
 use Rattle.daemon_core.specs.declared.outputs.Outputs.{Outputs}

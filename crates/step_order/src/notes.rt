@@ -1,5 +1,4 @@
 //! Each event is one change and one note of it.
-#![tactic(auto)]
 
 /// What events change. Of each a `U` is told, and an `N` is to be noted.
 pub trait Changing<E, U, N> {

@@ -1,8 +1,7 @@
 //! What the store of hosts answers, and what is done by it.
-#![tactic(auto)]
 
 ghost use Rattle.std.specs.Prelude.{◌≡◌, ◌≢◌};
-ghost use Rattle.store_answers.specs.declared.StoreAnswer.TheVariants.{Yes};
+ghost use Rattle.step_order.specs.declared.store.StoreAnswer.TheVariants.{Yes};
 
 /// What the store answered.
 #[derive(Clone, Copy, PartialEq, Eq)]
