@@ -1,9 +1,9 @@
 //! What the thread that started all others does.
 use crate::signals::Bells;
+use callback_sender::{Locals, Sender};
 use connections::Chief;
 use hosts_db::HostStore;
 use range_table::RangeTable;
-use serve_loops::sender::{Locals, Sender};
 use std::io::Print;
 use std::net::Net;
 use std::sync::ledger::Ledger;

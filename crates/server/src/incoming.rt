@@ -1,6 +1,6 @@
 //! What comes in from a caller.
 use crate::signals::Bells;
-use serve_loops::Signals;
+use line_loop::Signals;
 use std::io::{self, Read};
 use std::net::TcpStream;
 

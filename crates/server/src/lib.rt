@@ -16,8 +16,8 @@ mod settings;
 mod signals;
 pub mod staff;
 
+pub use callback_sender::Settings as CallSettings;
 pub use fault::{Fault, NoListener};
 pub use runtime::Runtime;
-pub use serve_loops::sender::Settings as CallSettings;
 pub use serving::serve;
 pub use settings::{Backing, Settings};

@@ -1,6 +1,6 @@
 //! Lines for local programs that nobody asked for just then.
+use callback_sender::Locals;
 use connections::Roster;
-use serve_loops::sender::Locals;
 use std::sync::{Mutex, Wait};
 
 /// Finds local programs by their connections' numbers.

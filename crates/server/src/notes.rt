@@ -13,11 +13,11 @@ pub(crate) fn caller<R: Log>(rt: &R, from: SocketAddr, ending: workers::Ending) 
 }
 
 /// Notes how the talk with a local program ended.
-pub(crate) fn local<R: Log>(rt: &R, from: SocketAddr, ending: serve_loops::Ending) {
+pub(crate) fn local<R: Log>(rt: &R, from: SocketAddr, ending: line_loop::Ending) {
     match ending {
-        serve_loops::Ending::Over | serve_loops::Ending::Stopped => {}
-        serve_loops::Ending::ReadFault => info!(rt; "local program {from} failed: closed"),
-        serve_loops::Ending::WriteFault => warn!(rt; "local program {from} takes no bytes: closed"),
-        serve_loops::Ending::Starved => error!(rt; "no memory for a line of {from}: closed"),
+        line_loop::Ending::Over | line_loop::Ending::Stopped => {}
+        line_loop::Ending::ReadFault => info!(rt; "local program {from} failed: closed"),
+        line_loop::Ending::WriteFault => warn!(rt; "local program {from} takes no bytes: closed"),
+        line_loop::Ending::Starved => error!(rt; "no memory for a line of {from}: closed"),
     }
 }

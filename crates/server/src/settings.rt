@@ -12,7 +12,7 @@ pub struct Settings {
     /// The port of loopback on which the lines of local programs come in.
     pub local_port: u16,
     /// The ports of its peers, and how long it waits for them.
-    pub calls: serve_loops::sender::Settings,
+    pub calls: callback_sender::Settings,
     /// How long a connection for calls by record may be idle. A zero refuses each.
     pub idle: Duration,
     /// How many workers there are beside the connections' own threads.

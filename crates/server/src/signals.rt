@@ -1,6 +1,6 @@
 //! What the threads tell one another.
+use line_loop::Signals;
 use mio::Waker;
-use serve_loops::Signals;
 use std::sync::atomic::{AtomicBool, Ordering};
 
 /// Whether the server is to stop, and what wakes the sender.

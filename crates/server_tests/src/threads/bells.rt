@@ -1,5 +1,5 @@
 //! What the server's threads tell one another.
-use serve_loops::Signals;
+use line_loop::Signals;
 use std::sync::atomic::{AtomicBool, AtomicU64, Ordering};
 
 /// What the tests' threads are told.

@@ -2,9 +2,9 @@
 ghost use Rattle.std.specs.Prelude.{◌≡◌, []};
 
 use book::{Dest, Reply};
+use callback_sender::{Courier, SentCall};
 use history::History;
 use outboxes::{Outbox, SentReply};
-use serve_loops::{Courier, SentCall};
 use std::alloc::Global;
 use xdr_core::Frame;
 
@@ -80,7 +80,7 @@ impl MemoryCourier {
 }
 
 impl Courier for MemoryCourier {
-    ghost use Rattle.serve_loops.specs.SentCalls.{view_of_sent};
+    ghost use Rattle.callback_sender.specs.SentCalls.{view_of_sent};
 
     ghost handed = { λ c. view_of_sent c.all.items };
 

@@ -3,7 +3,7 @@ use super::memory::MemoryCourier;
 use super::parts::Kept;
 use crate::words::are;
 use book::Dest;
-use serve_loops::{Due, SentCall, send_due};
+use callback_sender::{Due, SentCall, send_due};
 use std::alloc::{AllocError, Global};
 use std::sync::ledger::Ledger;
 use std::sync::{Mutex, Wait};

@@ -1,0 +1,4 @@
+pub mod Calls
+pub mod Handing
+pub mod SentCalls
+pub mod Waits

@@ -1,0 +1,142 @@
+//! The sender.
+ghost use Rattle.std.specs.Prelude.{◌≡◌, [], IfOk};
+
+use crate::awaited::{Awaited, Waiting};
+use crate::locals::Locals;
+use crate::office::Office;
+use crate::settings::Settings;
+use crate::turn::NonRecordEvent;
+use crate::{Courier, SentCall};
+use book::Dest;
+use history::History;
+use mio::Waker;
+use peers::Peers;
+use std::alloc::Global;
+use std::io;
+use std::marker::Model;
+use std::net::{Net, SocketAddr};
+use std::time::{Clock, Instant};
+use xdr_core::Frame;
+
+/// Makes the server's own calls, on one thread. It keeps one connection to each peer while that answers. Contracts see the
+/// calls that it was handed.
+pub struct Sender<'a, R, D> {
+    pub(crate) rt: &'a R,
+    locals: &'a D,
+    pub(crate) settings: Settings,
+    peers: Peers,
+    pub(crate) office: Office,
+    pub(crate) awaited: Awaited,
+    pub(crate) kept: Option<NonRecordEvent>,
+    pub(crate) now: Instant,
+    all: History<SentCall>,
+}
+
+// It is written out, so that no crate above proves again how each part is dropped.
+impl<'a, R, D> Drop for Sender<'a, R, D> {
+    fn drop(self) {
+        let Sender {
+            rt: _,
+            locals: _,
+            settings: _,
+            peers: _,
+            office: _,
+            awaited: _,
+            kept: _,
+            now: _,
+            all: _,
+        } = self;
+    }
+}
+
+impl<'a, R, D> Model for Sender<'a, R, D> {
+    ghost use Rattle.std.specs.Prelude.{List};
+    ghost use Rattle.callback_sender.specs.Calls.{Call};
+    ghost use Rattle.callback_sender.specs.SentCalls.{view_of_sent};
+
+    ghost Value = { List Call };
+
+    ghost view = { λ s. view_of_sent s.all.items };
+}
+
+impl<'a, R: Net + Clock, D: Locals> Sender<'a, R, D> {
+    /// Calls the peers of this file at their ports, and these local programs. The error is the system's, or there is no memory.
+    pub fn new(
+        alloc: Global,
+        rt: &'a R,
+        settings: Settings,
+        peers: Peers,
+        locals: &'a D,
+    ) -> io::Result<Sender<'a, R, D>>
+        ensures { IfOk result (λ s. s ≡ []) }
+    {
+        let now = Instant::now(rt)?;
+        let awaited = Awaited::new(alloc)?;
+        let office = Office::new(rt, alloc)?;
+        Ok(Sender {
+            rt,
+            locals,
+            settings,
+            peers,
+            office,
+            awaited,
+            kept: None,
+            now,
+            all: History::new(),
+        })
+    }
+
+    /// Wakes the sender, where something came due or it is to stop. It is asked for once.
+    pub fn waker(&self) -> io::Result<Waker> {
+        self.office.waker()
+    }
+
+    // The place of the host of this name, at the port of the record.
+    fn place_of(&mut self, name: &[u8], bytes: &[u8]) -> Option<usize>
+        ensures { self.new ≡ self.old }
+    {
+        let address = self.peers.address(name)?;
+        let port = self.settings.port_of(bytes);
+        self.office
+            .place_of(SocketAddr::new(address, port), self.now)
+    }
+
+    // A host that has no address is silent at once.
+    fn call(&mut self, number: u64, name: &[u8], bytes: &[u8])
+        ensures { self.new ≡ self.old }
+    {
+        let place = self.place_of(name, bytes);
+        let later = self.now.checked_add(self.settings.silence);
+        let until = match (place, later) {
+            (Some(_), Some(later)) => later,
+            _ => self.now,
+        };
+        self.awaited
+            .add(Waiting::new(number, bytes, place, self.now, until));
+        if let Some(place) = place {
+            self.office.send(self.rt, place, bytes, self.now);
+        }
+    }
+
+    fn dispatch(&mut self, sent: &SentCall)
+        ensures { self.new ≡ self.old }
+    {
+        match &sent.to {
+            Dest::Host(name) => self.call(sent.number, name.as_slice(), sent.bytes.as_slice()),
+            Dest::Connection(connection) => {
+                // Where the connection has ended the line is thrown away.
+                let _ = self.locals.tell(*connection, sent.bytes.as_slice());
+            }
+        }
+    }
+}
+
+impl<'a, R: Net + Clock, D: Locals> Courier for Sender<'a, R, D> {
+    ghost handed = { λ s. s };
+
+    fn hand(&mut self, number: u64, to: Dest, bytes: Frame) {
+        let sent = SentCall { number, to, bytes };
+        self.dispatch(&sent);
+        self.all = self.all.and(&sent);
+    }
+}

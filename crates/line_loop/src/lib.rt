@@ -1,0 +1,12 @@
+//! The loop of a local connection: the lines of a local program are answered over one shared book.
+#![tactic(auto)]
+
+mod clerk;
+mod ending;
+mod lines;
+mod part;
+mod signals;
+
+pub use ending::Ending;
+pub use lines::{MOST_READ_BYTES, Served, serve_lines};
+pub use signals::Signals;

@@ -1,8 +1,0 @@
-use Rattle.std.proofs.Common.{take}
-use Rattle.serve_loops.specs.Lines.{Serves, trace}
-use Rattle.serve_loops.proofs.lines.take_piece.Given as goal
-
-abbrev pub invariant-loop-byte : goal.invariant-loop-byte
-invariant-loop-byte g l =
-    Serves l.fn.connection l.fn.part (take l.byte-index l.fn.piece) l.part
-    (trace (g.O.Write.contents l.fn.output) (g.A.Answers.told l.fn.clerk)) (trace (g.O.Write.contents l.output) (g.A.Answers.told l.clerk))

@@ -1,5 +1,0 @@
-use Rattle.serve_loops.proofs.HandingLemmas.{HandsOn-none}
-use Rattle.serve_loops.proofs.sender.run.Sender.send_if.Goals as goal
-
-pub returns-else-is_room : goal.returns-else-is_room
-returns-else-is_room g c = HandsOn-none _ _

@@ -1,7 +1,0 @@
--- Calls that were handed over.
-use Rattle.std.specs.Prelude.{List, map}
-use Rattle.serve_loops.specs.declared.courier.SentCall.{SentCall}
-use Rattle.serve_loops.specs.Calls.{Call}
-
-abbrev pub view_of_sent : List SentCall → List Call
-view_of_sent calls = map (λ (s : SentCall). record { number = s.number; to = s.to; bytes = s.bytes }) calls
