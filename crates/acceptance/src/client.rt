@@ -3,9 +3,9 @@
 use call_codec::{Call, Reading};
 use daemon_scripts::{Misplayed, play, read_xid};
 use nlm4_types::{Lock, LockArgs, Netobj, NlmCall, TestArgs, Version, WIDE};
-use script_parts::{Terms, put_message};
 use std::alloc::Global;
 use std::test::*;
+use test_kit::{Terms, put_message};
 
 /// Its calls with its own credentials, cookies and file handle, and what the rules answer; and what the server calls. It takes
 /// back the lock that it waited for before it answers the grant. Then the server begins anew, and then the client.

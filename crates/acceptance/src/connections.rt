@@ -4,9 +4,9 @@ use daemon_scripts::{memory, opened};
 use hosts_db::HostStore;
 use range_arena::ArenaTable;
 use range_table::RangeTable;
-use script_parts::{Lent, put_plain};
 use std::alloc::Global;
 use std::test::*;
+use test_kit::{Lent, put_plain};
 
 /// What happens, and what is sent for it: to whom, and the words.
 const STEPS: &[(Step, &str)] = &[

@@ -4,10 +4,10 @@ use daemon_scripts::{Page, happens, memory, opened, streams};
 use hosts_db::HostStore;
 use range_arena::ArenaTable;
 use range_table::RangeTable;
-use script_parts::{Lent, put_plain};
 use std::alloc::Global;
 use std::mem;
 use std::test::*;
+use test_kit::{Lent, put_plain};
 
 /// The record of an exclusive LOCK of the bytes 0 to 9, 108 bytes.
 const LOCK: &str = "2 0 2 186b5 4 2 0 0 0 0 4 2 0 1 1 61000000 4 1020304 1 41000000 7 0 0 0 a 0 3";

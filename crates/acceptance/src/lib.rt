@@ -1,7 +1,7 @@
 //! The worked rows, from bytes to bytes: what a client sends, what it is sent, and what the server calls. Each is a script, which
 //! `daemon_scripts` plays through `Daemon::run`: that cuts streams into records, reads them, does them in the book and writes what
 //! each is answered. `pipe` has those of `lockd pipe` and `lockd table`, over readers and writers. The store is one in memory; rows over a
-//! database stand in `hosts_trials`, and the threads that serve a book in `server_tests`. There is nothing in it but tests.
+//! database stand in `store_tests`, and the threads that serve a book in `server_tests`. There is nothing in it but tests.
 #![tactic(auto)]
 
 #[cfg(test)]

@@ -6,10 +6,10 @@ use daemon_scripts::{Page, happens, memory, opened, streams};
 use hosts_db::HostStore;
 use range_arena::ArenaTable;
 use range_table::{FlatTable, RangeTable};
-use script_parts::{Lent, Terms, put_terms};
 use std::alloc::Global;
 use std::mem;
 use std::test::*;
+use test_kit::{Lent, Terms, put_terms};
 
 const CALLS: u32 = 300;
 

@@ -1,4 +1,4 @@
-//! Stores that are lent: which rows they hold behind a server, and how often they are asked. `hosts_trials` has the same over a
+//! Stores that are lent: which rows they hold behind a server, and how often they are asked. `store_tests` has the same over a
 //! database, and over one that refuses.
 use crate::rows::{REFUSED_HOST, SHARE_CONFLICT};
 use daemon_scripts::{PIECE, all_hosts, are_rows, memory, played};

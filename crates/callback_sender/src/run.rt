@@ -8,7 +8,7 @@ use crate::settings::Settings;
 use crate::turn::NonRecordEvent;
 use crate::{Courier, SentCall};
 use book::Dest;
-use history::History;
+use ghost_list::History;
 use mio::Waker;
 use peers::Peers;
 use std::alloc::Global;

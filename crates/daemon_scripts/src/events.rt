@@ -2,7 +2,7 @@
 use crate::counting::{Counting, filled};
 use crate::page::{CONNECTION, LOCAL, Page, read_xid};
 use daemon_core::{Event, Peer, Posting};
-use script_parts::{put_message, read_number};
+use test_kit::{put_message, read_number};
 
 impl<'a> Page<'a> {
     /// The bytes of the stream, in pieces.

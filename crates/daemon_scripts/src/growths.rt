@@ -7,8 +7,8 @@ use crate::state::known;
 use daemon_core::Daemon;
 use hosts_db::{HostStore, MemHosts};
 use range_table::RangeTable;
-use script_parts::{Lent, put_message};
 use std::alloc::{AllocError, Global};
+use test_kit::{Lent, put_message};
 
 /// As many bytes as any line needs, which are got before the script begins.
 const ROOM: usize = 1_024;

@@ -1,6 +1,6 @@
 //! Scripts of a daemon for tests, from bytes to bytes: what a client sends, what it is sent, and what the server calls. `script`
 //! says what a line may be, and plays it through `Daemon::run`; `plays` does so over a store that may refuse, with the rows behind
-//! each line. What they are made of stands in `script_parts`.
+//! each line. What they are made of stands in `test_kit`.
 #![tactic(auto)]
 
 mod counting;

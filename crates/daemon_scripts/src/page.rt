@@ -1,9 +1,9 @@
 //! What comes to a server, what it is to send for that, and what it sends.
 use crate::counting::{Counting, filled};
 use daemon_core::{Addressee, EventOutcome, Frame, Outputs, Refusal, StoreAnswer};
-use script_parts::{Terms, put_message, put_terms, put_words, read_number};
 use std::alloc::Global;
 use std::mem;
+use test_kit::{Terms, put_message, put_terms, put_words, read_number};
 
 /// The connection that brings records.
 pub(crate) const CONNECTION: u64 = 7;

@@ -9,9 +9,9 @@ use daemon_core::{Daemon, StoreAnswer};
 use hosts_db::HostStore;
 use range_arena::ArenaTable;
 use range_table::RangeTable;
-use script_parts::{Lent, shown};
 use std::alloc::Global;
 use std::fmt::Write;
+use test_kit::{Lent, shown};
 
 /// A line of a script.
 #[derive(Clone, Copy)]

@@ -24,7 +24,7 @@ use crate::state::is_so;
 use daemon_core::{Daemon, Event, StoreAnswer};
 use hosts_db::HostStore;
 use range_table::RangeTable;
-use script_parts::Terms;
+use test_kit::Terms;
 
 /// Everything that happens to a daemon happens here. None where there is no memory.
 pub fn happens<T: RangeTable, S: HostStore>(

@@ -10,8 +10,8 @@ use daemon_core::Daemon;
 use hosts_db::{FULL_QUOTA, HostRow, HostStore, MemHosts};
 use range_arena::ArenaTable;
 use range_table::RangeTable;
-use script_parts::Lent;
 use std::alloc::Global;
+use test_kit::Lent;
 
 /// Why a script is not played as it says.
 #[derive(Clone, Copy, Debug, PartialEq, Eq)]

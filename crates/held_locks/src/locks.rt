@@ -17,7 +17,7 @@ use crate::asked::{Holder, NewSetting, Request};
 use crate::counts::{self, make_place};
 use crate::host_runs::HostRuns;
 use crate::listing::Listing;
-use history::History;
+use ghost_list::History;
 use owner_ids::{HostOf, NOBODY, Owner, OwnerId, Owners, Starved};
 use range_table::{FileId, NoRuns, RangeTable, Wanted};
 use std::alloc::Global;

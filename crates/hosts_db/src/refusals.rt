@@ -2,7 +2,7 @@
 ghost use Rattle.std.specs.Prelude.{◌≡◌, ◌+◌};
 
 use crate::error::StoreError;
-use history::History;
+use ghost_list::History;
 use std::marker::Model;
 
 /// How often a store has refused, which contracts alone see. It takes no memory.

@@ -13,7 +13,7 @@ use Rattle.hosts_db.proofs.RowPlaces.{keeps_name, note_is}
 use Rattle.hosts_sql.specs.Maps.{listed}
 use Rattle.hosts_sql.specs.Shown.{shown}
 use Rattle.hosts_sql.specs.Wrote.{IsAsKept, MayLeave, MayWriteHosts, hosts_in}
-use Rattle.hosts_transactions.proofs.Results.{gave, on_then}
+use Rattle.sql_transactions.proofs.Results.{gave, on_then}
 use Rattle.hosts_sql.proofs.Commits.{CommitsHosts}
 use Rattle.hosts_sql.proofs.Listed.{bytes_exact}
 use Rattle.hosts_sql.proofs.OwnIds.{eq_equal}

@@ -16,7 +16,7 @@ use Rattle.sqlite.specs.Effect.{Database}
 use Rattle.hosts_sql.specs.Maps.{Host, WatchKey, Rows, key_cmp, host_row, watch_row, listed, made_now, is_key_of, with_host, with_watch, without_host, without_watches}
 use Rattle.hosts_sql.specs.Shown.{shown}
 use Rattle.hosts_sql.specs.Tables.{monitor_text, watch_text, delete_host_text, delete_watch_text}
-use Rattle.hosts_transactions.specs.Work.{RanTwo, RanThree}
+use Rattle.sql_transactions.specs.Work.{RanTwo, RanThree}
 use Rattle.hosts_sql.specs.Wrote.{IsWhole}
 use Rattle.hosts_sql.specs.declared.tables.Version.TheVariants.{Second}
 use Rattle.hosts_sql.proofs.Monitor.{params}

@@ -5,9 +5,9 @@ use Rattle.sqlite.specs.State.{State, HasCleanDisk, Survives}
 use Rattle.sqlite.proofs.StateLemmas.{survives_weaker}
 use Rattle.definitions.specs.Hosts.{Hosts}
 use Rattle.hosts_sql.specs.Maps.{Rows, listed}
-use Rattle.hosts_transactions.specs.Work.{Committed, MayWork}
+use Rattle.sql_transactions.specs.Work.{Committed, MayWork}
 use Rattle.hosts_sql.specs.Wrote.{WroteHosts, MayWriteHosts, rows_in, hosts_in}
-use Rattle.hosts_transactions.proofs.Results.{on_then}
+use Rattle.sql_transactions.proofs.Results.{on_then}
 use Rattle.hosts_sql.proofs.Rows.{Makes}
 use Rattle.hosts_sql.proofs.Listed.{wrote, may_write}
 

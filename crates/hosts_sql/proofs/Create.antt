@@ -27,8 +27,8 @@ use Rattle.hosts_sql.specs.Maps.{no_rows, with_own}
 use Rattle.hosts_sql.specs.Tables.{own_name, hosts_name, watches_name, own_text, hosts_text, watches_text, first_own_text, own_table, hosts_table, watches_table, own_checks, no_schema}
 use Rattle.hosts_sql.specs.Schemas.{table_in, tree_in, IsHostSchema}
 use Rattle.hosts_sql.specs.Shown.{number_at, shown}
-use Rattle.hosts_transactions.specs.Work.{command_in, Ran}
-use Rattle.hosts_transactions.proofs.Ran.{same_command}
+use Rattle.sql_transactions.specs.Work.{command_in, Ran}
+use Rattle.sql_transactions.proofs.Ran.{same_command}
 use Rattle.hosts_sql.specs.Making.{Defines, Created, MakesTable, text_in}
 use Rattle.hosts_sql.specs.Wrote.{HasOwnRow, IsWhole}
 use Rattle.hosts_sql.specs.declared.tables.Version.TheVariants.{Second}

@@ -34,7 +34,7 @@ use Rattle.hosts_sql.specs.Own.{is_blob, is_host, is_watched, AreOwn}
 use Rattle.hosts_sql.specs.Tables.{hosts_name, watches_name, delete_host_text, delete_watch_text, delete_watches_text}
 use Rattle.hosts_sql.specs.Schemas.{tree_in, has_no_other, IsHostSchema}
 use Rattle.hosts_sql.specs.Shown.{host_of, watch_of, number_at}
-use Rattle.hosts_transactions.specs.Work.{Ran}
+use Rattle.sql_transactions.specs.Work.{Ran}
 use Rattle.hosts_sql.specs.Wrote.{HasOwnRow, IsWhole}
 use Rattle.hosts_sql.specs.declared.tables.Version.TheVariants.{Second}
 use Rattle.hosts_sql.proofs.Places.{Has, own_at, hosts_at, watches_at, tables_of, has_hosts, trees_apart, own_not_hosts, own_not_watches, hosts_not_watches, reads_tree, on_table, one_change, stays, list_stays}

@@ -16,7 +16,7 @@ use Rattle.sqlite_trees.specs.Tree.{Trees}
 use Rattle.sqlite.specs.State.{State}
 use Rattle.sqlite.specs.Effect.{Database}
 use Rattle.hosts_sql.specs.Shown.{shown}
-use Rattle.hosts_transactions.specs.Work.{Committed, MayWork}
+use Rattle.sql_transactions.specs.Work.{Committed, MayWork}
 use Rattle.hosts_sql.specs.Wrote.{WroteHosts, MayWriteHosts, rows_in, hosts_in}
 use Rattle.hosts_sql.proofs.Names.{names_agree_turned}
 use Rattle.hosts_sql.proofs.Rows.{Makes}

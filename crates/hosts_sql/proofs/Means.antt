@@ -36,7 +36,7 @@ use Rattle.sqlite_resolve.specs.Compile.{compiled, planned, meaning, timed, retu
 use Rattle.sqlite_resolve.specs.Compile as compile
 use Rattle.sqlite.specs.Listing.{understood, reads_listing}
 use Rattle.sqlite.specs.Given.{IsPlain}
-use Rattle.hosts_transactions.specs.Work.{command_in}
+use Rattle.sql_transactions.specs.Work.{command_in}
 use Rattle.hosts_sql.proofs.Selects.{bound_at, after_from, after_rowid, rowid_shown, level_of, over_table, starred, all_from, result_all, result_rowid, named_rest, named_is, no_page, Named, query_is, read_is}
 
 -- ---- a text that was compiled

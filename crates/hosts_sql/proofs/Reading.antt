@@ -24,7 +24,7 @@ use Rattle.sqlite_schema.specs.declared.schema.Table.{Table}
 use Rattle.std.specs.List.{flat_map}
 use Rattle.std.specs.Cmp.Lexicographic.{nat_list_cmp_total}
 use Rattle.std.specs.FinMap.{from_entries, slice_cmp-IsAntisymmetric, nat_cmp-IsAntisymmetric}
-use Rattle.hosts_transactions.proofs.Ran.{same_command}
+use Rattle.sql_transactions.proofs.Ran.{same_command}
 use Rattle.hosts_sql.specs.Maps.{key_cmp}
 use Rattle.definitions.specs.Bytes.{bytes_cmp}
 use Rattle.hosts_sql.specs.Shown.{host_of, watch_of, number_at, upgraded_row, shown, shown_rows}

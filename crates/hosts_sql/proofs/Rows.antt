@@ -20,11 +20,11 @@ use Rattle.sqlite.specs.Listing.{understood}
 use Rattle.definitions.specs.Bytes.{bytes_cmp}
 use Rattle.hosts_sql.specs.Maps.{Host, WatchKey, Rows, with_host, with_watch}
 use Rattle.hosts_sql.specs.Own.{is_host, is_watched, AreOwn}
-use Rattle.hosts_transactions.specs.Work.{command_in}
+use Rattle.sql_transactions.specs.Work.{command_in}
 use Rattle.hosts_sql.specs.Tables.{own_name, hosts_name, watches_name, monitor_text, watch_text}
 use Rattle.hosts_sql.specs.Schemas.{tree_in, IsHostSchema}
 use Rattle.hosts_sql.specs.Shown.{host_of, watch_of, number_at, shown}
-use Rattle.hosts_transactions.specs.Work.{IsRowWrite, Ran}
+use Rattle.sql_transactions.specs.Work.{IsRowWrite, Ran}
 use Rattle.hosts_sql.specs.Wrote.{own_shown, HasOwnRow, IsWhole}
 use Rattle.hosts_sql.specs.declared.tables.Version.TheVariants.{Second}
 use Rattle.hosts_sql.proofs.Places.{tables_of, has_hosts}

@@ -6,7 +6,7 @@ use Rattle.sqlite_schema.specs.declared.command.Returning.{Returning}
 use Rattle.sqlite_resolve.specs.declared.compiled.Compiled.{Compiled}
 use Rattle.sqlite.specs.Listing.{understood}
 use Rattle.sqlite.specs.State.{State, IsUnchanged, KeepsCommit, IsNotRun, RunsCommand, Shown, ShowsRows, FailsToQuery, FailsToShow}
-use Rattle.hosts_transactions.proofs.Keeping.{keeps_unchanged, keeps_failed}
+use Rattle.sql_transactions.proofs.Keeping.{keeps_unchanged, keeps_failed}
 use Rattle.sqlite.proofs.Callers.{IsPlain}
 
 pub keeps_then : (a b c : State) → KeepsCommit a b → KeepsCommit b c → KeepsCommit a c

@@ -23,7 +23,7 @@ use Rattle.sqlite.proofs.Callers.{one_permutation}
 use Rattle.hosts_sql.specs.Own.{is_host, is_watched, AreOwn}
 use Rattle.hosts_sql.specs.Maps.{with_own}
 use Rattle.hosts_sql.specs.Shown.{host_of, watch_of, number_at}
-use Rattle.hosts_transactions.specs.Work.{Ran}
+use Rattle.sql_transactions.specs.Work.{Ran}
 use Rattle.hosts_sql.specs.Wrote.{own_row_at, own_shown, HasOwnRow, IsWhole}
 use Rattle.hosts_sql.specs.declared.tables.Version.TheVariants.{Second}
 use Rattle.sqlite_catalog.specs.Listing.{IsSound}

@@ -15,7 +15,7 @@ use Rattle.sqlite_trees.proofs.ListLemmas.{all-slice_get}
 use Rattle.sqlite_catalog.specs.Listing.{IsSound}
 use Rattle.sqlite.specs.Effect.{Database, IsDatabase}
 use Rattle.sqlite.proofs.Callers.{one_permutation}
-use Rattle.hosts_transactions.specs.Work.{RanThree}
+use Rattle.sql_transactions.specs.Work.{RanThree}
 use Rattle.hosts_sql.specs.Maps.{with_own}
 use Rattle.hosts_sql.specs.Tables.{own_name, hosts_name, watches_name, first_hosts_name, hosts_table, hosts_text, copy_hosts_text, empty_hosts_text, second_own_text}
 use Rattle.hosts_sql.specs.Schemas.{tree_in, checks_in, IsHostSchema}

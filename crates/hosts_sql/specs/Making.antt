@@ -12,7 +12,7 @@ use Rattle.sqlite.specs.Effect.{Database, IsDatabase}
 use Rattle.sqlite.specs.Given.{IsPlain}
 use Rattle.sqlite.specs.Listing.{understood}
 use Rattle.sqlite.specs.State.{text_of}
-use Rattle.hosts_transactions.specs.Work.{command_in}
+use Rattle.sql_transactions.specs.Work.{command_in}
 
 -- the text of the one statement
 abbrev pub text_in : List ℕ → Result Compiled CompileError → List ℕ

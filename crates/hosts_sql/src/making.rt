@@ -1,7 +1,7 @@
 //! A statement that makes a table, as the work of a transaction.
 ghost use Rattle.hosts_sql.specs.Making.{MakesTable};
 
-use hosts_transactions::Work;
+use sql_transactions::Work;
 use sqlite::{Alter, Error, Transaction};
 
 /// The table of the hosts, with their quotas.

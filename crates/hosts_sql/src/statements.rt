@@ -13,7 +13,7 @@ ghost use Rattle.hosts_sql.specs.declared.tables.Version.TheVariants.{Second};
 
 use crate::making::{HOSTS, Make};
 use hosts_db::{FULL_QUOTA, MyId};
-use hosts_transactions::{One, Then, run_one, run_two, transact};
+use sql_transactions::{One, Then, run_one, run_two, transact};
 use sqlite::types::ValueRef;
 use sqlite::{Alter, Connection, Error, params};
 

@@ -7,7 +7,7 @@ ghost use Rattle.hosts_sql.specs.Wrote.{HasTables, MayWriteHosts, WroteHosts, ro
 ghost use Rattle.hosts_sql.specs.declared.tables.Version.TheVariants.{First};
 
 use crate::making::{HOSTS, Make};
-use hosts_transactions::{One, Then, transact};
+use sql_transactions::{One, Then, transact};
 use sqlite::{Alter, Connection, Error, params};
 
 /// Makes a file of schema 1 one of schema 2 and sets the own state, in one transaction: each host has its row and the

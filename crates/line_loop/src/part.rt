@@ -6,7 +6,7 @@ ghost use Rattle.workers.specs.Answers.{StarvesAs};
 ghost use Rattle.line_loop.specs.Lines.{IsOpen, kept};
 
 use book::{LocalAnswer, Reply, Starved};
-use history::History;
+use ghost_list::History;
 use local_ops::LocalCall;
 use std::alloc::Global;
 use std::marker::Model;

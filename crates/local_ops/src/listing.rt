@@ -8,7 +8,7 @@ ghost use Rattle.owner_ids.specs.Views.{view_of_owner};
 ghost use Rattle.range_table.specs.Modes.{view_of_mode};
 ghost use Rattle.local_ops.specs.Texts.{reply_text};
 
-use history::History;
+use ghost_list::History;
 use owner_ids::Owner;
 use range_table::{FileId, Mode};
 use std::marker::Model;

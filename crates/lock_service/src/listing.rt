@@ -4,7 +4,7 @@ ghost use Rattle.definitions.specs.Replies.{LineTable, LineHosts};
 ghost use Rattle.definitions.specs.Starts.{runs};
 ghost use Rattle.local_ops.specs.Answers.{view_of_local_answer};
 
-use history::History;
+use ghost_list::History;
 use hosts_db::HostStore;
 use local_ops::{HostsText, ListedHost, ListedRun, LocalAnswer, TableText};
 use lock_state::World;

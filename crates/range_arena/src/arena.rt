@@ -3,7 +3,7 @@ ghost use Rattle.std.specs.Prelude.{◌≡◌, [], IfOk};
 
 use crate::indexed::Indexed;
 use crate::quick;
-use history::History;
+use ghost_list::History;
 use owner_ids::{Host, OwnerId, OwnerOrder, Starved};
 use range_table::run::{Mode, NoRuns, Run, Setting};
 use range_table::{FileId, RangeTable, Ranged, Wanted, ordered, sorted};

@@ -5,7 +5,7 @@ ghost use Rattle.record_mark.specs.Assembled.{Assembled, IsSplit};
 use crate::Records;
 use crate::progress::Progress;
 use bytes::Bytes;
-use history::History;
+use ghost_list::History;
 use std::alloc::{AllocError, Global};
 use std::marker::Model;
 use thiserror::Error;

@@ -6,7 +6,7 @@ ghost use Rattle.record_mark.specs.Untaken.{AreRecords, untaken};
 
 use crate::assembler::{Assembler, MarkError};
 use bytes::Bytes;
-use history::History;
+use ghost_list::History;
 use std::alloc::Global;
 use std::marker::Model;
 

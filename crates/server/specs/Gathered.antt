@@ -2,7 +2,7 @@
 use Rattle.std.specs.Prelude.{◌≡◌, ℕ, Bool, true, false, cond, List, [], length, flat_map, IsPermutation}
 use Rattle.book.specs.Journal.{Journal}
 use Rattle.book.specs.Receipts.{Receipt}
-use Rattle.audits.specs.Audits.{Agrees}
+use Rattle.journal_audit.specs.Audits.{Agrees}
 use Rattle.workers.specs.Answers.{Worker}
 use Rattle.workers.specs.Holds.{IsOneHistory}
 

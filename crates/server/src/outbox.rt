@@ -3,9 +3,9 @@ ghost use Rattle.std.specs.Prelude.{◌≡◌, [], ◌∷◌, ◌++◌};
 
 use book::Reply;
 use connections::{Connection, Roster, Wire};
-use history::History;
+use ghost_list::History;
 use line_loop::Signals;
-use outboxes::{Outbox, SentReply};
+use reply_outbox::{Outbox, SentReply};
 use std::alloc::Global;
 use std::sync::{Arc, Mutex, Wait};
 use xdr_core::Frame;
@@ -44,7 +44,7 @@ impl<'a, 'h, K: Drop, Q: Signals, R: Wait> SocketOutbox<'a, 'h, K, Q, R> {
 }
 
 impl<'a, 'h, K: Drop, Q: Signals, R: Wait> Outbox for SocketOutbox<'a, 'h, K, Q, R> {
-    ghost use Rattle.outboxes.specs.SentReplies.{view_of_sent};
+    ghost use Rattle.reply_outbox.specs.SentReplies.{view_of_sent};
 
     ghost handed = { λ o. view_of_sent o.all.items };
 

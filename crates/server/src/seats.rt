@@ -2,7 +2,7 @@
 use crate::fault::Fault;
 use crate::staff::{Cutter, Gatherer};
 use connections::{PLACES, Roster};
-use jobs::{Channel, Place};
+use job_queue::{Channel, Place};
 use std::alloc::{AllocError, Global};
 use std::sync::ledger::Ledger;
 use workers::Worker;

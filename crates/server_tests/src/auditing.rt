@@ -1,8 +1,8 @@
 //! The audit, of segments and receipts that belong together and of others.
 use super::rotation::{MemBook, MemSegment, is_noted};
 use super::threads::parts::begun;
-use audits::audit;
 use book::Receipt;
+use journal_audit::audit;
 use std::alloc::Global;
 use std::test::*;
 

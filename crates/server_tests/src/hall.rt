@@ -1,6 +1,6 @@
 //! A gate that holds jobs until enough of them are inside.
-use jobs::Job;
-use outboxes::Gate;
+use job_queue::Job;
+use reply_outbox::Gate;
 use std::sync::atomic::{AtomicBool, AtomicU64, Ordering};
 use std::thread;
 use std::time::{Clock, Duration};

@@ -1,6 +1,6 @@
 //! Bytes of calls, and bytes that are compared with text.
-use script_parts::put_plain;
 use std::alloc::{AllocError, Global};
+use test_kit::put_plain;
 
 /// Appends the header of a call of the lock manager's version 4 under no credentials.
 pub(crate) fn put_header(bytes: &mut Vec<u8>, xid: u32, procedure: u32) -> Result<(), AllocError> {

@@ -1,10 +1,10 @@
 //! What the program does that these words ask.
 use config::{Config, config};
 use lockd_serving::{Console, serve_asked};
-use script_parts::put_plain;
 use server::Runtime;
 use std::alloc::{AllocError, Global};
 use std::process::ExitCode;
+use test_kit::put_plain;
 
 /// Words that ask for something, a stream, what is written for it, and the status.
 #[derive(Clone, Copy)]

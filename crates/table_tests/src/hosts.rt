@@ -1,5 +1,5 @@
 //! The store of hosts in memory at its ends: more hosts than there is room for, and the wrap of the own state. Scripts of its calls,
-//! up to its limits, are played in `hosts_trials`, beside the store over a database.
+//! up to its limits, are played in `store_tests`, beside the store over a database.
 ghost use Rattle.std.specs.Prelude.{◌<◌};
 
 use crate::wrong::{Wrong, all_hold};

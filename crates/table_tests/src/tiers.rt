@@ -2,7 +2,7 @@
 use crate::wrong::{NO_MEMORY, Wrong, nowhere};
 use std::alloc::Global;
 use std::test::*;
-use tiered_list::TieredList;
+use tiered_vec::TieredList;
 
 // How many numbers don't stand in the place of their own.
 fn strays(list: &TieredList) -> usize {

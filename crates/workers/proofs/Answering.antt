@@ -1,10 +1,10 @@
 -- A worker goes on.
 use Rattle.std.proofs.Common.{◌≡◌, List, [], ◌∷◌, ◌++◌, map, refl, sym, ap, ◌∙◌, append_assoc}
 use Rattle.std.proofs.lemmas.List.{map-append, append-nil}
-use Rattle.jobs.specs.Task.{Task}
-use Rattle.jobs.specs.declared.passes.View.{View}
-use Rattle.jobs.specs.Passes.{with_taken}
-use Rattle.outboxes.specs.Posted.{Sent, posted}
+use Rattle.job_queue.specs.Task.{Task}
+use Rattle.job_queue.specs.declared.passes.View.{View}
+use Rattle.job_queue.specs.Passes.{with_taken}
+use Rattle.reply_outbox.specs.Posted.{Sent, posted}
 use Rattle.workers.specs.Answers.{Answer, IsMet, AreMet, sent_for, all_sent, listed, all_receipts, Worker, with_jobs, Worked}
 
 all_sent-append : (xs : List Answer) (a : Answer) → all_sent (xs ++ a ∷ []) ≡ all_sent xs ++ sent_for a

@@ -5,16 +5,16 @@ use Rattle.std.proofs.Math.Seq.{take-append-add, take-length}
 use Rattle.std.proofs.KnownBytes.{Consumes-nil, Consumes-trans}
 use Rattle.std.specs.Io.KnownBytes.{Consumes}
 use Rattle.definitions.specs.Bytes.{Bytes}
-use Rattle.jobs.specs.Task.{Task}
-use Rattle.jobs.specs.declared.passes.View.{View}
-use Rattle.jobs.specs.Passes.{with_put, with_hand}
+use Rattle.job_queue.specs.Task.{Task}
+use Rattle.job_queue.specs.declared.passes.View.{View}
+use Rattle.job_queue.specs.Passes.{with_put, with_hand}
 use Rattle.record_mark.specs.Stream.{Splits}
 use Rattle.record_mark.specs.Assembled.{Assembled, IsSplit}
 use Rattle.record_mark.specs.declared.intake.ending.Ending.{Ending}
 use Rattle.record_mark.specs.declared.intake.ending.Ending.TheVariants.{Over, Failed, TooLong, Closed, Starved}
 use Rattle.record_mark.specs.Intakes.{EndsSo, Fed, Cuts}
 use Rattle.workers.specs.declared.reading.Origin.{Origin}
-use Rattle.outboxes.specs.Posted.{Sent}
+use Rattle.reply_outbox.specs.Posted.{Sent}
 use Rattle.workers.specs.Answers.{sent_for, listed, Answer, AreMet, all_sent, all_receipts, Worker, with_seat, Worked}
 use Rattle.workers.specs.Reading.{job_of, counted, jobs_of, Serves, HavePut, Puts, EndsBy, IsRead}
 

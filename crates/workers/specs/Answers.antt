@@ -7,10 +7,10 @@ use Rattle.book.specs.Notes.{Happening, Takes, Steps}
 use Rattle.book.specs.Receipts.{Receipt}
 use Rattle.book.specs.declared.receipt.Taken.{Taken}
 use Rattle.kept_replies.specs.Pairs.{view_of_peer}
-use Rattle.jobs.specs.Task.{Task}
-use Rattle.jobs.specs.declared.passes.View.{View}
-use Rattle.jobs.specs.Passes.{with_hand}
-use Rattle.outboxes.specs.Posted.{Sent, posted}
+use Rattle.job_queue.specs.Task.{Task}
+use Rattle.job_queue.specs.declared.passes.View.{View}
+use Rattle.job_queue.specs.Passes.{with_hand}
+use Rattle.reply_outbox.specs.Posted.{Sent, posted}
 
 abbrev pub asks : Task → Happening
 asks job = Takes job.peer job.asked

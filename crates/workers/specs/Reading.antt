@@ -6,9 +6,9 @@ use Rattle.record_mark.specs.Stream.{Splits}
 use Rattle.record_mark.specs.declared.intake.ending.Ending.{Ending}
 use Rattle.record_mark.specs.declared.intake.ending.Ending.TheVariants.{Over, Failed, TooLong, Closed, Starved}
 use Rattle.kept_replies.specs.Pairs.{view_of_peer}
-use Rattle.jobs.specs.Task.{Task}
-use Rattle.jobs.specs.Passes.{with_hand}
-use Rattle.outboxes.specs.Posted.{Sent}
+use Rattle.job_queue.specs.Task.{Task}
+use Rattle.job_queue.specs.Passes.{with_hand}
+use Rattle.reply_outbox.specs.Posted.{Sent}
 use Rattle.workers.specs.declared.reading.Origin.{Origin}
 use Rattle.workers.specs.Answers.{Answer, AreMet, all_sent, all_receipts, Worker, with_seat}
 

@@ -4,7 +4,7 @@ ghost use Rattle.std.specs.Option.{ForSome};
 ghost use Rattle.workers.specs.Places.{HasPlace};
 
 use book::Starved;
-use history::History;
+use ghost_list::History;
 use std::alloc::Global;
 
 /// Items in the order in which they came. They are kept for an audit alone; else contracts alone see them.

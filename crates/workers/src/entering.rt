@@ -1,7 +1,7 @@
 //! How a call comes to its entry, and what is handed over for it.
 ghost use Rattle.std.specs.Prelude.{◌≡◌, ◌⊎◌, List, IfOk, IfErr};
 ghost use Rattle.book.specs.declared.receipt.Taken.{Taken};
-ghost use Rattle.outboxes.specs.Posted.{Sent};
+ghost use Rattle.reply_outbox.specs.Posted.{Sent};
 ghost use Rattle.workers.specs.Answers.{Papers, TakesCall, TurnsBack, view_of_taken};
 
 use book::{Starved, Taken};

@@ -1,6 +1,6 @@
 //! A connection's own thread: it reads records, puts each as a job, and answers as many jobs as it put.
 ghost use Rattle.std.specs.Prelude.{◌≡◌, ◌*◌, true, false, cond, Some};
-ghost use Rattle.jobs.specs.Passes.{with_put};
+ghost use Rattle.job_queue.specs.Passes.{with_put};
 ghost use Rattle.byte_io.specs.Reads.{TakesAtMost};
 ghost use Rattle.workers.specs.Answers.{with_seat};
 ghost use Rattle.workers.specs.Reading.{Puts, job_of, counted, IsRead};
@@ -10,11 +10,11 @@ use crate::worker::Worker;
 use byte_io::make_place;
 use bytes::Bytes;
 use hosts_db::HostStore;
-use jobs::{Channel, Job, Place};
+use job_queue::{Channel, Job, Place};
 use kept_replies::Peer;
-use outboxes::{Gate, Outbox};
 use range_table::RangeTable;
 use record_mark::{Ending, Intake, Records};
+use reply_outbox::{Gate, Outbox};
 use std::alloc::Global;
 use std::io::Read;
 use std::sync::ledger::Ledger;

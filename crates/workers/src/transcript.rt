@@ -5,7 +5,7 @@ ghost use Rattle.book.specs.Notes.{Note};
 ghost use Rattle.book.specs.Receipts.{newest};
 
 use book::{Book, Entry};
-use history::History;
+use ghost_list::History;
 use hosts_db::HostStore;
 use range_table::RangeTable;
 use std::marker::Model;

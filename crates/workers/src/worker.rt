@@ -1,7 +1,7 @@
 //! What a worker does.
 ghost use Rattle.std.specs.Prelude.{◌≡◌, ◌+◌, ◌<◌, [], ◌∷◌, ◌++◌, is_some, IfOk, IfSome, IfNone, Some, None, length, MatchResult};
-ghost use Rattle.jobs.specs.Passes.{with_put, with_taken};
-ghost use Rattle.outboxes.specs.Posted.{posted};
+ghost use Rattle.job_queue.specs.Passes.{with_put, with_taken};
+ghost use Rattle.reply_outbox.specs.Posted.{posted};
 ghost use Rattle.workers.specs.Answers.{Answer, Worked, IsMet, listed, with_seat};
 
 use crate::desk::{AtBook, Desk};
@@ -9,9 +9,9 @@ use crate::entering::answer_call;
 use crate::shared::Shared;
 use book::{Receipt, Taken};
 use hosts_db::HostStore;
-use jobs::{Channel, Closed, Job, Place, Seat};
-use outboxes::{Gate, Outbox};
+use job_queue::{Channel, Closed, Job, Place, Seat};
 use range_table::RangeTable;
+use reply_outbox::{Gate, Outbox};
 use std::alloc::Global;
 use std::marker::Model;
 use std::sync::ledger::{Ledger, Share};

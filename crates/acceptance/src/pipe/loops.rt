@@ -5,8 +5,8 @@ use callbacks::ShortBytes;
 use hosts_db::{FULL_QUOTA, HostRow, MemHosts};
 use pipe_loops::{Fault, Server, pipe_loop, table_loop};
 use range_table::FlatTable;
-use script_parts::{Lent, Pace, Sink, Source, put_plain};
 use std::alloc::Global;
+use test_kit::{Lent, Pace, Sink, Source, put_plain};
 
 /// What serves the stream.
 #[derive(Clone, Copy, PartialEq, Eq)]

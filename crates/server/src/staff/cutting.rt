@@ -3,7 +3,7 @@ ghost use Rattle.std.specs.Prelude.{◌≡◌, IfSome};
 
 use super::fault::StaffFault;
 use super::gathering::{Back, Gatherer};
-use jobs::{Channel, Keeper, Place};
+use job_queue::{Channel, Keeper, Place};
 use std::alloc::Global;
 use std::sync::ledger::{Ledger, Share};
 use workers::Worker;

@@ -3,10 +3,10 @@ ghost use Rattle.std.specs.Prelude.{◌≡◌, ◌+◌, ◌++◌, [], IfOk, IfNo
 ghost use Rattle.server.specs.Gathered.{Audited, Settles, left_by, left_by_all};
 
 use super::fault::StaffFault;
-use audits::audit;
 use book::Receipt;
 use hosts_db::HostStore;
-use jobs::{Channel, Keeper, Place};
+use job_queue::{Channel, Keeper, Place};
+use journal_audit::audit;
 use range_table::RangeTable;
 use std::alloc::Global;
 use std::marker::Model;

@@ -1,7 +1,7 @@
 //! Calls, and what a peer says to one of the server's own, word for word.
 use crate::words::put_header;
-use script_parts::put_plain;
 use std::alloc::AllocError;
+use test_kit::put_plain;
 
 /// A call: its mark, its procedure (RFC 1813, appendix II), and the words of its arguments.
 #[derive(Clone, Copy)]

@@ -4,11 +4,11 @@ use super::calls::LOCK_BY_FIRST;
 use super::client::{dial, read, stop, write};
 use super::servers::{Ports, loopback};
 use super::talks::{CALLED, GRACE, REPLY, Told, answered, lock_both, lock_first};
-use script_parts::put_plain;
 use std::alloc::Global;
 use std::io;
 use std::net::{Net, TcpListener, TcpStream};
 use std::time::Clock;
+use test_kit::put_plain;
 
 /// How often a line is sent until the grace period is over.
 const TRIES: u32 = 900_000;

@@ -5,14 +5,14 @@ use super::rounds::{Crew, Turn, audited};
 use super::sending::{NOTHING, Sent};
 use bytes::Bytes;
 use callback_sender::Due;
-use jobs::{Channel, Place};
-use script_parts::put_plain;
+use job_queue::{Channel, Place};
 use std::alloc::Global;
 use std::sync::ledger::Ledger;
 use std::sync::{Mutex, Wait};
 use std::test::*;
 use std::thread::Threads;
 use std::time::Clock;
+use test_kit::put_plain;
 use workers::Worker;
 
 /// The first call of a connection, by its words.

@@ -5,7 +5,6 @@ use super::rounds::{Crew, Turn, audited};
 use super::sending::{NOTHING, Sent};
 use callback_sender::Due;
 use line_loop::{Ending, serve_lines};
-use script_parts::{AT_ONCE, Pace, Sink, Source};
 use std::alloc::{AllocError, Global};
 use std::fmt::Write;
 use std::sync::atomic::Ordering;
@@ -14,6 +13,7 @@ use std::sync::{Mutex, Wait};
 use std::test::*;
 use std::thread::Threads;
 use std::time::Clock;
+use test_kit::{AT_ONCE, Pace, Sink, Source};
 
 /// Lines, how they come, and what comes of them.
 #[derive(Clone, Copy)]

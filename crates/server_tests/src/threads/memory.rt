@@ -3,8 +3,8 @@ ghost use Rattle.std.specs.Prelude.{◌≡◌, []};
 
 use book::{Dest, Reply};
 use callback_sender::{Courier, SentCall};
-use history::History;
-use outboxes::{Outbox, SentReply};
+use ghost_list::History;
+use reply_outbox::{Outbox, SentReply};
 use std::alloc::Global;
 use xdr_core::Frame;
 
@@ -32,7 +32,7 @@ impl MemoryOutbox {
 }
 
 impl Outbox for MemoryOutbox {
-    ghost use Rattle.outboxes.specs.SentReplies.{view_of_sent};
+    ghost use Rattle.reply_outbox.specs.SentReplies.{view_of_sent};
 
     ghost handed = { λ o. view_of_sent o.all.items };
 

@@ -3,7 +3,7 @@ use super::memory::MemoryOutbox;
 use super::parts::{Kept, null, sent};
 use super::rounds::{Crew, Turn, audited};
 use crate::hall::{Hall, LONG};
-use jobs::{Channel, Place};
+use job_queue::{Channel, Place};
 use std::alloc::Global;
 use std::sync::atomic::{AtomicU64, Ordering};
 use std::sync::ledger::Ledger;

@@ -7,14 +7,14 @@ use book::Book;
 use bytes::Bytes;
 use callbacks::ShortBytes;
 use hosts_db::MemHosts;
-use jobs::{Channel, Job, Place};
+use job_queue::{Channel, Job, Place};
 use kept_replies::Peer;
-use outboxes::{Gate, SentReply};
 use range_arena::ArenaTable;
-use script_parts::put_plain;
+use reply_outbox::{Gate, SentReply};
 use std::alloc::Global;
 use std::sync::Wait;
 use std::sync::ledger::Ledger;
+use test_kit::put_plain;
 use workers::{Shared, Worker};
 
 /// Holds nobody.

@@ -2,16 +2,16 @@
 use super::memory::MemoryOutbox;
 use super::parts::{Kept, Open, bytes_of, repeated};
 use super::rounds::{Crew, Turn, audited};
-use jobs::{Channel, Place};
+use job_queue::{Channel, Place};
 use kept_replies::Peer;
-use outboxes::SentReply;
-use script_parts::{Pace, Source};
+use reply_outbox::SentReply;
 use std::alloc::Global;
 use std::sync::ledger::Ledger;
 use std::sync::{Mutex, Wait};
 use std::test::*;
 use std::thread::Threads;
 use std::time::Clock;
+use test_kit::{Pace, Source};
 use workers::{Ending, Origin, Worker};
 
 /// The connection that is read.

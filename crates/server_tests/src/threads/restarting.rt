@@ -12,7 +12,6 @@ use hosts_db::{HostStore, MemHosts};
 use line_loop::{Signals, serve_lines};
 use peers::Peers;
 use range_arena::ArenaTable;
-use script_parts::{AT_ONCE, Sink, Source, put_plain};
 use std::alloc::Global;
 use std::marker::Brand;
 use std::net::Net;
@@ -21,6 +20,7 @@ use std::sync::ledger::{Blank, Ledger};
 use std::sync::{Mutex, Wait};
 use std::test::*;
 use std::time::{Clock, Duration};
+use test_kit::{AT_ONCE, Sink, Source, put_plain};
 use workers::Shared;
 
 /// Stops the sender behind so many turns.

@@ -11,7 +11,7 @@ use super::parts::{Kept, begun};
 use super::reading::Reading;
 use book::{Book, BookEvent};
 use hosts_db::MemHosts;
-use jobs::{Channel, Keeper, Opened, Place};
+use job_queue::{Channel, Keeper, Opened, Place};
 use range_arena::ArenaTable;
 use server::staff::{Cutter, Gatherer};
 use std::alloc::Global;

@@ -1,5 +1,5 @@
 use Rattle.std.proofs.Common.{sym, ap, subst, ◌∙◌, arith}
-use Rattle.hosts_transactions.proofs.Results.{on_then}
+use Rattle.sql_transactions.proofs.Results.{on_then}
 use Rattle.hosts_sql.specs.Own.{is_host, is_watched, has_host_numbers, AreOwn, AllFit}
 use Rattle.definitions.specs.Hosts.{Hosts}
 use Rattle.sqlite.specs.Effect.{Database}

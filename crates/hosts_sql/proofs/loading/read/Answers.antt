@@ -7,8 +7,8 @@ use Rattle.sqlite.specs.State.{State, HasCleanDisk, IsUnchanged, Shown, Survives
 use Rattle.sqlite.specs.Held.{state}
 use Rattle.sqlite.proofs.StateLemmas.{survives_then}
 use Rattle.sqlite.proofs.Callers.{unchanged_then, never_commits}
-use Rattle.hosts_transactions.proofs.Keeping.{keeps_unchanged}
-use Rattle.hosts_transactions.proofs.Results.{if_then, on_if, in_either}
+use Rattle.sql_transactions.proofs.Keeping.{keeps_unchanged}
+use Rattle.sql_transactions.proofs.Results.{if_then, on_if, in_either}
 use Rattle.hosts_sql.proofs.Steps.{keeps_then, keeps_not_run, keeps_unread, shows_same}
 use Rattle.hosts_sql.proofs.Reading.{tells}
 use Rattle.hosts_sql.proofs.loading.read.Goals as goal

@@ -5,7 +5,7 @@ use Rattle.definitions.specs.Hosts.{Hosts}
 use Rattle.hosts_sql.specs.Maps.{host_row}
 use Rattle.sqlite.specs.Given.{IsPlain}
 use Rattle.sqlite.specs.Listing.{understood}
-use Rattle.hosts_transactions.proofs.Results.{on_both, on_then}
+use Rattle.sql_transactions.proofs.Results.{on_both, on_then}
 use Rattle.hosts_sql.proofs.Reading.{Tells-alike, hosts_plain_at, hosts_from, own_hosts_from, fitting_hosts_from}
 use Rattle.hosts_sql.proofs.loading.read_hosts.Goals as goal
 

@@ -3,7 +3,7 @@ use Rattle.sqlite.specs.State.{HasCleanDisk}
 use Rattle.sqlite.specs.Held.{state}
 use Rattle.hosts_sql.specs.Tables.{read_own_text}
 use Rattle.hosts_sql.specs.Reading.{Tells}
-use Rattle.hosts_transactions.proofs.Results.{if_then, on_if}
+use Rattle.sql_transactions.proofs.Results.{if_then, on_if}
 use Rattle.hosts_sql.proofs.Reading.{own_plain_at, own_from}
 use Rattle.hosts_sql.proofs.loading.read_own.Goals as goal
 

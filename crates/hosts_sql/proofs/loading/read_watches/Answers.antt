@@ -5,7 +5,7 @@ use Rattle.sqlite.specs.Held.{state}
 use Rattle.hosts_sql.specs.Maps.{watch_row}
 use Rattle.hosts_sql.specs.Tables.{read_watches_text}
 use Rattle.hosts_sql.specs.Reading.{Tells}
-use Rattle.hosts_transactions.proofs.Results.{on_both, on_then}
+use Rattle.sql_transactions.proofs.Results.{on_both, on_then}
 use Rattle.hosts_sql.proofs.Reading.{watches_plain_at, watches_from, own_watches_from}
 use Rattle.hosts_sql.proofs.loading.read_watches.Goals as goal
 

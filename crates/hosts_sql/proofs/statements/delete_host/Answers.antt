@@ -4,7 +4,7 @@ use Rattle.definitions.specs.Bytes.{without}
 use Rattle.definitions.specs.Hosts.{Hosts, is_named}
 use Rattle.hosts_sql.specs.Maps.{without_host}
 use Rattle.hosts_sql.specs.Tables.{delete_host_text}
-use Rattle.hosts_transactions.specs.Work.{Ran}
+use Rattle.sql_transactions.specs.Work.{Ran}
 use Rattle.hosts_sql.specs.Wrote.{rows_in}
 use Rattle.hosts_sql.proofs.Fewer.{host_given, made_without_host}
 use Rattle.hosts_sql.proofs.Commits.{CommitsWork, commits_work, hosts_by_work}

@@ -3,7 +3,7 @@ use Rattle.sqlite.specs.Held.{state}
 use Rattle.definitions.specs.Hosts.{Hosts, after_store, Unwatched}
 use Rattle.hosts_sql.specs.Maps.{without_watches}
 use Rattle.hosts_sql.specs.Tables.{delete_watch_text, delete_watches_text}
-use Rattle.hosts_transactions.specs.Work.{Ran}
+use Rattle.sql_transactions.specs.Work.{Ran}
 use Rattle.hosts_sql.specs.Wrote.{rows_in}
 use Rattle.hosts_sql.specs.Given.{my_given, watch_given}
 use Rattle.hosts_sql.proofs.Fewer.{made_without_watch, made_without_watches}

@@ -4,7 +4,7 @@ use Rattle.sqlite.specs.Held.{state}
 use Rattle.definitions.specs.Hosts.{Hosts, after_store, Monitor}
 use Rattle.hosts_sql.specs.Maps.{made_now, with_host}
 use Rattle.hosts_sql.specs.Tables.{monitor_text}
-use Rattle.hosts_transactions.specs.Work.{Ran}
+use Rattle.sql_transactions.specs.Work.{Ran}
 use Rattle.hosts_sql.specs.Wrote.{rows_in}
 use Rattle.hosts_sql.proofs.Monitor.{params}
 use Rattle.hosts_sql.proofs.Rows.{made_host}

@@ -3,7 +3,7 @@ use Rattle.sqlite.specs.Held.{state}
 use Rattle.definitions.specs.Hosts.{Hosts, after_store, Watched}
 use Rattle.hosts_sql.specs.Maps.{WatchKey, made_now, with_host, with_watch, without_watches}
 use Rattle.hosts_sql.specs.Tables.{monitor_text, watch_text, delete_watch_text}
-use Rattle.hosts_transactions.specs.Work.{RanThree}
+use Rattle.sql_transactions.specs.Work.{RanThree}
 use Rattle.hosts_sql.specs.Wrote.{rows_in}
 use Rattle.hosts_sql.proofs.Monitor.{params}
 use Rattle.hosts_sql.specs.Given.{watch_given, watch_params}

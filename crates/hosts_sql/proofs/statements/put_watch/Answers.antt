@@ -4,7 +4,7 @@ use Rattle.definitions.specs.Bytes.{put}
 use Rattle.definitions.specs.Hosts.{Hosts, watch_cmp}
 use Rattle.hosts_sql.specs.Maps.{WatchKey, with_watch, without_watches, watch_row}
 use Rattle.hosts_sql.specs.Tables.{watch_text, delete_watch_text}
-use Rattle.hosts_transactions.specs.Work.{RanTwo}
+use Rattle.sql_transactions.specs.Work.{RanTwo}
 use Rattle.hosts_sql.specs.Wrote.{rows_in}
 use Rattle.hosts_sql.specs.Given.{watch_given, watch_params}
 use Rattle.hosts_sql.proofs.Commits.{CommitsWork, commits_work, hosts_by_work}

@@ -5,7 +5,7 @@ use Rattle.definitions.specs.Bytes.{put}
 use Rattle.definitions.specs.Hosts.{Hosts, row_cmp}
 use Rattle.hosts_sql.specs.Maps.{Host, with_host, without_host, host_row}
 use Rattle.hosts_sql.specs.Tables.{monitor_text, delete_host_text}
-use Rattle.hosts_transactions.specs.Work.{RanTwo}
+use Rattle.sql_transactions.specs.Work.{RanTwo}
 use Rattle.hosts_sql.specs.Wrote.{rows_in}
 use Rattle.hosts_sql.proofs.Monitor.{params}
 use Rattle.hosts_sql.proofs.Fewer.{host_given}

@@ -4,7 +4,7 @@ use Rattle.sqlite.specs.Held.{state}
 use Rattle.definitions.specs.Hosts.{Hosts}
 use Rattle.hosts_sql.specs.Maps.{with_own}
 use Rattle.hosts_sql.specs.Tables.{set_own_text}
-use Rattle.hosts_transactions.specs.Work.{Ran}
+use Rattle.sql_transactions.specs.Work.{Ran}
 use Rattle.hosts_sql.proofs.Update.{made_own}
 use Rattle.hosts_sql.proofs.Commits.{CommitsWork, commits_work, hosts_by_work}
 use Rattle.hosts_sql.proofs.statements.set_own.Goals as goal

@@ -3,7 +3,7 @@ use Rattle.sqlite.specs.Held.{state}
 use Rattle.sqlite.specs.State.{HasCleanDisk}
 use Rattle.sqlite.specs.Effect.{Database}
 use Rattle.definitions.specs.Hosts.{Hosts}
-use Rattle.hosts_transactions.proofs.Results.{on_then}
+use Rattle.sql_transactions.proofs.Results.{on_then}
 use Rattle.hosts_sql.specs.Maps.{with_own}
 use Rattle.hosts_sql.proofs.Commits.{CommitsWork, commits_work, hosts_by_work}
 use Rattle.hosts_sql.proofs.Whole.{Moves, moved, upgraded_makes}

@@ -5,7 +5,7 @@ use Rattle.definitions.specs.Hosts.{NotAsked}
 use Rattle.definitions.specs.Step.{Starved}
 use Rattle.book.specs.Given.{comes_to}
 use Rattle.book.specs.Notes.{Happening, Takes, Steps}
-use Rattle.outboxes.specs.Posted.{posted}
+use Rattle.reply_outbox.specs.Posted.{posted}
 use Rattle.workers.specs.Answers.{Worker, Papers, asks}
 use Rattle.workers.proofs.worker.Worker.answer.Goals as goal
 

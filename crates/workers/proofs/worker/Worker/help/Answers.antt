@@ -1,5 +1,5 @@
 use Rattle.std.proofs.Common.{ap, ◌∙◌, ◌++◌}
-use Rattle.jobs.specs.Passes.{with_taken}
+use Rattle.job_queue.specs.Passes.{with_taken}
 use Rattle.workers.specs.Answers.{Worker, listed}
 use Rattle.workers.proofs.Answering.{Worked-none, Worked-more}
 use Rattle.workers.proofs.worker.Worker.help.Goals as goal

@@ -1,5 +1,5 @@
 use Rattle.std.proofs.Common.{ap, ◌∙◌, ◌++◌}
-use Rattle.outboxes.specs.Posted.{posted}
+use Rattle.reply_outbox.specs.Posted.{posted}
 use Rattle.workers.specs.Answers.{Worker, listed}
 use Rattle.workers.proofs.Answering.{Worked-none, Worked-more}
 use Rattle.workers.proofs.worker.Worker.work.Goals as goal

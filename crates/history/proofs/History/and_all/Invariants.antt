@@ -1,5 +1,0 @@
-use Rattle.std.proofs.Common.{◌++◌}
-use Rattle.history.proofs.History.and_all.Given as goal
-
-abbrev pub ghost-after : goal.ghost-after
-ghost-after g a = a.self.now.items ++ a.by.now.now

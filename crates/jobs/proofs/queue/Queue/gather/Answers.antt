@@ -1,5 +1,0 @@
-use Rattle.jobs.proofs.Moves.{merges}
-use Rattle.jobs.proofs.queue.Queue.gather.Goals as goal
-
-pub absorb-requires-clause-rule : goal.absorb-requires-clause-rule
-absorb-requires-clause-rule c = merges _ _ _ _ c.requires.keeps c.requires.works c.requires.next

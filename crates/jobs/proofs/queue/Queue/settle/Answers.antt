@@ -1,5 +1,0 @@
-use Rattle.jobs.proofs.Moves.{settles}
-use Rattle.jobs.proofs.queue.Queue.settle.Goals as goal
-
-pub learn_as-requires-clause-rule : goal.learn_as-requires-clause-rule
-learn_as-requires-clause-rule c = settles _ _ c.requires.keeps c.requires.all

@@ -1,7 +1,0 @@
--- Records that were handed over.
-use Rattle.std.specs.Prelude.{List, map}
-use Rattle.outboxes.specs.declared.SentReply.{SentReply}
-use Rattle.outboxes.specs.Posted.{Sent}
-
-abbrev pub view_of_sent : List SentReply → List Sent
-view_of_sent replies = map (λ (s : SentReply). record { connection = s.connection; reply = s.«record» }) replies

@@ -1,0 +1,72 @@
+//! Where replies go, and what stands before a hold of the book's lock: a trait of each, and what of a reply is handed over.
+#![tactic(auto)]
+
+ghost use Rattle.std.specs.Prelude.{◌≡◌, List, [], ◌∷◌, ◌++◌};
+ghost use Rattle.book.specs.Given.{view_of_reply, record_of};
+ghost use Rattle.reply_outbox.specs.Posted.{Sent, posted};
+
+use book::Reply;
+use job_queue::Job;
+use xdr_core::Frame;
+
+/// Runs before a worker takes the book's lock.
+pub trait Gate {
+    /// Whether it may hold a worker. Then another is woken first, where jobs may be left behind.
+    fn may_hold(&self) -> bool {
+        true
+    }
+
+    fn before(&self, job: &Job);
+}
+
+/// Takes replies to their connections. Contracts see all that it was handed. Whether a record reaches anybody is not said: where
+/// a connection is broken the record is lost, and the worker goes on.
+pub trait Outbox {
+    ghost handed: { Self → List Sent };
+
+    /// A reply that has a record.
+    fn hand(&mut self, connection: u64, reply: &Reply)
+        ensures { handed self.new ≡ handed self.old ++ record { connection = connection; reply = record_of (view_of_reply reply.now) } ∷ [] };
+
+    /// The next replies are for this connection. Replies that are joined for another are written now, since what comes next may
+    /// hold the worker for long.
+    fn turn_to(&mut self, connection: u64)
+        ensures { handed self.new ≡ handed self.old };
+
+    /// Whether replies are written before, or with, the next one for this connection. A write may hold the worker for long.
+    fn will_write(&self, connection: u64) -> bool;
+
+    /// One job of this connection is done: it has its reply, or none. `is_due`: a call of the server's own is due then.
+    fn done(&mut self, connection: u64, is_due: bool)
+        ensures { handed self.new ≡ handed self.old };
+
+    /// Writes the replies that are joined.
+    fn flush(&mut self)
+        ensures { handed self.new ≡ handed self.old };
+}
+
+/// Hands over a reply for this connection, once, if it has a record, and nothing else.
+pub fn post<O: Outbox>(outbox: &mut O, connection: u64, reply: &Reply)
+    ensures { O.handed outbox.new ≡ O.handed outbox.old ++ posted connection (view_of_reply reply.now) }
+{
+    match reply {
+        Reply::Answers { .. } | Reply::Refuses { .. } | Reply::SystemErr { .. } => {
+            outbox.hand(connection, reply);
+        }
+        Reply::Nothing | Reply::Says(_) | Reply::Starved | Reply::StoreRefused => {}
+    }
+}
+
+/// As `post`, of a reply that nobody else needs, which is let go of.
+pub fn post_last<O: Outbox>(outbox: &mut O, connection: u64, reply: Reply)
+    ensures { O.handed outbox.new ≡ O.handed outbox.old ++ posted connection (view_of_reply reply) }
+{
+    post(outbox, connection, &reply);
+}
+
+/// A reply's record, for a connection.
+#[derive(Drop)]
+pub struct SentReply {
+    pub connection: u64,
+    pub record: Frame,
+}

@@ -1,5 +1,0 @@
-use Rattle.tiered_list.proofs.Pieces.{AreFirst}
-use Rattle.tiered_list.proofs.list.TieredList.new.Given as goal
-
-abbrev pub invariant-loop-i : goal.invariant-loop-i
-invariant-loop-i l = AreFirst l.tiers.items l.i
