@@ -3,7 +3,7 @@ use Rattle.std.specs.Prelude.{ℕ, ◌+◌, ◌-◌, Bool, ◌==◌, ◌&&◌, L
 use Rattle.definitions.specs.Bytes.{same_bytes}
 use Rattle.definitions.specs.Owners.{Owner, Process}
 use Rattle.definitions.specs.Settings.{Request}
-use Rattle.definitions.specs.Outgoing.{Letter}
+use Rattle.definitions.specs.Outgoing.{Callback}
 use Rattle.definitions.specs.Waits.{Waiter, modes_are_same}
 use Rattle.owner_ids.specs.Names.{Names, AreDistinct}
 use Rattle.range_table.specs.Modes.{view_of_mode}
@@ -13,7 +13,7 @@ use Rattle.range_table.specs.declared.run.Setting.{Setting as NumberSetting}
 -- what is wanted, by its owner's number, and what is sent when it is granted
 pub record Waiting : Type 0 where
   pub wanted : Run
-  pub letter : Letter
+  pub callback : Callback
 
 -- waiters in the order of waiting, and how many places calls take
 pub record Taken : Type 0 where
@@ -32,7 +32,7 @@ abbrev pub request_by : Names → Run → Request
 request_by names r = record { file = r.file; owner = owner_at names r.owner; first = r.first; last = r.last; mode = view_of_mode r.mode }
 
 abbrev pub waiter_by : Names → Waiting → Waiter
-waiter_by names w = record { request = request_by names w.wanted; letter = w.letter }
+waiter_by names w = record { request = request_by names w.wanted; callback = w.callback }
 
 -- what a lock that is wanted sets, by its owner's number
 abbrev pub setting_wanted : Run → NumberSetting

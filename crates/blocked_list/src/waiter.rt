@@ -9,7 +9,7 @@ ghost use Rattle.blocked_list.specs.Waiting.{same_wanted, setting_wanted};
 ghost use Rattle.blocked_list.specs.Standing.{WhereFree, AreRunsOf};
 
 use crate::quotas::{Quotas, limit_of};
-use callbacks::Letter;
+use callbacks::Callback;
 use held_locks::{Allowance, RunsOfHosts};
 use owner_ids::Owners;
 use range_table::{FileId, RangeTable, Ranged, Run, Setting, Wanted};
@@ -19,7 +19,7 @@ use std::marker::Model;
 #[derive(Drop)]
 pub struct Waiter {
     wanted: Wanted,
-    letter: Letter,
+    callback: Callback,
 }
 
 impl Model for Waiter {
@@ -27,15 +27,15 @@ impl Model for Waiter {
 
     ghost Value = { Waiting };
 
-    ghost view = { λ w. record { wanted = w.wanted; letter = w.letter } };
+    ghost view = { λ w. record { wanted = w.wanted; callback = w.callback } };
 }
 
 impl Waiter {
     /// A waiter for this lock, from copies that the caller made.
-    pub fn new(wanted: Wanted, letter: Letter) -> Waiter
-        ensures { result ≡ record { wanted = wanted; letter = letter } }
+    pub fn new(wanted: Wanted, callback: Callback) -> Waiter
+        ensures { result ≡ record { wanted = wanted; callback = callback } }
     {
-        Waiter { wanted, letter }
+        Waiter { wanted, callback }
     }
 
     /// The lock that is wanted. Its owner's number is in use as long as it waits.
@@ -55,17 +55,17 @@ impl Waiter {
     }
 
     /// What tells of the grant, and whom.
-    pub fn letter(&self) -> &Letter
-        ensures { result.now ≡ self.now.letter }
+    pub fn callback(&self) -> &Callback
+        ensures { result.now ≡ self.now.callback }
     {
-        &self.letter
+        &self.callback
     }
 
-    /// Gives the letter up.
-    pub fn into_letter(self) -> Letter
-        ensures { result ≡ self.letter }
+    /// Gives the callback up.
+    pub fn into_callback(self) -> Callback
+        ensures { result ≡ self.callback }
     {
-        self.letter
+        self.callback
     }
 
     // Whether it waits for this lock: of one owner, file, range and mode.

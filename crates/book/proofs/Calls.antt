@@ -61,7 +61,7 @@ module _ (s : State) (peer : Peer) (bytes : Bytes) (xid : ℕ) (call : Call) (no
     fits = rw (row only kept, asks_as (plan.AfterStore q agreed refused) is, within refl) refl;
   }
 
-  answer_fits : (p : Plan) (store : StoreAnswer) → IsPlan (ruling the_limits s.world peer.local call) s.world p → IsAnswerTo p store → IsWithin p store s.world → fits the_limits s (record { event = Take peer bytes (Asks xid call); doing = Applied; store = store }) ≡ true
+  answer_fits : (p : Plan) (store : StoreAnswer) → IsPlan (ruling the_limits s.world peer.local call) s.world p → IsAnswerTo p store → IsWithin p store s.world → fits the_limits s (record { event = Take peer bytes (Asks xid call); completion = Applied; store = store }) ≡ true
   answer_fits (plan.Decided a) store is answer within = rw (answer, asks_as (plan.Decided a) is) refl
   answer_fits (plan.AfterStore q agreed refused) NotAsked is answer within = absurd (answer refl)
   answer_fits (plan.AfterStore q agreed refused) Yes is answer within = rw (asks_as (plan.AfterStore q agreed refused) is, within refl) refl

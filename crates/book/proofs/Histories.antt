@@ -15,8 +15,8 @@ use Rattle.definition_laws.proofs.RunLaws.{run_is_sound}
 use Rattle.definition_laws.proofs.GraceLaws.{grace_grants_law}
 use Rattle.definition_laws.proofs.GrantlessLaws.{grace_calls_law}
 use Rattle.definition_laws.proofs.StandingLaws.{grace_shares_law}
-use Rattle.book.specs.Given.{Upshot}
-use Rattle.book.specs.Notes.{Note, Happening, Steps}
+use Rattle.book.specs.Given.{StepResult}
+use Rattle.book.specs.Notes.{Note, JournalEvent, Steps}
 use Rattle.book.specs.Journal.{Journal, IsEntryOf, AreEntriesOf, IsLegal, next_of}
 use Rattle.book.specs.Histories.{notes_of, Join, AreLegal, joined, IsHistory, SegmentsAreLegal}
 use Rattle.book.specs.Laws.{GrantsReclaimsOnly, HistoriesAreSound, HistoriesGrantReclaimsOnly, HistoriesTellOfNoGrant}
@@ -106,10 +106,10 @@ module _ (name : Bytes) (hosts : Hosts) (j : Journal) (h : IsHistory name hosts 
   grantless : j.end.world.phase ≡ Grace → IsGrantless j.end.world
   grantless g = subst (λ (s : State). s.world.phase ≡ Grace → IsGrantless s.world) leads (λ in_grace. grace_calls_law the_limits name hosts done in_grace) g
 
-  reclaims_only : j.end.world.phase ≡ Grace → (event : Happening) (upshot : Upshot) (new : State) (step : Steps j.end event upshot new) → GrantsReclaimsOnly j.end event upshot new step
-  reclaims_only g event upshot new step = record {
-    locks = subst (λ (s : State). TableMove (IsReclaim step.said) Grace j.end.world.settings s.world.settings) step.step.leaves (grace_grants_law the_limits j.end step.said upshot.doing upshot.store g (grantless g).waiters).0;
-    shares = subst (λ (s : State). (share : Share) → Holds s.world.shares share → Holds j.end.world.shares share ⊎ IsShareReclaim step.said share) step.step.leaves (grace_shares_law the_limits j.end step.said upshot.doing upshot.store g);
+  reclaims_only : j.end.world.phase ≡ Grace → (event : JournalEvent) (step_result : StepResult) (new : State) (step : Steps j.end event step_result new) → GrantsReclaimsOnly j.end event step_result new step
+  reclaims_only g event step_result new step = record {
+    locks = subst (λ (s : State). TableMove (IsReclaim step.said) Grace j.end.world.settings s.world.settings) step.step.leaves (grace_grants_law the_limits j.end step.said step_result.completion step_result.store g (grantless g).waiters).0;
+    shares = subst (λ (s : State). (share : Share) → Holds s.world.shares share → Holds j.end.world.shares share ⊎ IsShareReclaim step.said share) step.step.leaves (grace_shares_law the_limits j.end step.said step_result.completion step_result.store g);
   }
 
 pub histories_are_sound : HistoriesAreSound

@@ -4,8 +4,8 @@ use Rattle.definitions.specs.World.{the_limits}
 use Rattle.definitions.specs.Step.{State}
 use Rattle.definitions.specs.Replay.{Done, Entry, after, IsLegal as IsLegalFrom}
 use Rattle.definition_laws.proofs.HistoryLaws.{history_grows}
-use Rattle.book.specs.Given.{Upshot}
-use Rattle.book.specs.Notes.{Note, Happening, Steps}
+use Rattle.book.specs.Given.{StepResult}
+use Rattle.book.specs.Notes.{Note, JournalEvent, Steps}
 use Rattle.book.specs.Journal.{Journal, IsEntryOf, AreEntriesOf, IsLegal, begun, next_of, noted}
 
 pub begun_is_legal : (first : ℕ) (s : State) → IsLegal (begun first s)
@@ -21,16 +21,16 @@ as_many [] entries are = ap (λ (es : List Entry). length es) are
 as_many (n ∷ notes) [] are = elim are [ ]
 as_many (n ∷ notes) (e ∷ entries) are = let rest = as_many notes entries are.1 in omega arith
 
-pub legal_grows : (j : Journal) (event : Happening) (upshot : Upshot) (new : State) → IsLegal j → Steps j.end event upshot new → IsLegal (noted j (record { number = next_of j; event = event; upshot = upshot }) new)
-legal_grows j event upshot new legal steps =
-    let d : Done = record { event = steps.said; doing = upshot.doing; store = upshot.store } in
+pub legal_grows : (j : Journal) (event : JournalEvent) (step_result : StepResult) (new : State) → IsLegal j → Steps j.end event step_result new → IsLegal (noted j (record { number = next_of j; event = event; step_result = step_result }) new)
+legal_grows j event step_result new legal steps =
+    let d : Done = record { event = steps.said; completion = step_result.completion; store = step_result.store } in
     let e : Entry = record { number = j.first + length legal.entries; done = d; given = (after the_limits j.end d).given } in
     record {
       entries = legal.entries ++ e ∷ [];
-      are = more_entries j.notes legal.entries (record { number = next_of j; event = event; upshot = upshot }) e legal.are (record {
+      are = more_entries j.notes legal.entries (record { number = next_of j; event = event; step_result = step_result }) e legal.are (record {
         number = ap (λ k. j.first + k) (as_many j.notes legal.entries legal.are);
         event = steps.reads;
-        doing = refl;
+        completion = refl;
         store = refl;
         given = steps.step.gives;
       });

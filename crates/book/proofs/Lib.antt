@@ -9,4 +9,4 @@ pub mod Early
 pub mod Lines
 pub mod Newest
 pub mod Rooms
-pub mod Told
+pub mod Response

@@ -16,12 +16,12 @@ use Rattle.lock_service.specs.Lined.{set_line_if, view_of_set_line}
 use Rattle.local_ops.specs.declared.answer.LocalAnswer.{LocalAnswer}
 use Rattle.local_ops.specs.Answers.{view_of_local_answer}
 use Rattle.local_ops.specs.Grammar.{Reads as LineReads}
-use Rattle.book.specs.Given.{Upshot, comes_to}
+use Rattle.book.specs.Given.{StepResult, comes_to}
 use Rattle.book.specs.Notes.{AsksLine, IsStep, Steps}
 
 module _ (s : State) (line : Line) (store : StoreAnswer) where
   pub done : (answer : LineReply) (w : World) → ((l : ℕ) → answer ≡ (ruled store (line_answer the_limits s.world l line)).says) → ((l : ℕ) → w ≡ settled the_limits (ruled store (line_answer the_limits s.world l line)).world)
-      → (l : ℕ) → fits the_limits s (record { event = Local l line; doing = Applied; store = store }) ≡ true → IsStep s (Local l line) (comes_to Applied store (Says answer)) (with_world s w)
+      → (l : ℕ) → fits the_limits s (record { event = Local l line; completion = Applied; store = store }) ≡ true → IsStep s (Local l line) (comes_to Applied store (Says answer)) (with_world s w)
   done answer w says leaves l fit = record {
     gives = ap (λ (r : LineReply). Says r) (sym (says l));
     leaves = ap (with_world s) (sym (leaves l));
@@ -29,7 +29,7 @@ module _ (s : State) (line : Line) (store : StoreAnswer) where
   }
 
 -- a line that changes nothing by itself
-pub settled_so : (s : State) (l : ℕ) (line : Line) (reply said : LineReply) (w : World) → line_answer the_limits s.world l line ≡ stays s.world reply → fits the_limits s (record { event = Local l line; doing = Applied; store = NotAsked }) ≡ true → said ≡ reply → w ≡ settled the_limits s.world
+pub settled_so : (s : State) (l : ℕ) (line : Line) (reply said : LineReply) (w : World) → line_answer the_limits s.world l line ≡ stays s.world reply → fits the_limits s (record { event = Local l line; completion = Applied; store = NotAsked }) ≡ true → said ≡ reply → w ≡ settled the_limits s.world
     → IsStep s (Local l line) (comes_to Applied NotAsked (Says said)) (with_world s w)
 settled_so s l line reply said w is fit says leaves = rw (says, leaves) (record { gives = rw is refl; leaves = rw is refl; fits = fit })
 
@@ -42,13 +42,13 @@ set_so s x said w says leaves = record {
   fits = go x.waits;
 }
   where
-    go : (b : Bool) → fits the_limits s (record { event = Local x.connection (set_line_if b x); doing = Applied; store = NotAsked }) ≡ true
+    go : (b : Bool) → fits the_limits s (record { event = Local x.connection (set_line_if b x); completion = Applied; store = NotAsked }) ≡ true
     go true = refl
     go false = refl
 
-pub read_as : (s new : State) (l : ℕ) (bytes : Bytes) (whole : Line) (upshot : Upshot) → LineReads bytes whole
-    → IsStep s (Local l whole) upshot new → Steps s (AsksLine l bytes) upshot new
-read_as s new l bytes whole upshot read step = record { said = Local l whole; reads = (whole, read, refl); step = step }
+pub read_as : (s new : State) (l : ℕ) (bytes : Bytes) (whole : Line) (step_result : StepResult) → LineReads bytes whole
+    → IsStep s (Local l whole) step_result new → Steps s (AsksLine l bytes) step_result new
+read_as s new l bytes whole step_result read step = record { said = Local l whole; reads = (whole, read, refl); step = step }
 
 -- whether it was answered or starved
 module _ {E : Type 0} (s new : State) (l : ℕ) (bytes : Bytes) (whole : Line) (read : LineReads bytes whole) where

@@ -16,5 +16,5 @@ newest_noted notes n =
     ap (λ (k : ℕ). slice_get (notes ++ n ∷ []) k) last ∙ get-last notes n
 
 pub newest_law : NewestLaw
-newest_law old new event upshot enters =
-    rw (ap (λ (j : Journal). j.notes) enters.journal) (newest_noted old.journal.notes (record { number = next_of old.journal; event = event; upshot = upshot }))
+newest_law old new event step_result enters =
+    rw (ap (λ (j : Journal). j.notes) enters.journal) (newest_noted old.journal.notes (record { number = next_of old.journal; event = event; step_result = step_result }))

@@ -5,7 +5,7 @@ use Rattle.definitions.specs.Hosts.{NotAsked}
 use Rattle.definitions.specs.Replies.{Call, Refusal, Ignored, Turned, Asks, Refuses}
 use Rattle.definitions.specs.Step.{Peer, State, Take, Applied, Nothing, Replies}
 use Rattle.call_codec.specs.Readings.{IsReading}
-use Rattle.book.specs.Given.{Upshot, comes_to}
+use Rattle.book.specs.Given.{StepResult, comes_to}
 use Rattle.book.specs.Notes.{Takes, IsStep, Steps}
 
 module _ (s : State) (peer : Peer) (bytes : Bytes) where
@@ -23,5 +23,5 @@ module _ (s : State) (peer : Peer) (bytes : Bytes) where
     step = record { gives = refl; leaves = refl; fits = refl };
   }
 
-  pub asked : (xid : ℕ) (call : Call) (upshot : Upshot) (new : State) → IsReading bytes (Asks xid call) → IsStep s (Take peer bytes (Asks xid call)) upshot new → Steps s (Takes peer bytes) upshot new
-  asked xid call upshot new read step = record { said = Take peer bytes (Asks xid call); reads = (Asks xid call, read, refl); step = step }
+  pub asked : (xid : ℕ) (call : Call) (step_result : StepResult) (new : State) → IsReading bytes (Asks xid call) → IsStep s (Take peer bytes (Asks xid call)) step_result new → Steps s (Takes peer bytes) step_result new
+  asked xid call step_result new read step = record { said = Take peer bytes (Asks xid call); reads = (Asks xid call, read, refl); step = step }

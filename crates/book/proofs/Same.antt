@@ -7,10 +7,10 @@ use Rattle.definitions.specs.Replay.{Done, after}
 use Rattle.call_codec.specs.Readings.{OneReading}
 use Rattle.call_codec.specs.Answers.{OneAnswerReading}
 use Rattle.local_ops.specs.Grammar.{OneLine}
-use Rattle.book.specs.Notes.{Happening, Takes, SendsNext, HearsAnswer, AsksLine, FallsSilent, GraceEnds, BeginsAnew, Reads, OneStep}
+use Rattle.book.specs.Notes.{JournalEvent, Takes, SendsNext, HearsAnswer, AsksLine, FallsSilent, GraceEnds, BeginsAnew, Reads, OneStep}
 
 module _ (one : OneReading) (one_answer : OneAnswerReading) (one_line : OneLine) where
-  same_event : (event : Happening) (a b : Event) → Reads event a → Reads event b → a ≡ b
+  same_event : (event : JournalEvent) (a b : Event) → Reads event a → Reads event b → a ≡ b
   same_event (Takes peer asked) a b x y = x.2 ∙ ap (λ (r : Reading). Take peer asked r) (one asked x.0 y.0 x.1 y.1) ∙ sym y.2
   same_event SendsNext a b x y = x ∙ sym y
   same_event (HearsAnswer bytes) a b x y = x.2 ∙ ap (λ (r : AnswerReading). Answer r) (one_answer bytes x.0 y.0 x.1 y.1) ∙ sym y.2
@@ -20,9 +20,9 @@ module _ (one : OneReading) (one_answer : OneAnswerReading) (one_line : OneLine)
   same_event BeginsAnew a b x y = x ∙ sym y
 
   pub one_step : OneStep
-  one_step old new end event doing store given other a b =
+  one_step old new end event completion store given other a b =
       let same = same_event event a.said b.said a.reads b.reads in
-      let done : Event → Done = λ e. record { event = e; doing = doing; store = store } in (
+      let done : Event → Done = λ e. record { event = e; completion = completion; store = store } in (
         sym a.step.gives ∙ ap (λ (e : Event). (after the_limits old (done e)).given) same ∙ b.step.gives,
         sym a.step.leaves ∙ ap (λ (e : Event). (after the_limits old (done e)).state) same ∙ b.step.leaves,
       )

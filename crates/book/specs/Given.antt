@@ -3,7 +3,7 @@ use Rattle.std.specs.Prelude.{[]}
 use Rattle.definitions.specs.Bytes.{Bytes}
 use Rattle.definitions.specs.Hosts.{StoreAnswer}
 use Rattle.definitions.specs.Replies.{Refuses, SystemErr, Reading, Ignored, Turned, Asks}
-use Rattle.definitions.specs.Step.{Doing, Applied, Starved, Given, Nothing, Replies, Says, Sends, IsStarved, IsRefused}
+use Rattle.definitions.specs.Step.{Completion, Applied, Starved, Given, Nothing, Replies, Says, Sends, IsStarved, IsRefused}
 use Rattle.call_codec.specs.CallValues.{view_of_refusal}
 use Rattle.call_codec.specs.OutcomeValues.{view_of_outcome}
 use Rattle.call_codec.specs.Replies.{reply_bytes}
@@ -11,21 +11,21 @@ use Rattle.call_codec.specs.Records.{call_record}
 use Rattle.local_ops.specs.Answers.{view_of_local_answer}
 use Rattle.book.specs.declared.reply.Reply.{Reply}
 use Rattle.book.specs.declared.reply.Reply.TheVariants as reply
-use Rattle.book.specs.declared.upshot.Doing.{Doing as Became}
-use Rattle.book.specs.declared.upshot.Doing.TheVariants as doing
+use Rattle.book.specs.declared.step_result.Completion.{Completion as Became}
+use Rattle.book.specs.declared.step_result.Completion.TheVariants as completion
 
 -- what became of an event, what the store answered, and what the event gives
-pub record Upshot : Type 0 where
-  pub doing : Doing
+pub record StepResult : Type 0 where
+  pub completion : Completion
   pub store : StoreAnswer
   pub given : Given
 
-abbrev pub comes_to : Doing → StoreAnswer → Given → Upshot
-comes_to doing store given = record { doing = doing; store = store; given = given }
+abbrev pub comes_to : Completion → StoreAnswer → Given → StepResult
+comes_to completion store given = record { completion = completion; store = store; given = given }
 
-abbrev pub view_of_doing : Became → Doing
-view_of_doing doing.Applied = Applied
-view_of_doing doing.Starved = Starved
+abbrev pub view_of_completion : Became → Completion
+view_of_completion completion.Applied = Applied
+view_of_completion completion.Starved = Starved
 
 abbrev pub view_of_reply : Reply → Given
 view_of_reply reply.Nothing = Nothing
@@ -37,7 +37,7 @@ view_of_reply reply.Starved = IsStarved
 view_of_reply reply.StoreRefused = IsRefused
 
 -- a restart that was not made: the store refused it, or memory was wanting
-abbrev pub unbegun : Doing → Given
+abbrev pub unbegun : Completion → Given
 unbegun Applied = IsRefused
 unbegun Starved = IsStarved
 
@@ -46,7 +46,7 @@ abbrev pub record_of : Given → Bytes
 record_of (Replies xid outcome) = reply_bytes xid outcome
 record_of Nothing = []
 record_of (Says line) = []
-record_of (Sends number letter) = call_record number letter.message
+record_of (Sends number callback) = call_record number callback.message
 record_of IsStarved = []
 record_of IsRefused = []
 

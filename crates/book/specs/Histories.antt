@@ -3,8 +3,8 @@ use Rattle.std.specs.Prelude.{◌≡◌, ℕ, List, [], ◌∷◌, ◌++◌}
 use Rattle.definitions.specs.Bytes.{Bytes}
 use Rattle.definitions.specs.Hosts.{Hosts, Yes}
 use Rattle.definitions.specs.Step.{State, Applied, Nothing, opening_state}
-use Rattle.book.specs.Given.{Upshot, comes_to}
-use Rattle.book.specs.Notes.{Note, Happening, BeginsAnew, Steps}
+use Rattle.book.specs.Given.{StepResult, comes_to}
+use Rattle.book.specs.Notes.{Note, JournalEvent, BeginsAnew, Steps}
 use Rattle.book.specs.Journal.{Journal, IsLegal, begun, next_of, noted}
 
 abbrev pub notes_of : List Journal → List Note
@@ -41,7 +41,7 @@ pub record Leads (old new : State) : Type 0 where
 -- the first entry is a restart that the store agreed to
 abbrev pub BeginsWithRestart : List Note → Type 0
 BeginsWithRestart [] = ⊥
-BeginsWithRestart (n ∷ notes) = (n.event ≡ BeginsAnew) × (n.upshot ≡ comes_to Applied Yes Nothing)
+BeginsWithRestart (n ∷ notes) = (n.event ≡ BeginsAnew) × (n.step_result ≡ comes_to Applied Yes Nothing)
 
 -- segments that join, and are legal each, are one legal history
 abbrev pub SegmentsAreLegal : Type 0
@@ -56,5 +56,5 @@ LegalBegins = (first : ℕ) (s : State) → IsLegal (begun first s)
 -- and a legal one goes on by each step
 abbrev pub LegalGrows : Type 0
 LegalGrows =
-    (j : Journal) (event : Happening) (upshot : Upshot) (new : State) → IsLegal j → Steps j.end event upshot new
-    → IsLegal (noted j (record { number = next_of j; event = event; upshot = upshot }) new)
+    (j : Journal) (event : JournalEvent) (step_result : StepResult) (new : State) → IsLegal j → Steps j.end event step_result new
+    → IsLegal (noted j (record { number = next_of j; event = event; step_result = step_result }) new)

@@ -1,7 +1,7 @@
 -- A segment of the journal, and when it is legal.
 use Rattle.std.specs.Prelude.{◌≡◌, ℕ, ◌+◌, ◌-◌, ◌^◌, ◌<◌, List, [], ◌∷◌, ◌++◌, length, min, Option, None, Some}
 use Rattle.definitions.specs.Bytes.{Bytes}
-use Rattle.definitions.specs.Outgoing.{Letter, next_due}
+use Rattle.definitions.specs.Outgoing.{Callback, next_due}
 use Rattle.definitions.specs.Hosts.{NotAsked}
 use Rattle.definitions.specs.World.{the_limits}
 use Rattle.definitions.specs.Step.{State, Applied, Starved, Sends}
@@ -9,8 +9,8 @@ use Rattle.definitions.specs.Replay.{Entry, IsLegal as IsLegalFrom}
 use Rattle.call_plans.specs.Planned.{counted}
 use Rattle.call_codec.specs.declared.records.dest.Dest.{Dest}
 use Rattle.call_codec.specs.Dests.{view_of_dest}
-use Rattle.book.specs.Given.{Upshot, comes_to, record_of}
-use Rattle.book.specs.Notes.{Note, Happening, Takes, SendsNext, HearsAnswer, AsksLine, FallsSilent, GraceEnds, BeginsAnew, Reads, Steps}
+use Rattle.book.specs.Given.{StepResult, comes_to, record_of}
+use Rattle.book.specs.Notes.{Note, JournalEvent, Takes, SendsNext, HearsAnswer, AsksLine, FallsSilent, GraceEnds, BeginsAnew, Reads, Steps}
 
 -- the number of the first entry, the state before it, what each notes, and the state after the last
 pub record Journal : Type 0 where
@@ -27,9 +27,9 @@ pub record Book : Type 0 where
 pub record IsEntryOf (n : Note) (e : Entry) : Type 0 where
   pub number : e.number ≡ n.number
   pub event : Reads n.event e.done.event
-  pub doing : e.done.doing ≡ n.upshot.doing
-  pub store : e.done.store ≡ n.upshot.store
-  pub given : e.given ≡ n.upshot.given
+  pub completion : e.done.completion ≡ n.step_result.completion
+  pub store : e.done.store ≡ n.step_result.store
+  pub given : e.given ≡ n.step_result.given
 
 abbrev pub AreEntriesOf : List Note → List Entry → Type 0
 AreEntriesOf [] entries = entries ≡ []
@@ -71,7 +71,7 @@ abbrev pub noted : Journal → Note → State → Journal
 noted j n end = record j { notes = j.notes ++ n ∷ []; end = end }
 
 -- only a record, a line and a restart take memory
-abbrev pub TakesMemory : Happening → Type 0
+abbrev pub TakesMemory : JournalEvent → Type 0
 TakesMemory (Takes peer asked) = Unit {0}
 TakesMemory (AsksLine l line) = Unit {0}
 TakesMemory BeginsAnew = Unit {0}
@@ -81,15 +81,15 @@ TakesMemory (FallsSilent number) = ⊥
 TakesMemory GraceEnds = ⊥
 
 -- one event is one entry, and one step of the definitions
-pub record Enters (old : Book) (event : Happening) (upshot : Upshot) (new : Book) : Type 0 where
-  pub steps : Steps old.journal.end event upshot new.journal.end
-  pub journal : new.journal ≡ noted old.journal (record { number = next_of old.journal; event = event; upshot = upshot }) new.journal.end
-  pub refusals : new.refusals ≡ counted upshot.store old.refusals
-  pub fed : upshot.doing ≡ Starved → TakesMemory event
+pub record Enters (old : Book) (event : JournalEvent) (step_result : StepResult) (new : Book) : Type 0 where
+  pub steps : Steps old.journal.end event step_result new.journal.end
+  pub journal : new.journal ≡ noted old.journal (record { number = next_of old.journal; event = event; step_result = step_result }) new.journal.end
+  pub refusals : new.refusals ≡ counted step_result.store old.refusals
+  pub fed : step_result.completion ≡ Starved → TakesMemory event
 
 -- the call that is due first is sent, with its number, to whom it is for, and its record; or none is due, and nothing happens
 abbrev pub IsNext : Book → Option (ℕ × Dest × Bytes) → Book → Type 0
 IsNext old None new = (next_due old.journal.end.world.calls ≡ None) × (new ≡ old)
 IsNext old (Some (number, to, bytes)) new =
-    (letter : Letter) × (view_of_dest to ≡ letter.to) × (bytes ≡ record_of (Sends number letter))
-    × Enters old SendsNext (comes_to Applied NotAsked (Sends number letter)) new
+    (callback : Callback) × (view_of_dest to ≡ callback.to) × (bytes ≡ record_of (Sends number callback))
+    × Enters old SendsNext (comes_to Applied NotAsked (Sends number callback)) new

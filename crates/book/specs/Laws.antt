@@ -8,8 +8,8 @@ use Rattle.definitions.specs.World.{the_limits}
 use Rattle.definitions.specs.Step.{State}
 use Rattle.definitions.specs.Moves.{IsSound, IsReclaim, TableMove}
 use Rattle.definition_laws.specs.Standing.{IsShareReclaim, IsGrantless}
-use Rattle.book.specs.Given.{Upshot}
-use Rattle.book.specs.Notes.{Happening, Steps}
+use Rattle.book.specs.Given.{StepResult}
+use Rattle.book.specs.Notes.{JournalEvent, Steps}
 use Rattle.book.specs.Journal.{Journal}
 use Rattle.book.specs.Histories.{IsHistory}
 
@@ -18,15 +18,15 @@ abbrev pub HistoriesAreSound : Type 0
 HistoriesAreSound = (name : Bytes) (hosts : Hosts) (j : Journal) → IsHistory name hosts j → IsSound the_limits j.end.world
 
 -- a step grants no lock and no share but to the reclaim that its event is
-pub record GrantsReclaimsOnly (old : State) (event : Happening) (upshot : Upshot) (new : State) (step : Steps old event upshot new) : Type 0 where
+pub record GrantsReclaimsOnly (old : State) (event : JournalEvent) (step_result : StepResult) (new : State) (step : Steps old event step_result new) : Type 0 where
   pub locks : TableMove (IsReclaim step.said) Grace old.world.settings new.world.settings
   pub shares : (share : Share) → Holds new.world.shares share → Holds old.world.shares share ⊎ IsShareReclaim step.said share
 
 -- so it is of each step in grace
 abbrev pub GrantReclaimsOnly : State → Type 0
 GrantReclaimsOnly old =
-    old.world.phase ≡ Grace → (event : Happening) (upshot : Upshot) (new : State) (step : Steps old event upshot new)
-    → GrantsReclaimsOnly old event upshot new step
+    old.world.phase ≡ Grace → (event : JournalEvent) (step_result : StepResult) (new : State) (step : Steps old event step_result new)
+    → GrantsReclaimsOnly old event step_result new step
 
 -- wherever a history has led
 abbrev pub HistoriesGrantReclaimsOnly : Type 0

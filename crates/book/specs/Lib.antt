@@ -9,5 +9,5 @@ pub mod Repeats
 pub mod Kept
 pub mod Receipts
 pub mod Lines
-pub mod Told
-pub mod Deeds
+pub mod Response
+pub mod NewEntries

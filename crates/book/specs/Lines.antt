@@ -15,10 +15,10 @@ use Rattle.book.specs.Given.{comes_to}
 use Rattle.book.specs.Notes.{IsStep}
 
 -- the line is told this, and the store isn't asked
-abbrev pub IsToldOnly : State → ℕ → Line → LineReply → Type 0
-IsToldOnly s l line reply =
+abbrev pub IsAnsweredOnly : State → ℕ → Line → LineReply → Type 0
+IsAnsweredOnly s l line reply =
     (line_answer the_limits s.world l line ≡ stays s.world reply)
-    × (fits the_limits s (record { event = Local l line; doing = Applied; store = NotAsked }) ≡ true)
+    × (fits the_limits s (record { event = Local l line; completion = Applied; store = NotAsked }) ≡ true)
 
 -- what a line that was done was told, and what the store answered, are its step
 abbrev pub IsDone : State → ℕ → Line → State → LocalAnswer × CodedAnswer → Type 0

@@ -2,27 +2,27 @@
 use Rattle.std.specs.Prelude.{◌≡◌, Some, ℕ, Bool, true, false, ◌&&◌, ◌==◌, cond, not, List, ◌-◌, length, slice_get, Option, option_map}
 use Rattle.definitions.specs.Bytes.{Bytes, same_bytes, is_any}
 use Rattle.definitions.specs.Step.{Peer, Given}
-use Rattle.book.specs.Given.{Upshot, record_of}
+use Rattle.book.specs.Given.{StepResult, record_of}
 use Rattle.book.specs.Journal.{Book, next_of, Enters}
-use Rattle.book.specs.Notes.{Happening, Takes, SendsNext, HearsAnswer, AsksLine, FallsSilent, GraceEnds, BeginsAnew, Note}
+use Rattle.book.specs.Notes.{JournalEvent, Takes, SendsNext, HearsAnswer, AsksLine, FallsSilent, GraceEnds, BeginsAnew, Note}
 
 -- the entry's number, its event, and the record that its client got
 pub record Receipt : Type 0 where
   pub number : ℕ
-  pub event : Happening
+  pub event : JournalEvent
   pub reply : Bytes
 
 abbrev pub receipt_of : Note → Receipt
-receipt_of n = record { number = n.number; event = n.event; reply = record_of n.upshot.given }
+receipt_of n = record { number = n.number; event = n.event; reply = record_of n.step_result.given }
 
 abbrev pub newest : List Note → Option Note
 newest notes = slice_get notes (length notes - 1)
 
-abbrev pub newest_event : List Note → Option Happening
+abbrev pub newest_event : List Note → Option JournalEvent
 newest_event notes = option_map (λ (n : Note). n.event) (newest notes)
 
 abbrev pub newest_given : List Note → Option Given
-newest_given notes = option_map (λ (n : Note). n.upshot.given) (newest notes)
+newest_given notes = option_map (λ (n : Note). n.step_result.given) (newest notes)
 
 abbrev pub newest_receipt : List Note → Option Receipt
 newest_receipt notes = option_map receipt_of (newest notes)
@@ -30,7 +30,7 @@ newest_receipt notes = option_map receipt_of (newest notes)
 abbrev pub same_peer : Peer → Peer → Bool
 same_peer a b = same_bytes a.address b.address && cond a.local b.local (not b.local)
 
-abbrev pub same_event : Happening → Happening → Bool
+abbrev pub same_event : JournalEvent → JournalEvent → Bool
 same_event (Takes peer asked) (Takes other bytes) = same_peer peer other && same_bytes asked bytes
 same_event SendsNext SendsNext = true
 same_event (HearsAnswer bytes) (HearsAnswer others) = same_bytes bytes others
@@ -50,5 +50,5 @@ is_noted r notes = is_any (λ (n : Note). same_receipt (receipt_of n) r) notes
 -- what entered last is the newest entry
 abbrev pub NewestLaw : Type 0
 NewestLaw =
-    (old new : Book) (event : Happening) (upshot : Upshot) → Enters old event upshot new
-    → newest new.journal.notes ≡ Some (record { number = next_of old.journal; event = event; upshot = upshot })
+    (old new : Book) (event : JournalEvent) (step_result : StepResult) → Enters old event step_result new
+    → newest new.journal.notes ≡ Some (record { number = next_of old.journal; event = event; step_result = step_result })

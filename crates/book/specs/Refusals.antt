@@ -1,8 +1,8 @@
 -- What a call gets that is refused before its procedure's rules.
 use Rattle.std.specs.Prelude.{◌≡◌, ℕ, ◌<◌, Option, Some, None}
 use Rattle.definitions.specs.Bytes.{Bytes}
-use Rattle.definitions.specs.Answer.{to_caller, lock_letter, cancel_letter, unlock_letter}
-use Rattle.definitions.specs.Outgoing.{Letter, TestResult}
+use Rattle.definitions.specs.Answer.{to_caller, lock_callback, cancel_callback, unlock_callback}
+use Rattle.definitions.specs.Outgoing.{Callback, TestResult}
 use Rattle.definitions.specs.Phases.{Testing, Locking, Sharing, Cancelling, Unlocking, Unsharing}
 use Rattle.definitions.specs.Nlm.{Version, Stat, NlmCall, Test, Locks, Cancel, Unlock, TestMsg, LockMsg, CancelMsg, UnlockMsg, ShareCall, Unshare, NmLock}
 use Rattle.definitions.specs.Ranges.{range_refusal, file_refusal}
@@ -10,8 +10,8 @@ use Rattle.definitions.specs.Replies.{Nlm, Outcome, Success, NoResult, ResResult
 use Rattle.definitions.specs.Shown.{shown_stat, free_test}
 use Rattle.definitions.specs.World.{World, the_limits, slots_free, with_due, settled}
 use Rattle.definitions.specs.Step.{Peer, State, Take, Applied, Given, Replies, look}
-use Rattle.book.specs.Given.{Upshot}
-use Rattle.book.specs.Notes.{Happening, Steps}
+use Rattle.book.specs.Given.{StepResult}
+use Rattle.book.specs.Notes.{JournalEvent, Steps}
 
 -- what a call is refused for before its procedure's own rules: its file handle, its range, the phase
 abbrev pub early_refusal : World → NlmCall → Option Stat
@@ -39,12 +39,12 @@ pub record TellsStat (xid : ℕ) (stat : Stat) (given : Given) : Type 0 where
 
 -- a call that is done anew and has an early refusal is answered by it, as its version shows it: so in grace each that the phase
 -- turns away is answered DENIED_GRACE_PERIOD
-abbrev pub RefusalIsTold : Type 0
-RefusalIsTold =
-    (old new : State) (event : Happening) (upshot : Upshot) (step : Steps old event upshot new)
+abbrev pub RefusalIsAnswered : Type 0
+RefusalIsAnswered =
+    (old new : State) (event : JournalEvent) (step_result : StepResult) (step : Steps old event step_result new)
     → (peer : Peer) (asked : Bytes) (xid : ℕ) (version : Version) (call : NlmCall) (stat : Stat)
-    → step.said ≡ Take peer asked (Asks xid (Nlm version call)) → look old peer asked ≡ None → upshot.doing ≡ Applied
-    → early_refusal old.world call ≡ Some stat → TellsStat xid (shown_stat version stat) upshot.given
+    → step.said ≡ Take peer asked (Asks xid (Nlm version call)) → look old peer asked ≡ None → step_result.completion ≡ Applied
+    → early_refusal old.world call ≡ Some stat → TellsStat xid (shown_stat version stat) step_result.given
 
 -- what a message form is refused for before its procedure's own rules
 abbrev pub early_message_refusal : World → NlmCall → Option Stat
@@ -55,25 +55,25 @@ early_message_refusal w (UnlockMsg a) = range_refusal w Unlocking a.alock
 early_message_refusal w _ = None
 
 -- the call that tells the caller's host of it: its _RES, with the status as the version shows it
-abbrev pub refusal_letter : Version → NlmCall → Stat → Option Letter
-refusal_letter version (TestMsg a) stat = Some (to_caller a.alock (TestResult version (free_test version a.cookie stat)))
-refusal_letter version (LockMsg a) stat = Some (lock_letter version a stat)
-refusal_letter version (CancelMsg a) stat = Some (cancel_letter version a stat)
-refusal_letter version (UnlockMsg a) stat = Some (unlock_letter version a stat)
-refusal_letter version _ stat = None
+abbrev pub refusal_callback : Version → NlmCall → Stat → Option Callback
+refusal_callback version (TestMsg a) stat = Some (to_caller a.alock (TestResult version (free_test version a.cookie stat)))
+refusal_callback version (LockMsg a) stat = Some (lock_callback version a stat)
+refusal_callback version (CancelMsg a) stat = Some (cancel_callback version a stat)
+refusal_callback version (UnlockMsg a) stat = Some (unlock_callback version a stat)
+refusal_callback version _ stat = None
 
 -- who asked gets an empty reply, and the newest call that is due, before what waits is granted, tells the status to its host
 pub record CallsBack (xid : ℕ) (version : Version) (call : NlmCall) (stat : Stat) (old : State) (given : Given) (new : State) : Type 0 where
   pub gives : given ≡ Replies xid (Success NoResult)
-  pub letter : Letter
-  pub tells : refusal_letter version call stat ≡ Some letter
-  pub world : new.world ≡ settled the_limits (with_due old.world letter)
+  pub callback : Callback
+  pub tells : refusal_callback version call stat ≡ Some callback
+  pub world : new.world ≡ settled the_limits (with_due old.world callback)
 
 -- a message form that is done anew while a place is free, and has an early refusal, is answered by a call of the server's own
-abbrev pub MessageRefusalIsTold : Type 0
-MessageRefusalIsTold =
-    (old new : State) (event : Happening) (upshot : Upshot) (step : Steps old event upshot new)
+abbrev pub MessageRefusalIsAnswered : Type 0
+MessageRefusalIsAnswered =
+    (old new : State) (event : JournalEvent) (step_result : StepResult) (step : Steps old event step_result new)
     → (peer : Peer) (asked : Bytes) (xid : ℕ) (version : Version) (call : NlmCall) (stat : Stat)
-    → step.said ≡ Take peer asked (Asks xid (Nlm version call)) → look old peer asked ≡ None → upshot.doing ≡ Applied
+    → step.said ≡ Take peer asked (Asks xid (Nlm version call)) → look old peer asked ≡ None → step_result.completion ≡ Applied
     → 0 < slots_free the_limits old.world → early_message_refusal old.world call ≡ Some stat
-    → CallsBack xid version call stat old upshot.given new
+    → CallsBack xid version call stat old step_result.given new

@@ -8,15 +8,15 @@ ghost use Rattle.book.specs.Given.{view_of_reply};
 ghost use Rattle.book.specs.Receipts.{newest_event, newest_given, newest_receipt, is_noted};
 ghost use Rattle.book.specs.Journal.{begun, next_of, room_of, rotated, Enters, IsLegal, IsNext, MakesRoom};
 
-use crate::entries::{Deed, Entries};
-use crate::entry::{Act, SEGMENT};
+use crate::entries::{Entries, NewEntry};
+use crate::entry::{Operation, SEGMENT};
 use crate::event::BookEvent;
 use crate::receipt::{Receipt, Taken};
 use crate::reply::Reply;
-use crate::seen::Seen;
 use crate::segment::{Closed, NoRoom, Segment};
+use crate::snapshot::Snapshot;
 use crate::state::BookState;
-use crate::upshot::{Doing, Upshot};
+use crate::step_result::{Completion, StepResult};
 use call_codec::Dest;
 use callbacks::ShortBytes;
 use held_locks::Locks;
@@ -34,7 +34,7 @@ use xdr_core::Frame;
 /// often the store has refused.
 pub struct Book<R: RangeTable, S: HostStore> {
     shared: BookState<R, S>,
-    base: Seen<BookState<R, S>>,
+    base: Snapshot<BookState<R, S>>,
     entries: Entries,
 }
 
@@ -74,7 +74,7 @@ impl<R: RangeTable + Drop, S: HostStore + Drop> Book<R, S> {
     {
         let segment = Segment::new(alloc)?;
         let shared = BookState::new(alloc, table, store, own_name)?;
-        let base = Seen::of(&shared);
+        let base = Snapshot::of(&shared);
         Ok(Book {
             shared,
             base,
@@ -95,7 +95,7 @@ impl<R: RangeTable + Drop, S: HostStore + Drop> Book<R, S> {
             base,
             entries,
         } = self;
-        let end = Seen::of(&shared);
+        let end = Snapshot::of(&shared);
         Closed {
             newest: entries.newest,
             base,
@@ -133,7 +133,7 @@ impl<R: RangeTable, S: HostStore> Book<R, S> {
 
     /// One event: one step of the shared state, and one entry of the journal, which notes what it came to. An answer, a silence
     /// and the end of grace take no memory.
-    pub fn apply(&mut self, event: BookEvent) -> Upshot
+    pub fn apply(&mut self, event: BookEvent) -> StepResult
         requires { 0 < room_of self.old.journal }
         ensures enters { Enters self.old (view_of_event event) result self.new }
         ensures legal { IsLegal self.new.journal }
@@ -157,13 +157,13 @@ impl<R: RangeTable, S: HostStore> Book<R, S> {
         ensures legal { IsLegal self.new.journal }
     {
         let sending = self.shared.send()?;
-        let act = Act::Sent {
+        let operation = Operation::Sent {
             number: sending.number,
-            letter: sending.letter,
+            callback: sending.callback,
         };
-        self.entries.note(Deed {
-            act,
-            doing: Doing::Applied,
+        self.entries.note(NewEntry {
+            operation,
+            completion: Completion::Applied,
             store: StoreAnswer::NotAsked,
         });
         Some((sending.number, sending.to, sending.frame))
@@ -213,8 +213,8 @@ impl<R: RangeTable, S: HostStore> Book<R, S> {
         ensures next { self.new ≡ rotated self.old }
         ensures begun { IsLegal self.new.journal }
     {
-        let end = Seen::of(&self.shared);
-        let base = mem::replace(&mut self.base, Seen::of(&self.shared));
+        let end = Snapshot::of(&self.shared);
+        let base = mem::replace(&mut self.base, Snapshot::of(&self.shared));
         let entries = mem::replace(&mut self.entries.list, fresh.entries);
         Closed {
             newest: self.entries.newest,

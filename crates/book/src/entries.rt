@@ -1,8 +1,8 @@
 //! Entries are made.
-use crate::entry::{Act, Entry};
+use crate::entry::{Entry, Operation};
 use crate::event::BookEvent;
 use crate::state::BookState;
-use crate::upshot::{Doing, Upshot};
+use crate::step_result::{Completion, StepResult};
 use hosts_db::HostStore;
 use lock_service::StoreAnswer;
 use range_table::RangeTable;
@@ -10,9 +10,9 @@ use step_order::{Changing, Noting};
 
 /// What an entry tells beside its number.
 #[derive(Drop)]
-pub(crate) struct Deed {
-    pub(crate) act: Act,
-    pub(crate) doing: Doing,
+pub(crate) struct NewEntry {
+    pub(crate) operation: Operation,
+    pub(crate) completion: Completion,
     pub(crate) store: StoreAnswer,
 }
 
@@ -23,34 +23,38 @@ pub(crate) struct Entries {
     pub(crate) newest: u64,
 }
 
-impl Noting<Deed> for Entries {
-    ghost use Rattle.book.specs.Deeds.{HasPlace, HasMore};
+impl Noting<NewEntry> for Entries {
+    ghost use Rattle.book.specs.NewEntries.{HasPlace, HasMore};
 
     ghost HasRoom = { HasPlace };
 
     ghost Notes = { HasMore };
 
-    fn note(&mut self, deed: Deed) {
+    fn note(&mut self, new_entry: NewEntry) {
         self.newest += 1;
         self.list.push_reserved(Entry {
             number: self.newest,
-            act: deed.act,
-            doing: deed.doing,
-            store: deed.store,
+            operation: new_entry.operation,
+            completion: new_entry.completion,
+            store: new_entry.store,
         });
     }
 }
 
-impl<R: RangeTable, S: HostStore> Changing<BookEvent, Upshot, Deed> for BookState<R, S> {
-    ghost use Rattle.book.specs.Deeds.{IsDone};
+impl<R: RangeTable, S: HostStore> Changing<BookEvent, StepResult, NewEntry> for BookState<R, S> {
+    ghost use Rattle.book.specs.NewEntries.{IsDone};
     ghost use Rattle.book.specs.Notes.{view_of_event};
 
-    ghost Changes = { λ old event upshot deed new. IsDone old (view_of_event event) upshot deed new };
+    ghost Changes = { λ old event step_result new_entry new. IsDone old (view_of_event event) step_result new_entry new };
 
-    fn change(&mut self, event: BookEvent) -> (Upshot, Deed) {
-        let (upshot, act) = self.apply(event);
-        let (doing, store) = (upshot.doing, upshot.store);
-        let deed = Deed { act, doing, store };
-        (upshot, deed)
+    fn change(&mut self, event: BookEvent) -> (StepResult, NewEntry) {
+        let (step_result, operation) = self.apply(event);
+        let (completion, store) = (step_result.completion, step_result.store);
+        let new_entry = NewEntry {
+            operation,
+            completion,
+            store,
+        };
+        (step_result, new_entry)
     }
 }

@@ -1,9 +1,9 @@
 //! Entries of the journal.
 use crate::event::BookEvent;
 use crate::reply::Reply;
-use crate::seen::Seen;
-use crate::upshot::Doing;
-use callbacks::Letter;
+use crate::snapshot::Snapshot;
+use crate::step_result::Completion;
+use callbacks::Callback;
 use local_ops::LocalAnswer;
 use lock_service::StoreAnswer;
 
@@ -12,23 +12,23 @@ pub const SEGMENT: usize = 1_024;
 
 /// What an entry notes.
 #[derive(Drop)]
-pub enum Act {
+pub enum Operation {
     /// An event, and what it gave.
     Event {
         event: BookEvent,
         reply: Reply,
     },
-    /// A local program's line. Contracts see its answer: one that names an owner can't be copied without memory, and the deed
+    /// A local program's line. Contracts see its answer: one that names an owner can't be copied without memory, and the new entry
     /// is done by then.
     Line {
         connection: u64,
         line: Vec<u8>,
-        answer: Seen<LocalAnswer>,
+        answer: Snapshot<LocalAnswer>,
     },
-    /// The server's own call of this number was sent. Contracts see its letter.
+    /// The server's own call of this number was sent. Contracts see its callback.
     Sent {
         number: u64,
-        letter: Seen<Letter>,
+        callback: Snapshot<Callback>,
     },
 }
 
@@ -37,7 +37,7 @@ pub enum Act {
 #[derive(Drop)]
 pub struct Entry {
     pub number: u64,
-    pub act: Act,
-    pub doing: Doing,
+    pub operation: Operation,
+    pub completion: Completion,
     pub store: StoreAnswer,
 }

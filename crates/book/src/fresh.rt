@@ -12,9 +12,9 @@ ghost use Rattle.book.specs.Notes.{IsStep};
 use crate::kept::KeptReply;
 use crate::reply::Reply;
 use crate::state::BookState;
-use crate::upshot::{Upshot, answers, starved};
+use crate::step_result::{StepResult, answers, starved};
 use call_codec::is_kept;
-use call_plans::Told;
+use call_plans::Response;
 use hosts_db::HostStore;
 use kept_replies::{KeptReplies, Key, Peer};
 use lock_service::{Call, Plan, StoreAnswer, World, abandon, agreed, commit};
@@ -26,7 +26,7 @@ use std::alloc::Global;
 impl<R: RangeTable, S: HostStore> BookState<R, S> {
     /// The call is planned, all memory is got, the store is asked, the reply is kept, the plan is done, and what waited for
     /// it is granted.
-    pub(crate) fn fresh(&mut self, key: Key, xid: u32, call: &Call<'_>) -> (Upshot, Reply)
+    pub(crate) fn fresh(&mut self, key: Key, xid: u32, call: &Call<'_>) -> (StepResult, Reply)
         requires { at_key key self.old.state.kept ≡ None }
         ensures step { IsStep self.old.state (Take (view_of_peer key.peer) key.record (Asks xid (view_of_call call.now))) result.0 self.new.state }
         ensures noted { view_of_reply result.1 ≡ result.0.given }
@@ -61,7 +61,7 @@ fn keep_or_abandon<R: RangeTable, S: HostStore>(
     xid: u32,
     call: &Call<'_>,
     plan: &Plan,
-    told: &Told,
+    told: &Response,
 ) -> Result<(), Starved>
     requires { at_key key kept.old ≡ None }
     ensures ok { OnOk result ((w : SaidWorld) → kept.new ≡ kept_after the_limits (view_of_peer key.peer) key.record xid (view_of_call call.now) (told_in told.now w) kept.old) }
@@ -86,7 +86,7 @@ fn keep(
     key: Key,
     xid: u32,
     call: &Call<'_>,
-    told: &Told,
+    told: &Response,
 ) -> Result<(), Starved>
     requires { at_key key kept.old ≡ None }
     ensures ok { OnOk result ((w : SaidWorld) → kept.new ≡ kept_after the_limits (view_of_peer key.peer) key.record xid (view_of_call call.now) (told_in told.now w) kept.old) }

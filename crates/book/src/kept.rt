@@ -6,10 +6,10 @@ ghost use Rattle.call_codec.specs.OutcomeValues.{view_of_outcome};
 ghost use Rattle.book.specs.Given.{comes_to, view_of_reply};
 
 use crate::reply::Reply;
-use crate::upshot::{Upshot, answers};
+use crate::step_result::{StepResult, answers};
 use call_codec::Outcome;
-use call_plans::Told;
-use callbacks::Letter;
+use call_plans::Response;
+use callbacks::Callback;
 use kept_replies::Kept;
 use lock_service::StoreAnswer;
 use owner_ids::Starved;
@@ -21,7 +21,7 @@ use std::sync::Arc;
 pub(crate) struct KeptReply {
     pub(crate) xid: u32,
     pub(crate) outcome: Arc<Outcome, Global>,
-    pub(crate) letters: Vec<Letter>,
+    pub(crate) callbacks: Vec<Callback>,
 }
 
 impl Kept for KeptReply {
@@ -31,46 +31,49 @@ impl Kept for KeptReply {
 
     ghost outcome = { λ k. view_of_outcome k.outcome.value };
 
-    ghost letters = { λ k. k.letters.items };
+    ghost callbacks = { λ k. k.callbacks.items };
 }
 
 impl KeptReply {
     // What is kept of a call to which this is told.
-    pub(crate) fn of(alloc: Global, xid: u32, told: &Told) -> Result<KeptReply, Starved>
+    pub(crate) fn of(alloc: Global, xid: u32, told: &Response) -> Result<KeptReply, Starved>
         ensures xid { IfOk result (λ kept. kept.xid ≡ xid) }
         ensures outcome { IfOk result (λ kept. view_of_outcome kept.outcome.value ≡ view_of_outcome told.now.outcome.told.value) }
-        ensures letters { IfOk result (λ kept. kept.letters.items ≡ told.now.due.items) }
+        ensures callbacks { IfOk result (λ kept. kept.callbacks.items ≡ told.now.due.items) }
     {
-        let letters = copies_of(alloc, &told.due)?;
+        let callbacks = copies_of(alloc, &told.due)?;
         let outcome = Arc::try_clone(&told.outcome.told)?;
         Ok(KeptReply {
             xid,
             outcome,
-            letters,
+            callbacks,
         })
     }
 
     // The reply to the call that came again, and copies of the calls that went with it.
-    pub(crate) fn again(&self, alloc: Global) -> Result<((Upshot, Reply), Vec<Letter>), Starved>
-        ensures upshot { IfOk result (λ made. made.0.0 ≡ comes_to Applied NotAsked (Replies self.now.xid (view_of_outcome self.now.outcome.value))) }
+    pub(crate) fn again(
+        &self,
+        alloc: Global,
+    ) -> Result<((StepResult, Reply), Vec<Callback>), Starved>
+        ensures step_result { IfOk result (λ made. made.0.0 ≡ comes_to Applied NotAsked (Replies self.now.xid (view_of_outcome self.now.outcome.value))) }
         ensures noted { IfOk result (λ made. view_of_reply made.0.1 ≡ Replies self.now.xid (view_of_outcome self.now.outcome.value)) }
-        ensures letters { IfOk result (λ made. made.1.items ≡ self.now.letters.items) }
+        ensures callbacks { IfOk result (λ made. made.1.items ≡ self.now.callbacks.items) }
     {
         let outcome = Arc::try_clone(&self.outcome)?;
         let noted = Arc::try_clone(&self.outcome)?;
-        let letters = copies_of(alloc, &self.letters)?;
+        let callbacks = copies_of(alloc, &self.callbacks)?;
         let said = answers(StoreAnswer::NotAsked, self.xid, outcome, noted);
-        Ok((said, letters))
+        Ok((said, callbacks))
     }
 }
 
-// The same letters again, in memory of their own.
-pub(crate) fn copies_of(alloc: Global, letters: &[Letter]) -> Result<Vec<Letter>, Starved>
-    ensures { IfOk result (λ copies. copies.items ≡ letters.now) }
+// The same callbacks again, in memory of their own.
+pub(crate) fn copies_of(alloc: Global, callbacks: &[Callback]) -> Result<Vec<Callback>, Starved>
+    ensures { IfOk result (λ copies. copies.items ≡ callbacks.now) }
 {
-    let mut copies = Vec::with_capacity(alloc, letters.len())?;
-    for letter in letters {
-        copies.push_reserved(letter.copy(alloc)?);
+    let mut copies = Vec::with_capacity(alloc, callbacks.len())?;
+    for callback in callbacks {
+        copies.push_reserved(callback.copy(alloc)?);
     }
     Ok(copies)
 }

@@ -4,7 +4,7 @@ ghost use Rattle.book.specs.Journal.{RoomLaw};
 ghost use Rattle.book.specs.Laws.{HistoriesAreSound, HistoriesGrantReclaimsOnly, HistoriesTellOfNoGrant};
 ghost use Rattle.book.specs.Notes.{OneStep};
 ghost use Rattle.book.specs.Receipts.{NewestLaw};
-ghost use Rattle.book.specs.Refusals.{MessageRefusalIsTold, RefusalIsTold};
+ghost use Rattle.book.specs.Refusals.{MessageRefusalIsAnswered, RefusalIsAnswered};
 ghost use Rattle.book.specs.Repeats.{KeptIsGivenAgain};
 
 use call_codec::{one_answer_reading, one_reading};
@@ -59,12 +59,12 @@ pub fn histories_tell_of_no_grant()
 
 /// A call that is refused for its file handle, its range or the phase is answered by that status, as its version shows it.
 pub fn early_refusal_is_given()
-    ensures { RefusalIsTold }
+    ensures { RefusalIsAnswered }
 {}
 
 /// A message form that is refused so, while a place is free for the call that tells of it, has that call due.
 pub fn early_message_refusal_is_given()
-    ensures { MessageRefusalIsTold }
+    ensures { MessageRefusalIsAnswered }
 {}
 
 /// A call whose reply is kept gets it again, and is not done again.

@@ -8,7 +8,7 @@ ghost use Rattle.local_ops.specs.Answers.{view_of_local_answer};
 ghost use Rattle.local_ops.specs.Calls.{view_of_local_call};
 ghost use Rattle.lock_service.specs.Lined.{view_of_set_line};
 ghost use Rattle.book.specs.Given.{comes_to};
-ghost use Rattle.book.specs.Lines.{IsDone, IsToldOnly};
+ghost use Rattle.book.specs.Lines.{IsDone, IsAnsweredOnly};
 ghost use Rattle.book.specs.Notes.{AsksLine, IsStep, Steps};
 
 use crate::state::BookState;
@@ -99,7 +99,7 @@ impl<R: RangeTable, S: HostStore> BookState<R, S> {
         &mut self,
         told: Result<LocalAnswer, Starved>,
     ) -> Result<(LocalAnswer, StoreAnswer), Starved>
-        ensures ok { (l : ℕ) (line : Line) (reply : LineReply) → IsToldOnly self.old.state l line reply → IfOk told (λ answer. view_of_local_answer answer ≡ reply) → IfOk result (IsDone self.old.state l line self.new.state) }
+        ensures ok { (l : ℕ) (line : Line) (reply : LineReply) → IsAnsweredOnly self.old.state l line reply → IfOk told (λ answer. view_of_local_answer answer ≡ reply) → IfOk result (IsDone self.old.state l line self.new.state) }
         ensures err { (l : ℕ) (line : Line) → OnErr result (IsStep self.old.state (Local l line) (comes_to IsStarved NotAsked (Says LineStarved)) self.new.state) }
         ensures counts { IfOk result (λ made. self.new.refusals ≡ counted (view_of_stored made.1) self.old.refusals) }
         ensures refusals { OnErr result (self.new.refusals ≡ self.old.refusals) }

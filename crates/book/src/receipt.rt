@@ -5,7 +5,7 @@ ghost use Rattle.book.specs.Given.{view_of_reply, record_of};
 ghost use Rattle.book.specs.Notes.{Takes, view_of_entry};
 ghost use Rattle.book.specs.Receipts.{receipt_of, same_receipt};
 
-use crate::entry::{Act, Entry};
+use crate::entry::{Entry, Operation};
 use crate::event::BookEvent;
 use crate::reply::Reply;
 use bytes::Bytes;
@@ -89,7 +89,7 @@ impl Receipt {
         if entry.number != self.number {
             return false;
         }
-        let Act::Event { event, reply } = &entry.act else {
+        let Operation::Event { event, reply } = &entry.operation else {
             return false;
         };
         let BookEvent::Take { peer, record } = event else {

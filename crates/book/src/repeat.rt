@@ -9,7 +9,7 @@ ghost use Rattle.book.specs.Notes.{IsStep};
 
 use crate::reply::Reply;
 use crate::state::BookState;
-use crate::upshot::{Upshot, too_few_places};
+use crate::step_result::{StepResult, too_few_places};
 use hosts_db::HostStore;
 use kept_replies::Key;
 use owner_ids::Starved;
@@ -19,7 +19,7 @@ impl<R: RangeTable, S: HostStore> BookState<R, S> {
     /// The reply that is kept under the key, which is now the newest use, and the calls that went with it, due again;
     /// whatever the call asks, nothing else changes. Where too few places are free for those calls, nothing changes, and
     /// the reply is SYSTEM_ERR. Starved: nothing has changed.
-    pub(crate) fn repeat(&mut self, key: &Key) -> Result<Option<(Upshot, Reply)>, Starved>
+    pub(crate) fn repeat(&mut self, key: &Key) -> Result<Option<(StepResult, Reply)>, Starved>
         ensures found { IfOk result (λ found. IfSome found (λ said. (xid : ℕ) (call : Asked) → IsStep self.old.state (Take (view_of_peer key.now.peer) key.now.record (Asks xid call)) said.0 self.new.state)) }
         ensures noted { IfOk result (λ found. IfSome found (λ said. view_of_reply said.1 ≡ said.0.given)) }
         ensures counts { self.new.refusals ≡ self.old.refusals }
@@ -30,12 +30,12 @@ impl<R: RangeTable, S: HostStore> BookState<R, S> {
         let Some(kept) = self.kept.look(key) else {
             return Ok(None);
         };
-        if kept.letters.len() > self.world.free_slots() {
+        if kept.callbacks.len() > self.world.free_slots() {
             return Ok(Some(too_few_places(kept.xid)));
         }
-        let (said, letters) = kept.again(self.world.alloc())?;
+        let (said, callbacks) = kept.again(self.world.alloc())?;
         let _ = self.kept.find(key);
-        self.world.tell(letters);
+        self.world.tell(callbacks);
         Ok(Some(said))
     }
 }

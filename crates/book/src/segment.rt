@@ -4,7 +4,7 @@ ghost use Rattle.book.specs.Notes.{view_of_entry};
 ghost use Rattle.book.specs.declared.entry.TheConstants.{SEGMENT};
 
 use crate::entry::{Entry, SEGMENT};
-use crate::seen::Seen;
+use crate::snapshot::Snapshot;
 use crate::state::BookState;
 use hosts_db::HostStore;
 use owner_ids::Starved;
@@ -45,9 +45,9 @@ impl From<Starved> for NoRoom {
 /// A segment that is over. Contracts see the states before and after it, too.
 pub struct Closed<R: RangeTable, S: HostStore> {
     pub(crate) newest: u64,
-    pub(crate) base: Seen<BookState<R, S>>,
+    pub(crate) base: Snapshot<BookState<R, S>>,
     pub(crate) entries: Vec<Entry>,
-    pub(crate) end: Seen<BookState<R, S>>,
+    pub(crate) end: Snapshot<BookState<R, S>>,
 }
 
 impl<R: RangeTable, S: HostStore> Model for Closed<R, S> {

@@ -10,7 +10,7 @@ ghost use Rattle.book.specs.Notes.{view_of_event, Steps, Takes};
 use crate::event::BookEvent;
 use crate::receipt::Taken;
 use crate::reply::Reply;
-use crate::upshot::{Doing, Upshot};
+use crate::step_result::{Completion, StepResult};
 use bytes::Bytes;
 use call_codec::{AnswerReading, Reading};
 use kept_replies::Peer;
@@ -19,13 +19,13 @@ use lock_service::StoreAnswer;
 
 impl BookEvent {
     /// What the event comes to where there was no memory for it before it began: a call gets SYSTEM_ERR, and nothing changes.
-    pub fn starved(&self) -> Upshot
-        ensures starves { result.doing ≡ Starved }
+    pub fn starved(&self) -> StepResult
+        ensures starves { result.completion ≡ Starved }
         ensures unasked { result.store ≡ NotAsked }
         ensures stays { (s : State) → Steps s (view_of_event self.now) result s }
     {
-        Upshot {
-            doing: Doing::Starved,
+        StepResult {
+            completion: Completion::Starved,
             store: StoreAnswer::NotAsked,
             reply: self.starved_reply(),
         }

@@ -2,16 +2,16 @@
 ghost use Rattle.std.specs.Prelude.{◌≡◌, [], IfOk};
 ghost use Rattle.definitions.specs.Step.{opening_state, Silent, GraceOver, Restart, Applied, Starved as HasStarved};
 ghost use Rattle.call_plans.specs.Planned.{view_of_stored, counted};
-ghost use Rattle.book.specs.Given.{comes_to, view_of_doing, view_of_reply, unbegun};
+ghost use Rattle.book.specs.Given.{comes_to, view_of_completion, view_of_reply, unbegun};
 ghost use Rattle.book.specs.Journal.{TakesMemory};
-ghost use Rattle.book.specs.Notes.{given_in, view_of_act, view_of_event, AsksLine, HearsAnswer, IsStep, Steps};
+ghost use Rattle.book.specs.Notes.{given_in, view_of_operation, view_of_event, AsksLine, HearsAnswer, IsStep, Steps};
 
-use crate::entry::Act;
+use crate::entry::Operation;
 use crate::event::BookEvent;
 use crate::kept::KeptReply;
 use crate::reply::Reply;
-use crate::seen::Seen;
-use crate::upshot::{Doing, Upshot, nothing};
+use crate::snapshot::Snapshot;
+use crate::step_result::{Completion, StepResult, nothing};
 use call_codec::AnswerReading;
 use callbacks::ShortBytes;
 use hosts_db::{HostStore, StoreError};
@@ -64,14 +64,14 @@ impl<R: RangeTable + Drop, S: HostStore + Drop> BookState<R, S> {
 
 impl<R: RangeTable, S: HostStore> BookState<R, S> {
     /// One event: what it comes to, and what the journal notes of it.
-    pub(crate) fn apply(&mut self, event: BookEvent) -> (Upshot, Act)
+    pub(crate) fn apply(&mut self, event: BookEvent) -> (StepResult, Operation)
         ensures step { Steps self.old.state (view_of_event event) result.0 self.new.state }
-        ensures event { view_of_act result.1 ≡ view_of_event event }
+        ensures event { view_of_operation result.1 ≡ view_of_event event }
         ensures noted { given_in result.1 ≡ result.0.given }
         ensures counts { self.new.refusals ≡ counted result.0.store self.old.refusals }
-        ensures fed { result.0.doing ≡ HasStarved → TakesMemory (view_of_event event) }
+        ensures fed { result.0.completion ≡ HasStarved → TakesMemory (view_of_event event) }
     {
-        let ((upshot, reply), event) = match event {
+        let ((step_result, reply), event) = match event {
             BookEvent::Local { connection, line } => return self.local(connection, line),
             BookEvent::Take { peer, record } => {
                 (self.take(peer, &record), BookEvent::Take { peer, record })
@@ -81,94 +81,98 @@ impl<R: RangeTable, S: HostStore> BookState<R, S> {
             BookEvent::GraceOver => (self.grace_over(), BookEvent::GraceOver),
             BookEvent::Restart => (self.restart(), BookEvent::Restart),
         };
-        (upshot, Act::Event { event, reply })
+        (step_result, Operation::Event { event, reply })
     }
 
-    fn local(&mut self, connection: u64, line: Vec<u8>) -> (Upshot, Act)
+    fn local(&mut self, connection: u64, line: Vec<u8>) -> (StepResult, Operation)
         ensures step { Steps self.old.state (AsksLine connection line.items) result.0 self.new.state }
-        ensures event { view_of_act result.1 ≡ AsksLine connection line.items }
+        ensures event { view_of_operation result.1 ≡ AsksLine connection line.items }
         ensures noted { given_in result.1 ≡ result.0.given }
         ensures counts { self.new.refusals ≡ counted result.0.store self.old.refusals }
     {
-        let (doing, answer, store) = match self.line(connection, &line) {
-            Ok((answer, store)) => (Doing::Applied, answer, store),
-            Err(Starved) => (Doing::Starved, LocalAnswer::Starved, StoreAnswer::NotAsked),
+        let (completion, answer, store) = match self.line(connection, &line) {
+            Ok((answer, store)) => (Completion::Applied, answer, store),
+            Err(Starved) => (
+                Completion::Starved,
+                LocalAnswer::Starved,
+                StoreAnswer::NotAsked,
+            ),
         };
-        let act = Act::Line {
+        let operation = Operation::Line {
             connection,
             line,
-            answer: Seen::of(&answer),
+            answer: Snapshot::of(&answer),
         };
-        let upshot = Upshot {
-            doing,
+        let step_result = StepResult {
+            completion,
             store,
             reply: Reply::Says(answer),
         };
-        (upshot, act)
+        (step_result, operation)
     }
 
-    fn answer(&mut self, bytes: &[u8]) -> (Upshot, Reply)
+    fn answer(&mut self, bytes: &[u8]) -> (StepResult, Reply)
         ensures step { Steps self.old.state (HearsAnswer bytes.now) result.0 self.new.state }
         ensures noted { view_of_reply result.1 ≡ result.0.given }
         ensures counts { self.new.refusals ≡ counted result.0.store self.old.refusals }
-        ensures fed { result.0.doing ≡ Applied }
+        ensures fed { result.0.completion ≡ Applied }
     {
         let reading = AnswerReading::read(bytes);
         nothing(answered(&mut self.world, &reading))
     }
 
-    fn silent(&mut self, number: u64) -> (Upshot, Reply)
+    fn silent(&mut self, number: u64) -> (StepResult, Reply)
         ensures step { IsStep self.old.state (Silent number) result.0 self.new.state }
         ensures noted { view_of_reply result.1 ≡ result.0.given }
         ensures counts { self.new.refusals ≡ counted result.0.store self.old.refusals }
-        ensures fed { result.0.doing ≡ Applied }
+        ensures fed { result.0.completion ≡ Applied }
     {
         self.world.silent(number);
         nothing(StoreAnswer::NotAsked)
     }
 
-    fn grace_over(&mut self) -> (Upshot, Reply)
+    fn grace_over(&mut self) -> (StepResult, Reply)
         ensures step { IsStep self.old.state GraceOver result.0 self.new.state }
         ensures noted { view_of_reply result.1 ≡ result.0.given }
         ensures counts { self.new.refusals ≡ counted result.0.store self.old.refusals }
-        ensures fed { result.0.doing ≡ Applied }
+        ensures fed { result.0.completion ≡ Applied }
     {
         self.world.grace_over();
         nothing(StoreAnswer::NotAsked)
     }
 
-    fn restart(&mut self) -> (Upshot, Reply)
+    fn restart(&mut self) -> (StepResult, Reply)
         ensures step { IsStep self.old.state Restart result.0 self.new.state }
         ensures noted { view_of_reply result.1 ≡ result.0.given }
         ensures counts { self.new.refusals ≡ counted result.0.store self.old.refusals }
     {
         let Ok(notices) = self.world.notices() else {
-            return unstarted(Doing::Starved, StoreAnswer::NotAsked);
+            return unstarted(Completion::Starved, StoreAnswer::NotAsked);
         };
         match self.world.restart(notices) {
             Ok(()) => {
                 self.kept.clear();
                 nothing(StoreAnswer::Yes)
             }
-            Err(StoreError::StoreRefused) => unstarted(Doing::Applied, StoreAnswer::Refused),
-            Err(StoreError::Starved) => unstarted(Doing::Starved, StoreAnswer::NotAsked),
+            Err(StoreError::StoreRefused) => unstarted(Completion::Applied, StoreAnswer::Refused),
+            Err(StoreError::Starved) => unstarted(Completion::Starved, StoreAnswer::NotAsked),
         }
     }
 }
 
 // The server did not begin anew, and there is nobody to answer.
-fn unstarted(doing: Doing, store: StoreAnswer) -> (Upshot, Reply)
-    ensures upshot { result.0 ≡ comes_to (view_of_doing doing) (view_of_stored store) (unbegun (view_of_doing doing)) }
-    ensures noted { view_of_reply result.1 ≡ unbegun (view_of_doing doing) }
+fn unstarted(completion: Completion, store: StoreAnswer) -> (StepResult, Reply)
+    ensures step_result { result.0 ≡ comes_to (view_of_completion completion) (view_of_stored store) (unbegun (view_of_completion completion)) }
+    ensures noted { view_of_reply result.1 ≡ unbegun (view_of_completion completion) }
 {
-    let (reply, noted) = match doing {
-        Doing::Applied => (Reply::StoreRefused, Reply::StoreRefused),
-        Doing::Starved => (Reply::Starved, Reply::Starved),
+    let (reply, noted) = match completion {
+        Completion::Applied => (Reply::StoreRefused, Reply::StoreRefused),
+        Completion::Starved => (Reply::Starved, Reply::Starved),
     };
-    let upshot = Upshot {
-        doing,
+    let step_result = StepResult {
+        completion,
         store,
         reply,
     };
-    (upshot, noted)
+    (step_result, noted)
 }

@@ -10,7 +10,7 @@ ghost use Rattle.book.specs.Notes.{IsStep, Steps, Takes};
 
 use crate::reply::Reply;
 use crate::state::BookState;
-use crate::upshot::{Upshot, nothing, refuses, starved};
+use crate::step_result::{StepResult, nothing, refuses, starved};
 use bytes::Bytes;
 use call_codec::Reading;
 use hosts_db::HostStore;
@@ -21,7 +21,7 @@ use range_table::RangeTable;
 
 impl<R: RangeTable, S: HostStore> BookState<R, S> {
     /// A record of a peer: it is ignored, turned away, or given to its procedure, unless its reply is kept.
-    pub(crate) fn take(&mut self, peer: Peer, bytes: &Bytes) -> (Upshot, Reply)
+    pub(crate) fn take(&mut self, peer: Peer, bytes: &Bytes) -> (StepResult, Reply)
         ensures step { Steps self.old.state (Takes (view_of_peer peer) bytes.now) result.0 self.new.state }
         ensures noted { view_of_reply result.1 ≡ result.0.given }
         ensures counts { self.new.refusals ≡ counted result.0.store self.old.refusals }
@@ -33,7 +33,13 @@ impl<R: RangeTable, S: HostStore> BookState<R, S> {
         }
     }
 
-    fn called(&mut self, peer: Peer, bytes: &Bytes, xid: u32, call: &Call<'_>) -> (Upshot, Reply)
+    fn called(
+        &mut self,
+        peer: Peer,
+        bytes: &Bytes,
+        xid: u32,
+        call: &Call<'_>,
+    ) -> (StepResult, Reply)
         ensures step { IsStep self.old.state (Take (view_of_peer peer) bytes.now (Asks xid (view_of_call call.now))) result.0 self.new.state }
         ensures noted { view_of_reply result.1 ≡ result.0.given }
         ensures counts { self.new.refusals ≡ counted result.0.store self.old.refusals }
@@ -53,16 +59,16 @@ struct Asking<'a, 'c> {
     call: &'a Call<'c>,
 }
 
-impl<'a, 'c, R: RangeTable, S: HostStore> Answering<Asking<'a, 'c>, (Upshot, Reply)>
+impl<'a, 'c, R: RangeTable, S: HostStore> Answering<Asking<'a, 'c>, (StepResult, Reply)>
     for BookState<R, S> {
     ghost use Rattle.std.specs.Prelude.{◌≡◌, None};
     ghost use Rattle.definitions.specs.Replies.{Asks};
     ghost use Rattle.definitions.specs.Step.{Take};
     ghost use Rattle.kept_replies.specs.Pairs.{view_of_peer, at_key};
     ghost use Rattle.call_codec.specs.CallValues.{view_of_call};
-    ghost use Rattle.book.specs.Told.{IsTold};
+    ghost use Rattle.book.specs.Response.{IsAnswered};
 
-    ghost Answers = { λ old key asked told new. IsTold (Take (view_of_peer key.peer) key.«record» (Asks asked.xid (view_of_call asked.call.now))) old told new };
+    ghost Answers = { λ old key asked told new. IsAnswered (Take (view_of_peer key.peer) key.«record» (Asks asked.xid (view_of_call asked.call.now))) old told new };
 
     ghost IsNew = { λ s key. at_key key s.state.kept ≡ None };
 
@@ -70,15 +76,15 @@ impl<'a, 'c, R: RangeTable, S: HostStore> Answering<Asking<'a, 'c>, (Upshot, Rep
         &mut self,
         key: &Key,
         _asked: &Asking<'a, 'c>,
-    ) -> Result<Option<(Upshot, Reply)>, Starved> {
+    ) -> Result<Option<(StepResult, Reply)>, Starved> {
         self.repeat(key)
     }
 
-    fn answer_anew(&mut self, key: Key, asked: &Asking<'a, 'c>) -> (Upshot, Reply) {
+    fn answer_anew(&mut self, key: Key, asked: &Asking<'a, 'c>) -> (StepResult, Reply) {
         self.fresh(key, asked.xid, asked.call)
     }
 
-    fn answer_starved(&self, asked: &Asking<'a, 'c>) -> (Upshot, Reply) {
+    fn answer_starved(&self, asked: &Asking<'a, 'c>) -> (StepResult, Reply) {
         starved(StoreAnswer::NotAsked, asked.xid)
     }
 }

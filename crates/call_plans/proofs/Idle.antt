@@ -2,7 +2,7 @@
 use Rattle.std.proofs.Common.{◌≡◌, true, sym, ap, subst, Option, Some, None, Result, Ok, Err, OnOk, refl}
 use Rattle.std.proofs.lemmas.Bool.{false≢true}
 use Rattle.std.specs.Option.{is_some}
-use Rattle.definitions.specs.Outgoing.{Letter}
+use Rattle.definitions.specs.Outgoing.{Callback}
 use Rattle.definitions.specs.Settings.{Request, Setting}
 use Rattle.definitions.specs.World.{with_setting, with_waiter}
 use Rattle.range_table.specs.declared.run.Mode.{Mode}
@@ -24,7 +24,7 @@ set_not_idle (Ok y) before after s x ok is some = λ idle known. go x.mode refl 
     go (Some m) e h idle =
         holds_it before.world (view_of_range x) (view_of_mode m) x.ordered (ap (λ o. (view_of_range (record x { mode = o })).mode) e) (subst (λ t. IsIdle (with_setting before.world t) (view_of_owner x.owner)) is idle)
 
-pub wait_not_idle : (before after : Seen) (q : Request) (letter : Letter) (x : wanted.Wanted) → after ≡ record before { world = with_waiter before.world (record { request = q; letter = letter }) } → q ≡ view_of_wanted x → IsIdle after.world (view_of_owner x.owner) → ⊥
-wait_not_idle before after q letter x made is idle =
-    waits_now before.world (record { request = q; letter = letter })
+pub wait_not_idle : (before after : Seen) (q : Request) (callback : Callback) (x : wanted.Wanted) → after ≡ record before { world = with_waiter before.world (record { request = q; callback = callback }) } → q ≡ view_of_wanted x → IsIdle after.world (view_of_owner x.owner) → ⊥
+wait_not_idle before after q callback x made is idle =
+    waits_now before.world (record { request = q; callback = callback })
     (subst (λ (s : Seen). IsIdle s.world q.owner) made (subst (λ y. IsIdle after.world y) (sym (ap (λ (r : Request). r.owner) is)) idle))

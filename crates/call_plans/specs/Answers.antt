@@ -6,7 +6,7 @@ use Rattle.definitions.specs.Nlm.{Stat, Lock}
 use Rattle.definitions.specs.Outgoing.{Outgoing, Message, Notify, Granted, is_grant, is_numbered, call_of_xid}
 use Rattle.definitions.specs.Ranges.{owner_of}
 use Rattle.definitions.specs.World.{World, the_limits}
-use Rattle.definitions.specs.Rulings.{Told, Ruling, ruled}
+use Rattle.definitions.specs.Rulings.{Response, Ruling, ruled}
 use Rattle.definitions.specs.Grants.{TableChange, TableStays, TableChanges, became, grant_answered}
 use Rattle.definitions.specs.Step.{settled_after}
 use Rattle.hosts_db.specs.declared.error.StoreError.{StoreError}
@@ -25,7 +25,7 @@ IsAsked (Some (Acked name epoch)) store = store ≢ NotAsked
 IsAsked (Some _) store = ⊥
 
 -- the world is that of the rules under the store's answer, and a refusal is counted
-pub record IsDone (ruling : Ruling (Told TableChange)) (store : StoreAnswer) (old new : Seen) : Type 0 where
+pub record IsDone (ruling : Ruling (Response TableChange)) (store : StoreAnswer) (old new : Seen) : Type 0 where
   pub world : new.world ≡ settled_after the_limits (ruled store ruling)
   pub asked : IsAsked ruling.asks store
   pub refusals : new.refusals ≡ counted store old.refusals
@@ -33,7 +33,7 @@ pub record IsDone (ruling : Ruling (Told TableChange)) (store : StoreAnswer) (ol
 -- the call that was found is a grant of this number, or a notice
 abbrev pub IsGrant : ℕ → Option Outgoing → Type 0
 IsGrant number None = ⊥
-IsGrant number (Some c) = (c.number ≡ number) × (is_grant c.letter.message ≡ true)
+IsGrant number (Some c) = (c.number ≡ number) × (is_grant c.callback.message ≡ true)
 
 abbrev pub is_notice : Message → Bool
 is_notice (Notify name state) = true
@@ -41,7 +41,7 @@ is_notice _ = false
 
 abbrev pub IsNotice : ℕ → Option Outgoing → Type 0
 IsNotice number None = ⊥
-IsNotice number (Some c) = (c.number ≡ number) × (is_notice c.letter.message ≡ true)
+IsNotice number (Some c) = (c.number ≡ number) × (is_notice c.callback.message ≡ true)
 
 -- whoever the call of this number granted a lock, and holds nothing and waits for nothing now, has no number
 abbrev pub IsGrantForgotten : ℕ → List Outgoing → Seen → Type 0
@@ -50,7 +50,7 @@ IsGrantForgotten number calls s = (alock : Lock) → lock_at (first_that (is_num
 -- and so is whoever the call that was found granted one, where its message is of this kind
 abbrev pub IsFoundForgotten : (Message → Bool) → Option Outgoing → List Outgoing → Seen → Type 0
 IsFoundForgotten kind None calls s = Unit {0}
-IsFoundForgotten kind (Some c) calls s = kind c.letter.message ≡ true → IsGrantForgotten c.number calls s
+IsFoundForgotten kind (Some c) calls s = kind c.callback.message ≡ true → IsGrantForgotten c.number calls s
 
 abbrev pub is_granted : Message → Bool
 is_granted (Granted version exclusive alock) = true
@@ -63,13 +63,13 @@ IsTurnedForgotten (reading.AcceptedSuccess xid stat) w s = stat ≡ Some Denied 
 IsTurnedForgotten (reading.OtherAnswer xid) w s = Unit {0}
 
 -- what a status says of the grant that was found
-abbrev pub grant_told_of : World → Option Stat → Outgoing → Option Lock → Told TableChange
+abbrev pub grant_told_of : World → Option Stat → Outgoing → Option Lock → Response TableChange
 grant_told_of w stat c None = became TableStays w
 grant_told_of w stat c (Some alock) = grant_answered the_limits w c alock stat
 
-abbrev pub grant_told : World → Option Stat → Option Outgoing → Told TableChange
+abbrev pub grant_told : World → Option Stat → Option Outgoing → Response TableChange
 grant_told w stat None = became TableStays w
-grant_told w stat (Some c) = grant_told_of w stat c (granted_lock c.letter.message)
+grant_told w stat (Some c) = grant_told_of w stat c (granted_lock c.callback.message)
 
 abbrev pub change_by : Bool → TableChange
 change_by true = TableChanges

@@ -19,7 +19,7 @@ use Rattle.call_plans.specs.Answers.{IsFoundForgotten}
 abbrev pub IsForgottenBy : Change → List Outgoing → Seen → Type 0
 IsForgottenBy change.Nothing calls s = Unit {0}
 IsForgottenBy (change.Set r) calls s = IsForgottenIfIdle (view_of_owner r.owner) s.world s
-IsForgottenBy (change.Wait x letter) calls s = IsForgottenIfIdle (view_of_owner x.owner) s.world s
+IsForgottenBy (change.Wait x callback) calls s = IsForgottenIfIdle (view_of_owner x.owner) s.world s
 IsForgottenBy (change.Cancel x) calls s = IsForgottenIfIdle (view_of_owner x.owner) s.world s
 IsForgottenBy (change.Share x) calls s = Unit {0}
 IsForgottenBy (change.Unshare x) calls s = Unit {0}

@@ -6,7 +6,7 @@ use Rattle.definitions.specs.Starts.{refuses}
 use Rattle.definitions.specs.Shares.{is_denied, has_no_room, with_share, without_share}
 use Rattle.definitions.specs.Hosts as hosts
 use Rattle.definitions.specs.Hosts.{StoreCall, StoreAnswer, NotAsked, Yes, Refused, has_row, after_store, is_past_limit}
-use Rattle.definitions.specs.Outgoing.{Letter}
+use Rattle.definitions.specs.Outgoing.{Callback}
 use Rattle.definitions.specs.Waits.{is_waiting, without_waiter}
 use Rattle.definitions.specs.World.{World, the_limits, slots_free, with_setting, with_waiter, with_hosts, with_all_due, without_host_of, opening}
 use Rattle.definitions.specs.Grants.{granted_res_rules}
@@ -23,7 +23,7 @@ use Rattle.call_plans.specs.declared.plans.Range as range
 use Rattle.call_plans.specs.declared.plans.Wanted as wanted
 use Rattle.call_plans.specs.declared.plans.Asked.{Asked}
 use Rattle.call_plans.specs.declared.plans.Asked.TheVariants as asks
-use Rattle.call_plans.specs.declared.plans.Told as told
+use Rattle.call_plans.specs.declared.plans.Response as told
 use Rattle.call_plans.specs.declared.plans.Change.{Change}
 use Rattle.call_plans.specs.declared.plans.Change.TheVariants as change
 use Rattle.call_plans.specs.declared.plans.Answer as answer
@@ -41,7 +41,7 @@ view_of_wanted x = record { file = x.file; owner = view_of_owner x.owner; first 
 abbrev pub changed : Change → World → World
 changed change.Nothing w = w
 changed (change.Set r) w = with_setting w (view_of_range r)
-changed (change.Wait x letter) w = with_waiter w (record { request = view_of_wanted x; letter = letter })
+changed (change.Wait x callback) w = with_waiter w (record { request = view_of_wanted x; callback = callback })
 changed (change.Cancel x) w = record w { waiters = without_waiter (view_of_wanted x) w.waiters }
 changed (change.Share s) w = record w { shares = with_share s w.shares }
 changed (change.Unshare s) w = record w { shares = without_share s w.shares }
@@ -50,7 +50,7 @@ changed (change.GrantAnswered cookie stat) w = (granted_res_rules the_limits w c
 changed (change.Restart notices) w = with_all_due (opening w.own_name w.hosts) notices.items
 
 -- what is told in a world: its calls are due in it
-abbrev pub told_in : told.Told → World → Answered
+abbrev pub told_in : told.Response → World → Answered
 told_in t w = record { outcome = view_of_outcome t.outcome.told.value; due = t.due.items; world = with_all_due w t.due.items }
 
 abbrev pub answered : answer.Answer → World → Answered
@@ -82,7 +82,7 @@ planned (plan.AfterStore call agreed refused) w = record {
 }
 
 -- the calls that become due under this answer of the store
-abbrev pub due_under : StoreAnswer → Plan → List Letter
+abbrev pub due_under : StoreAnswer → Plan → List Callback
 due_under store (plan.Decided a) = a.told.due.items
 due_under NotAsked (plan.AfterStore call agreed refused) = refused.due.items
 due_under Yes (plan.AfterStore call agreed refused) = agreed.told.due.items
@@ -126,7 +126,7 @@ counted Refused refusals = refusals + 1
 abbrev pub FitsChange : Change → World → Type 0
 FitsChange change.Nothing w = Unit {0}
 FitsChange (change.Set r) w = refuses 65536 w.settings (view_of_range r) ≡ false
-FitsChange (change.Wait x letter) w = 0 < slots_free the_limits w
+FitsChange (change.Wait x callback) w = 0 < slots_free the_limits w
 FitsChange (change.Cancel x) w = is_waiting (view_of_wanted x) w.waiters ≡ true
 FitsChange (change.Share s) w = (is_denied w.shares s ≡ false) × (has_no_room 16384 w.shares s ≡ false)
 FitsChange (change.Unshare s) w = Unit {0}
@@ -135,7 +135,7 @@ FitsChange (change.GrantAnswered cookie stat) w = Unit {0}
 FitsChange (change.Restart notices) w = length notices.items ≤ 8192
 
 -- the calls that become due find their places
-abbrev pub FitsDue : told.Told → World → Type 0
+abbrev pub FitsDue : told.Response → World → Type 0
 FitsDue t w = length t.due.items ≤ slots_free the_limits w
 
 abbrev pub FitsAnswer : answer.Answer → World → Type 0
@@ -172,7 +172,7 @@ MayHold r s = (r.mode ≡ None) ⊎ Knows s (view_of_owner r.owner)
 abbrev pub IsReadyFor : Change → Seen → Type 0
 IsReadyFor change.Nothing s = Unit {0}
 IsReadyFor (change.Set r) s = MayHold r s
-IsReadyFor (change.Wait x letter) s = Knows s (view_of_owner x.owner)
+IsReadyFor (change.Wait x callback) s = Knows s (view_of_owner x.owner)
 IsReadyFor (change.Cancel x) s = Unit {0}
 IsReadyFor (change.Share x) s = Unit {0}
 IsReadyFor (change.Unshare x) s = Unit {0}
@@ -193,7 +193,7 @@ IsForgottenIfIdle x w s = IsIdle w x → Knows s x → ⊥
 abbrev pub IsForgottenFor : Change → World → Seen → Type 0
 IsForgottenFor change.Nothing w s = Unit {0}
 IsForgottenFor (change.Set r) w s = IsForgottenIfIdle (view_of_owner r.owner) w s
-IsForgottenFor (change.Wait x letter) w s = IsForgottenIfIdle (view_of_owner x.owner) w s
+IsForgottenFor (change.Wait x callback) w s = IsForgottenIfIdle (view_of_owner x.owner) w s
 IsForgottenFor (change.Cancel x) w s = Unit {0}
 IsForgottenFor (change.Share x) w s = Unit {0}
 IsForgottenFor (change.Unshare x) w s = Unit {0}
@@ -212,7 +212,7 @@ KeepsOthersThan x before after = (y : Owner) → y ≢ x → Knows before y → 
 abbrev pub KeepsOthersFor : Change → Seen → Seen → Type 0
 KeepsOthersFor change.Nothing before after = KeepsKnown before after
 KeepsOthersFor (change.Set r) before after = KeepsOthersThan (view_of_owner r.owner) before after
-KeepsOthersFor (change.Wait x letter) before after = KeepsOthersThan (view_of_owner x.owner) before after
+KeepsOthersFor (change.Wait x callback) before after = KeepsOthersThan (view_of_owner x.owner) before after
 KeepsOthersFor (change.Cancel x) before after = KeepsKnown before after
 KeepsOthersFor (change.Share x) before after = KeepsKnown before after
 KeepsOthersFor (change.Unshare x) before after = KeepsKnown before after

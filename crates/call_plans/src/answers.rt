@@ -23,7 +23,7 @@ use callbacks::Message;
 use hosts_db::{HostStore, StoreError};
 use lock_state::{AnswerKey, World};
 use nlm4_types::Stat;
-use out_calls::Call;
+use out_calls::OutCall;
 use range_table::RangeTable;
 use step_order::StoreAnswer;
 
@@ -35,7 +35,7 @@ pub fn answered<R: RangeTable, S: HostStore>(
     reading: &AnswerReading,
 ) -> StoreAnswer
     ensures world { world.new.world ≡ settled_after the_limits (ruled (view_of_stored result) (answer_rules the_limits world.old.world (view_of_answer reading.now))) }
-    ensures fits { (kept : List KeptPair) → fits the_limits (record { world = world.old.world; kept = kept }) (record { event = Answer (view_of_answer reading.now); doing = Applied; store = view_of_stored result }) ≡ true }
+    ensures fits { (kept : List KeptPair) → fits the_limits (record { world = world.old.world; kept = kept }) (record { event = Answer (view_of_answer reading.now); completion = Applied; store = view_of_stored result }) ≡ true }
     ensures refusals { world.new.refusals ≡ counted (view_of_stored result) world.old.refusals }
     ensures forgotten { IsTurnedForgotten reading.now world.old.world world.new }
 {
@@ -61,7 +61,7 @@ pub fn granted_res<R: RangeTable, S: HostStore>(world: &mut World<R, S>, cookie:
         return;
     };
     let number = call.number();
-    if call.letter().message().is_granted_msg() {
+    if call.callback().message().is_granted_msg() {
         let _ = granted(world, key, number, Some(stat));
     }
 }
@@ -80,7 +80,7 @@ fn succeeded<R: RangeTable, S: HostStore>(
         return StoreAnswer::NotAsked;
     };
     let number = call.number();
-    match call.letter().message() {
+    match call.callback().message() {
         Message::Granted { .. } => {
             if granted(world, key, number, stat) {
                 world.settle();
@@ -148,7 +148,7 @@ fn refused<R: RangeTable, S: HostStore>(
 }
 
 // Whoever was granted a lock is forgotten, unless he holds one or waits.
-fn forget<R: RangeTable, S: HostStore>(world: &mut World<R, S>, call: Option<&Call>)
+fn forget<R: RangeTable, S: HostStore>(world: &mut World<R, S>, call: Option<&OutCall>)
     ensures world { world.new.world ≡ world.old.world }
     ensures refusals { world.new.refusals ≡ world.old.refusals }
     ensures forgotten { (alock : nlm.Lock) → lock_at (found call.entry) ≡ Some alock → IsIdle world.old.world (owner_of alock) → Knows world.new (owner_of alock) → ⊥ }
@@ -156,7 +156,7 @@ fn forget<R: RangeTable, S: HostStore>(world: &mut World<R, S>, call: Option<&Ca
     let Some(call) = call else {
         return;
     };
-    if let Some(lock) = call.letter().message().granted_lock() {
+    if let Some(lock) = call.callback().message().granted_lock() {
         world.forget_idle(lock.caller.owner());
     }
 }

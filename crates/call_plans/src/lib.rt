@@ -11,6 +11,6 @@ mod told;
 pub use answers::{answered, granted_res};
 pub use lock_state::World;
 pub use owner_ids::Starved;
-pub use plans::{Answer, Asked, Change, Plan, Range, SharedOutcome, Told, Wanted};
+pub use plans::{Answer, Asked, Change, Plan, Range, Response, SharedOutcome, Wanted};
 pub use step_order::StoreAnswer;
 pub use steps::{abandon, agree, ask, commit, make_change, prepare, prepare_change};

@@ -6,7 +6,7 @@ ghost use Rattle.lock_state.specs.Whole.{IsShown};
 ghost use Rattle.lock_state.proofs.OneProof.{shown_prop};
 
 use call_codec::Outcome;
-use callbacks::{Letter, MyId, ShortBytes};
+use callbacks::{Callback, MyId, ShortBytes};
 use nlm4_types::Stat;
 use owner_ids::Owner;
 use range_table::{FileId, Mode};
@@ -72,8 +72,8 @@ pub enum Asked {
 pub enum Change {
     Nothing,
     Set(Range),
-    /// The owner waits for the lock, behind all who wait, and the letter tells of the grant.
-    Wait(Wanted, Letter),
+    /// The owner waits for the lock, behind all who wait, and the callback tells of the grant.
+    Wait(Wanted, Callback),
     /// The owner, which waits for the lock, waits for it no longer.
     Cancel(Wanted),
     Share(dos_shares::Share),
@@ -84,7 +84,7 @@ pub enum Change {
     /// What a client says of a grant, whose call carried this cookie (XNFS, NLM_GRANTED_RES).
     GrantAnswered { cookie: ShortBytes, stat: Stat },
     /// All begins anew in the own state that is stored, and these notices become due (XNFS, SM_SIMU_CRASH).
-    Restart(Vec<Letter>),
+    Restart(Vec<Callback>),
 }
 
 /// An outcome, shared: one for whoever asked, one for the journal. So that nothing is got once the store has answered.
@@ -97,15 +97,15 @@ pub struct SharedOutcome {
 
 /// What is told: the outcome, and the calls of the server's own that become due for it.
 #[derive(Drop)]
-pub struct Told {
+pub struct Response {
     pub outcome: SharedOutcome,
-    pub due: Vec<Letter>,
+    pub due: Vec<Callback>,
 }
 
 /// What is told, and what changes before it.
 #[derive(Drop)]
 pub struct Answer {
-    pub told: Told,
+    pub told: Response,
     pub change: Change,
 }
 
@@ -118,7 +118,7 @@ pub enum Plan {
     AfterStore {
         asked: Asked,
         agreed: Answer,
-        refused: Told,
+        refused: Response,
     },
 }
 

@@ -7,7 +7,7 @@ ghost use Rattle.definitions.specs.Settings.{setting_of};
 ghost use Rattle.held_locks.specs.Asked.{view_of_request, view_of_new_setting};
 ghost use Rattle.call_plans.specs.Planned.{view_of_stored, planned, view_of_wanted, view_of_range};
 
-use crate::plans::{Plan, Range, Told, Wanted};
+use crate::plans::{Plan, Range, Response, Wanted};
 use step_order::StoreAnswer;
 
 impl Range {
@@ -55,7 +55,7 @@ impl Wanted {
 
 impl Plan {
     /// What will be told under this answer of the store, known before the plan is done.
-    pub fn told(&self, store: StoreAnswer) -> &Told
+    pub fn told(&self, store: StoreAnswer) -> &Response
         ensures outcome { (w : SaidWorld) → view_of_outcome result.now.outcome.told.value ≡ (ruled (view_of_stored store) (planned self.now w)).outcome }
         ensures due { (w : SaidWorld) → result.now.due.items ≡ (ruled (view_of_stored store) (planned self.now w)).due }
     {

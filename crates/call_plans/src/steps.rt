@@ -15,7 +15,7 @@ ghost use Rattle.call_plans.specs.Forgotten.{IsForgottenBy, IsForgottenUnder};
 ghost use Rattle.call_plans.specs.Planned.{IsForgotten, IsForgottenFor, KeepsOthers, KeepsOthersFor, IsForgottenIfIdle, changed, view_of_range};
 
 use crate::answers::granted_res;
-use crate::plans::{Answer, Asked, Change, Plan, Range, SharedOutcome, Told};
+use crate::plans::{Answer, Asked, Change, Plan, Range, Response, SharedOutcome};
 use callbacks::{MyId, ShortBytes};
 use hosts_db::{HostStore, StoreError};
 use lock_state::World;
@@ -200,7 +200,7 @@ pub fn commit<R: RangeTable, S: HostStore>(
 #[derive(Drop)]
 struct Deferred {
     agreed: Answer,
-    refused: Told,
+    refused: Response,
 }
 
 impl<R: RangeTable, S: HostStore> Pending<World<R, S>, SharedOutcome> for Deferred {
@@ -231,7 +231,7 @@ impl<R: RangeTable, S: HostStore> Pending<World<R, S>, SharedOutcome> for Deferr
 fn refuse<R: RangeTable, S: HostStore>(
     world: &mut World<R, S>,
     agreed: Answer,
-    refused: Told,
+    refused: Response,
 ) -> SharedOutcome
     requires { FitsDue refused world.old.world }
     ensures told { record { outcome = view_of_outcome result.told.value; due = refused.due.items; world = world.new.world } ≡ told_in refused world.old.world }
@@ -259,7 +259,7 @@ fn do_answer<R: RangeTable, S: HostStore>(world: &mut World<R, S>, answer: Answe
     tell(world, told)
 }
 
-fn tell<R: RangeTable, S: HostStore>(world: &mut World<R, S>, told: Told) -> SharedOutcome
+fn tell<R: RangeTable, S: HostStore>(world: &mut World<R, S>, told: Response) -> SharedOutcome
     requires { FitsDue told world.old.world }
     ensures told { record { outcome = view_of_outcome result.told.value; due = told.due.items; world = world.new.world } ≡ told_in told world.old.world }
     ensures names { world.new.names ≡ world.old.names }
@@ -300,8 +300,8 @@ pub fn make_change<R: RangeTable, S: HostStore>(world: &mut World<R, S>, change:
             let _ = set(world, &range);
             drop(range);
         }
-        Change::Wait(wanted, letter) => {
-            world.wait(&wanted.request(), letter);
+        Change::Wait(wanted, callback) => {
+            world.wait(&wanted.request(), callback);
             drop(wanted);
         }
         Change::Cancel(wanted) => {

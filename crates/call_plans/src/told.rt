@@ -5,9 +5,9 @@ ghost use Rattle.definitions.specs.Answer.{gives, sent_back};
 ghost use Rattle.definitions.specs.World.{World as SaidWorld, slots_free, the_limits};
 ghost use Rattle.call_plans.specs.Planned.{told_in, FitsDue};
 
-use crate::plans::{SharedOutcome, Told};
+use crate::plans::{Response, SharedOutcome};
 use call_codec::{CallResult, Outcome};
-use callbacks::Letter;
+use callbacks::Callback;
 use owner_ids::Starved;
 use std::alloc::Global;
 use std::sync::Arc;
@@ -26,29 +26,29 @@ impl SharedOutcome {
     }
 }
 
-impl Told {
+impl Response {
     /// The outcome alone: no call of the server's own goes with it.
-    pub fn reply(alloc: Global, outcome: Outcome) -> Result<Told, Starved>
+    pub fn reply(alloc: Global, outcome: Outcome) -> Result<Response, Starved>
         ensures told { IfOk result (λ made. (w : SaidWorld) → told_in made w ≡ gives w (view_of_outcome outcome)) }
         ensures fits { IfOk result (λ made. (w : SaidWorld) → FitsDue made w) }
     {
-        Ok(Told {
+        Ok(Response {
             outcome: SharedOutcome::of(alloc, outcome)?,
             due: Vec::new(alloc),
         })
     }
 
     /// An empty reply, and one call of the server's own that tells the rest.
-    pub fn message(alloc: Global, letter: Letter) -> Result<Told, Starved>
-        ensures told { IfOk result (λ made. (w : SaidWorld) → told_in made w ≡ sent_back letter w) }
+    pub fn message(alloc: Global, callback: Callback) -> Result<Response, Starved>
+        ensures told { IfOk result (λ made. (w : SaidWorld) → told_in made w ≡ sent_back callback w) }
         ensures fits { IfOk result (λ made. (w : SaidWorld) → 1 ≤ slots_free the_limits w → FitsDue made w) }
     {
         let Ok(mut due) = Vec::with_capacity(alloc, 1) else {
-            drop(letter);
+            drop(callback);
             return Err(Starved);
         };
-        due.push_reserved(letter);
-        Ok(Told {
+        due.push_reserved(callback);
+        Ok(Response {
             outcome: SharedOutcome::of(alloc, Outcome::Success(CallResult::Nothing))?,
             due,
         })

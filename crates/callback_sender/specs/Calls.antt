@@ -28,7 +28,7 @@ AreSent [] (c ∷ calls) = ⊥
 AreSent (n ∷ entries) [] = ⊥
 AreSent (n ∷ entries) (c ∷ calls) = IsSent n c × AreSent entries calls
 
--- what was handed over is what the transcript's further entries sent, one to one and in order, and nothing else
+-- what was handed over is what the trace's further entries sent, one to one and in order, and nothing else
 pub record Hands (most : ℕ) (old new : List Call) (told told' : List Note) : Type 0 where
   pub calls : List Call
   pub entries : List Note

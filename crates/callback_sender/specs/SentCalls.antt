@@ -1,6 +1,6 @@
 -- Calls that were handed over.
 use Rattle.std.specs.Prelude.{List, map}
-use Rattle.callback_sender.specs.declared.courier.SentCall.{SentCall}
+use Rattle.callback_sender.specs.declared.call_sink.SentCall.{SentCall}
 use Rattle.callback_sender.specs.Calls.{Call}
 
 abbrev pub view_of_sent : List SentCall → List Call

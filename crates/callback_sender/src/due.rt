@@ -3,12 +3,12 @@ ghost use Rattle.std.specs.Prelude.{◌≡◌};
 ghost use Rattle.callback_sender.specs.Calls.{Hands};
 ghost use Rattle.callback_sender.specs.declared.due.TheConstants.{MOST_CALLS as most_calls};
 
-use crate::courier::Courier;
+use crate::call_sink::CallSink;
 use hosts_db::HostStore;
 use range_table::RangeTable;
 use std::sync::ledger::Ledger;
 use std::sync::{Mutex, Wait};
-use workers::{Next, Shared, Transcript};
+use workers::{GhostTrace, Next, Shared};
 
 /// The most calls of a turn.
 pub const MOST_CALLS: usize = 64;
@@ -25,19 +25,19 @@ pub enum Due {
 }
 
 // Sends the call that is due first. What is left, where it is none.
-fn send_next<R: RangeTable, S: HostStore, L: Ledger, C: Courier, W: Wait>(
+fn send_next<R: RangeTable, S: HostStore, L: Ledger, C: CallSink, W: Wait>(
     rt: &W,
     shared: &Mutex<Shared<R, S, L>>,
-    courier: &mut C,
-    transcript: &mut Transcript,
+    call_sink: &mut C,
+    ghost_trace: &mut GhostTrace,
 ) -> Option<Due>
-    ensures { Hands 1 (C.handed courier.old) (C.handed courier.new) transcript.old transcript.new }
+    ensures { Hands 1 (C.handed call_sink.old) (C.handed call_sink.new) ghost_trace.old ghost_trace.new }
 {
     // The book's lock is free again behind this line.
-    let next = shared.lock(rt).next_call(transcript);
+    let next = shared.lock(rt).next_call(ghost_trace);
     match next {
         Next::Call { number, to, frame } => {
-            courier.hand(number, to, frame);
+            call_sink.hand(number, to, frame);
             None
         }
         Next::NothingDue => Some(Due::Nothing),
@@ -46,17 +46,17 @@ fn send_next<R: RangeTable, S: HostStore, L: Ledger, C: Courier, W: Wait>(
 }
 
 /// Sends what is due, each call in a hold of its own, at most `MOST_CALLS`, and hands just these over, in order: those of the
-/// entries that the transcript has more then.
-pub fn send_due<R: RangeTable, S: HostStore, L: Ledger, C: Courier, W: Wait>(
+/// entries that the trace has more then.
+pub fn send_due<R: RangeTable, S: HostStore, L: Ledger, C: CallSink, W: Wait>(
     rt: &W,
     shared: &Mutex<Shared<R, S, L>>,
-    courier: &mut C,
-    transcript: &mut Transcript,
+    call_sink: &mut C,
+    ghost_trace: &mut GhostTrace,
 ) -> Due
-    ensures { Hands most_calls (C.handed courier.old) (C.handed courier.new) transcript.old transcript.new }
+    ensures { Hands most_calls (C.handed call_sink.old) (C.handed call_sink.new) ghost_trace.old ghost_trace.new }
 {
     for _ in 0..MOST_CALLS {
-        if let Some(left) = send_next(rt, shared, courier, transcript) {
+        if let Some(left) = send_next(rt, shared, call_sink, ghost_trace) {
             return left;
         }
     }

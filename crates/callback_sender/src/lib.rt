@@ -2,19 +2,19 @@
 //! grace period is over. No socket of it blocks, so no peer holds it up.
 #![tactic(auto)]
 
-mod awaited;
-mod courier;
+mod call_sink;
 mod due;
 mod locals;
-mod office;
 mod peer;
+mod peer_pool;
+mod pending_calls;
 mod run;
 mod settings;
 mod turn;
 mod watch;
 
-pub use courier::{Courier, SentCall};
+pub use call_sink::{CallSink, SentCall};
 pub use due::{Due, MOST_CALLS, send_due};
 pub use locals::Locals;
 pub use run::Sender;
-pub use settings::Settings;
+pub use settings::CallSettings;

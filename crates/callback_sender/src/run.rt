@@ -1,12 +1,12 @@
 //! The sender.
 ghost use Rattle.std.specs.Prelude.{◌≡◌, [], IfOk};
 
-use crate::awaited::{Awaited, Waiting};
 use crate::locals::Locals;
-use crate::office::Office;
-use crate::settings::Settings;
+use crate::peer_pool::PeerPool;
+use crate::pending_calls::{PendingCall, PendingCalls};
+use crate::settings::CallSettings;
 use crate::turn::NonRecordEvent;
-use crate::{Courier, SentCall};
+use crate::{CallSink, SentCall};
 use book::Dest;
 use ghost_list::History;
 use mio::Waker;
@@ -23,10 +23,10 @@ use xdr_core::Frame;
 pub struct Sender<'a, R, D> {
     pub(crate) rt: &'a R,
     locals: &'a D,
-    pub(crate) settings: Settings,
+    pub(crate) settings: CallSettings,
     peers: Peers,
-    pub(crate) office: Office,
-    pub(crate) awaited: Awaited,
+    pub(crate) peer_pool: PeerPool,
+    pub(crate) pending_calls: PendingCalls,
     pub(crate) kept: Option<NonRecordEvent>,
     pub(crate) now: Instant,
     all: History<SentCall>,
@@ -40,8 +40,8 @@ impl<'a, R, D> Drop for Sender<'a, R, D> {
             locals: _,
             settings: _,
             peers: _,
-            office: _,
-            awaited: _,
+            peer_pool: _,
+            pending_calls: _,
             kept: _,
             now: _,
             all: _,
@@ -64,22 +64,22 @@ impl<'a, R: Net + Clock, D: Locals> Sender<'a, R, D> {
     pub fn new(
         alloc: Global,
         rt: &'a R,
-        settings: Settings,
+        settings: CallSettings,
         peers: Peers,
         locals: &'a D,
     ) -> io::Result<Sender<'a, R, D>>
         ensures { IfOk result (λ s. s ≡ []) }
     {
         let now = Instant::now(rt)?;
-        let awaited = Awaited::new(alloc)?;
-        let office = Office::new(rt, alloc)?;
+        let pending_calls = PendingCalls::new(alloc)?;
+        let peer_pool = PeerPool::new(rt, alloc)?;
         Ok(Sender {
             rt,
             locals,
             settings,
             peers,
-            office,
-            awaited,
+            peer_pool,
+            pending_calls,
             kept: None,
             now,
             all: History::new(),
@@ -88,7 +88,7 @@ impl<'a, R: Net + Clock, D: Locals> Sender<'a, R, D> {
 
     /// Wakes the sender, where something came due or it is to stop. It is asked for once.
     pub fn waker(&self) -> io::Result<Waker> {
-        self.office.waker()
+        self.peer_pool.waker()
     }
 
     // The place of the host of this name, at the port of the record.
@@ -97,7 +97,7 @@ impl<'a, R: Net + Clock, D: Locals> Sender<'a, R, D> {
     {
         let address = self.peers.address(name)?;
         let port = self.settings.port_of(bytes);
-        self.office
+        self.peer_pool
             .place_of(SocketAddr::new(address, port), self.now)
     }
 
@@ -111,10 +111,10 @@ impl<'a, R: Net + Clock, D: Locals> Sender<'a, R, D> {
             (Some(_), Some(later)) => later,
             _ => self.now,
         };
-        self.awaited
-            .add(Waiting::new(number, bytes, place, self.now, until));
+        self.pending_calls
+            .add(PendingCall::new(number, bytes, place, self.now, until));
         if let Some(place) = place {
-            self.office.send(self.rt, place, bytes, self.now);
+            self.peer_pool.send(self.rt, place, bytes, self.now);
         }
     }
 
@@ -131,7 +131,7 @@ impl<'a, R: Net + Clock, D: Locals> Sender<'a, R, D> {
     }
 }
 
-impl<'a, R: Net + Clock, D: Locals> Courier for Sender<'a, R, D> {
+impl<'a, R: Net + Clock, D: Locals> CallSink for Sender<'a, R, D> {
     ghost handed = { λ s. s };
 
     fn hand(&mut self, number: u64, to: Dest, bytes: Frame) {

@@ -8,7 +8,7 @@ use std::time::Duration;
 
 /// The ports that peers listen on, and how long the sender waits.
 #[derive(Clone, Copy)]
-pub struct Settings {
+pub struct CallSettings {
     /// The port of calls to the lock manager.
     pub nlm_port: u16,
     /// The port of calls to the status monitor.
@@ -40,7 +40,7 @@ pub(crate) fn ends_with_reply(bytes: &[u8]) -> bool
     word(bytes, 12) != Some(NLM_PROGRAM) || word(bytes, 20) != Some(GRANTED_MSG)
 }
 
-impl Settings {
+impl CallSettings {
     /// The port that takes the call of this record.
     pub(crate) fn port_of(&self, record: &[u8]) -> u16 {
         match word(record, 12) {

@@ -4,8 +4,8 @@ ghost use Rattle.book.specs.Notes.{is_take, view_of_event};
 ghost use Rattle.callback_sender.specs.Handing.{HandsOn};
 ghost use Rattle.callback_sender.specs.Waits.{is_under};
 
-use crate::awaited::{Heard, Waiting, is_under};
 use crate::locals::Locals;
+use crate::pending_calls::{PendingCall, ReceivedAnswer, is_under};
 use crate::run::Sender;
 use crate::watch::Watch;
 use crate::{Due, MOST_CALLS, send_due};
@@ -18,7 +18,7 @@ use std::sync::ledger::Ledger;
 use std::sync::{Mutex, Wait};
 use std::thread;
 use std::time::{Clock, Duration, Instant};
-use workers::{Shared, Transcript};
+use workers::{GhostTrace, Shared};
 
 /// How long it waits where there was no memory, or nothing can be waited for, in milliseconds.
 const PAUSE_MILLIS: u64 = 10;
@@ -36,7 +36,7 @@ pub(crate) struct NonRecordEvent {
 }
 
 impl NonRecordEvent {
-    fn of_answer(heard: Heard) -> NonRecordEvent {
+    fn of_answer(heard: ReceivedAnswer) -> NonRecordEvent {
         let number = heard.number();
         let bytes = heard.into_bytes();
         NonRecordEvent {
@@ -45,7 +45,7 @@ impl NonRecordEvent {
         }
     }
 
-    fn of_silence(call: Waiting) -> NonRecordEvent {
+    fn of_silence(call: PendingCall) -> NonRecordEvent {
         let number = call.number();
         NonRecordEvent {
             number,
@@ -73,10 +73,10 @@ fn tell_held<T: RangeTable, S: HostStore, L: Ledger>(
     }
     let number = told.number;
     // It sends no call, so its entry is let go.
-    let mut transcript = Transcript::new();
-    match held.apply(told.event, &mut transcript) {
-        Ok(upshot) => {
-            drop(upshot);
+    let mut ghost_trace = GhostTrace::new();
+    match held.apply(told.event, &mut ghost_trace) {
+        Ok(step_result) => {
+            drop(step_result);
             Ok(())
         }
         Err(event) => Err(NonRecordEvent { number, event }),
@@ -85,7 +85,7 @@ fn tell_held<T: RangeTable, S: HostStore, L: Ledger>(
 
 // What became of an end of grace.
 enum Ended {
-    Told,
+    Response,
     NoRoom,
     /// The server's own state is another one by now.
     Anew,
@@ -99,9 +99,9 @@ fn end_grace<T: RangeTable, S: HostStore, L: Ledger>(
     if held.own_state() != own_state {
         return Ended::Anew;
     }
-    let mut transcript = Transcript::new();
-    match held.apply(BookEvent::GraceOver, &mut transcript) {
-        Ok(_) => Ended::Told,
+    let mut ghost_trace = GhostTrace::new();
+    match held.apply(BookEvent::GraceOver, &mut ghost_trace) {
+        Ok(_) => Ended::Response,
         Err(_) => Ended::NoRoom,
     }
 }
@@ -123,12 +123,12 @@ impl<'a, R: Net + Clock + Wait, D: Locals> Sender<'a, R, D> {
         if let Some(event) = self.kept.take() {
             return Some(event);
         }
-        if let Some(heard) = self.awaited.take_heard() {
+        if let Some(heard) = self.pending_calls.take_heard() {
             return Some(NonRecordEvent::of_answer(heard));
         }
-        let call = self.awaited.take_silent(self.now)?;
+        let call = self.pending_calls.take_silent(self.now)?;
         if let Some((place, sent)) = call.mute_peer() {
-            self.office.give_up(place, sent);
+            self.peer_pool.give_up(place, sent);
         }
         Some(NonRecordEvent::of_silence(call))
     }
@@ -174,7 +174,7 @@ impl<'a, R: Net + Clock + Wait, D: Locals> Sender<'a, R, D> {
     fn keep_under(&mut self, own_state: u32)
         ensures { self.new ≡ self.old }
     {
-        self.awaited.keep_under(own_state);
+        self.pending_calls.keep_under(own_state);
         if self
             .kept
             .as_ref()
@@ -201,7 +201,7 @@ impl<'a, R: Net + Clock + Wait, D: Locals> Sender<'a, R, D> {
         }
         let ended = end_grace(&mut shared.lock(self.rt), own_state);
         match ended {
-            Ended::Told => {
+            Ended::Response => {
                 watch.end();
                 true
             }
@@ -214,11 +214,11 @@ impl<'a, R: Net + Clock + Wait, D: Locals> Sender<'a, R, D> {
     fn send<T: RangeTable, S: HostStore, L: Ledger>(
         &mut self,
         shared: &Mutex<Shared<T, S, L>>,
-        transcript: &mut Transcript,
+        ghost_trace: &mut GhostTrace,
     ) -> Due
-        ensures { HandsOn self.old self.new transcript.old transcript.new }
+        ensures { HandsOn self.old self.new ghost_trace.old ghost_trace.new }
     {
-        send_due(self.rt, shared, self, transcript)
+        send_due(self.rt, shared, self, ghost_trace)
     }
 
     // The same, where there was room and there are connections for it.
@@ -226,12 +226,12 @@ impl<'a, R: Net + Clock + Wait, D: Locals> Sender<'a, R, D> {
         &mut self,
         shared: &Mutex<Shared<T, S, L>>,
         is_room: bool,
-        transcript: &mut Transcript,
+        ghost_trace: &mut GhostTrace,
     ) -> Due
-        ensures { HandsOn self.old self.new transcript.old transcript.new }
+        ensures { HandsOn self.old self.new ghost_trace.old ghost_trace.new }
     {
-        if is_room && !self.office.is_busy(self.now) {
-            self.send(shared, transcript)
+        if is_room && !self.peer_pool.is_busy(self.now) {
+            self.send(shared, ghost_trace)
         } else {
             Due::NoRoom
         }
@@ -242,11 +242,11 @@ impl<'a, R: Net + Clock + Wait, D: Locals> Sender<'a, R, D> {
         if due == Due::NoRoom {
             return Duration::from_millis(PAUSE_MILLIS);
         }
-        if due == Due::More || self.office.is_ready() {
+        if due == Due::More || self.peer_pool.is_ready() {
             return Duration::from_millis(0);
         }
         let longest = Duration::from_millis(LONGEST_MILLIS);
-        let calls = self.awaited.next(self.now);
+        let calls = self.pending_calls.next(self.now);
         let next = [calls, watch.next()].into_iter().flatten().min();
         match next {
             Some(at) => at.duration_since(self.now).min(longest),
@@ -270,9 +270,9 @@ impl<'a, R: Net + Clock + Wait, D: Locals> Sender<'a, R, D> {
     fn exchange(&mut self, due: Due, watch: &Watch)
         ensures { self.new ≡ self.old }
     {
-        self.office.serve(&mut self.awaited);
+        self.peer_pool.serve(&mut self.pending_calls);
         let rest = self.rest(due, watch);
-        if self.office.wait(rest).is_err() {
+        if self.peer_pool.wait(rest).is_err() {
             thread::sleep(self.rt, Duration::from_millis(PAUSE_MILLIS));
         }
     }
@@ -281,12 +281,12 @@ impl<'a, R: Net + Clock + Wait, D: Locals> Sender<'a, R, D> {
         &mut self,
         shared: &Mutex<Shared<T, S, L>>,
         watch: &mut Watch,
-        transcript: &mut Transcript,
+        ghost_trace: &mut GhostTrace,
     )
-        ensures { HandsOn self.old self.new transcript.old transcript.new }
+        ensures { HandsOn self.old self.new ghost_trace.old ghost_trace.new }
     {
         let is_room = self.tell_all(shared, watch);
-        let due = self.send_if(shared, is_room, transcript);
+        let due = self.send_if(shared, is_room, ghost_trace);
         self.exchange(due, watch);
     }
 
@@ -296,10 +296,10 @@ impl<'a, R: Net + Clock + Wait, D: Locals> Sender<'a, R, D> {
         &mut self,
         shared: &Mutex<Shared<T, S, L>>,
         signals: &G,
-    ) -> Transcript
+    ) -> GhostTrace
         ensures { HandsOn self.old self.new [] result }
     {
-        let mut transcript = Transcript::new();
+        let mut ghost_trace = GhostTrace::new();
         self.tick();
         let own_state = shared.lock(self.rt).own_state();
         let mut watch = Watch::new(self.settings.grace, own_state, self.now);
@@ -307,8 +307,8 @@ impl<'a, R: Net + Clock + Wait, D: Locals> Sender<'a, R, D> {
             if signals.is_stopping() {
                 break;
             }
-            self.turn(shared, &mut watch, &mut transcript);
+            self.turn(shared, &mut watch, &mut ghost_trace);
         }
-        transcript
+        ghost_trace
     }
 }

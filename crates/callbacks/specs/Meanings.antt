@@ -17,8 +17,8 @@ use Rattle.callbacks.specs.declared.results.TestRes as test_declared
 use Rattle.callbacks.specs.declared.message.MyId as my_id_declared
 use Rattle.callbacks.specs.declared.message.Message.{Message}
 use Rattle.callbacks.specs.declared.message.Message.TheVariants as message
-use Rattle.callbacks.specs.declared.letter.Destination.{Destination}
-use Rattle.callbacks.specs.declared.letter.Destination.TheVariants as destination
+use Rattle.callbacks.specs.declared.callback.Destination.{Destination}
+use Rattle.callbacks.specs.declared.callback.Destination.TheVariants as destination
 
 abbrev pub view_of_told_lock : lock_declared.Lock → nlm.Lock
 view_of_told_lock l = record {

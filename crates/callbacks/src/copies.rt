@@ -2,22 +2,22 @@
 ghost use Rattle.std.specs.Prelude.{◌≡◌, IfOk};
 ghost use Rattle.callbacks.specs.Meanings.{view_of_told_lock, view_of_local_lock, view_of_told_res, view_of_told_holder, view_of_told_test_res, view_of_told_my_id, view_of_message, view_of_destination};
 
+use crate::callback::{Callback, Destination};
 use crate::caller::Caller;
-use crate::letter::{Destination, Letter};
 use crate::lock::{LocalLock, Lock};
 use crate::message::{Message, MyId};
 use crate::results::{Holder, Res, TestRes};
 use crate::short::ShortBytes;
 use std::alloc::{AllocError, Global};
 
-impl Letter {
-    /// The same letter again, in memory of its own.
-    pub fn copy(&self, alloc: Global) -> Result<Letter, AllocError>
+impl Callback {
+    /// The same callback again, in memory of its own.
+    pub fn copy(&self, alloc: Global) -> Result<Callback, AllocError>
         ensures { IfOk result (λ copy. copy ≡ self.now) }
     {
         let to = self.to().copy(alloc)?;
         let message = self.message().copy(alloc)?;
-        Ok(Letter::new(to, message))
+        Ok(Callback::new(to, message))
     }
 }
 

@@ -2,17 +2,17 @@
 //! values that own their bytes.
 #![tactic(auto)]
 
+mod callback;
 mod caller;
 mod copies;
 mod lent;
-mod letter;
 mod lock;
 mod message;
 mod results;
 mod short;
 
+pub use callback::{Callback, Destination};
 pub use caller::Caller;
-pub use letter::{Destination, Letter};
 pub use lock::{LocalLock, Lock};
 pub use message::{Message, MyId};
 pub use results::{Holder, Res, TestRes};

@@ -1,4 +1,4 @@
-//! What is true of every roster.
+//! What is true of every connection table.
 ghost use Rattle.connections.specs.Seats.{IsKeptAtCome, IsKeptAtLeave, IsKeptAtLend, IsKeptAtClose, IsFreeOnceLeft};
 
 /// A connection keeps its place, at which its number finds it, until it leaves: while others come and leave, whatever the places

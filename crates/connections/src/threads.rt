@@ -3,5 +3,5 @@ mod accepting;
 mod running;
 mod service;
 
-pub use running::{NoThread, Staff, run};
-pub use service::{Chief, Guest, Service, Side};
+pub use running::{NoThread, WorkerPool, run};
+pub use service::{Accepted, MainLoop, Service, Side};

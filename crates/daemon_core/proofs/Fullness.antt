@@ -13,7 +13,7 @@ full Starved needed old new fed room = absurd (fed refl)
 full NoSegment needed old new fed room = inr (refl, room.0)
 
 pub starves_where_full : StarvesWhereFull
-starves_where_full old new (Send posting) out spare step = full out.outcome _ _ _ step.fed step.room
+starves_where_full old new (Send send_buffer) out spare step = full out.outcome _ _ _ step.fed step.room
 starves_where_full old new (Answer bytes) out spare step = full out.outcome _ _ _ step.fed step.room
 starves_where_full old new (Silent number) out spare step = full out.outcome _ _ _ step.fed step.room
 starves_where_full old new GraceOver out spare step = full out.outcome _ _ _ step.fed step.room

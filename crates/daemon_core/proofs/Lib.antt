@@ -1,6 +1,6 @@
 pub mod RoomLemmas
-pub mod HubLemmas
+pub mod DaemonLemmas
 pub mod SameRun
 pub mod Histories
-pub mod Told
+pub mod Response
 pub mod Fullness

@@ -1,10 +1,10 @@
 -- The room that one entry more leaves.
 use Rattle.std.proofs.Common.{◌≡◌, ℕ, zero, suc, ◌+◌, ◌-◌, ◌^◌, ◌<◌, min, Bool, true, inl, inr, [], ◌∷◌, length, length-append, subst, refl, sym, ◌∙◌, ap, arith}
 use Rattle.definitions.specs.Step.{State}
-use Rattle.book.specs.declared.upshot.Doing.{Doing as Became}
-use Rattle.book.specs.declared.upshot.Doing.TheVariants as doing
-use Rattle.book.specs.Given.{Upshot}
-use Rattle.book.specs.Notes.{Happening, Note}
+use Rattle.book.specs.declared.step_result.Completion.{Completion as Became}
+use Rattle.book.specs.declared.step_result.Completion.TheVariants as completion
+use Rattle.book.specs.Given.{StepResult}
+use Rattle.book.specs.Notes.{JournalEvent, Note}
 use Rattle.book.specs.Journal.{Journal, Book, next_of, room_of, noted, Enters}
 use Rattle.daemon_core.specs.Outcomes.{noted_as}
 use Rattle.daemon_core.specs.Rooms.{Room, room_of_journal, BeginsWhereFull, left_for, TakesRoom, TakesIfNeeded, RoomAfter}
@@ -44,14 +44,14 @@ grows old new n end is some =
     let longer : length new.notes ≡ length old.notes + 1 = ap (λ (j : Journal). length j.notes) is ∙ length-append old.notes (n ∷ []) in
     (omega arith, omega arith)
 
-pub enters-room : (old mid new : Book) (event : Happening) (upshot : Upshot) → BeginsWhereFull old mid → 0 < room_of mid.journal → Enters mid event upshot new → TakesRoom (room_of_journal old.journal) (room_of_journal new.journal)
-enters-room old mid new event upshot begins some enters =
+pub enters-room : (old mid new : Book) (event : JournalEvent) (step_result : StepResult) → BeginsWhereFull old mid → 0 < room_of mid.journal → Enters mid event step_result new → TakesRoom (room_of_journal old.journal) (room_of_journal new.journal)
+enters-room old mid new event step_result begins some enters =
     let g = grows mid.journal new.journal _ _ enters.journal some in
     (g.0 ∙ stands old mid begins some, g.1 ∙ ap (λ (n : ℕ). n + 1) (same-next old mid begins))
 
 pub noted_as-room : (became : Became) (old new : Room) → TakesRoom old new → RoomAfter (noted_as became) true old new
-noted_as-room doing.Applied old new takes = takes
-noted_as-room doing.Starved old new takes = takes
+noted_as-room completion.Applied old new takes = takes
+noted_as-room completion.Starved old new takes = takes
 
 pub needed-room : (needed : Bool) (old new : Room) → needed ≡ true → TakesRoom old new → TakesIfNeeded needed old new
 needed-room needed old new e takes = subst (λ (b : Bool). TakesIfNeeded b old new) (sym e) takes

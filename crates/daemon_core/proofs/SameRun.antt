@@ -7,7 +7,7 @@ use Rattle.kept_replies.specs.Pairs.{view_of_peer}
 use Rattle.step_order.specs.declared.store.StoreAnswer.{StoreAnswer}
 use Rattle.call_plans.specs.Planned.{view_of_stored, counted}
 use Rattle.book.specs.Given.{comes_to}
-use Rattle.book.specs.Notes.{Happening, Takes, SendsNext, HearsAnswer, AsksLine, FallsSilent, GraceEnds, BeginsAnew, Steps, OneStep}
+use Rattle.book.specs.Notes.{JournalEvent, Takes, SendsNext, HearsAnswer, AsksLine, FallsSilent, GraceEnds, BeginsAnew, Steps, OneStep}
 use Rattle.daemon_core.specs.declared.event.Event.{Event}
 use Rattle.daemon_core.specs.declared.event.Event.TheVariants.{Connect, Piece, Disconnect, Take, Send, Answer, Local, Silent, GraceOver, Restart}
 use Rattle.daemon_core.specs.declared.event_outcome.EventOutcome.{EventOutcome}
@@ -18,13 +18,13 @@ use Rattle.daemon_core.specs.Outputs.{marked_by, told, told_call, told_line, tol
 use Rattle.daemon_core.specs.Rooms.{Room, TakesIfNeeded, RoomAfter}
 use Rattle.record_mark.specs.Untaken.{AreRecords, untaken}
 use Rattle.daemon_core.specs.Link.{Link, Hears, Receives, with_taken}
-use Rattle.daemon_core.specs.Hub.{Hub, with_links, place_of, IsQuiet, Connects, Disconnects, Pieces, Answers, HasNone, TakesAt, links_after, Happens, HubStep, Run, HasOneRun}
+use Rattle.daemon_core.specs.DaemonState.{DaemonState, with_links, place_of, IsQuiet, Connects, Disconnects, Pieces, Answers, HasNone, TakesAt, links_after, Happens, DaemonStep, Run, HasOneRun}
 
-abbrev Same : Outputs → Outputs → Hub → Hub → Type 0
+abbrev Same : Outputs → Outputs → DaemonState → DaemonState → Type 0
 Same out out' new new' = (out ≡ out') × (new ≡ new')
 
-same-hub : (new end : Hub) → new.state ≡ end.state → new.refusals ≡ end.refusals → new.room ≡ end.room → new.links ≡ end.links → new ≡ end
-same-hub new end s r m l = λ i. record { state = s i; refusals = r i; room = m i; links = l i }
+same-daemon_state : (new end : DaemonState) → new.state ≡ end.state → new.refusals ≡ end.refusals → new.room ≡ end.room → new.links ≡ end.links → new ≡ end
+same-daemon_state new end s r m l = λ i. record { state = s i; refusals = r i; room = m i; links = l i }
 
 -- the room after an event
 taken-same : (needed : Bool) (old new end : Room) → TakesIfNeeded needed old new → TakesIfNeeded needed old end → new ≡ end
@@ -42,15 +42,15 @@ room-same o p needed old new end e h h' = go o h (subst (λ (q : EventOutcome). 
     go Starved k k' = taken-same needed old new end k k'
 
 -- what the events gave, and the states after them
-same-step : OneStep → (old new end : State) (event : Happening) (o p : EventOutcome) (a b : StoreAnswer) (given other : Given) → o ≡ p → a ≡ b → Steps old event (comes_to (view_of_event_outcome o) (view_of_stored a) given) new
+same-step : OneStep → (old new end : State) (event : JournalEvent) (o p : EventOutcome) (a b : StoreAnswer) (given other : Given) → o ≡ p → a ≡ b → Steps old event (comes_to (view_of_event_outcome o) (view_of_stored a) given) new
     → Steps old event (comes_to (view_of_event_outcome p) (view_of_stored b) other) end → (given ≡ other) × (new ≡ end)
 same-step one old new end event o p a b given other e f x y =
     one old new end event (view_of_event_outcome p) (view_of_stored b) given other (subst (λ (q : EventOutcome). Steps old event (comes_to (view_of_event_outcome q) (view_of_stored b) given) new) e (subst (λ (q : StoreAnswer). Steps old event (comes_to (view_of_event_outcome o) (view_of_stored q) given) new) f x)) y
 
-quiet-same : (old new new' : Hub) (out out' : Outputs) → IsQuiet old out new → IsQuiet old out' new' → Same out out' new new'
+quiet-same : (old new new' : DaemonState) (out out' : Outputs) → IsQuiet old out new → IsQuiet old out' new' → Same out out' new new'
 quiet-same old new new' out out' h h' = (h.1 ∙ sym h'.1, h.0 ∙ sym h'.0)
 
-Connects-same : (place : Option ℕ) (o o' : EventOutcome) (number : ℕ) (peer : Peer) (old new new' : Hub) (out out' : Outputs) → o ≡ o' → Connects place o number peer old out new
+Connects-same : (place : Option ℕ) (o o' : EventOutcome) (number : ℕ) (peer : Peer) (old new new' : DaemonState) (out out' : Outputs) → o ≡ o' → Connects place o number peer old out new
     → Connects place o' number peer old out' new' → Same out out' new new'
 Connects-same (Some place) o o' number peer old new new' out out' e h h' = quiet-same old new new' out out' h h'
 Connects-same None Applied Applied number peer old new new' out out' e h h' = (h.1 ∙ sym h'.1, h.0 ∙ sym h'.0)
@@ -60,7 +60,7 @@ Connects-same None Starved Applied number peer old new new' out out' e h h' = ab
 Connects-same None NoSegment o' number peer old new new' out out' e h h' = absurd h
 Connects-same None o NoSegment number peer old new new' out out' e h h' = absurd h'
 
-Disconnects-same : (place : Option ℕ) (old new new' : Hub) (out out' : Outputs) → Disconnects place old out new → Disconnects place old out' new' → Same out out' new new'
+Disconnects-same : (place : Option ℕ) (old new new' : DaemonState) (out out' : Outputs) → Disconnects place old out new → Disconnects place old out' new' → Same out out' new new'
 Disconnects-same None old new new' out out' h h' = (h.1 ∙ sym h'.1, h.0 ∙ sym h'.0)
 Disconnects-same (Some place) old new new' out out' h h' = (h.1 ∙ sym h'.1, h.0 ∙ sym h'.0)
 
@@ -90,14 +90,14 @@ bytes-same : (x : Option (List ℕ)) (l m : List ℕ) → x ≡ Some l → x ≡
 bytes-same x l m e f =
     let g : Some l ≡ Some m = sym e ∙ f in cc
 
-Pieces-same : HasOneReading → (place : Option ℕ) (bytes : List ℕ) (old new new' : Hub) (out out' : Outputs) → out.outcome ≡ out'.outcome → Pieces place bytes old out new
+Pieces-same : HasOneReading → (place : Option ℕ) (bytes : List ℕ) (old new new' : DaemonState) (out out' : Outputs) → out.outcome ≡ out'.outcome → Pieces place bytes old out new
     → Pieces place bytes old out' new' → Same out out' new new'
 Pieces-same one None bytes old new new' out out' e h h' = quiet-same old new new' out out' h h'
 Pieces-same one (Some place) bytes old new new' out out' e h h' =
     let link : h'.link ≡ h.link = some-same old.links place h'.link h.link h'.there h.there in
     let P : Link → Type 0 = λ l. Receives l.receives l bytes out' h'.link' in
     let found = Receives-same one h.link.receives h.link h.link' h'.link' bytes out out' e h.receives (subst P link h'.receives) in
-    let after : Link → Hub = λ l. with_links old (slice_set old.links place l) in
+    let after : Link → DaemonState = λ l. with_links old (slice_set old.links place l) in
     (found.0, h.rest ∙ (ap after found.1 ∙ sym h'.rest))
 
 records-same : HasOneReading → (received : List ℕ) (records others : List (List ℕ)) → AreRecords received records → AreRecords received others → records ≡ others
@@ -108,7 +108,7 @@ get-none [] i x e h = cc
 get-none (y ∷ ys) zero x e h = omega arith
 get-none (y ∷ ys) (suc i) x e h = get-none ys i x e (omega arith)
 
-Answers-same : HasOneReading → OneStep → (place i : ℕ) (old new new' : Hub) (out out' : Outputs) → out.outcome ≡ out'.outcome → out.store ≡ out'.store → Answers place i old out new → Answers place i old out' new' → Same out out' new new'
+Answers-same : HasOneReading → OneStep → (place i : ℕ) (old new new' : DaemonState) (out out' : Outputs) → out.outcome ≡ out'.outcome → out.store ≡ out'.store → Answers place i old out new → Answers place i old out' new' → Same out out' new new'
 Answers-same one step place i old new new' out out' e f h h' =
     let link : h'.link ≡ h.link = some-same old.links place h'.link h.link h'.there h.there in
     let P : Link → Type 0 = λ l. AreRecords l.received h'.records in
@@ -121,17 +121,17 @@ Answers-same one step place i old new new' out out' e f h h' =
     let same = same-step step old.state new.state new'.state (Takes (view_of_peer h.link.peer) h.bytes) out.outcome out'.outcome out.store out'.store h.given h'.given e f h.step step' in
     let links : new.links ≡ new'.links = h.links ∙ (ap (λ (l : Link). slice_set old.links place (with_taken l i)) (sym link) ∙ sym h'.links) in (
       h.outputs ∙ ap (λ (o : EventOutcome). told_to h.link.number o out.store h.given) e ∙ ap (λ (a : StoreAnswer). told_to h.link.number out'.outcome a h.given) f ∙ ap (λ (x : Given). told_to h.link.number out'.outcome out'.store x) same.0 ∙ ap (λ (l : Link). told_to l.number out'.outcome out'.store h'.given) (sym link) ∙ sym h'.outputs,
-      same-hub new new' same.1 (h.refusals ∙ ap (λ (a : StoreAnswer). counted (view_of_stored a) old.refusals) f ∙ sym h'.refusals) (room-same out.outcome out'.outcome true old.room new.room new'.room e h.room h'.room) links,
+      same-daemon_state new new' same.1 (h.refusals ∙ ap (λ (a : StoreAnswer). counted (view_of_stored a) old.refusals) f ∙ sym h'.refusals) (room-same out.outcome out'.outcome true old.room new.room new'.room e h.room h'.room) links,
     )
 
-Happens-same : OneStep → (tell : EventOutcome → StoreAnswer → Given → Outputs) (event : Happening) (old new new' : Hub) (out out' : Outputs) → out.outcome ≡ out'.outcome → out.store ≡ out'.store → Happens tell event old out new → Happens tell event old out' new' → Same out out' new new'
+Happens-same : OneStep → (tell : EventOutcome → StoreAnswer → Given → Outputs) (event : JournalEvent) (old new new' : DaemonState) (out out' : Outputs) → out.outcome ≡ out'.outcome → out.store ≡ out'.store → Happens tell event old out new → Happens tell event old out' new' → Same out out' new new'
 Happens-same step tell event old new new' out out' e f h h' =
     let same = same-step step old.state new.state new'.state event out.outcome out'.outcome out.store out'.store h.given h'.given e f h.step h'.step in (
       h.outputs ∙ ap (λ (o : EventOutcome). tell o out.store h.given) e ∙ ap (λ (a : StoreAnswer). tell out'.outcome a h.given) f ∙ ap (λ (x : Given). tell out'.outcome out'.store x) same.0 ∙ sym h'.outputs,
-      same-hub new new' same.1 (h.refusals ∙ ap (λ (a : StoreAnswer). counted (view_of_stored a) old.refusals) f ∙ sym h'.refusals) (room-same out.outcome out'.outcome (needs_entry event old.state) old.room new.room new'.room e h.room h'.room) (h.links ∙ ap (λ (a : StoreAnswer). links_after event a old.links) f ∙ sym h'.links),
+      same-daemon_state new new' same.1 (h.refusals ∙ ap (λ (a : StoreAnswer). counted (view_of_stored a) old.refusals) f ∙ sym h'.refusals) (room-same out.outcome out'.outcome (needs_entry event old.state) old.room new.room new'.room e h.room h'.room) (h.links ∙ ap (λ (a : StoreAnswer). links_after event a old.links) f ∙ sym h'.links),
     )
 
-none-not : HasOneReading → (place i : ℕ) (old new new' : Hub) (out out' : Outputs) → Answers place i old out new → HasNone place i old out' new' → ⊥
+none-not : HasOneReading → (place i : ℕ) (old new new' : DaemonState) (out out' : Outputs) → Answers place i old out new → HasNone place i old out' new' → ⊥
 none-not one place i old new new' out out' h h' =
     let link : h'.link ≡ h.link = some-same old.links place h'.link h.link h'.there h.there in
     let P : Link → Type 0 = λ l. AreRecords l.received h'.records × (length (untaken h'.records l.taken) ≤ i) in
@@ -140,24 +140,24 @@ none-not one place i old new new' out out' h h' =
     let Q : List (List ℕ) → Type 0 = λ rs. length (untaken rs h.link.taken) ≤ i in
     get-none (untaken h.records h.link.taken) i h.bytes h.is (subst Q records moved.1)
 
-TakesAt-same : HasOneReading → OneStep → (place : Option ℕ) (i : ℕ) (old new new' : Hub) (out out' : Outputs) → out.outcome ≡ out'.outcome → out.store ≡ out'.store → TakesAt place i old out new → TakesAt place i old out' new' → Same out out' new new'
+TakesAt-same : HasOneReading → OneStep → (place : Option ℕ) (i : ℕ) (old new new' : DaemonState) (out out' : Outputs) → out.outcome ≡ out'.outcome → out.store ≡ out'.store → TakesAt place i old out new → TakesAt place i old out' new' → Same out out' new new'
 TakesAt-same one step None i old new new' out out' e f h h' = quiet-same old new new' out out' h h'
 TakesAt-same one step (Some place) i old new new' out out' e f (inl h) (inl h') = Answers-same one step place i old new new' out out' e f h h'
 TakesAt-same one step (Some place) i old new new' out out' e f (inr h) (inr h') = quiet-same old new new' out out' h.quiet h'.quiet
 TakesAt-same one step (Some place) i old new new' out out' e f (inl h) (inr h') = absurd (none-not one place i old new new' out out' h h')
 TakesAt-same one step (Some place) i old new new' out out' e f (inr h) (inl h') = absurd (none-not one place i old new' new out' out h' h)
 
-HubStep-same : HasOneReading → OneStep → (old new new' : Hub) (event : Event) (out out' : Outputs) → HubStep old event out new → HubStep old event out' new' → out.outcome ≡ out'.outcome → out.store ≡ out'.store → Same out out' new new'
-HubStep-same one step old new new' (Connect number peer) out out' h h' e f = Connects-same (place_of number old.links) out.outcome out'.outcome number peer old new new' out out' e h h'
-HubStep-same one step old new new' (Piece number bytes) out out' h h' e f = Pieces-same one (place_of number old.links) bytes.items old new new' out out' e h h'
-HubStep-same one step old new new' (Disconnect number) out out' h h' e f = Disconnects-same (place_of number old.links) old new new' out out' h h'
-HubStep-same one step old new new' (Take number i) out out' h h' e f = TakesAt-same one step (place_of number old.links) i old new new' out out' e f h h'
-HubStep-same one step old new new' (Send posting) out out' h h' e f = Happens-same step told_call SendsNext old new new' out out' e f h h'
-HubStep-same one step old new new' (Answer bytes) out out' h h' e f = Happens-same step told (HearsAnswer bytes.items) old new new' out out' e f h h'
-HubStep-same one step old new new' (Local l line) out out' h h' e f = Happens-same step (told_line l) (AsksLine l line.items) old new new' out out' e f h h'
-HubStep-same one step old new new' (Silent number) out out' h h' e f = Happens-same step told (FallsSilent number) old new new' out out' e f h h'
-HubStep-same one step old new new' GraceOver out out' h h' e f = Happens-same step told GraceEnds old new new' out out' e f h h'
-HubStep-same one step old new new' Restart out out' h h' e f = Happens-same step told BeginsAnew old new new' out out' e f h h'
+DaemonStep-same : HasOneReading → OneStep → (old new new' : DaemonState) (event : Event) (out out' : Outputs) → DaemonStep old event out new → DaemonStep old event out' new' → out.outcome ≡ out'.outcome → out.store ≡ out'.store → Same out out' new new'
+DaemonStep-same one step old new new' (Connect number peer) out out' h h' e f = Connects-same (place_of number old.links) out.outcome out'.outcome number peer old new new' out out' e h h'
+DaemonStep-same one step old new new' (Piece number bytes) out out' h h' e f = Pieces-same one (place_of number old.links) bytes.items old new new' out out' e h h'
+DaemonStep-same one step old new new' (Disconnect number) out out' h h' e f = Disconnects-same (place_of number old.links) old new new' out out' h h'
+DaemonStep-same one step old new new' (Take number i) out out' h h' e f = TakesAt-same one step (place_of number old.links) i old new new' out out' e f h h'
+DaemonStep-same one step old new new' (Send send_buffer) out out' h h' e f = Happens-same step told_call SendsNext old new new' out out' e f h h'
+DaemonStep-same one step old new new' (Answer bytes) out out' h h' e f = Happens-same step told (HearsAnswer bytes.items) old new new' out out' e f h h'
+DaemonStep-same one step old new new' (Local l line) out out' h h' e f = Happens-same step (told_line l) (AsksLine l line.items) old new new' out out' e f h h'
+DaemonStep-same one step old new new' (Silent number) out out' h h' e f = Happens-same step told (FallsSilent number) old new new' out out' e f h h'
+DaemonStep-same one step old new new' GraceOver out out' h h' e f = Happens-same step told GraceEnds old new new' out out' e f h h'
+DaemonStep-same one step old new new' Restart out out' h h' e f = Happens-same step told BeginsAnew old new new' out out' e f h h'
 
 pub Run-same : HasOneReading → OneStep → HasOneRun
 Run-same one step old new new' [] [] [] h h' alike = (refl, h ∙ sym h')
@@ -166,7 +166,7 @@ Run-same one step old new new' [] [] (o ∷ outs') h h' alike = absurd h'
 Run-same one step old new new' (e ∷ events) [] outs' h h' alike = absurd h
 Run-same one step old new new' (e ∷ events) (o ∷ outs) [] h h' alike = absurd h'
 Run-same one step old new new' (e ∷ events) (o ∷ outs) (o' ∷ outs') h h' alike =
-    let first = HubStep-same one step old h.0 h'.0 e o o' h.1 h'.1 alike.0 alike.1 in
-    let P : Hub → Type 0 = λ m. Run m events outs' new' in
+    let first = DaemonStep-same one step old h.0 h'.0 e o o' h.1 h'.1 alike.0 alike.1 in
+    let P : DaemonState → Type 0 = λ m. Run m events outs' new' in
     let rest = Run-same one step h.0 new new' events outs outs' h.2 (subst P (sym first.1) h'.2) alike.2 in
     (ap (λ x. x ∷ outs) first.0 ∙ ap (λ xs. o' ∷ xs) rest.0, rest.1)

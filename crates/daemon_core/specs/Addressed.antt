@@ -16,4 +16,4 @@ view_of_addressee (addressee.Local l) = ToLocal l
 abbrev pub view_of_content : Content → Sending
 view_of_content (content.Reply to reply) = record { to = ToClient to; bytes = record_of (view_of_reply reply) }
 view_of_content (content.Line to answer) = record { to = ToLocal to; bytes = reply_text (view_of_local_answer answer) }
-view_of_content (content.Call posting) = posting.value
+view_of_content (content.Call send_buffer) = send_buffer.value

@@ -4,6 +4,6 @@ pub mod Sending
 pub mod Addressed
 pub mod Outputs
 pub mod Link
-pub mod Hub
+pub mod DaemonState
 pub mod Laws
-pub mod Told
+pub mod Response

@@ -9,7 +9,7 @@ use Rattle.daemon_core.specs.declared.event_outcome.EventOutcome.TheVariants.{Ap
 use Rattle.daemon_core.specs.Outcomes.{view_of_event_outcome}
 use Rattle.step_order.specs.declared.store.StoreAnswer.{StoreAnswer}
 use Rattle.step_order.specs.declared.store.StoreAnswer.TheVariants.{NotAsked}
-use Rattle.book.specs.Given.{Upshot, comes_to, record_of}
+use Rattle.book.specs.Given.{StepResult, comes_to, record_of}
 use Rattle.daemon_core.specs.Sending.{Sending, ToClient, ToLocal, addressee, gets_records}
 use Rattle.daemon_core.specs.declared.outputs.Outputs.{Outputs}
 use Rattle.daemon_core.specs.declared.event.Refusal.{Refusal}
@@ -39,13 +39,13 @@ abbrev pub reply_to : ℕ → Given → Option Sending
 reply_to number (Replies xid outcome) = Some (record { to = ToClient number; bytes = record_of (Replies xid outcome) })
 reply_to number Nothing = None
 reply_to number (Says line) = None
-reply_to number (Sends call letter) = None
+reply_to number (Sends call callback) = None
 reply_to number IsStarved = None
 reply_to number IsRefused = None
 
--- a call goes where its letter says
+-- a call goes where its callback says
 abbrev pub sent_on : Given → Option Sending
-sent_on (Sends call letter) = Some (record { to = addressee letter.to; bytes = record_of (Sends call letter) })
+sent_on (Sends call callback) = Some (record { to = addressee callback.to; bytes = record_of (Sends call callback) })
 sent_on (Replies xid outcome) = None
 sent_on Nothing = None
 sent_on (Says line) = None
@@ -57,7 +57,7 @@ abbrev pub line_to : ℕ → Given → Option Sending
 line_to l (Says line) = Some (record { to = ToLocal l; bytes = reply_text line })
 line_to l (Replies xid outcome) = None
 line_to l Nothing = None
-line_to l (Sends call letter) = None
+line_to l (Sends call callback) = None
 line_to l IsStarved = None
 line_to l IsRefused = None
 
@@ -67,11 +67,11 @@ refusal_of IsRefused = Some Refusal.StoreRefused
 refusal_of Nothing = None
 refusal_of (Replies xid outcome) = None
 refusal_of (Says line) = None
-refusal_of (Sends call letter) = None
+refusal_of (Sends call callback) = None
 
 -- what the event came to that gave this
-abbrev pub upshot_of : Outputs → Given → Upshot
-upshot_of out given = comes_to (view_of_event_outcome out.outcome) (view_of_stored out.store) given
+abbrev pub step_result_of : Outputs → Given → StepResult
+step_result_of out given = comes_to (view_of_event_outcome out.outcome) (view_of_stored out.store) given
 
 -- of an event that sends nothing
 abbrev pub told : EventOutcome → StoreAnswer → Given → Outputs
@@ -91,9 +91,9 @@ told_to number outcome store given = record { outcome = outcome; store = store; 
 
 -- of a sending to the place in which this stands now
 abbrev pub told_posted : Posted → Sending → Outputs
-told_posted posted.Nothing posting = quiet
-told_posted posted.NoSegment posting = unnoted
-told_posted posted.Sent posting = record { outcome = Applied; store = NotAsked; sent = Some posting; refusal = None }
+told_posted posted.Nothing send_buffer = quiet
+told_posted posted.NoSegment send_buffer = unnoted
+told_posted posted.Sent send_buffer = record { outcome = Applied; store = NotAsked; sent = Some send_buffer; refusal = None }
 
 -- the bytes that are sent: a record as one fragment, and a line as it is
 abbrev pub bytes_sent : Option Sending → List ℕ

@@ -8,7 +8,7 @@ use crate::event::Refusal;
 use crate::outputs::{Outputs, make_heard, make_quiet, make_starved};
 use bytes::Bytes;
 use kept_replies::Peer;
-use record_mark::{Heard, Inbox};
+use record_mark::{Received, RecordQueue};
 use std::alloc::Global;
 use std::marker::Model;
 
@@ -17,7 +17,7 @@ use std::marker::Model;
 pub struct Connection {
     number: u64,
     peer: Peer,
-    inbox: Inbox,
+    record_queue: RecordQueue,
 }
 
 impl Model for Connection {
@@ -25,7 +25,7 @@ impl Model for Connection {
 
     ghost Value = { Link };
 
-    ghost view = { λ c. record { number = c.number; peer = c.peer; received = c.inbox.received; taken = c.inbox.taken; receives = c.inbox.receives } };
+    ghost view = { λ c. record { number = c.number; peer = c.peer; received = c.record_queue.received; taken = c.record_queue.taken; receives = c.record_queue.receives } };
 }
 
 impl Connection {
@@ -35,7 +35,7 @@ impl Connection {
         Connection {
             number,
             peer,
-            inbox: Inbox::new(alloc),
+            record_queue: RecordQueue::new(alloc),
         }
     }
 
@@ -55,11 +55,11 @@ impl Connection {
     pub fn receive(&mut self, piece: &[u8]) -> Outputs
         ensures { Receives self.old.receives self.old piece.now result self.new }
     {
-        match self.inbox.receive(piece) {
-            Heard::Received { is_too_long: false } => make_heard(None),
-            Heard::Received { is_too_long: true } => make_heard(Some(Refusal::RecordTooLong)),
-            Heard::Starved => make_starved(),
-            Heard::Deaf => make_quiet(),
+        match self.record_queue.receive(piece) {
+            Received::Taken { is_too_long: false } => make_heard(None),
+            Received::Taken { is_too_long: true } => make_heard(Some(Refusal::RecordTooLong)),
+            Received::Starved => make_starved(),
+            Received::Closed => make_quiet(),
         }
     }
 
@@ -67,7 +67,7 @@ impl Connection {
     pub fn waiting(&self) -> usize
         ensures { (records : List (List ℕ)) × AreRecords self.now.received records × (result ≡ length (untaken records self.now.taken)) }
     {
-        self.inbox.waiting()
+        self.record_queue.waiting()
     }
 
     /// Takes the record of this place among those that were not taken.
@@ -76,6 +76,6 @@ impl Connection {
             × (slice_get (untaken records self.old.taken) index ≡ Some r) × (self.new ≡ with_taken self.old index)) }
         ensures none { IfNone result ((self.new ≡ self.old) × ((records : List (List ℕ)) × AreRecords self.old.received records × (length (untaken records self.old.taken) ≤ index))) }
     {
-        self.inbox.take(index)
+        self.record_queue.take(index)
     }
 }

@@ -3,14 +3,14 @@
 ghost use Rattle.std.specs.Prelude.{◌≡◌, [], IfOk, OnErr};
 ghost use Rattle.book.specs.Notes.{HearsAnswer, AsksLine, FallsSilent, GraceEnds, BeginsAnew};
 ghost use Rattle.daemon_core.specs.Outputs.{told, told_line, told_posted};
-ghost use Rattle.daemon_core.specs.Hub.{Hub, opening, place_of, Connects, Disconnects, Pieces, TakesAt, Happens, Waits, SendStep, HubStep, Run};
+ghost use Rattle.daemon_core.specs.DaemonState.{DaemonState, opening, place_of, Connects, Disconnects, Pieces, TakesAt, Happens, Waits, SendStep, DaemonStep, Run};
 
 use crate::connection::Connection;
 use crate::event::Event;
 use crate::noted::{note, send_next};
 use crate::outputs::{Outputs, make_quiet, make_starved, tell, tell_line, tell_posted, tell_to};
 use crate::posted::Posted;
-use crate::posting::Posting;
+use crate::send_buffer::SendBuffer;
 use book::{Book, BookEvent, StoreAnswer};
 use callbacks::ShortBytes;
 use held_locks::Locks;
@@ -30,9 +30,9 @@ pub struct Daemon<R: RangeTable, S: HostStore> {
 }
 
 impl<R: RangeTable, S: HostStore> Model for Daemon<R, S> {
-    ghost use Rattle.daemon_core.specs.Hub.{Hub};
+    ghost use Rattle.daemon_core.specs.DaemonState.{DaemonState};
 
-    ghost Value = { Hub };
+    ghost Value = { DaemonState };
 
     ghost use Rattle.daemon_core.specs.Rooms.{room_of_journal};
 
@@ -118,44 +118,44 @@ impl<R: RangeTable, S: HostStore> Daemon<R, S> {
             return make_quiet();
         };
         let event = BookEvent::Take { peer, record };
-        let (outcome, upshot) = note(self.alloc, &mut self.book, event);
-        tell_to(number, outcome, upshot)
+        let (outcome, step_result) = note(self.alloc, &mut self.book, event);
+        tell_to(number, outcome, step_result)
     }
 
     fn answer(&mut self, bytes: Vec<u8>) -> Outputs
         ensures { Happens told (HearsAnswer bytes.items) self.old result self.new }
     {
-        let (outcome, upshot) = note(self.alloc, &mut self.book, BookEvent::Answer { bytes });
-        tell(outcome, upshot)
+        let (outcome, step_result) = note(self.alloc, &mut self.book, BookEvent::Answer { bytes });
+        tell(outcome, step_result)
     }
 
     fn local(&mut self, connection: u64, line: Vec<u8>) -> Outputs
         ensures { Happens (told_line connection) (AsksLine connection line.items) self.old result self.new }
     {
         let event = BookEvent::Local { connection, line };
-        let (outcome, upshot) = note(self.alloc, &mut self.book, event);
-        tell_line(connection, outcome, upshot)
+        let (outcome, step_result) = note(self.alloc, &mut self.book, event);
+        tell_line(connection, outcome, step_result)
     }
 
     fn silent(&mut self, number: u64) -> Outputs
         ensures { Happens told (FallsSilent number) self.old result self.new }
     {
-        let (outcome, upshot) = note(self.alloc, &mut self.book, BookEvent::Silent { number });
-        tell(outcome, upshot)
+        let (outcome, step_result) = note(self.alloc, &mut self.book, BookEvent::Silent { number });
+        tell(outcome, step_result)
     }
 
     fn grace_over(&mut self) -> Outputs
         ensures { Happens told GraceEnds self.old result self.new }
     {
-        let (outcome, upshot) = note(self.alloc, &mut self.book, BookEvent::GraceOver);
-        tell(outcome, upshot)
+        let (outcome, step_result) = note(self.alloc, &mut self.book, BookEvent::GraceOver);
+        tell(outcome, step_result)
     }
 
     fn restart(&mut self) -> Outputs
         ensures { Happens told BeginsAnew self.old result self.new }
     {
-        let (outcome, upshot) = note(self.alloc, &mut self.book, BookEvent::Restart);
-        let outputs = tell(outcome, upshot);
+        let (outcome, step_result) = note(self.alloc, &mut self.book, BookEvent::Restart);
+        let outputs = tell(outcome, step_result);
         if let StoreAnswer::Yes = outputs.store {
             self.connections.clear();
         }
@@ -202,24 +202,24 @@ impl<R: RangeTable, S: HostStore> Daemon<R, S> {
 
     /// The step of a `Send` to this place, which stays the caller's. It takes no memory but for a fresh segment of the journal.
     #[inline(never)]
-    pub fn send(&mut self, posting: &mut Posting) -> Posted
-        ensures { SendStep self.old (told_posted result posting.new) self.new }
+    pub fn send(&mut self, send_buffer: &mut SendBuffer) -> Posted
+        ensures { SendStep self.old (told_posted result send_buffer.new) self.new }
     {
-        send_next(self.alloc, &mut self.book, posting)
+        send_next(self.alloc, &mut self.book, send_buffer)
     }
 
     /// One event, and what comes of it.
     pub fn step(&mut self, event: Event) -> Outputs
-        ensures { HubStep self.old event result self.new }
+        ensures { DaemonStep self.old event result self.new }
     {
         match event {
             Event::Connect { connection, peer } => self.connect(connection, peer),
             Event::Piece { connection, bytes } => self.receive(connection, &bytes),
             Event::Disconnect { connection } => self.disconnect(connection),
             Event::Take { connection, index } => self.take(connection, index),
-            Event::Send { mut posting } => {
-                let posted = self.send(&mut posting);
-                tell_posted(posted, posting)
+            Event::Send { mut send_buffer } => {
+                let posted = self.send(&mut send_buffer);
+                tell_posted(posted, send_buffer)
             }
             Event::Answer { bytes } => self.answer(bytes),
             Event::Local { connection, line } => self.local(connection, line),

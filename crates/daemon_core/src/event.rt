@@ -1,6 +1,6 @@
 //! What may happen.
 
-use crate::posting::Posting;
+use crate::send_buffer::SendBuffer;
 use kept_replies::Peer;
 use thiserror::Error;
 
@@ -18,7 +18,7 @@ pub enum Event {
     /// The record at this place among its whole records that were not yet taken is answered.
     Take { connection: u64, index: usize },
     /// The server's own call that became due first is sent, if one is due. It is written to this place, whatever stood there.
-    Send { posting: Box<Posting> },
+    Send { send_buffer: Box<SendBuffer> },
     /// An answer came to one of the server's own calls. One that belongs to none changes nothing.
     Answer { bytes: Vec<u8> },
     /// A local program's line, without its line feed, on its connection of this number. It is answered there.

@@ -1,6 +1,6 @@
 //! What became of an event.
 
-use book::Doing;
+use book::Completion;
 
 /// What became of an event.
 #[derive(Clone, Copy, PartialEq, Eq)]
@@ -13,16 +13,16 @@ pub enum EventOutcome {
     NoSegment,
 }
 
-impl From<Doing> for EventOutcome {
+impl From<Completion> for EventOutcome {
     ghost use Rattle.std.specs.Prelude.{◌≡◌};
     ghost use Rattle.daemon_core.specs.Outcomes.{noted_as};
 
-    ghost from_gives = { λ doing outcome. outcome ≡ noted_as doing };
+    ghost from_gives = { λ completion outcome. outcome ≡ noted_as completion };
 
-    fn from(doing: Doing) -> EventOutcome {
-        match doing {
-            Doing::Applied => EventOutcome::Applied,
-            Doing::Starved => EventOutcome::Starved,
+    fn from(completion: Completion) -> EventOutcome {
+        match completion {
+            Completion::Applied => EventOutcome::Applied,
+            Completion::Starved => EventOutcome::Starved,
         }
     }
 }

@@ -1,8 +1,8 @@
 //! What is true of every run.
 
-ghost use Rattle.daemon_core.specs.Hub.{HasOneRun};
+ghost use Rattle.daemon_core.specs.DaemonState.{HasOneRun};
 ghost use Rattle.daemon_core.specs.Laws.{GraceGrantsReclaimsOnly, GraceTellsOfNoGrant, RunsAreHistories, RunsAreSound, StarvesWhereFull};
-ghost use Rattle.daemon_core.specs.Told.{KeptIsGivenAgain, MessageRefusalIsTold, RefusalIsTold};
+ghost use Rattle.daemon_core.specs.Response.{KeptIsGivenAgain, MessageRefusalIsAnswered, RefusalIsAnswered};
 
 use book::{
     early_message_refusal_is_given, early_refusal_is_given, histories_are_sound,
@@ -54,7 +54,7 @@ pub fn grace_tells_of_no_grant()
 /// A call that is refused for its file handle, its range or the phase is answered by that status, as its version shows it,
 /// so that in grace each that the phase turns away is answered DENIED_GRACE_PERIOD, in every version.
 pub fn early_refusal_is_told()
-    ensures { RefusalIsTold }
+    ensures { RefusalIsAnswered }
 {
     early_refusal_is_given();
 }
@@ -62,7 +62,7 @@ pub fn early_refusal_is_told()
 /// A message form that is refused so, while a place is free for the call that tells of it, has that call due: to the caller's
 /// host, by the status as its version shows it.
 pub fn early_message_refusal_is_told()
-    ensures { MessageRefusalIsTold }
+    ensures { MessageRefusalIsAnswered }
 {
     early_message_refusal_is_given();
 }

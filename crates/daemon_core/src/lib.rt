@@ -9,7 +9,7 @@ mod law;
 mod noted;
 mod outputs;
 mod posted;
-mod posting;
+mod send_buffer;
 mod sent;
 
 pub use crate::connection::Connection;
@@ -23,7 +23,7 @@ pub use crate::law::{
 };
 pub use crate::outputs::Outputs;
 pub use crate::posted::Posted;
-pub use crate::posting::Posting;
+pub use crate::send_buffer::SendBuffer;
 pub use crate::sent::{Addressee, Sent};
 pub use book::StoreAnswer;
 pub use byte_io::WriteFault;

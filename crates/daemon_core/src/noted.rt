@@ -6,7 +6,7 @@ ghost use Rattle.definitions.specs.Outgoing.{next_due};
 ghost use Rattle.call_plans.specs.Planned.{counted};
 ghost use Rattle.book.specs.Notes.{view_of_event, Steps};
 ghost use Rattle.book.specs.Journal.{room_of, TakesMemory};
-ghost use Rattle.daemon_core.specs.Hub.{SendStep, hub_of};
+ghost use Rattle.daemon_core.specs.DaemonState.{SendStep, daemon_state_of};
 ghost use Rattle.daemon_core.specs.Link.{Link};
 ghost use Rattle.daemon_core.specs.Outcomes.{view_of_event_outcome};
 ghost use Rattle.daemon_core.specs.Outputs.{told_posted};
@@ -14,8 +14,8 @@ ghost use Rattle.daemon_core.specs.Rooms.{BeginsWhereFull, RoomAfter, room_of_jo
 
 use crate::event_outcome::EventOutcome;
 use crate::posted::Posted;
-use crate::posting::Posting;
-use book::{Book, BookEvent, NoRoom, Upshot};
+use crate::send_buffer::SendBuffer;
+use book::{Book, BookEvent, NoRoom, StepResult};
 use hosts_db::HostStore;
 use range_table::RangeTable;
 use std::alloc::Global;
@@ -26,8 +26,8 @@ pub(crate) fn note<R: RangeTable, S: HostStore>(
     alloc: Global,
     book: &mut Book<R, S>,
     event: BookEvent,
-) -> (EventOutcome, Upshot)
-    ensures outcome { view_of_event_outcome result.0 ≡ result.1.doing }
+) -> (EventOutcome, StepResult)
+    ensures outcome { view_of_event_outcome result.0 ≡ result.1.completion }
     ensures step { Steps book.old.journal.end (view_of_event event) result.1 book.new.journal.end }
     ensures counts { book.new.refusals ≡ counted result.1.store book.old.refusals }
     ensures fed { result.0 ≡ EventOutcome.Starved → TakesMemory (view_of_event event) }
@@ -40,8 +40,8 @@ pub(crate) fn note<R: RangeTable, S: HostStore>(
     let Ok(()) = make_room(alloc, book) else {
         return (EventOutcome::NoSegment, event.starved());
     };
-    let upshot = book.apply(event);
-    (EventOutcome::from(upshot.doing), upshot)
+    let step_result = book.apply(event);
+    (EventOutcome::from(step_result.completion), step_result)
 }
 
 /// The call that is due first is sent to this place, which is one entry, or none is due. Where the segment is full and no fresh
@@ -49,12 +49,12 @@ pub(crate) fn note<R: RangeTable, S: HostStore>(
 pub(crate) fn send_next<R: RangeTable, S: HostStore>(
     alloc: Global,
     book: &mut Book<R, S>,
-    posting: &mut Posting,
+    send_buffer: &mut SendBuffer,
 ) -> Posted
-    ensures { (links : List Link) → SendStep (hub_of book.old links) (told_posted result posting.new) (hub_of book.new links) }
+    ensures { (links : List Link) → SendStep (daemon_state_of book.old links) (told_posted result send_buffer.new) (daemon_state_of book.new links) }
 {
     if book.has_due() {
-        send_due(alloc, book, posting)
+        send_due(alloc, book, send_buffer)
     } else {
         Posted::Nothing
     }
@@ -65,10 +65,10 @@ pub(crate) fn send_next<R: RangeTable, S: HostStore>(
 fn send_due<R: RangeTable, S: HostStore>(
     alloc: Global,
     book: &mut Book<R, S>,
-    posting: &mut Posting,
+    send_buffer: &mut SendBuffer,
 ) -> Posted
     requires due { is_some (next_due book.old.journal.end.world.calls) ≡ true }
-    ensures { (links : List Link) → SendStep (hub_of book.old links) (told_posted result posting.new) (hub_of book.new links) }
+    ensures { (links : List Link) → SendStep (daemon_state_of book.old links) (told_posted result send_buffer.new) (daemon_state_of book.new links) }
 {
     let Ok(()) = make_room(alloc, book) else {
         return Posted::NoSegment;
@@ -76,7 +76,7 @@ fn send_due<R: RangeTable, S: HostStore>(
     let Some((_, to, frame)) = book.next_call() else {
         return Posted::Nothing;
     };
-    posting.fill(to, frame);
+    send_buffer.fill(to, frame);
     Posted::Sent
 }
 

@@ -8,9 +8,9 @@ ghost use Rattle.daemon_core.specs.Outputs.{quiet, starved, unnoted, heard, refu
 use crate::event::Refusal;
 use crate::event_outcome::EventOutcome;
 use crate::posted::Posted;
-use crate::posting::Posting;
+use crate::send_buffer::SendBuffer;
 use crate::sent::Sent;
-use book::{Reply, StoreAnswer, Upshot};
+use book::{Reply, StepResult, StoreAnswer};
 
 /// What comes of an event: what became of it, what the store answered it, what is sent, and the refusal of an event that
 /// has nobody to answer.
@@ -77,50 +77,50 @@ pub(crate) fn make_unnoted() -> Outputs
 }
 
 /// Of an event that sends nothing.
-pub(crate) fn tell(outcome: EventOutcome, upshot: Upshot) -> Outputs
+pub(crate) fn tell(outcome: EventOutcome, step_result: StepResult) -> Outputs
     ensures outcome { result.outcome ≡ outcome }
-    ensures store { view_of_stored result.store ≡ upshot.store }
-    ensures told { result ≡ told result.outcome result.store upshot.given }
+    ensures store { view_of_stored result.store ≡ step_result.store }
+    ensures told { result ≡ told result.outcome result.store step_result.given }
 {
     Outputs {
         outcome,
-        store: upshot.store,
-        refusal: refusal_in(&upshot.reply),
+        store: step_result.store,
+        refusal: refusal_in(&step_result.reply),
         sent: None,
     }
 }
 
 /// Of a record that came on this connection.
-pub(crate) fn tell_to(number: u64, outcome: EventOutcome, upshot: Upshot) -> Outputs
+pub(crate) fn tell_to(number: u64, outcome: EventOutcome, step_result: StepResult) -> Outputs
     ensures outcome { result.outcome ≡ outcome }
-    ensures store { view_of_stored result.store ≡ upshot.store }
-    ensures told { result ≡ told_to number result.outcome result.store upshot.given }
+    ensures store { view_of_stored result.store ≡ step_result.store }
+    ensures told { result ≡ told_to number result.outcome result.store step_result.given }
 {
     Outputs {
         outcome,
-        store: upshot.store,
-        refusal: refusal_in(&upshot.reply),
-        sent: send(number, upshot.reply),
+        store: step_result.store,
+        refusal: refusal_in(&step_result.reply),
+        sent: send(number, step_result.reply),
     }
 }
 
 /// Of a line that came on this local connection.
-pub(crate) fn tell_line(connection: u64, outcome: EventOutcome, upshot: Upshot) -> Outputs
+pub(crate) fn tell_line(connection: u64, outcome: EventOutcome, step_result: StepResult) -> Outputs
     ensures outcome { result.outcome ≡ outcome }
-    ensures store { view_of_stored result.store ≡ upshot.store }
-    ensures told { result ≡ told_line connection result.outcome result.store upshot.given }
+    ensures store { view_of_stored result.store ≡ step_result.store }
+    ensures told { result ≡ told_line connection result.outcome result.store step_result.given }
 {
     Outputs {
         outcome,
-        store: upshot.store,
-        refusal: refusal_in(&upshot.reply),
-        sent: send_line(connection, upshot.reply),
+        store: step_result.store,
+        refusal: refusal_in(&step_result.reply),
+        sent: send_line(connection, step_result.reply),
     }
 }
 
 /// Of a sending to this place.
-pub(crate) fn tell_posted(posted: Posted, posting: Box<Posting>) -> Outputs
-    ensures { result ≡ told_posted posted posting.value }
+pub(crate) fn tell_posted(posted: Posted, send_buffer: Box<SendBuffer>) -> Outputs
+    ensures { result ≡ told_posted posted send_buffer.value }
 {
     match posted {
         Posted::Nothing => make_quiet(),
@@ -128,7 +128,7 @@ pub(crate) fn tell_posted(posted: Posted, posting: Box<Posting>) -> Outputs
         Posted::Sent => Outputs {
             outcome: EventOutcome::Applied,
             store: StoreAnswer::NotAsked,
-            sent: Some(Sent::call(posting)),
+            sent: Some(Sent::call(send_buffer)),
             refusal: None,
         },
     }

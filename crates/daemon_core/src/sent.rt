@@ -9,7 +9,7 @@ ghost use Rattle.local_ops.specs.Answers.{view_of_local_answer};
 ghost use Rattle.local_ops.specs.Texts.{reply_text};
 ghost use Rattle.byte_io.specs.Written.{Wrote};
 
-use crate::posting::Posting;
+use crate::send_buffer::SendBuffer;
 use book::{LocalAnswer, Reply};
 use byte_io::WriteFault;
 use record_mark::{Spelled, write_spelled};
@@ -33,7 +33,7 @@ pub enum Addressee<'a> {
 enum Content {
     Reply { to: u64, reply: Reply },
     Line { to: u64, answer: LocalAnswer },
-    Call(Box<Posting>),
+    Call(Box<SendBuffer>),
 }
 
 // A reply's record.
@@ -94,11 +94,11 @@ impl Sent {
     }
 
     // A call, as it was written.
-    pub(crate) fn call(posting: Box<Posting>) -> Sent
-        ensures { result ≡ posting.value }
+    pub(crate) fn call(send_buffer: Box<SendBuffer>) -> Sent
+        ensures { result ≡ send_buffer.value }
     {
         Sent {
-            content: Content::Call(posting),
+            content: Content::Call(send_buffer),
         }
     }
 
@@ -109,7 +109,7 @@ impl Sent {
         match &self.content {
             Content::Reply { to, .. } => Addressee::Client(*to),
             Content::Line { to, .. } => Addressee::Local(*to),
-            Content::Call(posting) => posting.to(),
+            Content::Call(send_buffer) => send_buffer.to(),
         }
     }
 
@@ -120,7 +120,7 @@ impl Sent {
     {
         match &self.content {
             Content::Line { answer, .. } => answer.write(writer),
-            Content::Call(posting) => posting.write(writer),
+            Content::Call(send_buffer) => send_buffer.write(writer),
             Content::Reply { reply, .. } => write_spelled(&Spoken { reply }, room, writer),
         }
     }

@@ -36,11 +36,11 @@ impl Counting {
 /// The text, with the number for each `%`.
 pub(crate) fn filled(alloc: Global, text: &str, number: u32) -> Result<String, AllocError> {
     let mut whole = String::new(alloc);
-    for letter in text.chars() {
-        if letter == '%' {
+    for callback in text.chars() {
+        if callback == '%' {
             write!(whole, "{number}")?;
         } else {
-            whole.push(letter)?;
+            whole.push(callback)?;
         }
     }
     Ok(whole)

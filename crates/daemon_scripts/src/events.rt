@@ -1,7 +1,7 @@
 //! The lines of a script that are events, and what is to be sent for each.
 use crate::counting::{Counting, filled};
 use crate::page::{CONNECTION, LOCAL, Page, read_xid};
-use daemon_core::{Event, Peer, Posting};
+use daemon_core::{Event, Peer, SendBuffer};
 use test_kit::{put_message, read_number};
 
 impl<'a> Page<'a> {
@@ -147,8 +147,8 @@ impl<'a> Page<'a> {
     }
 
     fn send(&self) -> Option<Event> {
-        let posting = Box::new(self.alloc, Posting::new()).ok()?;
-        Some(Event::Send { posting })
+        let send_buffer = Box::new(self.alloc, SendBuffer::new()).ok()?;
+        Some(Event::Send { send_buffer })
     }
 
     // The xid and the answer, of which at most so many bytes come. It has no mark.

@@ -15,7 +15,7 @@ mod state;
 pub use growths::play_in_want;
 pub use page::{Page, read_xid};
 pub use plays::{
-    Deed, Line, Server, are_rows_after, first_wrong, goes_well, lines_done, notifies, parted,
+    DaemonTask, Line, Server, are_rows_after, first_wrong, goes_well, lines_done, notifies, parted,
     with_daemon,
 };
 pub use script::{happens, streams};

@@ -63,13 +63,13 @@ pub fn are_rows_after(found: &str, script: &str, most: usize, rows: &str) -> boo
 }
 
 /// What is done with a daemon.
-pub trait Deed {
+pub trait DaemonTask {
     /// Has the daemon do it.
     fn act<T: RangeTable, S: HostStore>(&mut self, daemon: &mut Daemon<T, S>);
 }
 
 // Lends a daemon, if there is one. It is generic, so that what has to drop it sees no more of its parts than their traits.
-fn lend<T: RangeTable + Drop, S: HostStore + Drop, D: Deed>(
+fn lend<T: RangeTable + Drop, S: HostStore + Drop, D: DaemonTask>(
     daemon: Option<Daemon<T, S>>,
     deed: &mut D,
 ) {
@@ -80,7 +80,11 @@ fn lend<T: RangeTable + Drop, S: HostStore + Drop, D: Deed>(
 }
 
 /// Does it with a daemon over this store. How often that asks the store to write.
-pub fn with_daemon<S: HostStore, D: Deed>(alloc: Global, store: &mut S, deed: &mut D) -> usize {
+pub fn with_daemon<S: HostStore, D: DaemonTask>(
+    alloc: Global,
+    store: &mut S,
+    deed: &mut D,
+) -> usize {
     let mut writes = 0;
     let Ok(table) = ArenaTable::new(alloc) else {
         return writes;

@@ -13,15 +13,15 @@ use Rattle.definitions.specs.Phases.{Phase, Grace, Normal, CallKind, Testing, Lo
 use Rattle.definitions.specs.Nlm.{Version, Stat, DENIED, DENIED_GRACE_PERIOD, STALE_FH, FBIG, Lock, LockArgs, CancelArgs, UnlockArgs, ShareArgs, NlmCall, Null, Test, Locks, Cancel, Unlock, TestMsg, LockMsg, CancelMsg, UnlockMsg, GrantedRes, ShareCall, Unshare, NmLock, FreeAll}
 use Rattle.definitions.specs.Nsm.{NsmCall, SmNull, SmStat, SmMon, SmUnmon, SmUnmonAll, SmSimuCrash, SmNotify}
 use Rattle.definitions.specs.Hosts.{Hosts, HostRow, Begin, Seen, StoreAnswer, NotAsked, Yes, Refused, after_store, row_of, watches_of, Acked, Quota, has_row}
-use Rattle.definitions.specs.Outgoing.{Outgoing, Letter, Message, Granted, GrantedMsg, Notify, Destination, ToHost, ToConnection, LocalLock, call_of_xid, call_of_cookie}
+use Rattle.definitions.specs.Outgoing.{Outgoing, Callback, Message, Granted, GrantedMsg, Notify, Destination, ToHost, ToConnection, LocalLock, call_of_xid, call_of_cookie}
 use Rattle.definitions.specs.Ranges.{top, last_of, is_too_far, is_stale, range_refusal, file_refusal, request_of, unlock_of, line_unlock}
 use Rattle.definitions.specs.Replies.{Call, Nlm, Nsm, SystemErr, AnswerReading, Unreadable, AcceptedSuccess, OtherAnswer, Line, GetLock, SetLock, SetLockWait, Close, Table, HostList, SetQuota, Stop, BadLine, LineReply, LineAbsent, LineFbig, LineGrace}
 use Rattle.definitions.specs.Waits.{Waiter}
-use Rattle.definitions.specs.World.{World, Limits, with_setting, with_hosts, with_due, with_all_due, without_host_of, restarted, restart_letter, opening, slots_free, closed_by}
-use Rattle.definitions.specs.Rulings.{Told, Ruling, decided, ruled, stays}
+use Rattle.definitions.specs.World.{World, Limits, with_setting, with_hosts, with_due, with_all_due, without_host_of, restarted, restart_callback, opening, slots_free, closed_by}
+use Rattle.definitions.specs.Rulings.{Response, Ruling, decided, ruled, stays}
 use Rattle.definitions.specs.LockRules.{NewHost}
 use Rattle.definitions.specs.Grants.{TableChange, TableStays, TableChanges, ended, became, grant_answered, granted_res_rules, granted_res_at, granted_res_of, notice_answered, succeeded, answered_success, answered_otherwise, answer_rules}
-use Rattle.definitions.specs.Answer.{Answered, gives, lock_ask, caller_row, lock_unless, lock_verdict, lock_msg_answer, cancel_unless, cancel_answer, unlock_unless, unlock_answer, if_slots, by_call, by_message, lock_letter, cancel_letter, unlock_letter, share_unless, share_of, unshare_unless, nlm_answer, stored, notified, notify_rules, status_letter, nsm_answer, ruling}
+use Rattle.definitions.specs.Answer.{Answered, gives, lock_ask, caller_row, lock_unless, lock_verdict, lock_msg_answer, cancel_unless, cancel_answer, unlock_unless, unlock_answer, if_slots, by_call, by_message, lock_callback, cancel_callback, unlock_callback, share_unless, share_of, unshare_unless, nlm_answer, stored, notified, notify_rules, status_callback, nsm_answer, ruling}
 use Rattle.definitions.specs.Lines.{line_refusal, line_answer, set_unless, line_sets, line_ask, quota_stored}
 use Rattle.definitions.specs.Moves.{TableMove, Stays, DropsHost, DropsOwner, Unlocks, Empties, AreRanges, Moves, ReclaimedBy, IsReclaimOf}
 use Rattle.definitions.proofs.QuotaLaws.{AreKept, all_kept, store_keeps}
@@ -53,16 +53,16 @@ module _ (Reclaimed : Request → Type 0) where
   abbrev pub AnswerMoves : World → Ruling Answered → Type 0
   AnswerMoves w r = Moves Reclaimed w r.agreed.world × Moves Reclaimed w r.refused.world
 
-  with_due_moves : (w v : World) (letter : Letter) → Moves Reclaimed w v → Moves Reclaimed w (with_due v letter)
-  with_due_moves w v letter m = record { table = m.table; ranges = m.ranges; nobody = m.nobody }
+  with_due_moves : (w v : World) (callback : Callback) → Moves Reclaimed w v → Moves Reclaimed w (with_due v callback)
+  with_due_moves w v callback m = record { table = m.table; ranges = m.ranges; nobody = m.nobody }
 
   -- the same table and waiters
   pub same_moves : (w v : World) → v.settings ≡ w.settings → v.waiters ≡ w.waiters → Moves Reclaimed w v
   same_moves w v e k = record { table = subst (TableMove Reclaimed w.phase w.settings) (sym e) Stays; ranges = λ h. subst AreRanges (sym k) h; nobody = λ g h. k ∙ h }
 
-  due_moves : (w v : World) (letters : List Letter) → Moves Reclaimed w v → Moves Reclaimed w (with_all_due v letters)
-  due_moves w v letters m =
-      let kept = due_keeps v letters in
+  due_moves : (w v : World) (callbacks : List Callback) → Moves Reclaimed w v → Moves Reclaimed w (with_all_due v callbacks)
+  due_moves w v callbacks m =
+      let kept = due_keeps v callbacks in
       record {
         table = subst (TableMove Reclaimed w.phase w.settings) (sym kept.settings) m.table;
         ranges = λ h. subst AreRanges (sym kept.waiters) (m.ranges h);
@@ -78,7 +78,7 @@ module _ (Reclaimed : Request → Type 0) where
 
   pub restart_moves : (w v : World) (hosts : Hosts) → Moves Reclaimed w (restarted v hosts)
   restart_moves w v hosts =
-      let kept = due_keeps (opening v.own_name hosts) (map (restart_letter v.own_name hosts.own) hosts.rows) in
+      let kept = due_keeps (opening v.own_name hosts) (map (restart_callback v.own_name hosts.own) hosts.rows) in
       record {
         table = subst (TableMove Reclaimed w.phase w.settings) (sym kept.settings) Empties;
         ranges = λ h. subst AreRanges (sym kept.waiters) tt;
@@ -114,9 +114,9 @@ module _ (Reclaimed : Request → Type 0) where
   if_slots_moves : (n : ℕ) (limits : Limits) (w : World) (r : Ruling Answered) → AnswerMoves w r → AnswerMoves w (if_slots n limits w r)
   if_slots_moves n limits w r m = by_cond (AnswerMoves w) (leb n (slots_free limits w)) r (decided (gives w SystemErr)) (λ _. m) (λ _. (unmoved Reclaimed w, unmoved Reclaimed w))
 
-  message_moves : (limits : Limits) (w : World) (letter : Stat → Letter) (r : Ruling (Told Stat)) → BothMove Reclaimed w r → AnswerMoves w (by_message limits w letter r)
-  message_moves limits w letter r m =
-      if_slots_moves 1 limits w (by_call letter r)
+  message_moves : (limits : Limits) (w : World) (callback : Stat → Callback) (r : Ruling (Response Stat)) → BothMove Reclaimed w r → AnswerMoves w (by_message limits w callback r)
+  message_moves limits w callback r m =
+      if_slots_moves 1 limits w (by_call callback r)
       (with_due_moves w r.agreed.world _ m.0, with_due_moves w r.refused.world _ m.1)
 
   -- ---- shares
@@ -124,8 +124,8 @@ module _ (Reclaimed : Request → Type 0) where
   share_moves : (limits : Limits) (w : World) (a : ShareArgs) (o : Option Stat) → Moves Reclaimed w (share_unless limits w a o).world
   share_moves limits w a (Some stat) = unmoved Reclaimed w
   share_moves limits w a None =
-      by_cond (λ (t : Told Stat). Moves Reclaimed w t.world) (is_denied w.shares (share_of a)) _ _ (λ _. unmoved Reclaimed w)
-      (λ _. by_cond (λ (t : Told Stat). Moves Reclaimed w t.world) (has_no_room limits.shares w.shares (share_of a)) _ _ (λ _. unmoved Reclaimed w) (λ _. same_moves w (record w { shares = with_share (share_of a) w.shares }) refl refl))
+      by_cond (λ (t : Response Stat). Moves Reclaimed w t.world) (is_denied w.shares (share_of a)) _ _ (λ _. unmoved Reclaimed w)
+      (λ _. by_cond (λ (t : Response Stat). Moves Reclaimed w t.world) (has_no_room limits.shares w.shares (share_of a)) _ _ (λ _. unmoved Reclaimed w) (λ _. same_moves w (record w { shares = with_share (share_of a) w.shares }) refl refl))
 
   unshare_moves : (w : World) (a : ShareArgs) (o : Option Stat) → Moves Reclaimed w (unshare_unless w a o).world
   unshare_moves w a (Some stat) = unmoved Reclaimed w
@@ -133,19 +133,19 @@ module _ (Reclaimed : Request → Type 0) where
 
   -- ---- answers to the server's own calls
 
-  abbrev pub ToldMoves : TableChange → World → World → Type 0
-  ToldMoves TableStays w v = (v.settings ≡ w.settings) × (v.waiters ≡ w.waiters) × AreKept (quotas_of w.hosts) (quotas_of v.hosts)
-  ToldMoves TableChanges w v = Moves Reclaimed w v
+  abbrev pub ResponseMoves : TableChange → World → World → Type 0
+  ResponseMoves TableStays w v = (v.settings ≡ w.settings) × (v.waiters ≡ w.waiters) × AreKept (quotas_of w.hosts) (quotas_of v.hosts)
+  ResponseMoves TableChanges w v = Moves Reclaimed w v
 
-  pub told_moves : (change : TableChange) (w v : World) → ToldMoves change w v → Moves Reclaimed w v
+  pub told_moves : (change : TableChange) (w v : World) → ResponseMoves change w v → Moves Reclaimed w v
   told_moves TableStays w v m = same_moves w v m.0 m.1
   told_moves TableChanges w v m = m
 
   put : (w : World) → (w.settings ≡ w.settings) × (w.waiters ≡ w.waiters) × AreKept (quotas_of w.hosts) (quotas_of w.hosts)
   put w = (refl, refl, all_kept (quotas_of w.hosts))
 
-  abbrev pub ChangeMoves : World → Told TableChange → Type 0
-  ChangeMoves w t = ToldMoves t.says w t.world
+  abbrev pub ChangeMoves : World → Response TableChange → Type 0
+  ChangeMoves w t = ResponseMoves t.says w t.world
 
   grant_moves : (limits : Limits) (w : World) (c : Outgoing) (alock : Lock) (stat : Option Stat) → ChangeMoves w (grant_answered limits w c alock stat)
   grant_moves limits w c alock (Some DENIED) =
@@ -162,9 +162,9 @@ module _ (Reclaimed : Request → Type 0) where
 
       go : (o : Option Outgoing) → ChangeMoves w (granted_res_at limits w stat o)
       go None = put w
-      go (Some c) = by_message_of c c.letter.message
+      go (Some c) = by_message_of c c.callback.message
 
-  abbrev pub BothChange : World → Ruling (Told TableChange) → Type 0
+  abbrev pub BothChange : World → Ruling (Response TableChange) → Type 0
   BothChange w r = ChangeMoves w r.agreed × ChangeMoves w r.refused
 
   notice_moves : (w : World) (c : Outgoing) (to : Destination) → BothChange w (notice_answered w c to)
@@ -174,7 +174,7 @@ module _ (Reclaimed : Request → Type 0) where
   succeeded_moves : (limits : Limits) (w : World) (c : Outgoing) (stat : Option Stat) (m : Message) → BothChange w (succeeded limits w c stat m)
   succeeded_moves limits w c stat (Granted version exclusive alock) = (grant_moves limits w c alock stat, grant_moves limits w c alock stat)
   succeeded_moves limits w c stat (GrantedMsg version exclusive alock) = (put w, put w)
-  succeeded_moves limits w c stat (Notify name state) = notice_moves w c c.letter.to
+  succeeded_moves limits w c stat (Notify name state) = notice_moves w c c.callback.to
   succeeded_moves limits w c stat _ = (put w, put w)
 
   pub answer_moves : (limits : Limits) (w : World) (reading : AnswerReading) → BothChange w (answer_rules limits w reading)
@@ -183,7 +183,7 @@ module _ (Reclaimed : Request → Type 0) where
     where
       go : (o : Option Outgoing) → BothChange w (answered_success limits w stat o)
       go None = (put w, put w)
-      go (Some c) = succeeded_moves limits w c stat c.letter.message
+      go (Some c) = succeeded_moves limits w c stat c.callback.message
   answer_moves limits w (OtherAnswer xid) = go (call_of_xid xid w.calls)
     where
       go : (o : Option Outgoing) → BothChange w (answered_otherwise w o)
@@ -201,9 +201,9 @@ module _ (Reclaimed : Request → Type 0) where
   nlm_moves limits w version (Unlock a) mine = unlock_answer_moves limits w a
   nlm_moves limits w version (TestMsg a) mine = if_slots_moves 1 limits w _ (with_due_moves w w _ (unmoved Reclaimed w), with_due_moves w w _ (unmoved Reclaimed w))
   nlm_moves limits w version (LockMsg a) mine =
-      message_moves limits w (lock_letter version a) (lock_msg_answer limits w version a) (verdict_moves limits w a (caller_row a) (GrantedMsg version a.exclusive a.alock) (slots_free limits w - 1) mine)
-  nlm_moves limits w version (CancelMsg a) mine = message_moves limits w (cancel_letter version a) (cancel_answer w a) (cancel_answer_moves w a)
-  nlm_moves limits w version (UnlockMsg a) mine = message_moves limits w (unlock_letter version a) (unlock_answer limits w a) (unlock_answer_moves limits w a)
+      message_moves limits w (lock_callback version a) (lock_msg_answer limits w version a) (verdict_moves limits w a (caller_row a) (GrantedMsg version a.exclusive a.alock) (slots_free limits w - 1) mine)
+  nlm_moves limits w version (CancelMsg a) mine = message_moves limits w (cancel_callback version a) (cancel_answer w a) (cancel_answer_moves w a)
+  nlm_moves limits w version (UnlockMsg a) mine = message_moves limits w (unlock_callback version a) (unlock_answer limits w a) (unlock_answer_moves limits w a)
   nlm_moves limits w version (GrantedRes a) mine =
       let t = granted_res_rules limits w a.cookie a.stat in
       let m = told_moves t.says w t.world (granted_res_moves limits w a.cookie a.stat) in
@@ -230,7 +230,7 @@ module _ (Reclaimed : Request → Type 0) where
   notify_moves limits w name state None = (unmoved Reclaimed w, unmoved Reclaimed w)
   notify_moves limits w name state (Some row) =
       by_cond (AnswerMoves w) (int_eq row.seen state) _ _ (λ _. (unmoved Reclaimed w, unmoved Reclaimed w))
-      (λ _. if_slots_moves (length (watches_of w.hosts name)) limits w (stored w (Seen name state) (notified name state) (gives w SystemErr)) (due_moves w (without_host_of (with_hosts w (after_store w.hosts (Seen name state))) name) (map (status_letter state) (watches_of (after_store w.hosts (Seen name state)) name)) (drop_moves_with w (after_store w.hosts (Seen name state)) name), unmoved Reclaimed w))
+      (λ _. if_slots_moves (length (watches_of w.hosts name)) limits w (stored w (Seen name state) (notified name state) (gives w SystemErr)) (due_moves w (without_host_of (with_hosts w (after_store w.hosts (Seen name state))) name) (map (status_callback state) (watches_of (after_store w.hosts (Seen name state)) name)) (drop_moves_with w (after_store w.hosts (Seen name state)) name), unmoved Reclaimed w))
 
   pub nsm_moves : (limits : Limits) (w : World) (local : Bool) (call : NsmCall) → AnswerMoves w (nsm_answer limits w local call)
   nsm_moves limits w local SmNull = (unmoved Reclaimed w, unmoved Reclaimed w)
@@ -279,7 +279,7 @@ module _ (Reclaimed : Request → Type 0) where
       go (Some refusal) e = unmoved Reclaimed w
       go None e = sets mode (line_admitted w lock e)
 
-  abbrev BothLines : World → Ruling (Told LineReply) → Type 0
+  abbrev BothLines : World → Ruling (Response LineReply) → Type 0
   BothLines w r = Moves Reclaimed w r.agreed.world × Moves Reclaimed w r.refused.world
 
   unmoved_line : (w : World) → Moves Reclaimed w w × Moves Reclaimed w w
@@ -306,4 +306,4 @@ module _ (Reclaimed : Request → Type 0) where
   both_lines limits w l BadLine = unmoved_line w
 
   pub line_moves : (limits : Limits) (w : World) (l : ℕ) (line : Line) (store : StoreAnswer) → Moves Reclaimed w (ruled store (line_answer limits w l line)).world
-  line_moves limits w l line store = by_store (λ (t : Told LineReply). Moves Reclaimed w t.world) store (line_answer limits w l line) (both_lines limits w l line)
+  line_moves limits w l line store = by_store (λ (t : Response LineReply). Moves Reclaimed w t.world) store (line_answer limits w l line) (both_lines limits w l line)

@@ -11,15 +11,15 @@ use Rattle.definitions.specs.Phases.{Locking, Cancelling, Unlocking}
 use Rattle.definitions.specs.Nlm.{Version, Stat, GRANTED, DENIED, DENIED_NOLOCKS, BLOCKED, DEADLCK, LockArgs, CancelArgs, UnlockArgs, NlmCall, Null, Test, Locks, Cancel, Unlock, TestMsg, LockMsg, CancelMsg, UnlockMsg, GrantedRes, ShareCall, Unshare, NmLock, FreeAll}
 use Rattle.definitions.specs.Nsm.{NsmCall, SmNull, SmStat, SmMon, SmUnmon, SmUnmonAll, SmSimuCrash, SmNotify}
 use Rattle.definitions.specs.Hosts.{HostRow, StoreCall, Begin, Seen, Watched, Unwatched, StoreAnswer, NotAsked, Yes, Refused, row_of, watches_of}
-use Rattle.definitions.specs.Outgoing.{Outgoing, Letter, Message, Granted, GrantedMsg, Notify, Destination, ToHost, ToConnection, call_of_xid}
+use Rattle.definitions.specs.Outgoing.{Outgoing, Callback, Message, Granted, GrantedMsg, Notify, Destination, ToHost, ToConnection, call_of_xid}
 use Rattle.definitions.specs.Ranges.{range_refusal, request_of, unlock_of}
 use Rattle.definitions.specs.Replies.{Call, Nlm, Nsm, SystemErr, Ignored, Turned, Asks, AnswerReading, Unreadable, AcceptedSuccess, OtherAnswer}
 use Rattle.definitions.specs.Waits.{is_waiting, closes_cycle}
 use Rattle.definitions.specs.World.{World, Limits, with_setting, with_waiter, with_hosts, slots_free}
-use Rattle.definitions.specs.Rulings.{Told, Ruling, decided, stays, each}
+use Rattle.definitions.specs.Rulings.{Response, Ruling, decided, stays, each}
 use Rattle.definitions.specs.LockRules.{LockAsk, row_asked, after_row, free_lock, blocked_lock, lock_rules, unlock_rules, cancel_rules}
 use Rattle.definitions.specs.Grants.{TableChange, notice_answered, succeeded, answered_success, answered_otherwise, answer_rules}
-use Rattle.definitions.specs.Answer.{Answered, gives, lock_ask, caller_row, lock_unless, lock_verdict, cancel_unless, cancel_answer, unlock_unless, unlock_answer, if_slots, by_reply, replied, by_call, by_message, sent_back, test_letter, lock_letter, cancel_letter, unlock_letter, stored, notified, notify_rules, nlm_answer, nsm_answer, ruling}
+use Rattle.definitions.specs.Answer.{Answered, gives, lock_ask, caller_row, lock_unless, lock_verdict, cancel_unless, cancel_answer, unlock_unless, unlock_answer, if_slots, by_reply, replied, by_call, by_message, sent_back, test_callback, lock_callback, cancel_callback, unlock_callback, stored, notified, notify_rules, nlm_answer, nsm_answer, ruling}
 use Rattle.definitions.specs.Step.{State, Event, Take, Local, Starved, step, with_world, with_row_stored, store_call}
 use Rattle.definition_laws.specs.Asking.{IsUnasked, UnaskedLaw, StarvedLaw}
 use Rattle.definitions.proofs.MoveLaws.{by_cond}
@@ -38,67 +38,67 @@ pub refused_is_no_yes : Refused ≢ Yes
 unfolding agrees
 refused_is_no_yes e = true≢false (sym (ap agrees e))
 
-abbrev Told_unasked : Ruling (Told Stat) → Type 0
-Told_unasked r = IsUnasked r
+abbrev Response_unasked : Ruling (Response Stat) → Type 0
+Response_unasked r = IsUnasked r
 
-row_unasked : (w : World) (call : Option StoreCall) (stat : Stat) (change : World → World) → Told_unasked (after_row w call stat change)
+row_unasked : (w : World) (call : Option StoreCall) (stat : Stat) (change : World → World) → Response_unasked (after_row w call stat change)
 row_unasked w None stat change = λ e. refl
 row_unasked w (Some call) stat change = λ e. absurd (none-some call (sym e))
 
-lock_unasked : (limits : Limits) (w : World) (a : LockAsk) → Told_unasked (lock_rules limits w a)
+lock_unasked : (limits : Limits) (w : World) (a : LockAsk) → Response_unasked (lock_rules limits w a)
 lock_unasked limits w a =
-    by_cond Told_unasked (conflicts w.settings a.request) (cond (a.block && not a.reclaim) (blocked_lock w a) (stays w DENIED)) (free_lock limits w a)
-    (λ _. by_cond Told_unasked (a.block && not a.reclaim) (blocked_lock w a) (stays w DENIED) (λ _. blocked) (λ _ e. refl))
-    (λ _. by_cond Told_unasked (lacks_room limits.runs (quotas_of w.hosts) w.settings a.request) (stays w DENIED_NOLOCKS) (after_row w (row_asked w a.row) GRANTED (λ v. with_setting v (setting_of a.request))) (λ _ e. refl) (λ _. row_unasked w (row_asked w a.row) GRANTED (λ v. with_setting v (setting_of a.request))))
+    by_cond Response_unasked (conflicts w.settings a.request) (cond (a.block && not a.reclaim) (blocked_lock w a) (stays w DENIED)) (free_lock limits w a)
+    (λ _. by_cond Response_unasked (a.block && not a.reclaim) (blocked_lock w a) (stays w DENIED) (λ _. blocked) (λ _ e. refl))
+    (λ _. by_cond Response_unasked (lacks_room limits.runs (quotas_of w.hosts) w.settings a.request) (stays w DENIED_NOLOCKS) (after_row w (row_asked w a.row) GRANTED (λ v. with_setting v (setting_of a.request))) (λ _ e. refl) (λ _. row_unasked w (row_asked w a.row) GRANTED (λ v. with_setting v (setting_of a.request))))
   where
-    blocked : Told_unasked (blocked_lock w a)
+    blocked : Response_unasked (blocked_lock w a)
     blocked =
-        by_cond Told_unasked (is_waiting a.request w.waiters) (after_row w (row_asked w a.row) BLOCKED (λ v. v)) _ (λ _. row_unasked w (row_asked w a.row) BLOCKED (λ v. v))
-        (λ _. by_cond Told_unasked (closes_cycle w.settings w.waiters a.request) (stays w DEADLCK) _ (λ _ e. refl)
-        (λ _. by_cond Told_unasked (eqb a.slots 0) (stays w DENIED_NOLOCKS) _ (λ _ e. refl)
-        (λ _. row_unasked w (row_asked w a.row) BLOCKED (λ v. with_waiter v (record { request = a.request; letter = a.letter })))))
+        by_cond Response_unasked (is_waiting a.request w.waiters) (after_row w (row_asked w a.row) BLOCKED (λ v. v)) _ (λ _. row_unasked w (row_asked w a.row) BLOCKED (λ v. v))
+        (λ _. by_cond Response_unasked (closes_cycle w.settings w.waiters a.request) (stays w DEADLCK) _ (λ _ e. refl)
+        (λ _. by_cond Response_unasked (eqb a.slots 0) (stays w DENIED_NOLOCKS) _ (λ _ e. refl)
+        (λ _. row_unasked w (row_asked w a.row) BLOCKED (λ v. with_waiter v (record { request = a.request; callback = a.callback })))))
 
-unlock_unasked : (limits : Limits) (w : World) (s : Setting) → Told_unasked (unlock_rules limits w s)
-unlock_unasked limits w s = by_cond Told_unasked (is_refused limits.runs (quotas_of w.hosts) w.settings s) (stays w DENIED_NOLOCKS) (decided (record { says = GRANTED; world = with_setting w s })) (λ _ e. refl) (λ _ e. refl)
+unlock_unasked : (limits : Limits) (w : World) (s : Setting) → Response_unasked (unlock_rules limits w s)
+unlock_unasked limits w s = by_cond Response_unasked (is_refused limits.runs (quotas_of w.hosts) w.settings s) (stays w DENIED_NOLOCKS) (decided (record { says = GRANTED; world = with_setting w s })) (λ _ e. refl) (λ _ e. refl)
 
-cancel_unasked : (w : World) (r : Request) → Told_unasked (cancel_rules w r)
-cancel_unasked w r = by_cond Told_unasked (is_waiting r w.waiters) _ (stays w DENIED) (λ _ e. refl) (λ _ e. refl)
+cancel_unasked : (w : World) (r : Request) → Response_unasked (cancel_rules w r)
+cancel_unasked w r = by_cond Response_unasked (is_waiting r w.waiters) _ (stays w DENIED) (λ _ e. refl) (λ _ e. refl)
 
-verdict_unasked : (limits : Limits) (w : World) (a : LockArgs) (ask : LockAsk) → Told_unasked (lock_verdict limits w a ask)
+verdict_unasked : (limits : Limits) (w : World) (a : LockArgs) (ask : LockAsk) → Response_unasked (lock_verdict limits w a ask)
 verdict_unasked limits w a ask = go (range_refusal w (Locking a.reclaim) a.alock)
   where
-    go : (o : Option Stat) → Told_unasked (lock_unless limits w ask o)
+    go : (o : Option Stat) → Response_unasked (lock_unless limits w ask o)
     go (Some stat) = λ e. refl
     go None = lock_unasked limits w ask
 
-cancel_answer_unasked : (w : World) (a : CancelArgs) → Told_unasked (cancel_answer w a)
+cancel_answer_unasked : (w : World) (a : CancelArgs) → Response_unasked (cancel_answer w a)
 cancel_answer_unasked w a = go (range_refusal w Cancelling a.alock)
   where
-    go : (o : Option Stat) → Told_unasked (cancel_unless w (request_of a.exclusive a.alock) o)
+    go : (o : Option Stat) → Response_unasked (cancel_unless w (request_of a.exclusive a.alock) o)
     go (Some stat) = λ e. refl
     go None = cancel_unasked w (request_of a.exclusive a.alock)
 
-unlock_answer_unasked : (limits : Limits) (w : World) (a : UnlockArgs) → Told_unasked (unlock_answer limits w a)
+unlock_answer_unasked : (limits : Limits) (w : World) (a : UnlockArgs) → Response_unasked (unlock_answer limits w a)
 unlock_answer_unasked limits w a = go (range_refusal w Unlocking a.alock)
   where
-    go : (o : Option Stat) → Told_unasked (unlock_unless limits w a.alock o)
+    go : (o : Option Stat) → Response_unasked (unlock_unless limits w a.alock o)
     go (Some stat) = λ e. refl
     go None = unlock_unasked limits w (unlock_of a.alock)
 
 abbrev Answer_unasked : Ruling Answered → Type 0
 Answer_unasked r = IsUnasked r
 
-told_unasked : (f : Told Stat → Answered) (r : Ruling (Told Stat)) → Told_unasked r → Answer_unasked (each f r)
+told_unasked : (f : Response Stat → Answered) (r : Ruling (Response Stat)) → Response_unasked r → Answer_unasked (each f r)
 told_unasked f r h = λ e. ap f (h e)
 
 slots_unasked : (n : ℕ) (limits : Limits) (w : World) (r : Ruling Answered) → Answer_unasked r → Answer_unasked (if_slots n limits w r)
 slots_unasked n limits w r h = by_cond Answer_unasked (leb n (slots_free limits w)) r (decided (gives w SystemErr)) (λ _. h) (λ _ e. refl)
 
-reply_unasked : (version : Version) (cookie : Bytes) (r : Ruling (Told Stat)) → Told_unasked r → Answer_unasked (by_reply version cookie r)
+reply_unasked : (version : Version) (cookie : Bytes) (r : Ruling (Response Stat)) → Response_unasked r → Answer_unasked (by_reply version cookie r)
 reply_unasked version cookie r h = told_unasked (replied version cookie) r h
 
-message_unasked : (limits : Limits) (w : World) (letter : Stat → Letter) (r : Ruling (Told Stat)) → Told_unasked r → Answer_unasked (by_message limits w letter r)
-message_unasked limits w letter r h = slots_unasked 1 limits w (by_call letter r) (told_unasked (λ t. sent_back (letter t.says) t.world) r h)
+message_unasked : (limits : Limits) (w : World) (callback : Stat → Callback) (r : Ruling (Response Stat)) → Response_unasked r → Answer_unasked (by_message limits w callback r)
+message_unasked limits w callback r h = slots_unasked 1 limits w (by_call callback r) (told_unasked (λ t. sent_back (callback t.says) t.world) r h)
 
 nlm_unasked : (limits : Limits) (w : World) (version : Version) (call : NlmCall) → Answer_unasked (nlm_answer limits w version call)
 nlm_unasked limits w version Null = λ e. refl
@@ -107,10 +107,10 @@ nlm_unasked limits w version (Locks a) = reply_unasked version a.cookie _ (verdi
 nlm_unasked limits w version (NmLock a) = reply_unasked version a.cookie _ (verdict_unasked limits w a (lock_ask a None (Granted version a.exclusive a.alock) (slots_free limits w)))
 nlm_unasked limits w version (Cancel a) = reply_unasked version a.cookie _ (cancel_answer_unasked w a)
 nlm_unasked limits w version (Unlock a) = reply_unasked version a.cookie _ (unlock_answer_unasked limits w a)
-nlm_unasked limits w version (TestMsg a) = slots_unasked 1 limits w (decided (sent_back (test_letter w version a) w)) (λ e. refl)
-nlm_unasked limits w version (LockMsg a) = message_unasked limits w (lock_letter version a) _ (verdict_unasked limits w a (lock_ask a (caller_row a) (GrantedMsg version a.exclusive a.alock) (slots_free limits w - 1)))
-nlm_unasked limits w version (CancelMsg a) = message_unasked limits w (cancel_letter version a) _ (cancel_answer_unasked w a)
-nlm_unasked limits w version (UnlockMsg a) = message_unasked limits w (unlock_letter version a) _ (unlock_answer_unasked limits w a)
+nlm_unasked limits w version (TestMsg a) = slots_unasked 1 limits w (decided (sent_back (test_callback w version a) w)) (λ e. refl)
+nlm_unasked limits w version (LockMsg a) = message_unasked limits w (lock_callback version a) _ (verdict_unasked limits w a (lock_ask a (caller_row a) (GrantedMsg version a.exclusive a.alock) (slots_free limits w - 1)))
+nlm_unasked limits w version (CancelMsg a) = message_unasked limits w (cancel_callback version a) _ (cancel_answer_unasked w a)
+nlm_unasked limits w version (UnlockMsg a) = message_unasked limits w (unlock_callback version a) _ (unlock_answer_unasked limits w a)
 nlm_unasked limits w version (GrantedRes a) = λ e. refl
 nlm_unasked limits w version (ShareCall a) = λ e. refl
 nlm_unasked limits w version (Unshare a) = λ e. refl
@@ -137,7 +137,7 @@ call_unasked : (limits : Limits) (w : World) (local : Bool) (call : Call) → An
 call_unasked limits w local (Nlm version call) = nlm_unasked limits w version call
 call_unasked limits w local (Nsm call) = nsm_unasked limits w local call
 
-abbrev Change_unasked : Ruling (Told TableChange) → Type 0
+abbrev Change_unasked : Ruling (Response TableChange) → Type 0
 Change_unasked r = IsUnasked r
 
 notice_unasked : (w : World) (c : Outgoing) (to : Destination) → Change_unasked (notice_answered w c to)
@@ -147,7 +147,7 @@ notice_unasked w c (ToConnection l) = λ e. refl
 succeeded_unasked : (limits : Limits) (w : World) (c : Outgoing) (stat : Option Stat) (m : Message) → Change_unasked (succeeded limits w c stat m)
 succeeded_unasked limits w c stat (Granted version exclusive alock) = λ e. refl
 succeeded_unasked limits w c stat (GrantedMsg version exclusive alock) = λ e. refl
-succeeded_unasked limits w c stat (Notify name state) = notice_unasked w c c.letter.to
+succeeded_unasked limits w c stat (Notify name state) = notice_unasked w c c.callback.to
 succeeded_unasked limits w c stat _ = λ e. refl
 
 answer_unasked : (limits : Limits) (w : World) (reading : AnswerReading) → Change_unasked (answer_rules limits w reading)
@@ -156,7 +156,7 @@ answer_unasked limits w (AcceptedSuccess xid stat) = go (call_of_xid xid w.calls
   where
     go : (o : Option Outgoing) → Change_unasked (answered_success limits w stat o)
     go None = λ e. refl
-    go (Some c) = succeeded_unasked limits w c stat c.letter.message
+    go (Some c) = succeeded_unasked limits w c stat c.callback.message
 answer_unasked limits w (OtherAnswer xid) = go (call_of_xid xid w.calls)
   where
     go : (o : Option Outgoing) → Change_unasked (answered_otherwise w o)

@@ -2,7 +2,7 @@
 use Rattle.std.proofs.Common.{◌≡◌, ℕ, ◌+◌, ◌%◌, ◌^◌, Bool, true, false, cond, List, [], ◌∷◌, ◌++◌, refl, sym, ap, ◌∙◌, inl, inr}
 use Rattle.std.proofs.lemmas.List.{append-nil, append_assoc}
 use Rattle.definitions.specs.Bytes.{without, without_first}
-use Rattle.definitions.specs.Outgoing.{Letter, Outgoing, due_now, ends_when_sent, once_more, after_sending}
+use Rattle.definitions.specs.Outgoing.{Callback, Outgoing, due_now, ends_when_sent, once_more, after_sending}
 use Rattle.definitions.specs.World.{World, with_due, with_all_due}
 use Rattle.definition_laws.specs.Numbers.{numbered, number_behind, AreLeft, NoneLeft, IsGone, IsLeft, Continues}
 
@@ -30,7 +30,7 @@ left_without_first p (c ∷ calls) = go (p c) (left_without_first p calls)
 
 pub left_sending : (calls : List Outgoing) → AreLeft calls (after_sending calls)
 left_sending [] = NoneLeft
-left_sending (c ∷ calls) = go c.is_due refl (ends_when_sent c.letter.message) (left_sending calls)
+left_sending (c ∷ calls) = go c.is_due refl (ends_when_sent c.callback.message) (left_sending calls)
   where
     go : (b : Bool) → c.is_due ≡ b → (e : Bool) → AreLeft calls (after_sending calls) → AreLeft (c ∷ calls) (cond b (cond e calls (once_more c ∷ calls)) (c ∷ after_sending calls))
     go true h true k = IsGone (left_same calls)
@@ -39,46 +39,46 @@ left_sending (c ∷ calls) = go c.is_due refl (ends_when_sent c.letter.message) 
 
 -- ---- what comes behind
 
-pub numbered_behind : (first : ℕ) (letters : List Letter) (letter : Letter) → numbered first (letters ++ letter ∷ []) ≡ numbered first letters ++ due_now (number_behind first letters) letter ∷ []
-numbered_behind first [] letter = refl
-numbered_behind first (l ∷ letters) letter = ap (λ cs. due_now first l ∷ cs) (numbered_behind ((first + 1) % 2 ^ 64) letters letter)
+pub numbered_behind : (first : ℕ) (callbacks : List Callback) (callback : Callback) → numbered first (callbacks ++ callback ∷ []) ≡ numbered first callbacks ++ due_now (number_behind first callbacks) callback ∷ []
+numbered_behind first [] callback = refl
+numbered_behind first (l ∷ callbacks) callback = ap (λ cs. due_now first l ∷ cs) (numbered_behind ((first + 1) % 2 ^ 64) callbacks callback)
 
-pub number_behind_all : (first : ℕ) (letters : List Letter) (letter : Letter) → number_behind first (letters ++ letter ∷ []) ≡ (number_behind first letters + 1) % 2 ^ 64
-number_behind_all first [] letter = refl
-number_behind_all first (l ∷ letters) letter = number_behind_all ((first + 1) % 2 ^ 64) letters letter
+pub number_behind_all : (first : ℕ) (callbacks : List Callback) (callback : Callback) → number_behind first (callbacks ++ callback ∷ []) ≡ (number_behind first callbacks + 1) % 2 ^ 64
+number_behind_all first [] callback = refl
+number_behind_all first (l ∷ callbacks) callback = number_behind_all ((first + 1) % 2 ^ 64) callbacks callback
 
--- P of each letter
-abbrev pub AllOf : (Letter → Type 0) → List Letter → Type 0
+-- P of each callback
+abbrev pub AllOf : (Callback → Type 0) → List Callback → Type 0
 AllOf P [] = Unit {0}
-AllOf P (l ∷ letters) = P l × AllOf P letters
+AllOf P (l ∷ callbacks) = P l × AllOf P callbacks
 
-pub all_behind : (P : Letter → Type 0) (letters : List Letter) (letter : Letter) → AllOf P letters → P letter → AllOf P (letters ++ letter ∷ [])
-all_behind P [] letter h k = (k, tt)
-all_behind P (l ∷ letters) letter h k = (h.0, all_behind P letters letter h.1 k)
+pub all_behind : (P : Callback → Type 0) (callbacks : List Callback) (callback : Callback) → AllOf P callbacks → P callback → AllOf P (callbacks ++ callback ∷ [])
+all_behind P [] callback h k = (k, tt)
+all_behind P (l ∷ callbacks) callback h k = (h.0, all_behind P callbacks callback h.1 k)
 
--- the letters that came are all of one kind
-pub record ContinuesBy (P : Letter → Type 0) (before : List Outgoing) (first : ℕ) (v : World) : Type 0 where
+-- the callbacks that came are all of one kind
+pub record ContinuesBy (P : Callback → Type 0) (before : List Outgoing) (first : ℕ) (v : World) : Type 0 where
   pub rest : Continues before first v
-  pub each : AllOf P rest.letters
+  pub each : AllOf P rest.callbacks
 
-pub begins : (P : Letter → Type 0) (before : List Outgoing) (v : World) → v.calls ≡ before → ContinuesBy P before v.next v
-begins P before v e = record { rest = record { letters = []; calls = e ∙ sym (append-nil before); next = refl }; each = tt }
+pub begins : (P : Callback → Type 0) (before : List Outgoing) (v : World) → v.calls ≡ before → ContinuesBy P before v.next v
+begins P before v e = record { rest = record { callbacks = []; calls = e ∙ sym (append-nil before); next = refl }; each = tt }
 
-pub one_due : (P : Letter → Type 0) (before : List Outgoing) (first : ℕ) (v : World) (letter : Letter) → P letter → ContinuesBy P before first v → ContinuesBy P before first (with_due v letter)
-one_due P before first v letter h k =
-    let letters = k.rest.letters in
+pub one_due : (P : Callback → Type 0) (before : List Outgoing) (first : ℕ) (v : World) (callback : Callback) → P callback → ContinuesBy P before first v → ContinuesBy P before first (with_due v callback)
+one_due P before first v callback h k =
+    let callbacks = k.rest.callbacks in
     record {
       rest = record {
-        letters = letters ++ letter ∷ [];
-        calls = ap (λ (cs : List Outgoing). cs ++ due_now v.next letter ∷ []) k.rest.calls
-            ∙ append_assoc before (numbered first letters) (due_now v.next letter ∷ [])
-            ∙ ap (λ (n : ℕ). before ++ (numbered first letters ++ due_now n letter ∷ [])) k.rest.next
-            ∙ ap (λ (cs : List Outgoing). before ++ cs) (sym (numbered_behind first letters letter));
-        next = ap (λ (n : ℕ). (n + 1) % 2 ^ 64) k.rest.next ∙ sym (number_behind_all first letters letter);
+        callbacks = callbacks ++ callback ∷ [];
+        calls = ap (λ (cs : List Outgoing). cs ++ due_now v.next callback ∷ []) k.rest.calls
+            ∙ append_assoc before (numbered first callbacks) (due_now v.next callback ∷ [])
+            ∙ ap (λ (n : ℕ). before ++ (numbered first callbacks ++ due_now n callback ∷ [])) k.rest.next
+            ∙ ap (λ (cs : List Outgoing). before ++ cs) (sym (numbered_behind first callbacks callback));
+        next = ap (λ (n : ℕ). (n + 1) % 2 ^ 64) k.rest.next ∙ sym (number_behind_all first callbacks callback);
       };
-      each = all_behind P letters letter k.each h;
+      each = all_behind P callbacks callback k.each h;
     }
 
-pub all_due : (P : Letter → Type 0) (before : List Outgoing) (first : ℕ) (v : World) (letters : List Letter) → AllOf P letters → ContinuesBy P before first v → ContinuesBy P before first (with_all_due v letters)
+pub all_due : (P : Callback → Type 0) (before : List Outgoing) (first : ℕ) (v : World) (callbacks : List Callback) → AllOf P callbacks → ContinuesBy P before first v → ContinuesBy P before first (with_all_due v callbacks)
 all_due P before first v [] h k = k
-all_due P before first v (l ∷ letters) h k = all_due P before first (with_due v l) letters h.1 (one_due P before first v l h.0 k)
+all_due P before first v (l ∷ callbacks) h k = all_due P before first (with_due v l) callbacks h.1 (one_due P before first v l h.0 k)

@@ -8,7 +8,7 @@ use Rattle.definitions.specs.Nlm.{Locks, LockMsg}
 use Rattle.definitions.specs.Outgoing.{Outgoing, next_due}
 use Rattle.definitions.specs.Replies.{Call, Nlm, Ignored, Turned, Asks, AnswerReading}
 use Rattle.definitions.specs.World.{World, Limits, settled, with_all_due, slots_free, restarted}
-use Rattle.definitions.specs.Rulings.{Told, ruled}
+use Rattle.definitions.specs.Rulings.{Response, ruled}
 use Rattle.definitions.specs.Grants.{TableChange, TableStays, TableChanges, answer_rules}
 use Rattle.definitions.specs.Lines.{line_answer}
 use Rattle.definitions.specs.Answer.{ruling}
@@ -16,7 +16,7 @@ use Rattle.definitions.specs.Step.{Peer, KeptPair, State, Event, Take, Send, Ans
 use Rattle.definitions.specs.Moves.{TableMove, Stays, Moves, IsReclaim, IsReclaimOf, GraceGrantsLaw}
 use Rattle.definitions.proofs.WorldLaws.{due_keeps}
 use Rattle.definitions.proofs.MoveLaws.{by_cond}
-use Rattle.definition_laws.proofs.AnswerMoves.{restart_moves, call_moves, ruled_moves, answer_moves, told_moves, ToldMoves, line_moves}
+use Rattle.definition_laws.proofs.AnswerMoves.{restart_moves, call_moves, ruled_moves, answer_moves, told_moves, ResponseMoves, line_moves}
 use Rattle.definition_laws.proofs.StepLaws.{settled_nobody}
 
 module _ (limits : Limits) (s : State) (g : s.world.phase ≡ Grace) (none : s.world.waiters ≡ []) where
@@ -35,9 +35,9 @@ module _ (limits : Limits) (s : State) (g : s.world.phase ≡ Grace) (none : s.w
 
   taken_moved : (peer : Peer) (asked : Bytes) (xid : ℕ) (call : Call) (store : StoreAnswer) (o : Option KeptPair) → Moved (IsReclaimOf call) (taken limits s peer asked xid call store o).state.world
   taken_moved peer asked xid call store (Some k) =
-      let kept = due_keeps s.world k.letters in
-      by_cond (λ (t : Stepped). Moved (IsReclaimOf call) t.state.world) (leb (length k.letters) (slots_free limits s.world)) _ _
-      (λ _. same (IsReclaimOf call) (with_all_due s.world k.letters) kept.settings kept.waiters)
+      let kept = due_keeps s.world k.callbacks in
+      by_cond (λ (t : Stepped). Moved (IsReclaimOf call) t.state.world) (leb (length k.callbacks) (slots_free limits s.world)) _ _
+      (λ _. same (IsReclaimOf call) (with_all_due s.world k.callbacks) kept.settings kept.waiters)
       (λ _. same (IsReclaimOf call) s.world refl refl)
   taken_moved peer asked xid call store None =
       let v = (ruled store (ruling limits s.world peer.local call)).world in
@@ -47,7 +47,7 @@ module _ (limits : Limits) (s : State) (g : s.world.phase ≡ Grace) (none : s.w
   sent_moved R None = same R s.world refl refl
   sent_moved R (Some c) = same R s.world refl refl
 
-  changed_moved : (R : Request → Type 0) (t : Told TableChange) → ToldMoves R t.says s.world t.world → Moved R (settled_after limits t)
+  changed_moved : (R : Request → Type 0) (t : Response TableChange) → ResponseMoves R t.says s.world t.world → Moved R (settled_after limits t)
   changed_moved R t m = go t.says (moved R t.world (told_moves R t.says s.world t.world m))
     where
       go : (c : TableChange) → Moved R t.world → Moved R (elim c [ TableStays ↦ t.world | TableChanges ↦ settled limits t.world ])

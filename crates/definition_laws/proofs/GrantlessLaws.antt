@@ -7,14 +7,14 @@ use Rattle.definitions.specs.Shares.{Share}
 use Rattle.definitions.specs.Phases.{Grace, Testing, admits}
 use Rattle.definitions.specs.Hosts.{StoreCall, Begin, StoreAnswer, NotAsked, Yes, Refused, after_store}
 use Rattle.definitions.specs.Nlm.{Locks, LockMsg}
-use Rattle.definitions.specs.Outgoing.{Letter, Outgoing, is_grant, is_numbered, next_due, after_sending, after_silence, after_silence_at}
+use Rattle.definitions.specs.Outgoing.{Callback, Outgoing, is_grant, is_numbered, next_due, after_sending, after_silence, after_silence_at}
 use Rattle.definitions.specs.Replies.{Call, Nlm, Ignored, Turned, Asks, AnswerReading}
 use Rattle.definitions.specs.World.{World, Limits, settled, with_all_due, with_calls, slots_free, restarted, first_number}
-use Rattle.definitions.specs.Rulings.{Told, ruled}
+use Rattle.definitions.specs.Rulings.{Response, ruled}
 use Rattle.definitions.specs.Grants.{TableChange, TableStays, TableChanges, answer_rules}
 use Rattle.definitions.specs.Lines.{line_answer}
 use Rattle.definitions.specs.Answer.{Answered, ruling}
-use Rattle.definitions.specs.Step.{Peer, KeptPair, State, Event, Doing, Take, Send, Answer, Silent, Local, GraceOver, Restart, Applied, Starved, Stepped, applied, starved, step, taken, look, sent, restart, settled_after, is_same_key, is_restart, is_kept_kind, is_success, moved_to_front, with_row_stored, store_call, opening_state}
+use Rattle.definitions.specs.Step.{Peer, KeptPair, State, Event, Completion, Take, Send, Answer, Silent, Local, GraceOver, Restart, Applied, Starved, Stepped, applied, starved, step, taken, look, sent, restart, settled_after, is_same_key, is_restart, is_kept_kind, is_success, moved_to_front, with_row_stored, store_call, opening_state}
 use Rattle.definitions.specs.Replay.{Done, after, state_after}
 use Rattle.definition_laws.specs.Numbers.{numbered, AreLeft, NoneLeft, IsGone, IsLeft, IsSameCall, AreRenewed}
 use Rattle.definition_laws.specs.Standing.{IsGrantless, is_grant_call, GraceCallsLaw}
@@ -54,9 +54,9 @@ plain_middle (x ∷ xs) ys c e =
     let m = plain_middle xs ys c k.1 in
     (m.0, or_from (is_grant_call x) (is_any is_grant_call (xs ++ ys)) k.0 m.1)
 
-plain_numbered : (first : ℕ) (letters : List Letter) → AllOf IsPlain letters → HasNoGrant (numbered first letters)
+plain_numbered : (first : ℕ) (callbacks : List Callback) → AllOf IsPlain callbacks → HasNoGrant (numbered first callbacks)
 plain_numbered first [] h = refl
-plain_numbered first (l ∷ letters) h = or_from (is_grant l.message) (is_any is_grant_call (numbered ((first + 1) % 2 ^ 64) letters)) h.0 (plain_numbered ((first + 1) % 2 ^ 64) letters h.1)
+plain_numbered first (l ∷ callbacks) h = or_from (is_grant l.message) (is_any is_grant_call (numbered ((first + 1) % 2 ^ 64) callbacks)) h.0 (plain_numbered ((first + 1) % 2 ^ 64) callbacks h.1)
 
 plain_both : (xs ys : List Outgoing) → HasNoGrant xs → HasNoGrant ys → HasNoGrant (xs ++ ys)
 plain_both [] ys e h = h
@@ -73,10 +73,10 @@ plain_renewed calls left again (inr d) e =
 plain_on : (w v : World) → GoesPlainlyOn w v → HasNoGrant w.calls → HasNoGrant v.calls
 plain_on w v g h =
     ap (is_any is_grant_call) g.behind.rest.calls
-    ∙ plain_both (g.left ++ g.again) (numbered w.next g.behind.rest.letters) (plain_renewed w.calls g.left g.again g.in_order h) (plain_numbered w.next g.behind.rest.letters g.behind.each)
+    ∙ plain_both (g.left ++ g.again) (numbered w.next g.behind.rest.callbacks) (plain_renewed w.calls g.left g.again g.in_order h) (plain_numbered w.next g.behind.rest.callbacks g.behind.each)
 
 plain_begin : (v : World) → BeginsPlainly v → HasNoGrant v.calls
-plain_begin v b = ap (is_any is_grant_call) b.behind.rest.calls ∙ plain_numbered (first_number v.hosts.own) b.behind.rest.letters b.behind.each
+plain_begin v b = ap (is_any is_grant_call) b.behind.rest.calls ∙ plain_numbered (first_number v.hosts.own) b.behind.rest.callbacks b.behind.each
 
 -- ---- worlds and kept replies
 
@@ -85,19 +85,19 @@ Quiet w = w.phase ≡ Grace → IsGrantless w
 
 abbrev AllKept : List KeptPair → Type 0
 AllKept [] = Unit {0}
-AllKept (k ∷ kept) = AllOf IsPlain k.letters × AllKept kept
+AllKept (k ∷ kept) = AllOf IsPlain k.callbacks × AllKept kept
 
 record IsQuiet (s : State) : Type 0 where
   world : Quiet s.world
   kept : AllKept s.kept
 
-kept_one : (kept : List KeptPair) (k : KeptPair) → Holds kept k → AllKept kept → AllOf IsPlain k.letters
+kept_one : (kept : List KeptPair) (k : KeptPair) → Holds kept k → AllKept kept → AllOf IsPlain k.callbacks
 kept_one [] k h a = absurd h
-kept_one (j ∷ kept) k (inl e) a = subst (λ (x : KeptPair). AllOf IsPlain x.letters) e a.0
+kept_one (j ∷ kept) k (inl e) a = subst (λ (x : KeptPair). AllOf IsPlain x.callbacks) e a.0
 kept_one (j ∷ kept) k (inr h) a = kept_one kept k h a.1
 
 kept_fewer : (p : KeptPair → Bool) (kept : List KeptPair) → AllKept kept → AllKept (without_first p kept)
-kept_fewer = have_without_first (λ (k : KeptPair). AllOf IsPlain k.letters) AllKept (λ k kept a. a) (λ k kept h a. (h, a))
+kept_fewer = have_without_first (λ (k : KeptPair). AllOf IsPlain k.callbacks) AllKept (λ k kept a. a) (λ k kept h a. (h, a))
 
 kept_first : (n : ℕ) (kept : List KeptPair) → AllKept kept → AllKept (take n kept)
 kept_first zero kept a = tt
@@ -128,18 +128,18 @@ abbrev NoShare : Share → Type 0
 NoShare new = Unit {0}
 
 module _ (limits : Limits) (s : State) (quiet : IsQuiet s) where
-  repeat_quiet : (peer : Peer) (asked : Bytes) (k : KeptPair) → look s peer asked ≡ Some k → IsQuiet (record { world = with_all_due s.world k.letters; kept = moved_to_front k s.kept })
+  repeat_quiet : (peer : Peer) (asked : Bytes) (k : KeptPair) → look s peer asked ≡ Some k → IsQuiet (record { world = with_all_due s.world k.callbacks; kept = moved_to_front k s.kept })
   repeat_quiet peer asked k e =
       let plain = kept_one s.kept k (holds_first (is_same_key peer asked) s.kept k e) quiet.kept in
       let still = goes_left s.world s.world s.world.calls (left_same s.world.calls) refl refl refl in
       record {
-        world = going_quiet s.world (with_all_due s.world k.letters) (due_keeps s.world k.letters).waiters (goes_due s.world s.world k.letters plain still) quiet.world;
+        world = going_quiet s.world (with_all_due s.world k.callbacks) (due_keeps s.world k.callbacks).waiters (goes_due s.world s.world k.callbacks plain still) quiet.world;
         kept = (plain, kept_fewer (is_same_key k.peer k.asked) s.kept quiet.kept);
       }
 
   taken_quiet : (peer : Peer) (asked : Bytes) (xid : ℕ) (call : Call) (store : StoreAnswer) (o : Option KeptPair) → look s peer asked ≡ o → IsQuiet (taken limits s peer asked xid call store o).state
   taken_quiet peer asked xid call store (Some k) e =
-      by_cond (λ (t : Stepped). IsQuiet t.state) (leb (length k.letters) (slots_free limits s.world)) _ _
+      by_cond (λ (t : Stepped). IsQuiet t.state) (leb (length k.callbacks) (slots_free limits s.world)) _ _
       (λ _. repeat_quiet peer asked k e)
       (λ _. quiet)
   taken_quiet peer asked xid call store None e =
@@ -161,14 +161,14 @@ module _ (limits : Limits) (s : State) (quiet : IsQuiet s) where
       let v = with_calls s.world (after_sending s.world.calls) in
       record { world = going_quiet s.world v refl (goes_left s.world v (after_sending s.world.calls) (left_sending s.world.calls) refl refl refl) quiet.world; kept = quiet.kept }
 
-  changed_quiet : (t : Told TableChange) → Quiet t.world → Quiet (settled_after limits t)
+  changed_quiet : (t : Response TableChange) → Quiet t.world → Quiet (settled_after limits t)
   changed_quiet t q = go t.says
     where
       go : (c : TableChange) → Quiet (elim c [ TableStays ↦ t.world | TableChanges ↦ settled limits t.world ])
       go TableStays = q
       go TableChanges = settled_quiet limits t.world q
 
-  answered_quiet : (t : Told TableChange) → SideMoves NoShare false s.world t.world → Moves Anything s.world t.world → IsQuiet (record s { world = settled_after limits t })
+  answered_quiet : (t : Response TableChange) → SideMoves NoShare false s.world t.world → Moves Anything s.world t.world → IsQuiet (record s { world = settled_after limits t })
   answered_quiet t m k = record { world = changed_quiet t (rules_quiet NoShare false s.world t.world m k quiet.world); kept = quiet.kept }
 
   answer_quiet : (reading : AnswerReading) (store : StoreAnswer) → IsQuiet (applied limits s (Answer reading) store).state
@@ -215,13 +215,13 @@ module _ (limits : Limits) (s : State) (quiet : IsQuiet s) where
   starved_quiet (Local l line) store = quiet
   starved_quiet _ store = quiet
 
-  step_quiet : (event : Event) (doing : Doing) (store : StoreAnswer) → IsQuiet (step limits s event doing store).state
+  step_quiet : (event : Event) (completion : Completion) (store : StoreAnswer) → IsQuiet (step limits s event completion store).state
   step_quiet event Applied store = applied_quiet event store
   step_quiet event Starved store = starved_quiet event store
 
 run_quiet : (limits : Limits) (s : State) (done : List Done) → IsQuiet s → IsQuiet (state_after limits s done)
 run_quiet limits s [] q = q
-run_quiet limits s (d ∷ done) q = run_quiet limits (after limits s d).state done (step_quiet limits s q d.event d.doing d.store)
+run_quiet limits s (d ∷ done) q = run_quiet limits (after limits s d).state done (step_quiet limits s q d.event d.completion d.store)
 
 pub grace_calls_law : GraceCallsLaw
 grace_calls_law limits name hosts done = (run_quiet limits (opening_state name hosts) done (record { world = λ g. record { waiters = refl; calls = refl }; kept = tt })).world

@@ -10,7 +10,7 @@ use Rattle.definitions.specs.Rulings.{ruled}
 use Rattle.definitions.specs.World.{Limits, slots_free, with_all_due}
 use Rattle.definitions.specs.Outgoing.{Outgoing, next_due}
 use Rattle.definitions.specs.Answer.{Answered, ruling}
-use Rattle.definitions.specs.Step.{Peer, KeptPair, State, Event, Doing, Replies, Take, Send, Answer, Silent, Local, GraceOver, Restart, Applied, Starved, Stepped, applied, starved, step, taken, look, sent, is_same_key, is_restart, is_kept_kind, is_success, moved_to_front, with_row_stored, store_call, opening_state}
+use Rattle.definitions.specs.Step.{Peer, KeptPair, State, Event, Completion, Replies, Take, Send, Answer, Silent, Local, GraceOver, Restart, Applied, Starved, Stepped, applied, starved, step, taken, look, sent, is_same_key, is_restart, is_kept_kind, is_success, moved_to_front, with_row_stored, store_call, opening_state}
 use Rattle.definitions.specs.Hosts.{StoreCall}
 use Rattle.definitions.specs.Nlm.{Locks, LockMsg}
 use Rattle.definitions.specs.Replay.{Done, after, state_after}
@@ -130,9 +130,9 @@ module _ (limits : Limits) (s : State) (uses : List KeptPair) (so_far : s.kept �
       ap (moved_to_front k) so_far ∙ again limits.kept uses k (ap (first_that (is_same_key k.peer k.asked)) (sym so_far) ∙ found)
 
   taken_kept : (peer : Peer) (asked : Bytes) (xid : ℕ) (call : Call) (store : StoreAnswer) (o : Option KeptPair) → look s peer asked ≡ o → Keeps (taken limits s peer asked xid call store o).state (used_by_call limits s peer asked xid call store o uses)
-  taken_kept peer asked xid call store (Some k) e = go (leb (length k.letters) (slots_free limits s.world))
+  taken_kept peer asked xid call store (Some k) e = go (leb (length k.callbacks) (slots_free limits s.world))
     where
-      go : (b : Bool) → Keeps (cond {A = Stepped} b (record { given = Replies k.xid k.outcome; state = record { world = with_all_due s.world k.letters; kept = moved_to_front k s.kept } }) (record { given = Replies k.xid SystemErr; state = s })).state (cond b (k ∷ uses) uses)
+      go : (b : Bool) → Keeps (cond {A = Stepped} b (record { given = Replies k.xid k.outcome; state = record { world = with_all_due s.world k.callbacks; kept = moved_to_front k s.kept } }) (record { given = Replies k.xid SystemErr; state = s })).state (cond b (k ∷ uses) uses)
       go true = repeat_kept peer asked k e
       go false = so_far
   taken_kept peer asked xid call store None e = go (ruled store (ruling limits s.world peer.local call)) (is_restart peer call store) (is_success (ruled store (ruling limits s.world peer.local call)).outcome && is_kept_kind call)
@@ -175,9 +175,9 @@ module _ (limits : Limits) (s : State) (uses : List KeptPair) (so_far : s.kept �
   starved_kept _ store = so_far
 
   step_kept : (d : Done) → Keeps (after limits s d).state (used_by limits s d uses)
-  step_kept d = go d.doing
+  step_kept d = go d.completion
     where
-      go : (doing : Doing) → Keeps (step limits s d.event doing d.store).state (elim doing [ Applied ↦ used_by_event limits s d.event d.store uses | Starved ↦ uses ])
+      go : (completion : Completion) → Keeps (step limits s d.event completion d.store).state (elim completion [ Applied ↦ used_by_event limits s d.event d.store uses | Starved ↦ uses ])
       go Applied = applied_kept d.event d.store
       go Starved = starved_kept d.event d.store
 

@@ -16,7 +16,7 @@ use Rattle.definitions.specs.Outgoing.{Message, Granted, GrantedMsg}
 use Rattle.definitions.specs.Ranges.{is_stale, is_too_far, range_refusal}
 use Rattle.definitions.specs.Waits.{is_waiting, closes_cycle}
 use Rattle.definitions.specs.World.{World, Limits, with_setting, with_waiter, with_hosts, slots_free}
-use Rattle.definitions.specs.Rulings.{Told, Ruling, stays, ruled}
+use Rattle.definitions.specs.Rulings.{Response, Ruling, stays, ruled}
 use Rattle.definitions.specs.LockRules.{LockAsk, row_asked, after_row, free_lock, blocked_lock, lock_rules}
 use Rattle.definitions.specs.Answer.{lock_ask, caller_row, lock_unless, lock_verdict, lock_answer, lock_msg_answer}
 use Rattle.definition_laws.specs.Monitored.{stands, HasRow, MonitoredLaw, IsGivenUp, RefusedRowLaw}
@@ -37,7 +37,7 @@ row_stored hosts name state e =
     ∙ put_any row_cmp (is_named name) (record { name = name; epoch = hosts.own; seen = state; quota = full_quota }) hosts.rows ((bytes_eq-Decides name name).1 refl)
 
 module _ (limits : Limits) (w : World) (a : LockArgs) where
-  abbrev BothHave : Ruling (Told Stat) → Type 0
+  abbrev BothHave : Ruling (Response Stat) → Type 0
   BothHave r = HasRow a r.agreed × HasRow a r.refused
 
   refused_has : (stat : Stat) → stands stat ≡ false → BothHave (stays w stat)
@@ -67,7 +67,7 @@ module _ (limits : Limits) (w : World) (a : LockArgs) where
         by_cond BothHave (is_waiting ask.request w.waiters) (after_row w (row_asked w (caller_row a)) BLOCKED (λ v. v)) _ (λ _. row_has BLOCKED (λ v. v) (λ v. refl))
         (λ _. by_cond BothHave (closes_cycle w.settings w.waiters ask.request) (stays w DEADLCK) _ (λ _. refused_has DEADLCK refl)
         (λ _. by_cond BothHave (eqb slots 0) (stays w DENIED_NOLOCKS) _ (λ _. refused_has DENIED_NOLOCKS refl)
-        (λ _. row_has BLOCKED (λ v. with_waiter v (record { request = ask.request; letter = ask.letter })) (λ v. refl))))
+        (λ _. row_has BLOCKED (λ v. with_waiter v (record { request = ask.request; callback = ask.callback })) (λ v. refl))))
 
     rules_have : BothHave (lock_rules limits w ask)
     rules_have =
@@ -84,7 +84,7 @@ module _ (limits : Limits) (w : World) (a : LockArgs) where
         go false false false = refused_has DENIED_GRACE_PERIOD refl
         go false false true = rules_have
 
-ruled_has : (a : LockArgs) (store : StoreAnswer) (r : Ruling (Told Stat)) → HasRow a r.agreed × HasRow a r.refused → HasRow a (ruled store r)
+ruled_has : (a : LockArgs) (store : StoreAnswer) (r : Ruling (Response Stat)) → HasRow a r.agreed × HasRow a r.refused → HasRow a (ruled store r)
 ruled_has a NotAsked r h = h.1
 ruled_has a Yes r h = h.0
 ruled_has a Refused r h = h.1
@@ -112,7 +112,7 @@ lock_given_up limits w a ask = go (range_refusal w (Locking a.reclaim) a.alock)
         by_cond (IsGivenUp w) (is_waiting ask.request w.waiters) (after_row w (row_asked w ask.row) BLOCKED (λ v. v)) _ (λ _. row_given_up w (row_asked w ask.row) BLOCKED (λ v. v))
         (λ _. by_cond (IsGivenUp w) (closes_cycle w.settings w.waiters ask.request) (stays w DEADLCK) _ (λ _. given_up w DEADLCK)
         (λ _. by_cond (IsGivenUp w) (eqb ask.slots 0) (stays w DENIED_NOLOCKS) _ (λ _. given_up w DENIED_NOLOCKS)
-        (λ _. row_given_up w (row_asked w ask.row) BLOCKED (λ v. with_waiter v (record { request = ask.request; letter = ask.letter })))))
+        (λ _. row_given_up w (row_asked w ask.row) BLOCKED (λ v. with_waiter v (record { request = ask.request; callback = ask.callback })))))
 
     go : (o : Option Stat) → IsGivenUp w (lock_unless limits w ask o)
     go (Some stat) = given_up w stat

@@ -18,8 +18,8 @@ not_stored s _ store = due_keeps s.world []
 module _ (limits : Limits) (s : State) (peer : Peer) (asked : Bytes) (xid : ℕ) (call : Call) (store : StoreAnswer) (k : KeptPair) where
   taken_unapplied : (o : Option KeptPair) → o ≡ Some k → LeavesRest s.world (taken limits s peer asked xid call store o).state.world
   taken_unapplied (Some j) e =
-      by_cond (λ (t : Stepped). LeavesRest s.world t.state.world) (leb (length j.letters) (slots_free limits s.world)) _ _
-      (λ _. due_keeps s.world j.letters)
+      by_cond (λ (t : Stepped). LeavesRest s.world t.state.world) (leb (length j.callbacks) (slots_free limits s.world)) _ _
+      (λ _. due_keeps s.world j.callbacks)
       (λ _. due_keeps s.world [])
   taken_unapplied None e = absurd (none-some k e)
 

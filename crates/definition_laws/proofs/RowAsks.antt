@@ -11,9 +11,9 @@ use Rattle.definitions.specs.Ranges.{range_refusal}
 use Rattle.definitions.specs.Replies.{Call, Nlm, SystemErr}
 use Rattle.definitions.specs.Waits.{is_waiting, closes_cycle}
 use Rattle.definitions.specs.World.{World, Limits, with_setting, with_waiter, slots_free}
-use Rattle.definitions.specs.Rulings.{Told, Ruling, decided, stays}
+use Rattle.definitions.specs.Rulings.{Response, Ruling, decided, stays}
 use Rattle.definitions.specs.LockRules.{LockAsk, NewHost, row_asked, after_row, free_lock, blocked_lock, lock_rules}
-use Rattle.definitions.specs.Answer.{by_call, lock_letter, Answered, gives, lock_ask, caller_row, lock_unless, lock_verdict, lock_msg_answer}
+use Rattle.definitions.specs.Answer.{by_call, lock_callback, Answered, gives, lock_ask, caller_row, lock_unless, lock_verdict, lock_msg_answer}
 use Rattle.definitions.specs.Step.{State, Peer, KeptPair, asked_unless_kept}
 use Rattle.definitions.proofs.MoveLaws.{by_cond}
 use Rattle.definitions.proofs.QuotaLaws.{is_quota}
@@ -28,7 +28,7 @@ IsOfRow (Nlm version (Locks a)) o = IsNoQuota o
 IsOfRow (Nlm version (LockMsg a)) o = IsNoQuota o
 IsOfRow _ o = Unit {0}
 
-abbrev SetsNone : Ruling (Told Stat) → Type 0
+abbrev SetsNone : Ruling (Response Stat) → Type 0
 SetsNone r = IsNoQuota r.asks
 
 new_row : (w : World) (row : Option NewHost) → IsNoQuota (row_asked w row)
@@ -54,7 +54,7 @@ rules_set_none limits w a =
         by_cond SetsNone (is_waiting a.request w.waiters) (after_row w (row_asked w a.row) BLOCKED (λ v. v)) _ (λ _. after_new w (row_asked w a.row) BLOCKED (λ v. v) (new_row w a.row))
         (λ _. by_cond SetsNone (closes_cycle w.settings w.waiters a.request) (stays w DEADLCK) _ (λ _. tt)
         (λ _. by_cond SetsNone (eqb a.slots 0) (stays w DENIED_NOLOCKS) _ (λ _. tt)
-        (λ _. after_new w (row_asked w a.row) BLOCKED (λ v. with_waiter v (record { request = a.request; letter = a.letter })) (new_row w a.row))))
+        (λ _. after_new w (row_asked w a.row) BLOCKED (λ v. with_waiter v (record { request = a.request; callback = a.callback })) (new_row w a.row))))
 
 verdict_sets_none : (limits : Limits) (w : World) (a : LockArgs) (ask : LockAsk) → SetsNone (lock_verdict limits w a ask)
 verdict_sets_none limits w a ask = go (range_refusal w (Locking a.reclaim) a.alock)
@@ -68,7 +68,7 @@ asks_row limits s peer (Nlm version (Locks a)) (Some k) = tt
 asks_row limits s peer (Nlm version (LockMsg a)) (Some k) = tt
 asks_row limits s peer (Nlm version (Locks a)) None = verdict_sets_none limits s.world a (lock_ask a (caller_row a) (Granted version a.exclusive a.alock) (slots_free limits s.world))
 asks_row limits s peer (Nlm version (LockMsg a)) None =
-    by_cond (λ (r : Ruling Answered). IsNoQuota r.asks) (leb 1 (slots_free limits s.world)) (by_call (lock_letter version a) (lock_msg_answer limits s.world version a)) (decided (gives s.world SystemErr))
+    by_cond (λ (r : Ruling Answered). IsNoQuota r.asks) (leb 1 (slots_free limits s.world)) (by_call (lock_callback version a) (lock_msg_answer limits s.world version a)) (decided (gives s.world SystemErr))
     (λ _. verdict_sets_none limits s.world a (lock_ask a (caller_row a) (GrantedMsg version a.exclusive a.alock) (slots_free limits s.world - 1)))
     (λ _. tt)
 asks_row limits s peer _ o = tt

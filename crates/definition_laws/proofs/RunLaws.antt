@@ -24,14 +24,14 @@ use Rattle.definition_laws.proofs.StepLaws.{exclusion_law, grace_law}
 
 run_sound : (limits : Limits) (s : State) (done : List Done) → IsSound limits s.world → IsSound limits (state_after limits s done).world
 run_sound limits s [] sound = sound
-run_sound limits s (d ∷ done) sound = run_sound limits (after limits s d).state done (exclusion_law limits s d.event d.doing d.store sound)
+run_sound limits s (d ∷ done) sound = run_sound limits (after limits s d).state done (exclusion_law limits s d.event d.completion d.store sound)
 
 pub run_is_sound : RunIsSound
 run_is_sound limits name hosts done = run_sound limits (opening_state name hosts) done (record { compatible = λ file x y byte wanted differ e. refl; ranges = tt; at_rest = refl })
 
 pub grace_run_law : GraceRunLaw
 grace_run_law limits old s [] under h = under
-grace_run_law limits old s (d ∷ done) under h = grace_run_law limits old (after limits s d).state done (grace_law limits old s d.event d.doing d.store h.0 under h.1) h.2
+grace_run_law limits old s (d ∷ done) under h = grace_run_law limits old (after limits s d).state done (grace_law limits old s d.event d.completion d.store h.0 under h.1) h.2
 
 row_says : (w : World) (call : Option StoreCall) (stat : Stat) (change : World → World) → (after_row w call stat change).agreed.says ≡ stat
 row_says w None stat change = refl

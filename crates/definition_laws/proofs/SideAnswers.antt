@@ -10,12 +10,12 @@ use Rattle.definitions.specs.Phases.{Phase, Grace, Normal, Testing, Sharing, Uns
 use Rattle.definitions.specs.Nlm.{Version, Stat, STALE_FH, DENIED_GRACE_PERIOD, ShareArgs, NlmCall, Null, Test, Locks, Cancel, Unlock, TestMsg, LockMsg, CancelMsg, UnlockMsg, GrantedRes, ShareCall, Unshare, NmLock, FreeAll}
 use Rattle.definitions.specs.Nsm.{MyId, SmNull, SmStat, SmMon, SmUnmon, SmUnmonAll, SmSimuCrash, SmNotify}
 use Rattle.definitions.specs.Hosts.{Hosts, HostRow, Watch, Begin, Seen, StoreAnswer, NotAsked, Yes, Refused, after_store, row_of, watches_of, Quota, has_row}
-use Rattle.definitions.specs.Outgoing.{Letter, Granted, GrantedMsg, LocalLock, is_grant, is_grant_to}
+use Rattle.definitions.specs.Outgoing.{Callback, Granted, GrantedMsg, LocalLock, is_grant, is_grant_to}
 use Rattle.definitions.specs.Ranges.{is_stale, file_refusal, line_unlock}
 use Rattle.definitions.specs.Replies.{Call, Nlm, Nsm, SystemErr, Line, GetLock, SetLock, SetLockWait, Close, Table, HostList, Stop, BadLine, LineReply, SetQuota, LineAbsent}
-use Rattle.definitions.specs.World.{World, Limits, with_hosts, with_all_due, without_host_of, restarted, restart_letter, opening, first_number, slots_free, closed_by}
-use Rattle.definitions.specs.Rulings.{Told, Ruling, decided, ruled, stays}
-use Rattle.definitions.specs.Answer.{Answered, gives, lock_ask, caller_row, lock_msg_answer, cancel_answer, unlock_answer, if_slots, by_reply, by_call, by_message, sent_back, lock_letter, cancel_letter, unlock_letter, share_unless, share_of, unshare_unless, nlm_answer, stored, notified, notify_rules, status_letter, nsm_answer, ruling}
+use Rattle.definitions.specs.World.{World, Limits, with_hosts, with_all_due, without_host_of, restarted, restart_callback, opening, first_number, slots_free, closed_by}
+use Rattle.definitions.specs.Rulings.{Response, Ruling, decided, ruled, stays}
+use Rattle.definitions.specs.Answer.{Answered, gives, lock_ask, caller_row, lock_msg_answer, cancel_answer, unlock_answer, if_slots, by_reply, by_call, by_message, sent_back, lock_callback, cancel_callback, unlock_callback, share_unless, share_of, unshare_unless, nlm_answer, stored, notified, notify_rules, status_callback, nsm_answer, ruling}
 use Rattle.definitions.specs.Lines.{line_refusal, line_answer, set_unless, line_sets, line_ask, quota_stored}
 use Rattle.definitions.specs.Step.{Peer, is_restart}
 use Rattle.definitions.proofs.WorldLaws.{due_keeps}
@@ -26,7 +26,7 @@ use Rattle.definition_laws.proofs.SideMoves.{ShareMove, HostGoes, ShareGoes, Sha
 use Rattle.definition_laws.proofs.SideGrants.{granted_res_sides}
 
 module _ (R : Share → Type 0) where
-  -- ---- answers of calls: both worlds, and letters that tell of no grant
+  -- ---- answers of calls: both worlds, and callbacks that tell of no grant
 
   pub record AnswerSides (begin : Bool) (w : World) (r : Ruling Answered) : Type 0 where
     pub agreed : SideMoves R begin w r.agreed.world
@@ -41,28 +41,28 @@ module _ (R : Share → Type 0) where
   said_sides : (begin : Bool) (w : World) (a : Answered) → IsSame w a.world → AllOf IsPlain a.due → AnswerSides begin w (decided a)
   said_sides begin w a m h = record { agreed = same_sides R begin w a.world m; refused = same_sides R false w a.world m; agreed_due = h; refused_due = h }
 
-  reply_sides : (w : World) (version : Version) (cookie : Bytes) (r : Ruling (Told Stat)) → BothSame w r → AnswerSides false w (by_reply version cookie r)
+  reply_sides : (w : World) (version : Version) (cookie : Bytes) (r : Ruling (Response Stat)) → BothSame w r → AnswerSides false w (by_reply version cookie r)
   reply_sides w version cookie r m = record { agreed = same_sides R false w r.agreed.world m.0; refused = same_sides R false w r.refused.world m.1; agreed_due = tt; refused_due = tt }
 
   slots_sides : (n : ℕ) (limits : Limits) (w : World) (r : Ruling Answered) → AnswerSides false w r → AnswerSides false w (if_slots n limits w r)
   slots_sides n limits w r m = by_cond (AnswerSides false w) (leb n (slots_free limits w)) r (decided (gives w SystemErr)) (λ _. m) (λ _. said_sides false w (gives w SystemErr) (same w) tt)
 
-  due_sides : (w v : World) (letters : List Letter) → AllOf IsPlain letters → SideMoves R false w v → SideMoves R false w (with_all_due v letters)
-  due_sides w v letters h m = record {
-    name = (due_keeps v letters).own_name ∙ m.name;
-    shares = subst (ShareMove R w.phase w.shares) (sym (due_keeps v letters).shares) m.shares;
-    calls = elim m.calls [ inl g ↦ inl (goes_due w v letters h g) | inr k ↦ absurd (true≢false (sym k.0)) ];
+  due_sides : (w v : World) (callbacks : List Callback) → AllOf IsPlain callbacks → SideMoves R false w v → SideMoves R false w (with_all_due v callbacks)
+  due_sides w v callbacks h m = record {
+    name = (due_keeps v callbacks).own_name ∙ m.name;
+    shares = subst (ShareMove R w.phase w.shares) (sym (due_keeps v callbacks).shares) m.shares;
+    calls = elim m.calls [ inl g ↦ inl (goes_due w v callbacks h g) | inr k ↦ absurd (true≢false (sym k.0)) ];
   }
 
-  sent_sides : (w v : World) (letter : Letter) → is_grant letter.message ≡ false → IsSame w v → SideMoves R false w (sent_back letter v).world
-  sent_sides w v letter h m = due_sides w v (letter ∷ []) (h, tt) (same_sides R false w v m)
+  sent_sides : (w v : World) (callback : Callback) → is_grant callback.message ≡ false → IsSame w v → SideMoves R false w (sent_back callback v).world
+  sent_sides w v callback h m = due_sides w v (callback ∷ []) (h, tt) (same_sides R false w v m)
 
-  message_sides : (limits : Limits) (w : World) (letter : Stat → Letter) (r : Ruling (Told Stat)) → ((stat : Stat) → is_grant (letter stat).message ≡ false) → BothSame w r → AnswerSides false w (by_message limits w letter r)
-  message_sides limits w letter r h m =
-      slots_sides 1 limits w (by_call letter r)
+  message_sides : (limits : Limits) (w : World) (callback : Stat → Callback) (r : Ruling (Response Stat)) → ((stat : Stat) → is_grant (callback stat).message ≡ false) → BothSame w r → AnswerSides false w (by_message limits w callback r)
+  message_sides limits w callback r h m =
+      slots_sides 1 limits w (by_call callback r)
       (record {
-        agreed = sent_sides w r.agreed.world (letter r.agreed.says) (h r.agreed.says) m.0;
-        refused = sent_sides w r.refused.world (letter r.refused.says) (h r.refused.says) m.1;
+        agreed = sent_sides w r.agreed.world (callback r.agreed.says) (h r.agreed.says) m.0;
+        refused = sent_sides w r.refused.world (callback r.refused.says) (h r.refused.says) m.1;
         agreed_due = (h r.agreed.says, tt);
         refused_due = (h r.refused.says, tt);
       })
@@ -73,8 +73,8 @@ module _ (R : Share → Type 0) where
   share_sides limits w a mine (Some stat) e = unmoved_sides R false w
   share_sides limits w a mine None e =
       let new = share_of a in
-      by_cond (λ (t : Told Stat). SideMoves R false w t.world) (is_denied w.shares new) _ _ (λ _. unmoved_sides R false w)
-      (λ h. by_cond (λ (t : Told Stat). SideMoves R false w t.world) (has_no_room limits.shares w.shares new) _ _ (λ _. unmoved_sides R false w)
+      by_cond (λ (t : Response Stat). SideMoves R false w t.world) (is_denied w.shares new) _ _ (λ _. unmoved_sides R false w)
+      (λ h. by_cond (λ (t : Response Stat). SideMoves R false w t.world) (has_no_room limits.shares w.shares new) _ _ (λ _. unmoved_sides R false w)
       (λ _. record {
         name = refl;
         shares = ShareComes new h (λ g. mine new (reclaims (is_stale a.fh) w.phase g e, refl));
@@ -116,9 +116,9 @@ module _ (R : Share → Type 0) where
   nlm_sides limits w version (Unlock a) mine = reply_sides w version a.cookie _ (unlock_answer_same limits w a)
   nlm_sides limits w version (TestMsg a) mine = slots_sides 1 limits w _ (decided_sides w _ (sent_sides w w _ refl (same w)) (refl, tt))
   nlm_sides limits w version (LockMsg a) mine =
-      message_sides limits w (lock_letter version a) (lock_msg_answer limits w version a) (λ stat. refl) (verdict_same limits w a (lock_ask a (caller_row a) (GrantedMsg version a.exclusive a.alock) (slots_free limits w - 1)))
-  nlm_sides limits w version (CancelMsg a) mine = message_sides limits w (cancel_letter version a) (cancel_answer w a) (λ stat. refl) (cancel_answer_same w a)
-  nlm_sides limits w version (UnlockMsg a) mine = message_sides limits w (unlock_letter version a) (unlock_answer limits w a) (λ stat. refl) (unlock_answer_same limits w a)
+      message_sides limits w (lock_callback version a) (lock_msg_answer limits w version a) (λ stat. refl) (verdict_same limits w a (lock_ask a (caller_row a) (GrantedMsg version a.exclusive a.alock) (slots_free limits w - 1)))
+  nlm_sides limits w version (CancelMsg a) mine = message_sides limits w (cancel_callback version a) (cancel_answer w a) (λ stat. refl) (cancel_answer_same w a)
+  nlm_sides limits w version (UnlockMsg a) mine = message_sides limits w (unlock_callback version a) (unlock_answer limits w a) (λ stat. refl) (unlock_answer_same limits w a)
   nlm_sides limits w version (GrantedRes a) mine = decided_sides w _ (granted_res_sides R limits w a.cookie a.stat) tt
   nlm_sides limits w version (ShareCall a) mine = decided_sides w _ (share_sides limits w a mine (file_refusal w (Sharing a.reclaim) a.fh) refl) tt
   nlm_sides limits w version (Unshare a) mine = decided_sides w _ (unshare_sides w a (file_refusal w Unsharing a.fh)) tt
@@ -127,7 +127,7 @@ module _ (R : Share → Type 0) where
   hosts_same : (w : World) (hosts : Hosts) → IsSame w (with_hosts w hosts)
   hosts_same w hosts = record { name = refl; phase = refl; shares = refl; calls = refl; next = refl }
 
-  status_plain : (state : ℤ) (watches : List Watch) → AllOf IsPlain (map (status_letter state) watches)
+  status_plain : (state : ℤ) (watches : List Watch) → AllOf IsPlain (map (status_callback state) watches)
   status_plain state [] = tt
   status_plain state (x ∷ watches) = (refl, status_plain state watches)
 
@@ -139,28 +139,28 @@ module _ (R : Share → Type 0) where
       by_cond (AnswerSides false w) (int_eq row.seen state) _ _ (λ _. said_sides false w _ (same w) tt)
       (λ _. slots_sides (length (watches_of w.hosts name)) limits w (stored w (Seen name state) (notified name state) (gives w SystemErr))
       (record {
-        agreed = due_sides w (without_host_of (with_hosts w hosts) name) (map (status_letter state) watches) (status_plain state watches) (drop_sides w hosts name);
+        agreed = due_sides w (without_host_of (with_hosts w hosts) name) (map (status_callback state) watches) (status_plain state watches) (drop_sides w hosts name);
         refused = unmoved_sides R false w;
         agreed_due = status_plain state watches;
         refused_due = tt;
       }))
 
-  notices_plain : (name : Bytes) (own : ℕ) (rows : List HostRow) → AllOf IsPlain (map (restart_letter name own) rows)
+  notices_plain : (name : Bytes) (own : ℕ) (rows : List HostRow) → AllOf IsPlain (map (restart_callback name own) rows)
   notices_plain name own [] = tt
   notices_plain name own (row ∷ rows) = (refl, notices_plain name own rows)
 
   pub restart_sides : (w v : World) (hosts : Hosts) → v.own_name ≡ w.own_name → SideMoves R true w (restarted v hosts)
   restart_sides w v hosts e =
-      let letters = map (restart_letter v.own_name hosts.own) hosts.rows in
+      let callbacks = map (restart_callback v.own_name hosts.own) hosts.rows in
       let start = opening v.own_name hosts in
-      let kept = due_keeps start letters in
+      let kept = due_keeps start callbacks in
       record {
         name = kept.own_name ∙ e;
         shares = subst (ShareMove R w.phase w.shares) (sym kept.shares) AllGo;
         calls = inr (
           refl,
           record {
-            behind = subst (λ (h : Hosts). ContinuesBy IsPlain [] (first_number h.own) (restarted v hosts)) (sym kept.hosts) (all_due IsPlain [] (first_number hosts.own) start letters (notices_plain v.own_name hosts.own hosts.rows) (begins IsPlain [] start refl));
+            behind = subst (λ (h : Hosts). ContinuesBy IsPlain [] (first_number h.own) (restarted v hosts)) (sym kept.hosts) (all_due IsPlain [] (first_number hosts.own) start callbacks (notices_plain v.own_name hosts.own hosts.rows) (begins IsPlain [] start refl));
             waiters = kept.waiters;
           },
         );
@@ -218,7 +218,7 @@ module _ (R : Share → Type 0) where
       go (Some refusal) = unmoved_sides R false w
       go None = sets mode
 
-  abbrev BothLines : World → Ruling (Told LineReply) → Type 0
+  abbrev BothLines : World → Ruling (Response LineReply) → Type 0
   BothLines w r = SideMoves R false w r.agreed.world × SideMoves R false w r.refused.world
 
   unmoved_line : (w : World) → SideMoves R false w w × SideMoves R false w w
@@ -239,4 +239,4 @@ module _ (R : Share → Type 0) where
   both_lines limits w l BadLine = unmoved_line w
 
   pub line_sides : (limits : Limits) (w : World) (l : ℕ) (line : Line) (store : StoreAnswer) → SideMoves R false w (ruled store (line_answer limits w l line)).world
-  line_sides limits w l line store = by_store (λ (t : Told LineReply). SideMoves R false w t.world) store (line_answer limits w l line) (both_lines limits w l line)
+  line_sides limits w l line store = by_store (λ (t : Response LineReply). SideMoves R false w t.world) store (line_answer limits w l line) (both_lines limits w l line)

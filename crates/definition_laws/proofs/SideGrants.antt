@@ -8,7 +8,7 @@ use Rattle.definitions.specs.Outgoing.{Outgoing, Message, Granted, GrantedMsg, N
 use Rattle.definitions.specs.Ranges.{unlock_of}
 use Rattle.definitions.specs.Replies.{AnswerReading, Unreadable, AcceptedSuccess, OtherAnswer}
 use Rattle.definitions.specs.World.{World, Limits, with_setting, with_calls}
-use Rattle.definitions.specs.Rulings.{Told, Ruling}
+use Rattle.definitions.specs.Rulings.{Response, Ruling}
 use Rattle.definitions.specs.Grants.{TableChange, ended, grant_answered, granted_res_rules, granted_res_at, granted_res_of, notice_answered, succeeded, answered_success, answered_otherwise, answer_rules, became, TableStays, TableChanges}
 use Rattle.definitions.proofs.MoveLaws.{by_cond}
 use Rattle.definition_laws.proofs.CallLaws.{left_without_first}
@@ -36,7 +36,7 @@ module _ (R : Share → Type 0) where
   grant_sides : (limits : Limits) (w : World) (c : Outgoing) (alock : Lock) (stat : Option Stat) → SideMoves R false w (grant_answered limits w c alock stat).world
   grant_sides limits w c alock (Some DENIED) =
       let e = ended_sides w c in
-      by_cond (λ (t : Told TableChange). SideMoves R false w t.world) (is_refused limits.runs (quotas_of w.hosts) w.settings (unlock_of alock)) (became TableStays (ended w c)) (became TableChanges (with_setting (ended w c) (unlock_of alock)))
+      by_cond (λ (t : Response TableChange). SideMoves R false w t.world) (is_refused limits.runs (quotas_of w.hosts) w.settings (unlock_of alock)) (became TableStays (ended w c)) (became TableChanges (with_setting (ended w c) (unlock_of alock)))
       (λ _. e)
       (λ _. record {
         name = refl;
@@ -55,9 +55,9 @@ module _ (R : Share → Type 0) where
 
       go : (o : Option Outgoing) → SideMoves R false w (granted_res_at limits w stat o).world
       go None = unmoved_sides R false w
-      go (Some c) = by_message_of c c.letter.message
+      go (Some c) = by_message_of c c.callback.message
 
-  abbrev pub BothSides : World → Ruling (Told TableChange) → Type 0
+  abbrev pub BothSides : World → Ruling (Response TableChange) → Type 0
   BothSides w r = SideMoves R false w r.agreed.world × SideMoves R false w r.refused.world
 
   notice_sides : (w : World) (c : Outgoing) (to : Destination) → BothSides w (notice_answered w c to)
@@ -74,7 +74,7 @@ module _ (R : Share → Type 0) where
   succeeded_sides : (limits : Limits) (w : World) (c : Outgoing) (stat : Option Stat) (m : Message) → BothSides w (succeeded limits w c stat m)
   succeeded_sides limits w c stat (Granted version exclusive alock) = (grant_sides limits w c alock stat, grant_sides limits w c alock stat)
   succeeded_sides limits w c stat (GrantedMsg version exclusive alock) = (unmoved_sides R false w, unmoved_sides R false w)
-  succeeded_sides limits w c stat (Notify name state) = notice_sides w c c.letter.to
+  succeeded_sides limits w c stat (Notify name state) = notice_sides w c c.callback.to
   succeeded_sides limits w c stat _ = (ended_sides w c, ended_sides w c)
 
   pub answer_sides : (limits : Limits) (w : World) (reading : AnswerReading) → BothSides w (answer_rules limits w reading)
@@ -83,7 +83,7 @@ module _ (R : Share → Type 0) where
     where
       go : (o : Option Outgoing) → BothSides w (answered_success limits w stat o)
       go None = (unmoved_sides R false w, unmoved_sides R false w)
-      go (Some c) = succeeded_sides limits w c stat c.letter.message
+      go (Some c) = succeeded_sides limits w c stat c.callback.message
   answer_sides limits w (OtherAnswer xid) = go (call_of_xid xid w.calls)
     where
       go : (o : Option Outgoing) → BothSides w (answered_otherwise w o)

@@ -10,11 +10,11 @@ use Rattle.definitions.specs.Shares.{Share, is_denied, with_share, without_share
 use Rattle.definitions.specs.Phases.{Phase, Grace, Locking, Cancelling, Unlocking}
 use Rattle.definitions.specs.Nlm.{Stat, GRANTED, DENIED, DENIED_NOLOCKS, BLOCKED, DEADLCK, LockArgs, CancelArgs, UnlockArgs}
 use Rattle.definitions.specs.Hosts.{StoreCall, after_store}
-use Rattle.definitions.specs.Outgoing.{Outgoing, Letter, is_grant, is_numbered, after_silence_of, without_call}
+use Rattle.definitions.specs.Outgoing.{Outgoing, Callback, is_grant, is_numbered, after_silence_of, without_call}
 use Rattle.definitions.specs.Ranges.{range_refusal, request_of, unlock_of}
 use Rattle.definitions.specs.Waits.{is_waiting, closes_cycle}
 use Rattle.definitions.specs.World.{World, Limits, with_setting, with_waiter, with_hosts, with_all_due, first_number}
-use Rattle.definitions.specs.Rulings.{Told, Ruling, decided, stays}
+use Rattle.definitions.specs.Rulings.{Response, Ruling, decided, stays}
 use Rattle.definitions.specs.LockRules.{LockAsk, row_asked, after_row, free_lock, blocked_lock, lock_rules, unlock_rules, cancel_rules}
 use Rattle.definitions.specs.Answer.{lock_unless, lock_verdict, cancel_unless, cancel_answer, unlock_unless, unlock_answer}
 use Rattle.definitions.proofs.WorldLaws.{due_keeps}
@@ -33,9 +33,9 @@ pub data ShareMove (Reclaimed : Share → Type 0) (phase : Phase) (before : List
   ShareComes : (new : Share) → is_denied before new ≡ false → (phase ≡ Grace → Reclaimed new) → ShareMove Reclaimed phase before (with_share new before)
   AllGo : ShareMove Reclaimed phase before []
 
--- a letter that tells of no grant
-abbrev pub IsPlain : Letter → Type 0
-IsPlain letter = is_grant letter.message ≡ false
+-- a callback that tells of no grant
+abbrev pub IsPlain : Callback → Type 0
+IsPlain callback = is_grant callback.message ≡ false
 
 pub record GoesPlainlyOn (w v : World) : Type 0 where
   pub left : List Outgoing
@@ -66,7 +66,7 @@ pub record IsSame (w v : World) : Type 0 where
 pub same : (w : World) → IsSame w w
 same w = record { name = refl; phase = refl; shares = refl; calls = refl; next = refl }
 
-abbrev pub BothSame : World → Ruling (Told Stat) → Type 0
+abbrev pub BothSame : World → Ruling (Response Stat) → Type 0
 BothSame w r = IsSame w r.agreed.world × IsSame w r.refused.world
 
 stays_same : (w : World) (stat : Stat) → BothSame w (stays w stat)
@@ -80,7 +80,7 @@ module _ (limits : Limits) (w : World) (a : LockAsk) where
   set_same : (v : World) → IsSame w v → IsSame w (with_setting v (setting_of a.request))
   set_same v h = record { name = h.name; phase = h.phase; shares = h.shares; calls = h.calls; next = h.next }
 
-  wait_same : (v : World) → IsSame w v → IsSame w (with_waiter v (record { request = a.request; letter = a.letter }))
+  wait_same : (v : World) → IsSame w v → IsSame w (with_waiter v (record { request = a.request; callback = a.callback }))
   wait_same v h = record { name = h.name; phase = h.phase; shares = h.shares; calls = h.calls; next = h.next }
 
   pub lock_same : BothSame w (lock_rules limits w a)
@@ -94,7 +94,7 @@ module _ (limits : Limits) (w : World) (a : LockAsk) where
           by_cond (BothSame w) (is_waiting a.request w.waiters) (after_row w (row_asked w a.row) BLOCKED (λ v. v)) _ (λ _. row_same w (row_asked w a.row) BLOCKED (λ v. v) (λ v h. h))
           (λ _. by_cond (BothSame w) (closes_cycle w.settings w.waiters a.request) (stays w DEADLCK) _ (λ _. stays_same w DEADLCK)
           (λ _. by_cond (BothSame w) (eqb a.slots 0) (stays w DENIED_NOLOCKS) _ (λ _. stays_same w DENIED_NOLOCKS)
-          (λ _. row_same w (row_asked w a.row) BLOCKED (λ v. with_waiter v (record { request = a.request; letter = a.letter })) wait_same)))
+          (λ _. row_same w (row_asked w a.row) BLOCKED (λ v. with_waiter v (record { request = a.request; callback = a.callback })) wait_same)))
 
 pub unlock_same : (limits : Limits) (w : World) (s : Setting) → BothSame w (unlock_rules limits w s)
 unlock_same limits w s =
@@ -140,13 +140,13 @@ goes_with w v left again h e n p = record {
 pub goes_left : (w v : World) (left : List Outgoing) → AreLeft w.calls left → v.calls ≡ left → v.next ≡ w.next → v.phase ≡ w.phase → GoesPlainlyOn w v
 goes_left w v left h e n p = goes_with w v left [] (inl (h, refl)) (e ∙ sym (append-nil left)) n p
 
-pub goes_due : (w v : World) (letters : List Letter) → AllOf IsPlain letters → GoesPlainlyOn w v → GoesPlainlyOn w (with_all_due v letters)
-goes_due w v letters h g = record {
+pub goes_due : (w v : World) (callbacks : List Callback) → AllOf IsPlain callbacks → GoesPlainlyOn w v → GoesPlainlyOn w (with_all_due v callbacks)
+goes_due w v callbacks h g = record {
   left = g.left;
   again = g.again;
   in_order = g.in_order;
-  behind = all_due IsPlain (g.left ++ g.again) w.next v letters h g.behind;
-  phase = (due_keeps v letters).phase ∙ g.phase;
+  behind = all_due IsPlain (g.left ++ g.again) w.next v callbacks h g.behind;
+  phase = (due_keeps v callbacks).phase ∙ g.phase;
 }
 
 -- a silence of a call that is there

@@ -5,16 +5,16 @@ use Rattle.definitions.specs.Bytes.{Bytes, first_that}
 use Rattle.definitions.specs.Phases.{Normal}
 use Rattle.definitions.specs.Hosts.{Hosts, StoreCall, Begin, StoreAnswer, NotAsked, Yes, Refused, after_store}
 use Rattle.definitions.specs.Nlm.{Locks, LockMsg}
-use Rattle.definitions.specs.Outgoing.{Letter, Outgoing, next_due, is_numbered, after_sending, after_silence, after_silence_at}
+use Rattle.definitions.specs.Outgoing.{Callback, Outgoing, next_due, is_numbered, after_sending, after_silence, after_silence_at}
 use Rattle.definitions.specs.Replies.{Call, Nlm, Ignored, Turned, Asks, AnswerReading}
 use Rattle.definitions.specs.Shares.{Share}
 use Rattle.definitions.specs.Waits.{Waiter}
 use Rattle.definitions.specs.World.{World, Limits, first_ready, granted, settled, settled_within, with_all_due, with_calls, slots_free, first_number}
-use Rattle.definitions.specs.Rulings.{Told, ruled}
+use Rattle.definitions.specs.Rulings.{Response, ruled}
 use Rattle.definitions.specs.Grants.{TableChange, TableStays, TableChanges, answer_rules}
 use Rattle.definitions.specs.Lines.{line_answer}
 use Rattle.definitions.specs.Answer.{ruling}
-use Rattle.definitions.specs.Step.{Peer, KeptPair, State, Event, Take, Send, Answer, Silent, Local, GraceOver, Restart, Doing, Applied, Starved, Stepped, applied, starved, step, taken, look, sent, restart, settled_after, with_row_stored, store_call, is_restart}
+use Rattle.definitions.specs.Step.{Peer, KeptPair, State, Event, Take, Send, Answer, Silent, Local, GraceOver, Restart, Completion, Applied, Starved, Stepped, applied, starved, step, taken, look, sent, restart, settled_after, with_row_stored, store_call, is_restart}
 use Rattle.definitions.proofs.WorldLaws.{due_keeps}
 use Rattle.definition_laws.specs.Numbers.{Continues, GoesOn, BeginsAnew, is_beginning, NumbersLaw}
 use Rattle.definition_laws.specs.Standing.{IsShareReclaim, IsShareReclaimOf, OwnNameLaw}
@@ -24,17 +24,17 @@ use Rattle.definition_laws.proofs.SideMoves.{ShareMove, SharesStay, GoesPlainlyO
 use Rattle.definition_laws.proofs.SideGrants.{answer_sides}
 use Rattle.definition_laws.proofs.SideAnswers.{restart_sides, call_sides, ruled_sides, line_sides}
 
--- ---- any letters
+-- ---- any callbacks
 
-abbrev Anything : Letter → Type 0
-Anything letter = Unit {0}
+abbrev Anything : Callback → Type 0
+Anything callback = Unit {0}
 
-all_any : (letters : List Letter) → AllOf Anything letters
+all_any : (callbacks : List Callback) → AllOf Anything callbacks
 all_any [] = tt
-all_any (l ∷ letters) = (tt, all_any letters)
+all_any (l ∷ callbacks) = (tt, all_any callbacks)
 
-due_continues : (before : List Outgoing) (first : ℕ) (v : World) (letters : List Letter) → Continues before first v → Continues before first (with_all_due v letters)
-due_continues before first v letters h = (all_due Anything before first v letters (all_any letters) (record { rest = h; each = all_any h.letters })).rest
+due_continues : (before : List Outgoing) (first : ℕ) (v : World) (callbacks : List Callback) → Continues before first v → Continues before first (with_all_due v callbacks)
+due_continues before first v callbacks h = (all_due Anything before first v callbacks (all_any callbacks) (record { rest = h; each = all_any h.callbacks })).rest
 
 -- ---- settle
 
@@ -45,8 +45,8 @@ settled_continues (suc n) limits before first w h = go (first_ready limits w) (s
     next : (x : Waiter) → Continues before first (granted limits w x)
     next x =
         let v : World = record w { settings = (granted limits w x).settings; waiters = (granted limits w x).waiters } in
-        let k : Continues before first v = record { letters = h.letters; calls = h.calls; next = h.next } in
-        (one_due Anything before first v x.letter tt (record { rest = k; each = all_any h.letters })).rest
+        let k : Continues before first v = record { callbacks = h.callbacks; calls = h.calls; next = h.next } in
+        (one_due Anything before first v x.callback tt (record { rest = k; each = all_any h.callbacks })).rest
 
     go : (o : Option Waiter) → ((v : World) → Continues before first v → Continues before first (settled_within n limits v)) → Continues before first (elim o [ None ↦ w | Some x ↦ settled_within n limits (granted limits w x) ])
     go None more = h
@@ -119,14 +119,14 @@ module _ (R : Share → Type 0) where
         ];
       }
 
-  repeat_step : (begin : Bool) (w : World) (letters : List Letter) → StepSides R begin w (with_all_due w letters)
-  repeat_step begin w letters =
+  repeat_step : (begin : Bool) (w : World) (callbacks : List Callback) → StepSides R begin w (with_all_due w callbacks)
+  repeat_step begin w callbacks =
       let g = goes_still w w refl refl in
-      going_step begin w (with_all_due w letters) (due_keeps w letters).own_name (due_keeps w letters).shares (record {
+      going_step begin w (with_all_due w callbacks) (due_keeps w callbacks).own_name (due_keeps w callbacks).shares (record {
         left = g.left;
         again = g.again;
         in_order = g.in_order;
-        behind = due_continues (g.left ++ g.again) w.next w letters g.behind;
+        behind = due_continues (g.left ++ g.again) w.next w callbacks g.behind;
       })
 
   silent_step : (begin : Bool) (w : World) (number : ℕ) → StepSides R begin w (with_calls w (after_silence number w.calls))
@@ -141,8 +141,8 @@ module _ (limits : Limits) (s : State) where
   taken_sides peer asked xid call store (Some k) =
       let R = IsShareReclaimOf call in
       let begin = is_restart peer call store in
-      by_cond (λ (t : Stepped). StepSides R begin s.world t.state.world) (leb (length k.letters) (slots_free limits s.world)) _ _
-      (λ _. repeat_step R begin s.world k.letters)
+      by_cond (λ (t : Stepped). StepSides R begin s.world t.state.world) (leb (length k.callbacks) (slots_free limits s.world)) _ _
+      (λ _. repeat_step R begin s.world k.callbacks)
       (λ _. unmoved_step R begin s.world)
   taken_sides peer asked xid call store None =
       let R = IsShareReclaimOf call in
@@ -157,7 +157,7 @@ module _ (limits : Limits) (s : State) where
       let v = with_calls s.world (after_sending s.world.calls) in
       going_step R begin s.world v refl refl (plainly R s.world v (goes_left s.world v (after_sending s.world.calls) (left_sending s.world.calls) refl refl refl))
 
-  changed_sides : (R : Share → Type 0) (begin : Bool) (t : Told TableChange) → StepSides R begin s.world t.world → StepSides R begin s.world (settled_after limits t)
+  changed_sides : (R : Share → Type 0) (begin : Bool) (t : Response TableChange) → StepSides R begin s.world t.world → StepSides R begin s.world (settled_after limits t)
   changed_sides R begin t m = go t.says
     where
       go : (c : TableChange) → StepSides R begin s.world (elim c [ TableStays ↦ t.world | TableChanges ↦ settled limits t.world ])
@@ -200,12 +200,12 @@ module _ (limits : Limits) (s : State) where
   starved_sides (Local l line) store = unmoved_step _ _ s.world
   starved_sides _ store = unmoved_step _ _ s.world
 
-pub step_sides : (limits : Limits) (s : State) (event : Event) (doing : Doing) (store : StoreAnswer) → StepSides (IsShareReclaim event) (is_beginning event store) s.world (step limits s event doing store).state.world
+pub step_sides : (limits : Limits) (s : State) (event : Event) (completion : Completion) (store : StoreAnswer) → StepSides (IsShareReclaim event) (is_beginning event store) s.world (step limits s event completion store).state.world
 step_sides limits s event Applied store = applied_sides limits s event store
 step_sides limits s event Starved store = starved_sides limits s event store
 
 pub numbers_law : NumbersLaw
-numbers_law limits s event doing store = (step_sides limits s event doing store).calls
+numbers_law limits s event completion store = (step_sides limits s event completion store).calls
 
 pub own_name_law : OwnNameLaw
-own_name_law limits s event doing store = (step_sides limits s event doing store).name
+own_name_law limits s event completion store = (step_sides limits s event completion store).name

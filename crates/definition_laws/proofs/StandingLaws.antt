@@ -14,15 +14,15 @@ use Rattle.definition_laws.proofs.ShareLaws.{shares_stand, came_or_was}
 run_stands : (limits : Limits) (s : State) (done : List Done) → SharesStand s.world.shares → SharesStand (state_after limits s done).world.shares
 run_stands limits s [] h = h
 run_stands limits s (d ∷ done) h =
-    let m = step_sides limits s d.event d.doing d.store in
+    let m = step_sides limits s d.event d.completion d.store in
     run_stands limits (after limits s d).state done (shares_stand (IsShareReclaim d.event) s.world.phase s.world.shares (after limits s d).state.world.shares m.shares h)
 
 pub share_run_law : ShareRunLaw
 share_run_law limits name hosts done = run_stands limits (opening_state name hosts) done (record { single = tt; coexist = λ a b h. absurd h })
 
 pub grace_shares_law : GraceSharesLaw
-grace_shares_law limits s event doing store g share h =
-    let m = step_sides limits s event doing store in
+grace_shares_law limits s event completion store g share h =
+    let m = step_sides limits s event completion store in
     came_or_was (IsShareReclaim event) s.world.phase s.world.shares _ m.shares g share h
 
 narrow_law : (stat : Stat) → stands (narrow_stat stat) ≡ stands stat

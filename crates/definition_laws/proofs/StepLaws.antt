@@ -13,8 +13,8 @@ use Rattle.definitions.specs.Nlm.{Locks, LockMsg}
 use Rattle.definitions.specs.Outgoing.{Outgoing, next_due}
 use Rattle.definitions.specs.Replies.{Call, Nlm, Ignored, Turned, Asks, AnswerReading}
 use Rattle.definitions.specs.Waits.{Waiter}
-use Rattle.definitions.specs.World.{World, Limits, is_ready, settled, settled_within, with_all_due, slots_free, opening, restart_letter, restarted, Settles, AtRest, Grants}
-use Rattle.definitions.specs.Rulings.{Told, ruled}
+use Rattle.definitions.specs.World.{World, Limits, is_ready, settled, settled_within, with_all_due, slots_free, opening, restart_callback, restarted, Settles, AtRest, Grants}
+use Rattle.definitions.specs.Rulings.{Response, ruled}
 use Rattle.definitions.specs.Grants.{TableChange, TableStays, TableChanges, answer_rules}
 use Rattle.definitions.specs.Lines.{line_answer}
 use Rattle.definitions.specs.Answer.{ruling}
@@ -27,7 +27,7 @@ use Rattle.definitions.proofs.QuotaLaws.{AreKept, all_kept, none_readied, store_
 use Rattle.definition_laws.proofs.RowAsks.{IsOfRow, asks_row}
 use Rattle.definitions.proofs.ReclaimLaws.{exclusion_kept, exclusion_kept_by_unlock, exclusion_kept_by_drops, honest_stays_within, none_is_least}
 use Rattle.definitions.proofs.MoveLaws.{by_cond, ranges_behind}
-use Rattle.definition_laws.proofs.AnswerMoves.{restart_moves, call_moves, ruled_moves, answer_moves, told_moves, ToldMoves, line_moves}
+use Rattle.definition_laws.proofs.AnswerMoves.{restart_moves, call_moves, ruled_moves, answer_moves, told_moves, ResponseMoves, line_moves}
 
 -- ---- a change of the table keeps exclusion
 
@@ -77,9 +77,9 @@ Anything r = Unit {0}
 module _ (limits : Limits) (s : State) (sound : IsSound limits s.world) where
   taken_sound : (peer : Peer) (asked : Bytes) (xid : ℕ) (call : Call) (store : StoreAnswer) (o : Option KeptPair) → IsSound limits (taken limits s peer asked xid call store o).state.world
   taken_sound peer asked xid call store (Some k) =
-      let kept = due_keeps s.world k.letters in
-      by_cond (λ (t : Stepped). IsSound limits t.state.world) (leb (length k.letters) (slots_free limits s.world)) _ _
-      (λ _. sound_same limits s.world (with_all_due s.world k.letters) kept.settings kept.waiters (hosts_stay s.world (with_all_due s.world k.letters) kept.hosts) sound)
+      let kept = due_keeps s.world k.callbacks in
+      by_cond (λ (t : Stepped). IsSound limits t.state.world) (leb (length k.callbacks) (slots_free limits s.world)) _ _
+      (λ _. sound_same limits s.world (with_all_due s.world k.callbacks) kept.settings kept.waiters (hosts_stay s.world (with_all_due s.world k.callbacks) kept.hosts) sound)
       (λ _. sound)
   taken_sound peer asked xid call store None =
       settled_sound limits Anything s.world (ruled store (ruling limits s.world peer.local call)).world
@@ -90,10 +90,10 @@ module _ (limits : Limits) (s : State) (sound : IsSound limits s.world) where
   sent_sound None = sound
   sent_sound (Some c) = sound_same limits s.world _ refl refl (all_kept (quotas_of s.world.hosts)) sound
 
-  changed_sound : (t : Told TableChange) → ToldMoves Anything t.says s.world t.world → IsSound limits (settled_after limits t)
+  changed_sound : (t : Response TableChange) → ResponseMoves Anything t.says s.world t.world → IsSound limits (settled_after limits t)
   changed_sound t m = go t.says m
     where
-      go : (c : TableChange) → ToldMoves Anything c s.world t.world → IsSound limits (elim c [ TableStays ↦ t.world | TableChanges ↦ settled limits t.world ])
+      go : (c : TableChange) → ResponseMoves Anything c s.world t.world → IsSound limits (elim c [ TableStays ↦ t.world | TableChanges ↦ settled limits t.world ])
       go TableStays k = sound_same limits s.world t.world k.0 k.1 k.2 sound
       go TableChanges k = settled_sound limits Anything s.world t.world k sound
 
@@ -104,7 +104,7 @@ module _ (limits : Limits) (s : State) (sound : IsSound limits s.world) where
 
   restarted_sound : (w : World) (hosts : Hosts) → IsSound limits (restarted w hosts)
   restarted_sound w hosts =
-      let kept = due_keeps (opening w.own_name hosts) (map (restart_letter w.own_name hosts.own) hosts.rows) in
+      let kept = due_keeps (opening w.own_name hosts) (map (restart_callback w.own_name hosts.own) hosts.rows) in
       sound_same limits (opening w.own_name hosts) (restarted w hosts) kept.settings kept.waiters (hosts_stay (opening w.own_name hosts) (restarted w hosts) kept.hosts) (record { compatible = nothing_set; ranges = tt; at_rest = refl })
 
   restart_sound : (store : StoreAnswer) → IsSound limits (restart s store).state.world
@@ -178,9 +178,9 @@ under_same old w v e k u = record { settings = subst (AreWithin old) (sym e) u.s
 module _ (limits : Limits) (old : List Setting) (s : State) (g : s.world.phase ≡ Grace) (under : IsUnder old s.world) where
   taken_under : (peer : Peer) (asked : Bytes) (xid : ℕ) (call : Call) (store : StoreAnswer) (o : Option KeptPair) → ((r : Request) → IsReclaimOf call r → IsHonest old r) → IsUnder old (taken limits s peer asked xid call store o).state.world
   taken_under peer asked xid call store (Some k) honest =
-      let kept = due_keeps s.world k.letters in
-      by_cond (λ (t : Stepped). IsUnder old t.state.world) (leb (length k.letters) (slots_free limits s.world)) _ _
-      (λ _. under_same old s.world (with_all_due s.world k.letters) kept.settings kept.waiters under)
+      let kept = due_keeps s.world k.callbacks in
+      by_cond (λ (t : Stepped). IsUnder old t.state.world) (leb (length k.callbacks) (slots_free limits s.world)) _ _
+      (λ _. under_same old s.world (with_all_due s.world k.callbacks) kept.settings kept.waiters under)
       (λ _. under)
   taken_under peer asked xid call store None honest =
       let moved = ruled_moves (IsReclaimOf call) s.world store (ruling limits s.world peer.local call) (call_moves (IsReclaimOf call) limits s.world peer.local call (λ r h. h)) in
@@ -197,7 +197,7 @@ module _ (limits : Limits) (old : List Setting) (s : State) (g : s.world.phase �
   sent_under None = under
   sent_under (Some c) = under_same old s.world _ refl refl under
 
-  changed_under : (t : Told TableChange) → ToldMoves Nothing_reclaimed t.says s.world t.world → IsUnder old (settled_after limits t)
+  changed_under : (t : Response TableChange) → ResponseMoves Nothing_reclaimed t.says s.world t.world → IsUnder old (settled_after limits t)
   changed_under t m = go t.says (moved t.world (told_moves Nothing_reclaimed t.says s.world t.world m))
     where
       go : (c : TableChange) → IsUnder old t.world → IsUnder old (elim c [ TableStays ↦ t.world | TableChanges ↦ settled limits t.world ])

@@ -6,8 +6,8 @@ use Rattle.definitions.specs.Nlm.{Locks, LockMsg}
 use Rattle.definitions.specs.Hosts.{Hosts, StoreCall, Begin, StoreAnswer, NotAsked, Yes, Refused, AreInOrder, after_store}
 use Rattle.definitions.specs.Outgoing.{Outgoing, next_due}
 use Rattle.definitions.specs.Replies.{Call, Nlm, Ignored, Turned, Asks, AnswerReading, LineReply}
-use Rattle.definitions.specs.World.{Limits, slots_free, restart_letter, opening}
-use Rattle.definitions.specs.Rulings.{Told, Ruling, ruled}
+use Rattle.definitions.specs.World.{Limits, slots_free, restart_callback, opening}
+use Rattle.definitions.specs.Rulings.{Response, Ruling, ruled}
 use Rattle.definitions.specs.Lines.{line_answer}
 use Rattle.definitions.specs.Grants.{TableChange, TableStays, TableChanges, answer_rules}
 use Rattle.definitions.specs.Answer.{Answered, ruling}
@@ -39,20 +39,20 @@ module _ (limits : Limits) (s : State) where
   ruled_follows Yes r h = h.0
   ruled_follows Refused r h = h.1 ∙ sym (unless_yes s.world.hosts r.asks Refused refused_is_no_yes)
 
-  ruled_line : (store : StoreAnswer) (r : Ruling (Told LineReply)) → Line_follows s.world r → (ruled store r).world.hosts ≡ hosts_after s.world.hosts r.asks store
+  ruled_line : (store : StoreAnswer) (r : Ruling (Response LineReply)) → Line_follows s.world r → (ruled store r).world.hosts ≡ hosts_after s.world.hosts r.asks store
   ruled_line NotAsked r h = h.1 ∙ sym (unless_yes s.world.hosts r.asks NotAsked not_asked)
   ruled_line Yes r h = h.0
   ruled_line Refused r h = h.1 ∙ sym (unless_yes s.world.hosts r.asks Refused refused_is_no_yes)
 
   taken_follows : (peer : Peer) (asked : Bytes) (xid : ℕ) (call : Call) (store : StoreAnswer) (o : Option KeptPair) → (taken limits s peer asked xid call store o).state.world.hosts ≡ hosts_after s.world.hosts (asked_unless_kept limits s peer call o) store
   taken_follows peer asked xid call store (Some k) =
-      by_cond (λ (t : Stepped). t.state.world.hosts ≡ s.world.hosts) (leb (length k.letters) (slots_free limits s.world)) _ _ (λ _. (due_keeps s.world k.letters).hosts) (λ _. refl)
+      by_cond (λ (t : Stepped). t.state.world.hosts ≡ s.world.hosts) (leb (length k.callbacks) (slots_free limits s.world)) _ _ (λ _. (due_keeps s.world k.callbacks).hosts) (λ _. refl)
       ∙ sym (unasked s.world.hosts store)
   taken_follows peer asked xid call store None =
       let r = ruling limits s.world peer.local call in
       (settle_keeps limits (ruled store r).world).hosts ∙ ruled_follows store r (call_follows limits s.world peer.local call)
 
-  changed_hosts : (t : Told TableChange) → (settled_after limits t).hosts ≡ t.world.hosts
+  changed_hosts : (t : Response TableChange) → (settled_after limits t).hosts ≡ t.world.hosts
   changed_hosts t = go t.says
     where
       go : (c : TableChange) → (settled_after limits (record t { says = c })).hosts ≡ t.world.hosts
@@ -69,7 +69,7 @@ module _ (limits : Limits) (s : State) where
   sent_follows (Some c) = refl
 
   restart_follows : (store : StoreAnswer) → (restart s store).state.world.hosts ≡ hosts_after s.world.hosts (Some Begin) store
-  restart_follows Yes = let hosts = after_store s.world.hosts Begin in (due_keeps (opening s.world.own_name hosts) (map (restart_letter s.world.own_name hosts.own) hosts.rows)).hosts
+  restart_follows Yes = let hosts = after_store s.world.hosts Begin in (due_keeps (opening s.world.own_name hosts) (map (restart_callback s.world.own_name hosts.own) hosts.rows)).hosts
   restart_follows NotAsked = refl
   restart_follows Refused = refl
 
@@ -98,7 +98,7 @@ module _ (limits : Limits) (s : State) where
   fitting false c h = absurd (true≢false (sym h))
 
   -- without a yes nothing changes; with one it is a lock's row
-  starved_follows : (event : Event) (store : StoreAnswer) → fits limits s (record { event = event; doing = Starved; store = store }) ≡ true → (starved limits s event store).state.world.hosts ≡ hosts_after s.world.hosts (store_call limits s event) store
+  starved_follows : (event : Event) (store : StoreAnswer) → fits limits s (record { event = event; completion = Starved; store = store }) ≡ true → (starved limits s event store).state.world.hosts ≡ hosts_after s.world.hosts (store_call limits s event) store
   starved_follows event NotAsked h = ap (λ (t : State). t.world.hosts) (starved_law.unless_agreed limits s event NotAsked not_asked) ∙ sym (unless_yes s.world.hosts (store_call limits s event) NotAsked not_asked)
   starved_follows event Refused h = ap (λ (t : State). t.world.hosts) (starved_law.unless_agreed limits s event Refused refused_is_no_yes) ∙ sym (unless_yes s.world.hosts (store_call limits s event) Refused refused_is_no_yes)
   starved_follows (Take peer asked (Asks xid call)) Yes h = row_follows call (store_call limits s (Take peer asked (Asks xid call))) (fitting (may_leave_row call) _ h)
@@ -122,7 +122,7 @@ run_in_order : (limits : Limits) (s : State) (done : List Done) → AreInOrder s
 run_in_order limits s [] h fit = h
 run_in_order limits s (d ∷ done) h fit =
     let k = both (fits limits s d) (all_fit limits (after limits s d).state done) fit in
-    run_in_order limits (after limits s d).state done (subst AreInOrder (sym (store_law limits s d.event d.doing d.store k.0)) (in_order_after s.world.hosts (store_call limits s d.event) d.store h)) k.1
+    run_in_order limits (after limits s d).state done (subst AreInOrder (sym (store_law limits s d.event d.completion d.store k.0)) (in_order_after s.world.hosts (store_call limits s d.event) d.store h)) k.1
   where
     both : (b c : Bool) → cond b c false ≡ true → (b ≡ true) × (c ≡ true)
     both true c e = (refl, e)

@@ -10,16 +10,16 @@ use Rattle.definitions.specs.Phases.{Locking, Cancelling, Unlocking, Sharing, Un
 use Rattle.definitions.specs.Nlm.{Version, Stat, GRANTED, DENIED, DENIED_NOLOCKS, BLOCKED, DEADLCK, DENIED_GRACE_PERIOD, Lock, LockArgs, CancelArgs, UnlockArgs, ShareArgs, NlmCall, Null, Test, Locks, Cancel, Unlock, TestMsg, LockMsg, CancelMsg, UnlockMsg, GrantedRes, ShareCall, Unshare, NmLock, FreeAll}
 use Rattle.definitions.specs.Nsm.{NsmCall, SmNull, SmStat, SmMon, SmUnmon, SmUnmonAll, SmSimuCrash, SmNotify}
 use Rattle.definitions.specs.Hosts.{HostRow, StoreCall, Begin, Seen, Yes, row_of, watches_of, after_store, Quota, has_row}
-use Rattle.definitions.specs.Outgoing.{Outgoing, Letter, LocalLock, Message, Granted, GrantedMsg, Notify, Destination, ToHost, ToConnection, call_of_xid, call_of_cookie}
+use Rattle.definitions.specs.Outgoing.{Outgoing, Callback, LocalLock, Message, Granted, GrantedMsg, Notify, Destination, ToHost, ToConnection, call_of_xid, call_of_cookie}
 use Rattle.definitions.specs.Ranges.{range_refusal, file_refusal, request_of, unlock_of, line_unlock}
 use Rattle.definitions.specs.Replies.{Call, Nlm, Nsm, SystemErr, AnswerReading, Unreadable, AcceptedSuccess, OtherAnswer, Line, GetLock, SetLock, SetLockWait, Close, Table, HostList, SetQuota, Stop, BadLine, LineReply, LineAbsent}
 use Rattle.definitions.specs.Waits.{is_waiting, closes_cycle}
-use Rattle.definitions.specs.World.{World, Limits, with_setting, with_waiter, with_hosts, slots_free, restart_letter, opening}
-use Rattle.definitions.specs.Rulings.{Told, Ruling, decided, stays}
+use Rattle.definitions.specs.World.{World, Limits, with_setting, with_waiter, with_hosts, slots_free, restart_callback, opening}
+use Rattle.definitions.specs.Rulings.{Response, Ruling, decided, stays}
 use Rattle.definitions.specs.LockRules.{LockAsk, row_asked, after_row, free_lock, blocked_lock, lock_rules, unlock_rules, cancel_rules}
 use Rattle.definitions.specs.Lines.{line_refusal, line_answer, quota_stored, set_unless, line_sets, line_ask}
 use Rattle.definitions.specs.Grants.{TableChange, TableStays, TableChanges, ended, became, grant_answered, granted_res_rules, granted_res_at, granted_res_of, notice_answered, succeeded, answered_success, answered_otherwise, answer_rules}
-use Rattle.definitions.specs.Answer.{Answered, gives, lock_ask, caller_row, lock_unless, lock_verdict, lock_msg_answer, cancel_unless, cancel_answer, unlock_unless, unlock_answer, if_slots, by_call, by_message, sent_back, test_letter, lock_letter, cancel_letter, unlock_letter, share_unless, share_of, unshare_unless, stored, notified, notify_rules, status_letter, nlm_answer, nsm_answer, ruling}
+use Rattle.definitions.specs.Answer.{Answered, gives, lock_ask, caller_row, lock_unless, lock_verdict, lock_msg_answer, cancel_unless, cancel_answer, unlock_unless, unlock_answer, if_slots, by_call, by_message, sent_back, test_callback, lock_callback, cancel_callback, unlock_callback, share_unless, share_of, unshare_unless, stored, notified, notify_rules, status_callback, nlm_answer, nsm_answer, ruling}
 use Rattle.definitions.proofs.WorldLaws.{due_keeps}
 use Rattle.definition_laws.specs.Asking.{hosts_after}
 use Rattle.definitions.proofs.MoveLaws.{by_cond}
@@ -28,58 +28,58 @@ use Rattle.definitions.proofs.MoveLaws.{by_cond}
 abbrev pub Follows : World → Option StoreCall → World → World → Type 0
 Follows w asks agreed refused = (agreed.hosts ≡ hosts_after w.hosts asks Yes) × (refused.hosts ≡ w.hosts)
 
-abbrev Told_follows : World → Ruling (Told Stat) → Type 0
-Told_follows w r = Follows w r.asks r.agreed.world r.refused.world
+abbrev Response_follows : World → Ruling (Response Stat) → Type 0
+Response_follows w r = Follows w r.asks r.agreed.world r.refused.world
 
 abbrev pub Answer_follows : World → Ruling Answered → Type 0
 Answer_follows w r = Follows w r.asks r.agreed.world r.refused.world
 
-abbrev pub Change_follows : World → Ruling (Told TableChange) → Type 0
+abbrev pub Change_follows : World → Ruling (Response TableChange) → Type 0
 Change_follows w r = Follows w r.asks r.agreed.world r.refused.world
 
 -- ---- locks
 
-row_follows : (w : World) (call : Option StoreCall) (stat : Stat) (change : World → World) → ((v : World) → (change v).hosts ≡ v.hosts) → Told_follows w (after_row w call stat change)
+row_follows : (w : World) (call : Option StoreCall) (stat : Stat) (change : World → World) → ((v : World) → (change v).hosts ≡ v.hosts) → Response_follows w (after_row w call stat change)
 row_follows w None stat change f = (f w, f w)
 row_follows w (Some call) stat change f = (f (with_hosts w (after_store w.hosts call)), refl)
 
-lock_follows : (limits : Limits) (w : World) (a : LockAsk) → Told_follows w (lock_rules limits w a)
+lock_follows : (limits : Limits) (w : World) (a : LockAsk) → Response_follows w (lock_rules limits w a)
 lock_follows limits w a =
-    by_cond (Told_follows w) (conflicts w.settings a.request) (cond (a.block && not a.reclaim) (blocked_lock w a) (stays w DENIED)) (free_lock limits w a)
-    (λ _. by_cond (Told_follows w) (a.block && not a.reclaim) (blocked_lock w a) (stays w DENIED) (λ _. blocked) (λ _. (refl, refl)))
-    (λ _. by_cond (Told_follows w) (lacks_room limits.runs (quotas_of w.hosts) w.settings a.request) (stays w DENIED_NOLOCKS) (after_row w (row_asked w a.row) GRANTED (λ v. with_setting v (setting_of a.request))) (λ _. (refl, refl)) (λ _. row_follows w (row_asked w a.row) GRANTED (λ v. with_setting v (setting_of a.request)) (λ v. refl)))
+    by_cond (Response_follows w) (conflicts w.settings a.request) (cond (a.block && not a.reclaim) (blocked_lock w a) (stays w DENIED)) (free_lock limits w a)
+    (λ _. by_cond (Response_follows w) (a.block && not a.reclaim) (blocked_lock w a) (stays w DENIED) (λ _. blocked) (λ _. (refl, refl)))
+    (λ _. by_cond (Response_follows w) (lacks_room limits.runs (quotas_of w.hosts) w.settings a.request) (stays w DENIED_NOLOCKS) (after_row w (row_asked w a.row) GRANTED (λ v. with_setting v (setting_of a.request))) (λ _. (refl, refl)) (λ _. row_follows w (row_asked w a.row) GRANTED (λ v. with_setting v (setting_of a.request)) (λ v. refl)))
   where
-    blocked : Told_follows w (blocked_lock w a)
+    blocked : Response_follows w (blocked_lock w a)
     blocked =
-        by_cond (Told_follows w) (is_waiting a.request w.waiters) (after_row w (row_asked w a.row) BLOCKED (λ v. v)) _ (λ _. row_follows w (row_asked w a.row) BLOCKED (λ v. v) (λ v. refl))
-        (λ _. by_cond (Told_follows w) (closes_cycle w.settings w.waiters a.request) (stays w DEADLCK) _ (λ _. (refl, refl))
-        (λ _. by_cond (Told_follows w) (eqb a.slots 0) (stays w DENIED_NOLOCKS) _ (λ _. (refl, refl))
-        (λ _. row_follows w (row_asked w a.row) BLOCKED (λ v. with_waiter v (record { request = a.request; letter = a.letter })) (λ v. refl))))
+        by_cond (Response_follows w) (is_waiting a.request w.waiters) (after_row w (row_asked w a.row) BLOCKED (λ v. v)) _ (λ _. row_follows w (row_asked w a.row) BLOCKED (λ v. v) (λ v. refl))
+        (λ _. by_cond (Response_follows w) (closes_cycle w.settings w.waiters a.request) (stays w DEADLCK) _ (λ _. (refl, refl))
+        (λ _. by_cond (Response_follows w) (eqb a.slots 0) (stays w DENIED_NOLOCKS) _ (λ _. (refl, refl))
+        (λ _. row_follows w (row_asked w a.row) BLOCKED (λ v. with_waiter v (record { request = a.request; callback = a.callback })) (λ v. refl))))
 
-unlock_follows : (limits : Limits) (w : World) (s : Setting) → Told_follows w (unlock_rules limits w s)
-unlock_follows limits w s = by_cond (Told_follows w) (is_refused limits.runs (quotas_of w.hosts) w.settings s) (stays w DENIED_NOLOCKS) (decided (record { says = GRANTED; world = with_setting w s })) (λ _. (refl, refl)) (λ _. (refl, refl))
+unlock_follows : (limits : Limits) (w : World) (s : Setting) → Response_follows w (unlock_rules limits w s)
+unlock_follows limits w s = by_cond (Response_follows w) (is_refused limits.runs (quotas_of w.hosts) w.settings s) (stays w DENIED_NOLOCKS) (decided (record { says = GRANTED; world = with_setting w s })) (λ _. (refl, refl)) (λ _. (refl, refl))
 
-cancel_follows : (w : World) (r : Request) → Told_follows w (cancel_rules w r)
-cancel_follows w r = by_cond (Told_follows w) (is_waiting r w.waiters) _ (stays w DENIED) (λ _. (refl, refl)) (λ _. (refl, refl))
+cancel_follows : (w : World) (r : Request) → Response_follows w (cancel_rules w r)
+cancel_follows w r = by_cond (Response_follows w) (is_waiting r w.waiters) _ (stays w DENIED) (λ _. (refl, refl)) (λ _. (refl, refl))
 
-verdict_follows : (limits : Limits) (w : World) (a : LockArgs) (ask : LockAsk) → Told_follows w (lock_verdict limits w a ask)
+verdict_follows : (limits : Limits) (w : World) (a : LockArgs) (ask : LockAsk) → Response_follows w (lock_verdict limits w a ask)
 verdict_follows limits w a ask = go (range_refusal w (Locking a.reclaim) a.alock)
   where
-    go : (o : Option Stat) → Told_follows w (lock_unless limits w ask o)
+    go : (o : Option Stat) → Response_follows w (lock_unless limits w ask o)
     go (Some stat) = (refl, refl)
     go None = lock_follows limits w ask
 
-cancel_answer_follows : (w : World) (a : CancelArgs) → Told_follows w (cancel_answer w a)
+cancel_answer_follows : (w : World) (a : CancelArgs) → Response_follows w (cancel_answer w a)
 cancel_answer_follows w a = go (range_refusal w Cancelling a.alock)
   where
-    go : (o : Option Stat) → Told_follows w (cancel_unless w (request_of a.exclusive a.alock) o)
+    go : (o : Option Stat) → Response_follows w (cancel_unless w (request_of a.exclusive a.alock) o)
     go (Some stat) = (refl, refl)
     go None = cancel_follows w (request_of a.exclusive a.alock)
 
-unlock_answer_follows : (limits : Limits) (w : World) (a : UnlockArgs) → Told_follows w (unlock_answer limits w a)
+unlock_answer_follows : (limits : Limits) (w : World) (a : UnlockArgs) → Response_follows w (unlock_answer limits w a)
 unlock_answer_follows limits w a = go (range_refusal w Unlocking a.alock)
   where
-    go : (o : Option Stat) → Told_follows w (unlock_unless limits w a.alock o)
+    go : (o : Option Stat) → Response_follows w (unlock_unless limits w a.alock o)
     go (Some stat) = (refl, refl)
     go None = unlock_follows limits w (unlock_of a.alock)
 
@@ -87,7 +87,7 @@ unlock_answer_follows limits w a = go (range_refusal w Unlocking a.alock)
 
 grant_follows : (limits : Limits) (w : World) (c : Outgoing) (alock : Lock) (stat : Option Stat) → (grant_answered limits w c alock stat).world.hosts ≡ w.hosts
 grant_follows limits w c alock (Some DENIED) =
-    by_cond (λ (t : Told TableChange). t.world.hosts ≡ w.hosts) (is_refused limits.runs (quotas_of w.hosts) w.settings (unlock_of alock)) (became TableStays (ended w c)) (became TableChanges (with_setting (ended w c) (unlock_of alock))) (λ _. refl) (λ _. refl)
+    by_cond (λ (t : Response TableChange). t.world.hosts ≡ w.hosts) (is_refused limits.runs (quotas_of w.hosts) w.settings (unlock_of alock)) (became TableStays (ended w c)) (became TableChanges (with_setting (ended w c) (unlock_of alock))) (λ _. refl) (λ _. refl)
 grant_follows limits w c alock (Some DENIED_GRACE_PERIOD) = refl
 grant_follows limits w c alock _ = refl
 
@@ -100,7 +100,7 @@ granted_res_follows limits w cookie stat = go (call_of_cookie cookie w.calls)
 
     go : (o : Option Outgoing) → (granted_res_at limits w stat o).world.hosts ≡ w.hosts
     go None = refl
-    go (Some c) = by_message_of c c.letter.message
+    go (Some c) = by_message_of c c.callback.message
 
 notice_follows : (w : World) (c : Outgoing) (to : Destination) → Change_follows w (notice_answered w c to)
 notice_follows w c (ToHost name) = (refl, refl)
@@ -109,7 +109,7 @@ notice_follows w c (ToConnection l) = (refl, refl)
 succeeded_follows : (limits : Limits) (w : World) (c : Outgoing) (stat : Option Stat) (m : Message) → Change_follows w (succeeded limits w c stat m)
 succeeded_follows limits w c stat (Granted version exclusive alock) = (grant_follows limits w c alock stat, grant_follows limits w c alock stat)
 succeeded_follows limits w c stat (GrantedMsg version exclusive alock) = (refl, refl)
-succeeded_follows limits w c stat (Notify name state) = notice_follows w c c.letter.to
+succeeded_follows limits w c stat (Notify name state) = notice_follows w c c.callback.to
 succeeded_follows limits w c stat _ = (refl, refl)
 
 pub answer_follows : (limits : Limits) (w : World) (reading : AnswerReading) → Change_follows w (answer_rules limits w reading)
@@ -118,7 +118,7 @@ answer_follows limits w (AcceptedSuccess xid stat) = go (call_of_xid xid w.calls
   where
     go : (o : Option Outgoing) → Change_follows w (answered_success limits w stat o)
     go None = (refl, refl)
-    go (Some c) = succeeded_follows limits w c stat c.letter.message
+    go (Some c) = succeeded_follows limits w c stat c.callback.message
 answer_follows limits w (OtherAnswer xid) = go (call_of_xid xid w.calls)
   where
     go : (o : Option Outgoing) → Change_follows w (answered_otherwise w o)
@@ -130,14 +130,14 @@ answer_follows limits w (OtherAnswer xid) = go (call_of_xid xid w.calls)
 slots_follow : (n : ℕ) (limits : Limits) (w : World) (r : Ruling Answered) → Answer_follows w r → Answer_follows w (if_slots n limits w r)
 slots_follow n limits w r h = by_cond (Answer_follows w) (leb n (slots_free limits w)) r (decided (gives w SystemErr)) (λ _. h) (λ _. (refl, refl))
 
-message_follows : (limits : Limits) (w : World) (letter : Stat → Letter) (r : Ruling (Told Stat)) → Told_follows w r → Answer_follows w (by_message limits w letter r)
-message_follows limits w letter r h = slots_follow 1 limits w (by_call letter r) h
+message_follows : (limits : Limits) (w : World) (callback : Stat → Callback) (r : Ruling (Response Stat)) → Response_follows w r → Answer_follows w (by_message limits w callback r)
+message_follows limits w callback r h = slots_follow 1 limits w (by_call callback r) h
 
 share_follows : (limits : Limits) (w : World) (a : ShareArgs) (o : Option Stat) → (share_unless limits w a o).world.hosts ≡ w.hosts
 share_follows limits w a (Some stat) = refl
 share_follows limits w a None =
-    by_cond (λ (t : Told Stat). t.world.hosts ≡ w.hosts) (is_denied w.shares (share_of a)) _ _ (λ _. refl)
-    (λ _. by_cond (λ (t : Told Stat). t.world.hosts ≡ w.hosts) (has_no_room limits.shares w.shares (share_of a)) _ _ (λ _. refl) (λ _. refl))
+    by_cond (λ (t : Response Stat). t.world.hosts ≡ w.hosts) (is_denied w.shares (share_of a)) _ _ (λ _. refl)
+    (λ _. by_cond (λ (t : Response Stat). t.world.hosts ≡ w.hosts) (has_no_room limits.shares w.shares (share_of a)) _ _ (λ _. refl) (λ _. refl))
 
 unshare_follows : (w : World) (a : ShareArgs) (o : Option Stat) → (unshare_unless w a o).world.hosts ≡ w.hosts
 unshare_follows w a (Some stat) = refl
@@ -150,10 +150,10 @@ nlm_follows limits w version (Locks a) = verdict_follows limits w a (lock_ask a 
 nlm_follows limits w version (NmLock a) = verdict_follows limits w a (lock_ask a None (Granted version a.exclusive a.alock) (slots_free limits w))
 nlm_follows limits w version (Cancel a) = cancel_answer_follows w a
 nlm_follows limits w version (Unlock a) = unlock_answer_follows limits w a
-nlm_follows limits w version (TestMsg a) = slots_follow 1 limits w (decided (sent_back (test_letter w version a) w)) (refl, refl)
-nlm_follows limits w version (LockMsg a) = message_follows limits w (lock_letter version a) (lock_msg_answer limits w version a) (verdict_follows limits w a (lock_ask a (caller_row a) (GrantedMsg version a.exclusive a.alock) (slots_free limits w - 1)))
-nlm_follows limits w version (CancelMsg a) = message_follows limits w (cancel_letter version a) (cancel_answer w a) (cancel_answer_follows w a)
-nlm_follows limits w version (UnlockMsg a) = message_follows limits w (unlock_letter version a) (unlock_answer limits w a) (unlock_answer_follows limits w a)
+nlm_follows limits w version (TestMsg a) = slots_follow 1 limits w (decided (sent_back (test_callback w version a) w)) (refl, refl)
+nlm_follows limits w version (LockMsg a) = message_follows limits w (lock_callback version a) (lock_msg_answer limits w version a) (verdict_follows limits w a (lock_ask a (caller_row a) (GrantedMsg version a.exclusive a.alock) (slots_free limits w - 1)))
+nlm_follows limits w version (CancelMsg a) = message_follows limits w (cancel_callback version a) (cancel_answer w a) (cancel_answer_follows w a)
+nlm_follows limits w version (UnlockMsg a) = message_follows limits w (unlock_callback version a) (unlock_answer limits w a) (unlock_answer_follows limits w a)
 nlm_follows limits w version (GrantedRes a) = (granted_res_follows limits w a.cookie a.stat, granted_res_follows limits w a.cookie a.stat)
 nlm_follows limits w version (ShareCall a) = let h = share_follows limits w a (file_refusal w (Sharing a.reclaim) a.fh) in (h, h)
 nlm_follows limits w version (Unshare a) = let h = unshare_follows w a (file_refusal w Unsharing a.fh) in (h, h)
@@ -170,7 +170,7 @@ nsm_follows limits w true (SmUnmonAll my) = (refl, refl)
 nsm_follows limits w false (SmUnmonAll my) = (refl, refl)
 nsm_follows limits w true SmSimuCrash =
     let hosts = after_store w.hosts Begin in
-    ((due_keeps (opening w.own_name hosts) (map (restart_letter w.own_name hosts.own) hosts.rows)).hosts, refl)
+    ((due_keeps (opening w.own_name hosts) (map (restart_callback w.own_name hosts.own) hosts.rows)).hosts, refl)
 nsm_follows limits w false SmSimuCrash = (refl, refl)
 nsm_follows limits w local (SmNotify name state) = go (row_of w.hosts name)
   where
@@ -178,7 +178,7 @@ nsm_follows limits w local (SmNotify name state) = go (row_of w.hosts name)
     go None = (refl, refl)
     go (Some row) =
         by_cond (Answer_follows w) (int_eq row.seen state) _ _ (λ _. (refl, refl))
-        (λ _. slots_follow (length (watches_of w.hosts name)) limits w (stored w (Seen name state) (notified name state) (gives w SystemErr)) ((due_keeps _ (map (status_letter state) (watches_of (after_store w.hosts (Seen name state)) name))).hosts, refl))
+        (λ _. slots_follow (length (watches_of w.hosts name)) limits w (stored w (Seen name state) (notified name state) (gives w SystemErr)) ((due_keeps _ (map (status_callback state) (watches_of (after_store w.hosts (Seen name state)) name))).hosts, refl))
 
 pub call_follows : (limits : Limits) (w : World) (local : Bool) (call : Call) → Answer_follows w (ruling limits w local call)
 call_follows limits w local (Nlm version call) = nlm_follows limits w version call
@@ -194,7 +194,7 @@ set_follows limits w l block mode lock None = sets mode
     sets None = (unlock_follows limits w (line_unlock lock)).1
     sets (Some m) = (lock_follows limits w (line_ask l (slots_free limits w) block m lock)).1
 
-abbrev pub Line_follows : World → Ruling (Told LineReply) → Type 0
+abbrev pub Line_follows : World → Ruling (Response LineReply) → Type 0
 Line_follows w r = Follows w r.asks r.agreed.world r.refused.world
 
 pub line_follows : (limits : Limits) (w : World) (l : ℕ) (line : Line) → Line_follows w (line_answer limits w l line)

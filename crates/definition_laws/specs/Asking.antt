@@ -5,7 +5,7 @@ use Rattle.definitions.specs.Grants.{answer_rules}
 use Rattle.definitions.specs.Hosts.{Hosts, StoreCall, StoreAnswer, Yes, AreInOrder, after_store}
 use Rattle.definitions.specs.Replies.{Call, AnswerReading}
 use Rattle.definitions.specs.Rulings.{Ruling}
-use Rattle.definitions.specs.Step.{State, Event, Doing, Starved, with_world, step, store_call, opening_state}
+use Rattle.definitions.specs.Step.{State, Event, Completion, Starved, with_world, step, store_call, opening_state}
 use Rattle.definitions.specs.Replay.{Done, fits, all_fit, state_after}
 use Rattle.definitions.specs.Bytes.{Bytes}
 use Rattle.definitions.specs.World.{World, Limits, with_hosts}
@@ -34,9 +34,9 @@ hosts_after hosts _ _ = hosts
 -- so the rows that a store keeps stay those of the world, whatever is done, starved or refused
 abbrev pub StoreLaw : Type 0
 StoreLaw =
-    (limits : Limits) (s : State) (event : Event) (doing : Doing) (store : StoreAnswer)
-    → fits limits s (record { event = event; doing = doing; store = store }) ≡ true
-    → (step limits s event doing store).state.world.hosts ≡ hosts_after s.world.hosts (store_call limits s event) store
+    (limits : Limits) (s : State) (event : Event) (completion : Completion) (store : StoreAnswer)
+    → fits limits s (record { event = event; completion = completion; store = store }) ≡ true
+    → (step limits s event completion store).state.world.hosts ≡ hosts_after s.world.hosts (store_call limits s event) store
 
 -- and rows and watches stay in order, none twice
 abbrev pub HostRunLaw : Type 0

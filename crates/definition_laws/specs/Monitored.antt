@@ -3,7 +3,7 @@ use Rattle.std.specs.Prelude.{◌≡◌, Bool, true, false, Some}
 use Rattle.definitions.specs.Nlm.{Version, Stat, GRANTED, BLOCKED, DENIED_NOLOCKS, LockArgs}
 use Rattle.definitions.specs.Hosts.{StoreCall, StoreAnswer, has_row}
 use Rattle.definitions.specs.World.{World, Limits}
-use Rattle.definitions.specs.Rulings.{Told, Ruling, ruled}
+use Rattle.definitions.specs.Rulings.{Response, Ruling, ruled}
 use Rattle.definitions.specs.Answer.{lock_answer, nm_lock_answer, lock_msg_answer}
 
 -- granted, or waiting to be
@@ -12,7 +12,7 @@ stands GRANTED = true
 stands BLOCKED = true
 stands _ = false
 
-abbrev pub HasRow : LockArgs → Told Stat → Type 0
+abbrev pub HasRow : LockArgs → Response Stat → Type 0
 HasRow a t = stands t.says ≡ true → has_row t.world.hosts a.alock.caller_name ≡ true
 
 -- whatever the store answered
@@ -22,7 +22,7 @@ MonitoredLaw =
     → HasRow a (ruled store (lock_answer limits w version a)) × HasRow a (ruled store (lock_msg_answer limits w version a))
 
 -- where a row is asked for and the store refuses it, the lock is answered DENIED_NOLOCKS and nothing has changed
-abbrev pub IsGivenUp : World → Ruling (Told Stat) → Type 0
+abbrev pub IsGivenUp : World → Ruling (Response Stat) → Type 0
 IsGivenUp w r = (call : StoreCall) → r.asks ≡ Some call → r.refused ≡ record { says = DENIED_NOLOCKS; world = w }
 
 abbrev pub RefusedRowLaw : Type 0

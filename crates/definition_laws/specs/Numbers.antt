@@ -1,20 +1,20 @@
 -- The server's own calls over a step: what is there keeps its number and its order, and what comes is numbered on, one above the other.
 use Rattle.std.specs.Prelude.{◌≡◌, ◌⊎◌, ℕ, ◌+◌, ◌%◌, ◌^◌, Bool, true, false, List, [], ◌∷◌, ◌++◌}
 use Rattle.definitions.specs.Hosts.{StoreAnswer, Yes}
-use Rattle.definitions.specs.Outgoing.{Letter, Outgoing, due_now, once_more}
+use Rattle.definitions.specs.Outgoing.{Callback, Outgoing, due_now, once_more}
 use Rattle.definitions.specs.Replies.{Asks}
-use Rattle.definitions.specs.Step.{State, Event, Take, Restart, Doing, is_restart, step}
+use Rattle.definitions.specs.Step.{State, Event, Take, Restart, Completion, is_restart, step}
 use Rattle.definitions.specs.World.{World, Limits, first_number}
 
--- letters that become due one behind the other, from a number on
-abbrev pub numbered : ℕ → List Letter → List Outgoing
+-- callbacks that become due one behind the other, from a number on
+abbrev pub numbered : ℕ → List Callback → List Outgoing
 numbered next [] = []
-numbered next (letter ∷ letters) = due_now next letter ∷ numbered ((next + 1) % 2 ^ 64) letters
+numbered next (callback ∷ callbacks) = due_now next callback ∷ numbered ((next + 1) % 2 ^ 64) callbacks
 
 -- and the number behind theirs
-abbrev pub number_behind : ℕ → List Letter → ℕ
+abbrev pub number_behind : ℕ → List Callback → ℕ
 number_behind next [] = next
-number_behind next (letter ∷ letters) = number_behind ((next + 1) % 2 ^ 64) letters
+number_behind next (callback ∷ callbacks) = number_behind ((next + 1) % 2 ^ 64) callbacks
 
 -- the call is as it was, or it was due and has been sent
 abbrev pub IsSameCall : Outgoing → Outgoing → Type 0
@@ -40,11 +40,11 @@ pub record IsDueAgain (calls left again : List Outgoing) : Type 0 where
 abbrev pub AreRenewed : List Outgoing → List Outgoing → List Outgoing → Type 0
 AreRenewed calls left again = (AreLeft calls left × (again ≡ [])) ⊎ IsDueAgain calls left again
 
--- the world's calls are these, and then letters that became due from a number on
+-- the world's calls are these, and then callbacks that became due from a number on
 pub record Continues (before : List Outgoing) (first : ℕ) (v : World) : Type 0 where
-  pub letters : List Letter
-  pub calls : v.calls ≡ before ++ numbered first letters
-  pub next : v.next ≡ number_behind first letters
+  pub callbacks : List Callback
+  pub calls : v.calls ≡ before ++ numbered first callbacks
+  pub next : v.next ≡ number_behind first callbacks
 
 -- first the calls that are left, then one that is due again, then the new ones
 pub record GoesOn (w v : World) : Type 0 where
@@ -66,6 +66,6 @@ is_beginning _ _ = false
 -- so it is at every step: numbers rise by one, and due calls keep their order
 abbrev pub NumbersLaw : Type 0
 NumbersLaw =
-    (limits : Limits) (s : State) (event : Event) (doing : Doing) (store : StoreAnswer)
-    → GoesOn s.world (step limits s event doing store).state.world
-    ⊎ ((is_beginning event store ≡ true) × BeginsAnew (step limits s event doing store).state.world)
+    (limits : Limits) (s : State) (event : Event) (completion : Completion) (store : StoreAnswer)
+    → GoesOn s.world (step limits s event completion store).state.world
+    ⊎ ((is_beginning event store ≡ true) × BeginsAnew (step limits s event completion store).state.world)

@@ -222,14 +222,14 @@ left events = left_by the_limits (begun the_limits) events
 
 -- an event whose store call is refused
 abbrev pub refused : Event → Done
-refused event = record { event = event; doing = Applied; store = Refused }
+refused event = record { event = event; completion = Applied; store = Refused }
 
 -- an event that met want of memory, before the store was asked or after it had answered yes
 abbrev pub starved_early : Event → Done
-starved_early event = record { event = event; doing = Starved; store = NotAsked }
+starved_early event = record { event = event; completion = Starved; store = NotAsked }
 
 abbrev pub starved_late : Event → Done
-starved_late event = record { event = event; doing = Starved; store = Yes }
+starved_late event = record { event = event; completion = Starved; store = Yes }
 
 -- what comes of one such event behind a row
 abbrev pub then_given : List Event → Done → Given

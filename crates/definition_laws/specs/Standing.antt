@@ -14,14 +14,14 @@ use Rattle.definitions.specs.Answer.{share_of, share_verdict, lock_answer, nm_lo
 use Rattle.definitions.specs.Lines.{line_refusal}
 use Rattle.definition_laws.specs.Monitored.{stands}
 use Rattle.definitions.specs.World.{World, Limits}
-use Rattle.definitions.specs.Step.{State, Event, Take, Doing, step, opening_state}
+use Rattle.definitions.specs.Step.{State, Event, Take, Completion, step, opening_state}
 use Rattle.definitions.specs.Replay.{Done, state_after}
 
 -- no event, outcome or answer of the store changes the own name
 abbrev pub OwnNameLaw : Type 0
 OwnNameLaw =
-    (limits : Limits) (s : State) (event : Event) (doing : Doing) (store : StoreAnswer)
-    → (step limits s event doing store).state.world.own_name ≡ s.world.own_name
+    (limits : Limits) (s : State) (event : Event) (completion : Completion) (store : StoreAnswer)
+    → (step limits s event completion store).state.world.own_name ≡ s.world.own_name
 
 -- after any events: one share for each file and owner, and none does what another denies
 abbrev pub ShareRunLaw : Type 0
@@ -43,11 +43,11 @@ IsShareReclaim _ new = ⊥
 -- a share that is there after a step was there before it, or the event reclaims it
 abbrev pub GraceSharesLaw : Type 0
 GraceSharesLaw =
-    (limits : Limits) (s : State) (event : Event) (doing : Doing) (store : StoreAnswer) → s.world.phase ≡ Grace → (share : Share)
-    → Holds (step limits s event doing store).state.world.shares share → Holds s.world.shares share ⊎ IsShareReclaim event share
+    (limits : Limits) (s : State) (event : Event) (completion : Completion) (store : StoreAnswer) → s.world.phase ≡ Grace → (share : Share)
+    → Holds (step limits s event completion store).state.world.shares share → Holds s.world.shares share ⊎ IsShareReclaim event share
 
 abbrev pub is_grant_call : Outgoing → Bool
-is_grant_call c = is_grant c.letter.message
+is_grant_call c = is_grant c.callback.message
 
 -- nobody waits, and no call tells of a grant
 pub record IsGrantless (w : World) : Type 0 where

@@ -3,21 +3,21 @@ use Rattle.std.proofs.Common.{◌≡◌, ◌≢◌, ℕ, zero, suc, ◌+◌, ◌
 use Rattle.std.proofs.lemmas.Bool.{leb-true, leb-false}
 use Rattle.definitions.specs.Bytes.{is_any, without_first}
 use Rattle.definitions.specs.Hosts.{HostRow, next_own, IsLeastOddAbove, NextOwnLaw}
-use Rattle.definitions.specs.Outgoing.{Letter, Outgoing, due_now}
+use Rattle.definitions.specs.Outgoing.{Callback, Outgoing, due_now}
 use Rattle.definitions.specs.Waits.{Waiter}
 use Rattle.definitions.proofs.Lists.{first_found, none_found}
-use Rattle.definitions.specs.World.{World, Limits, opening, with_due, with_all_due, LeavesRest, restart_letter, RestartNotices, is_ready_in, first_ready, granted, settled_within, IsFirstReady, after_grant, Settles, AtRest, Grants, SettleLaw}
+use Rattle.definitions.specs.World.{World, Limits, opening, with_due, with_all_due, LeavesRest, restart_callback, RestartNotices, is_ready_in, first_ready, granted, settled_within, IsFirstReady, after_grant, Settles, AtRest, Grants, SettleLaw}
 
 -- ---- calls that become due
 
-pub due_keeps : (w : World) (letters : List Letter) → LeavesRest w (with_all_due w letters)
+pub due_keeps : (w : World) (callbacks : List Callback) → LeavesRest w (with_all_due w callbacks)
 due_keeps w [] = record { settings = refl; waiters = refl; shares = refl; phase = refl; hosts = refl; own_name = refl }
-due_keeps w (letter ∷ letters) =
-    let more = due_keeps (with_due w letter) letters in
+due_keeps w (callback ∷ callbacks) =
+    let more = due_keeps (with_due w callback) callbacks in
     record { settings = more.settings; waiters = more.waiters; shares = more.shares; phase = more.phase; hosts = more.hosts; own_name = more.own_name }
 
-letters_of : List Outgoing → List Letter
-letters_of calls = map (λ (c : Outgoing). c.letter) calls
+callbacks_of : List Outgoing → List Callback
+callbacks_of calls = map (λ (c : Outgoing). c.callback) calls
 
 pub map-append : {X Y : Type 0} (f : X → Y) (xs ys : List X) → map f (xs ++ ys) ≡ map f xs ++ map f ys
 map-append f [] ys = refl
@@ -27,36 +27,36 @@ pub one_more : {X : Type 0} (xs : List X) (y : X) (ys : List X) → (xs ++ y ∷
 one_more [] y ys = refl
 one_more (x ∷ xs) y ys = ap (λ zs. x ∷ zs) (one_more xs y ys)
 
-due_letters : (w : World) (letters : List Letter) → map (λ (c : Outgoing). c.letter) (with_all_due w letters).calls ≡ map (λ (c : Outgoing). c.letter) w.calls ++ letters
-due_letters w [] = sym (append_nil (map (λ (c : Outgoing). c.letter) w.calls))
+due_callbacks : (w : World) (callbacks : List Callback) → map (λ (c : Outgoing). c.callback) (with_all_due w callbacks).calls ≡ map (λ (c : Outgoing). c.callback) w.calls ++ callbacks
+due_callbacks w [] = sym (append_nil (map (λ (c : Outgoing). c.callback) w.calls))
   where
-    append_nil : (xs : List Letter) → xs ++ [] ≡ xs
+    append_nil : (xs : List Callback) → xs ++ [] ≡ xs
     append_nil [] = refl
     append_nil (x ∷ xs) = ap (λ zs. x ∷ zs) (append_nil xs)
-due_letters w (letter ∷ letters) =
-    due_letters (with_due w letter) letters
-    ∙ ap (λ zs. zs ++ letters) (map-append (λ (c : Outgoing). c.letter) w.calls (due_now w.next letter ∷ []))
-    ∙ one_more (map (λ (c : Outgoing). c.letter) w.calls) letter letters
+due_callbacks w (callback ∷ callbacks) =
+    due_callbacks (with_due w callback) callbacks
+    ∙ ap (λ zs. zs ++ callbacks) (map-append (λ (c : Outgoing). c.callback) w.calls (due_now w.next callback ∷ []))
+    ∙ one_more (map (λ (c : Outgoing). c.callback) w.calls) callback callbacks
 
-due_flags : (w : World) (letters : List Letter) → map (λ (c : Outgoing). c.is_due) (with_all_due w letters).calls ≡ map (λ (c : Outgoing). c.is_due) w.calls ++ map (λ (l : Letter). true) letters
+due_flags : (w : World) (callbacks : List Callback) → map (λ (c : Outgoing). c.is_due) (with_all_due w callbacks).calls ≡ map (λ (c : Outgoing). c.is_due) w.calls ++ map (λ (l : Callback). true) callbacks
 due_flags w [] = sym (append_nil (map (λ (c : Outgoing). c.is_due) w.calls))
   where
     append_nil : (xs : List Bool) → xs ++ [] ≡ xs
     append_nil [] = refl
     append_nil (x ∷ xs) = ap (λ zs. x ∷ zs) (append_nil xs)
-due_flags w (letter ∷ letters) =
-    due_flags (with_due w letter) letters
-    ∙ ap (λ zs. zs ++ map (λ (l : Letter). true) letters) (map-append (λ (c : Outgoing). c.is_due) w.calls (due_now w.next letter ∷ []))
-    ∙ one_more (map (λ (c : Outgoing). c.is_due) w.calls) true (map (λ (l : Letter). true) letters)
+due_flags w (callback ∷ callbacks) =
+    due_flags (with_due w callback) callbacks
+    ∙ ap (λ zs. zs ++ map (λ (l : Callback). true) callbacks) (map-append (λ (c : Outgoing). c.is_due) w.calls (due_now w.next callback ∷ []))
+    ∙ one_more (map (λ (c : Outgoing). c.is_due) w.calls) true (map (λ (l : Callback). true) callbacks)
 
-all_alike : (f : HostRow → Letter) (rows : List HostRow) → map (λ (l : Letter). true) (map f rows) ≡ map (λ (row : HostRow). true) rows
+all_alike : (f : HostRow → Callback) (rows : List HostRow) → map (λ (l : Callback). true) (map f rows) ≡ map (λ (row : HostRow). true) rows
 all_alike f [] = refl
 all_alike f (r ∷ rows) = ap (λ zs. true ∷ zs) (all_alike f rows)
 
 pub restart_notices : RestartNotices
 restart_notices w hosts =
-    let f = restart_letter w.own_name hosts.own in
-    (due_letters (opening w.own_name hosts) (map f hosts.rows), due_flags (opening w.own_name hosts) (map f hosts.rows) ∙ all_alike f hosts.rows)
+    let f = restart_callback w.own_name hosts.own in
+    (due_callbacks (opening w.own_name hosts) (map f hosts.rows), due_flags (opening w.own_name hosts) (map f hosts.rows) ∙ all_alike f hosts.rows)
 
 pub next_own_law : NextOwnLaw
 next_own_law = record { below = below; past = past; odd = odd; another = another }

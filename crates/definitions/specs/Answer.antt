@@ -9,19 +9,19 @@ use Rattle.definitions.specs.Phases.{Testing, Locking, Sharing, Cancelling, Unlo
 use Rattle.definitions.specs.Nlm.{Version, Stat, GRANTED, DENIED, DENIED_NOLOCKS, NlmCall, Null, Test, Locks, Cancel, Unlock, TestMsg, LockMsg, CancelMsg, UnlockMsg, GrantedRes, ShareCall, Unshare, NmLock, FreeAll, Lock, LockArgs, CancelArgs, TestArgs, UnlockArgs, ShareArgs, TestRes}
 use Rattle.definitions.specs.Nsm.{NsmCall, SmNull, SmStat, SmMon, SmUnmon, SmUnmonAll, SmSimuCrash, SmNotify, STAT_SUCC, STAT_FAIL}
 use Rattle.definitions.specs.Hosts.{HostRow, Watch, StoreCall, Begin, Seen, Watched, Unwatched, StoreAnswer, row_of, watches_of, after_store}
-use Rattle.definitions.specs.Outgoing.{Letter, ToHost, Message, Granted, GrantedMsg, TestResult, LockResult, CancelResult, UnlockResult, Status}
+use Rattle.definitions.specs.Outgoing.{Callback, ToHost, Message, Granted, GrantedMsg, TestResult, LockResult, CancelResult, UnlockResult, Status}
 use Rattle.definitions.specs.Ranges.{range_refusal, file_refusal, request_of, unlock_of}
 use Rattle.definitions.specs.Replies.{Call, Nlm, Nsm, Result, NoResult, ResResult, TestResResult, ShareResult, MonitorResult, StateResult, Outcome, Success, SystemErr}
 use Rattle.definitions.specs.World.{World, Limits, slots_free, with_hosts, with_due, with_all_due, without_host_of, restarted}
 use Rattle.definitions.specs.Shown.{res, share_res, free_test, held_test}
-use Rattle.definitions.specs.Rulings.{Told, Ruling, decided, stays, each, ruled}
+use Rattle.definitions.specs.Rulings.{Response, Ruling, decided, stays, each, ruled}
 use Rattle.definitions.specs.LockRules.{LockAsk, NewHost, lock_rules, unlock_rules, cancel_rules}
 use Rattle.definitions.specs.Grants.{granted_res_rules}
 
 -- `due` are the calls that became due for the call itself; they stand in the world, too
 pub record Answered : Type 0 where
   pub outcome : Outcome
-  pub due : List Letter
+  pub due : List Callback
   pub world : World
 
 abbrev pub gives : World → Outcome → Answered
@@ -51,113 +51,113 @@ lock_ask a row message slots = record {
   block = a.block;
   reclaim = a.reclaim;
   row = row;
-  letter = record { to = ToHost a.alock.caller_name; message = message };
+  callback = record { to = ToHost a.alock.caller_name; message = message };
   slots = slots;
 }
 
 abbrev pub caller_row : LockArgs → Option NewHost
 caller_row a = Some (record { name = a.alock.caller_name; state = a.state })
 
-abbrev pub lock_unless : Limits → World → LockAsk → Option Stat → Ruling (Told Stat)
+abbrev pub lock_unless : Limits → World → LockAsk → Option Stat → Ruling (Response Stat)
 lock_unless limits w ask (Some stat) = stays w stat
 lock_unless limits w ask None = lock_rules limits w ask
 
-abbrev pub lock_verdict : Limits → World → LockArgs → LockAsk → Ruling (Told Stat)
+abbrev pub lock_verdict : Limits → World → LockArgs → LockAsk → Ruling (Response Stat)
 lock_verdict limits w a ask = lock_unless limits w ask (range_refusal w (Locking a.reclaim) a.alock)
 
 -- LOCK, which stores a row; a waiter is called by GRANTED
-abbrev pub lock_answer : Limits → World → Version → LockArgs → Ruling (Told Stat)
+abbrev pub lock_answer : Limits → World → Version → LockArgs → Ruling (Response Stat)
 lock_answer limits w version a = lock_verdict limits w a (lock_ask a (caller_row a) (Granted version a.exclusive a.alock) (slots_free limits w))
 
 -- NM_LOCK, which stores none
-abbrev pub nm_lock_answer : Limits → World → Version → LockArgs → Ruling (Told Stat)
+abbrev pub nm_lock_answer : Limits → World → Version → LockArgs → Ruling (Response Stat)
 nm_lock_answer limits w version a = lock_verdict limits w a (lock_ask a None (Granted version a.exclusive a.alock) (slots_free limits w))
 
 -- LOCK_MSG: as LOCK, but a waiter is called by GRANTED_MSG, and the slot of the LOCK_RES counts as taken
-abbrev pub lock_msg_answer : Limits → World → Version → LockArgs → Ruling (Told Stat)
+abbrev pub lock_msg_answer : Limits → World → Version → LockArgs → Ruling (Response Stat)
 lock_msg_answer limits w version a =
     lock_verdict limits w a (lock_ask a (caller_row a) (GrantedMsg version a.exclusive a.alock) (slots_free limits w - 1))
 
-abbrev pub cancel_unless : World → Request → Option Stat → Ruling (Told Stat)
+abbrev pub cancel_unless : World → Request → Option Stat → Ruling (Response Stat)
 cancel_unless w r (Some stat) = stays w stat
 cancel_unless w r None = cancel_rules w r
 
 -- CANCEL; its `block` is unused
-abbrev pub cancel_answer : World → CancelArgs → Ruling (Told Stat)
+abbrev pub cancel_answer : World → CancelArgs → Ruling (Response Stat)
 cancel_answer w a = cancel_unless w (request_of a.exclusive a.alock) (range_refusal w Cancelling a.alock)
 
-abbrev pub unlock_unless : Limits → World → Lock → Option Stat → Ruling (Told Stat)
+abbrev pub unlock_unless : Limits → World → Lock → Option Stat → Ruling (Response Stat)
 unlock_unless limits w alock (Some stat) = stays w stat
 unlock_unless limits w alock None = unlock_rules limits w (unlock_of alock)
 
-abbrev pub unlock_answer : Limits → World → UnlockArgs → Ruling (Told Stat)
+abbrev pub unlock_answer : Limits → World → UnlockArgs → Ruling (Response Stat)
 unlock_answer limits w a = unlock_unless limits w a.alock (range_refusal w Unlocking a.alock)
 
 -- ---- how it is told, as the call's version shows it: as the reply's result, or by an empty reply and a call to the caller's host
 
-abbrev pub replied : Version → Bytes → Told Stat → Answered
+abbrev pub replied : Version → Bytes → Response Stat → Answered
 replied version cookie t = gives t.world (Success (ResResult (res version cookie t.says)))
 
-abbrev pub to_caller : Lock → Message → Letter
+abbrev pub to_caller : Lock → Message → Callback
 to_caller alock message = record { to = ToHost alock.caller_name; message = message }
 
 -- an empty reply, behind which this call is due
-abbrev pub sent_back : Letter → World → Answered
-sent_back letter w = record { outcome = Success NoResult; due = letter ∷ []; world = with_due w letter }
+abbrev pub sent_back : Callback → World → Answered
+sent_back callback w = record { outcome = Success NoResult; due = callback ∷ []; world = with_due w callback }
 
 -- a call that needs more slots than are free changes nothing
 abbrev pub if_slots : ℕ → Limits → World → Ruling Answered → Ruling Answered
 if_slots needed limits w r = cond (leb needed (slots_free limits w)) r (decided (gives w SystemErr))
 
-abbrev pub by_reply : Version → Bytes → Ruling (Told Stat) → Ruling Answered
+abbrev pub by_reply : Version → Bytes → Ruling (Response Stat) → Ruling Answered
 by_reply version cookie r = each (replied version cookie) r
 
-abbrev pub by_call : (Stat → Letter) → Ruling (Told Stat) → Ruling Answered
-by_call letter r = each (λ (t : Told Stat). sent_back (letter t.says) t.world) r
+abbrev pub by_call : (Stat → Callback) → Ruling (Response Stat) → Ruling Answered
+by_call callback r = each (λ (t : Response Stat). sent_back (callback t.says) t.world) r
 
 -- a message form needs the slot of its _RES whatever that says, so this is tested first
-abbrev pub by_message : Limits → World → (Stat → Letter) → Ruling (Told Stat) → Ruling Answered
-by_message limits w letter r = if_slots 1 limits w (by_call letter r)
+abbrev pub by_message : Limits → World → (Stat → Callback) → Ruling (Response Stat) → Ruling Answered
+by_message limits w callback r = if_slots 1 limits w (by_call callback r)
 
 -- the calls that tell what a message form came to
-abbrev pub test_letter : World → Version → TestArgs → Letter
-test_letter w version a = to_caller a.alock (TestResult version (test_answer w version a))
+abbrev pub test_callback : World → Version → TestArgs → Callback
+test_callback w version a = to_caller a.alock (TestResult version (test_answer w version a))
 
-abbrev pub lock_letter : Version → LockArgs → Stat → Letter
-lock_letter version a stat = to_caller a.alock (LockResult version (res version a.cookie stat))
+abbrev pub lock_callback : Version → LockArgs → Stat → Callback
+lock_callback version a stat = to_caller a.alock (LockResult version (res version a.cookie stat))
 
-abbrev pub cancel_letter : Version → CancelArgs → Stat → Letter
-cancel_letter version a stat = to_caller a.alock (CancelResult version (res version a.cookie stat))
+abbrev pub cancel_callback : Version → CancelArgs → Stat → Callback
+cancel_callback version a stat = to_caller a.alock (CancelResult version (res version a.cookie stat))
 
-abbrev pub unlock_letter : Version → UnlockArgs → Stat → Letter
-unlock_letter version a stat = to_caller a.alock (UnlockResult version (res version a.cookie stat))
+abbrev pub unlock_callback : Version → UnlockArgs → Stat → Callback
+unlock_callback version a stat = to_caller a.alock (UnlockResult version (res version a.cookie stat))
 
 -- ---- SHARE, UNSHARE
 
 abbrev pub share_of : ShareArgs → Share
 share_of a = record { file = a.fh; name = a.caller_name; oh = a.oh; deny = a.mode; access = a.access }
 
-abbrev pub share_told : Version → ShareArgs → Told Stat → Answered
+abbrev pub share_told : Version → ShareArgs → Response Stat → Answered
 share_told version a t = gives t.world (Success (ShareResult (share_res version a.cookie t.says)))
 
-abbrev pub share_rules : Limits → World → Share → Told Stat
+abbrev pub share_rules : Limits → World → Share → Response Stat
 share_rules limits w new =
     cond (is_denied w.shares new) (record { says = DENIED; world = w })
     (cond (has_no_room limits.shares w.shares new) (record { says = DENIED_NOLOCKS; world = w })
     (record { says = GRANTED; world = record w { shares = with_share new w.shares } }))
 
-abbrev pub share_unless : Limits → World → ShareArgs → Option Stat → Told Stat
+abbrev pub share_unless : Limits → World → ShareArgs → Option Stat → Response Stat
 share_unless limits w a (Some stat) = record { says = stat; world = w }
 share_unless limits w a None = share_rules limits w (share_of a)
 
-abbrev pub share_verdict : Limits → World → ShareArgs → Told Stat
+abbrev pub share_verdict : Limits → World → ShareArgs → Response Stat
 share_verdict limits w a = share_unless limits w a (file_refusal w (Sharing a.reclaim) a.fh)
 
 -- SHARE
 abbrev pub share_answer : Limits → World → Version → ShareArgs → Answered
 share_answer limits w version a = share_told version a (share_verdict limits w a)
 
-abbrev pub unshare_unless : World → ShareArgs → Option Stat → Told Stat
+abbrev pub unshare_unless : World → ShareArgs → Option Stat → Response Stat
 unshare_unless w a (Some stat) = record { says = stat; world = w }
 unshare_unless w a None = record { says = GRANTED; world = record w { shares = without_share (share_of a) w.shares } }
 
@@ -174,10 +174,10 @@ nlm_answer limits w version (Locks a) = by_reply version a.cookie (lock_answer l
 nlm_answer limits w version (NmLock a) = by_reply version a.cookie (nm_lock_answer limits w version a)
 nlm_answer limits w version (Cancel a) = by_reply version a.cookie (cancel_answer w a)
 nlm_answer limits w version (Unlock a) = by_reply version a.cookie (unlock_answer limits w a)
-nlm_answer limits w version (TestMsg a) = if_slots 1 limits w (decided (sent_back (test_letter w version a) w))
-nlm_answer limits w version (LockMsg a) = by_message limits w (lock_letter version a) (lock_msg_answer limits w version a)
-nlm_answer limits w version (CancelMsg a) = by_message limits w (cancel_letter version a) (cancel_answer w a)
-nlm_answer limits w version (UnlockMsg a) = by_message limits w (unlock_letter version a) (unlock_answer limits w a)
+nlm_answer limits w version (TestMsg a) = if_slots 1 limits w (decided (sent_back (test_callback w version a) w))
+nlm_answer limits w version (LockMsg a) = by_message limits w (lock_callback version a) (lock_msg_answer limits w version a)
+nlm_answer limits w version (CancelMsg a) = by_message limits w (cancel_callback version a) (cancel_answer w a)
+nlm_answer limits w version (UnlockMsg a) = by_message limits w (unlock_callback version a) (unlock_answer limits w a)
 nlm_answer limits w version (GrantedRes a) = says (granted_res_rules limits w a.cookie a.stat).world NoResult
 nlm_answer limits w version (ShareCall a) = decided (share_answer limits w version a)
 nlm_answer limits w version (Unshare a) = decided (unshare_answer w version a)
@@ -196,13 +196,13 @@ abbrev pub gives_state : World → Answered
 gives_state w = gives w (Success (own_state w))
 
 -- the call that a watcher of a restarted host gets
-abbrev pub status_letter : ℤ → Watch → Letter
-status_letter state x = record { to = ToHost x.my_id.my_name; message = Status x.my_id x.mon_name state x.private_bytes }
+abbrev pub status_callback : ℤ → Watch → Callback
+status_callback state x = record { to = ToHost x.my_id.my_name; message = Status x.my_id x.mon_name state x.private_bytes }
 
 abbrev pub notified : Bytes → ℤ → World → Answered
 notified name state w =
-    let letters = map (status_letter state) (watches_of w.hosts name) in
-    record { outcome = Success NoResult; due = letters; world = with_all_due (without_host_of w name) letters }
+    let callbacks = map (status_callback state) (watches_of w.hosts name) in
+    record { outcome = Success NoResult; due = callbacks; world = with_all_due (without_host_of w name) callbacks }
 
 abbrev pub notify_rules : Limits → World → Bytes → ℤ → Option HostRow → Ruling Answered
 notify_rules limits w name state None = says w NoResult

@@ -10,7 +10,7 @@ use Rattle.definitions.specs.Ranges.{range_refusal, request_of}
 use Rattle.definitions.specs.Replies.{Call, Nlm, Nsm, Asks}
 use Rattle.definitions.specs.Waits.{Waiter}
 use Rattle.definitions.specs.World.{World, Limits, is_ready_in}
-use Rattle.definitions.specs.Step.{State, Event, Take, Doing, step, opening_state}
+use Rattle.definitions.specs.Step.{State, Event, Take, Completion, step, opening_state}
 use Rattle.definitions.specs.Replay.{Done, after, state_after}
 use Rattle.definitions.specs.Starts.{is_short}
 use Rattle.definitions.specs.Quotas.{quotas_of, exceeds}
@@ -66,15 +66,15 @@ pub record IsSound (limits : Limits) (w : World) : Type 0 where
 -- so whatever the event, its outcome and the store's answer
 abbrev pub ExclusionLaw : Type 0
 ExclusionLaw =
-    (limits : Limits) (s : State) (event : Event) (doing : Doing) (store : StoreAnswer) → IsSound limits s.world
-    → IsSound limits (step limits s event doing store).state.world
+    (limits : Limits) (s : State) (event : Event) (completion : Completion) (store : StoreAnswer) → IsSound limits s.world
+    → IsSound limits (step limits s event completion store).state.world
 
 -- in grace a step from a world under a list leads to one under it, unless its event is a reclaim that isn't honest in the list
 abbrev pub GraceLaw : Type 0
 GraceLaw =
-    (limits : Limits) (old : List Setting) (s : State) (event : Event) (doing : Doing) (store : StoreAnswer)
+    (limits : Limits) (old : List Setting) (s : State) (event : Event) (completion : Completion) (store : StoreAnswer)
     → s.world.phase ≡ Grace → IsUnder old s.world → ((r : Request) → IsReclaim event r → IsHonest old r)
-    → IsUnder old (step limits s event doing store).state.world
+    → IsUnder old (step limits s event completion store).state.world
 
 -- so it is after any events from the opening world, whatever was refused or starved
 abbrev pub RunIsSound : Type 0
@@ -107,7 +107,7 @@ HonestIsGranted =
 -- in grace, where nobody waits, a table gains a mode only by a reclaim
 abbrev pub GraceGrantsLaw : Type 0
 GraceGrantsLaw =
-    (limits : Limits) (s : State) (event : Event) (doing : Doing) (store : StoreAnswer) → s.world.phase ≡ Grace
+    (limits : Limits) (s : State) (event : Event) (completion : Completion) (store : StoreAnswer) → s.world.phase ≡ Grace
     → s.world.waiters ≡ []
-    → TableMove (IsReclaim event) Grace s.world.settings (step limits s event doing store).state.world.settings
-    × ((step limits s event doing store).state.world.waiters ≡ [])
+    → TableMove (IsReclaim event) Grace s.world.settings (step limits s event completion store).state.world.settings
+    × ((step limits s event completion store).state.world.waiters ≡ [])

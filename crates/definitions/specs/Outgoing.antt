@@ -30,13 +30,13 @@ pub data Message : Type 0 where
   Status : MyId → Bytes → ℤ → Bytes → Message
   Notify : Bytes → ℤ → Message
 
-pub record Letter : Type 0 where
+pub record Callback : Type 0 where
   pub to : Destination
   pub message : Message
 
 pub record Outgoing : Type 0 where
   pub number : ℕ
-  pub letter : Letter
+  pub callback : Callback
   pub sendings : ℕ
   pub is_due : Bool
 
@@ -48,8 +48,8 @@ xid_of c = c.number % 2 ^ 32
 abbrev pub granted_args : ℕ → Bool → Lock → TestArgs
 granted_args number exclusive alock = record { cookie = eight_bytes number; exclusive = exclusive; alock = alock }
 
-abbrev pub due_now : ℕ → Letter → Outgoing
-due_now number letter = record { number = number; letter = letter; sendings = 0; is_due = true }
+abbrev pub due_now : ℕ → Callback → Outgoing
+due_now number callback = record { number = number; callback = callback; sendings = 0; is_due = true }
 
 abbrev pub next_due : List Outgoing → Option Outgoing
 next_due calls = first_that (λ (c : Outgoing). c.is_due) calls
@@ -72,7 +72,7 @@ once_more c = record c { sendings = c.sendings + 1; is_due = false }
 abbrev pub after_sending : List Outgoing → List Outgoing
 after_sending [] = []
 after_sending (c ∷ calls) =
-    cond c.is_due (cond (ends_when_sent c.letter.message) calls (once_more c ∷ calls)) (c ∷ after_sending calls)
+    cond c.is_due (cond (ends_when_sent c.callback.message) calls (once_more c ∷ calls)) (c ∷ after_sending calls)
 
 -- a silence: nothing where the call is due; else it is due again, behind the others; after three sendings it is forgotten
 abbrev pub after_silence_of : Outgoing → List Outgoing → List Outgoing
@@ -112,7 +112,7 @@ is_granted_msg _ = false
 -- the call that a GRANTED_RES belongs to
 abbrev pub call_of_cookie : Bytes → List Outgoing → Option Outgoing
 call_of_cookie cookie calls =
-    oldest_that (λ (c : Outgoing). is_granted_msg c.letter.message && (same_bytes (eight_bytes c.number) cookie && was_sent c)) calls
+    oldest_that (λ (c : Outgoing). is_granted_msg c.callback.message && (same_bytes (eight_bytes c.number) cookie && was_sent c)) calls
 
 abbrev pub is_to_host : Bytes → Destination → Bool
 is_to_host name (ToHost host) = same_bytes host name
@@ -126,7 +126,7 @@ is_grant _ = false
 
 -- a grant that this host has not answered
 abbrev pub is_grant_to : Bytes → Outgoing → Bool
-is_grant_to name c = is_grant c.letter.message && is_to_host name c.letter.to
+is_grant_to name c = is_grant c.callback.message && is_to_host name c.callback.to
 
 abbrev pub without_grants_to : Bytes → List Outgoing → List Outgoing
 without_grants_to name calls = without (is_grant_to name) calls

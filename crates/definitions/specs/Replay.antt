@@ -4,12 +4,12 @@ use Rattle.definitions.specs.Hosts.{StoreCall, StoreAnswer, NotAsked, Yes, Refus
 use Rattle.definitions.specs.World.{Limits}
 use Rattle.definitions.specs.Nlm.{Locks, LockMsg}
 use Rattle.definitions.specs.Replies.{Call, Nlm, Asks}
-use Rattle.definitions.specs.Step.{State, Event, Take, Doing, Applied, Starved, Given, Stepped, step, store_call}
+use Rattle.definitions.specs.Step.{State, Event, Take, Completion, Applied, Starved, Given, Stepped, step, store_call}
 
 -- an event that was done or starved, with the store's answer
 pub record Done : Type 0 where
   pub event : Event
-  pub doing : Doing
+  pub completion : Completion
   pub store : StoreAnswer
 
 -- one entry of a journal: it has a number, and tells what was given, too
@@ -19,7 +19,7 @@ pub record Entry : Type 0 where
   pub given : Given
 
 abbrev pub after : Limits → State → Done → Stepped
-after limits s d = step limits s d.event d.doing d.store
+after limits s d = step limits s d.event d.completion d.store
 
 abbrev pub state_after : Limits → State → List Done → State
 state_after limits s [] = s
@@ -68,7 +68,7 @@ starved_fits limits s event Yes = cond (may_starve_late event) (answer_fits limi
 starved_fits limits s event Refused = answer_fits limits s (store_call limits s event) Refused
 
 abbrev pub fits : Limits → State → Done → Bool
-fits limits s d = elim d.doing [ Applied ↦ answer_fits limits s (store_call limits s d.event) d.store | Starved ↦ starved_fits limits s d.event d.store ]
+fits limits s d = elim d.completion [ Applied ↦ answer_fits limits s (store_call limits s d.event) d.store | Starved ↦ starved_fits limits s d.event d.store ]
 
 abbrev pub all_fit : Limits → State → List Done → Bool
 all_fit limits s [] = true
@@ -102,7 +102,7 @@ willing_answer limits s None = NotAsked
 willing_answer limits s (Some call) = cond (is_past_limit limits.rows limits.watches s.world.hosts call) Refused Yes
 
 abbrev pub willing : Limits → State → Event → Done
-willing limits s event = record { event = event; doing = Applied; store = willing_answer limits s (store_call limits s event) }
+willing limits s event = record { event = event; completion = Applied; store = willing_answer limits s (store_call limits s event) }
 
 -- what a list of events gives then, and the state that it leaves
 abbrev pub outputs : Limits → State → List Event → List Given

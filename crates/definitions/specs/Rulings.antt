@@ -3,7 +3,7 @@ use Rattle.std.specs.Prelude.{Option, None}
 use Rattle.definitions.specs.Hosts.{StoreCall, StoreAnswer, NotAsked, Yes, Refused}
 use Rattle.definitions.specs.World.{World}
 
-pub record Told (A : Type 0) : Type 0 where
+pub record Response (A : Type 0) : Type 0 where
   pub says : A
   pub world : World
 
@@ -16,7 +16,7 @@ pub record Ruling (A : Type 0) : Type 0 where
 abbrev pub decided : {A : Type 0} → A → Ruling A
 decided x = record { asks = None; agreed = x; refused = x }
 
-abbrev pub stays : {A : Type 0} → World → A → Ruling (Told A)
+abbrev pub stays : {A : Type 0} → World → A → Ruling (Response A)
 stays w x = decided (record { says = x; world = w })
 
 -- nothing that needs the store's yes comes without it; where it isn't asked, both are one

@@ -5,10 +5,10 @@ use Rattle.definitions.specs.Phases.{Normal}
 use Rattle.definitions.specs.Nlm.{Null, Test, Locks, Cancel, Unlock, TestMsg, LockMsg, CancelMsg, UnlockMsg, GrantedRes, ShareCall, Unshare, NmLock, FreeAll}
 use Rattle.definitions.specs.Nsm.{SmSimuCrash}
 use Rattle.definitions.specs.Hosts.{Hosts, StoreCall, Begin, StoreAnswer, NotAsked, Yes, Refused, after_store}
-use Rattle.definitions.specs.Outgoing.{Letter, Outgoing, next_due, after_sending, after_silence}
+use Rattle.definitions.specs.Outgoing.{Callback, Outgoing, next_due, after_sending, after_silence}
 use Rattle.definitions.specs.Replies.{Call, Nlm, Nsm, Outcome, Success, Refuses, SystemErr, Reading, Ignored, Turned, Asks, AnswerReading, Line, LineReply, LineStarved}
 use Rattle.definitions.specs.World.{World, Limits, opening, slots_free, with_hosts, with_calls, with_all_due, LeavesRest, settled, restarted}
-use Rattle.definitions.specs.Rulings.{Told, ruled}
+use Rattle.definitions.specs.Rulings.{Response, ruled}
 use Rattle.definitions.specs.Answer.{Answered, ruling}
 use Rattle.definitions.specs.Lines.{line_answer}
 use Rattle.definitions.specs.Grants.{TableChange, TableStays, TableChanges, answer_rules}
@@ -24,7 +24,7 @@ pub record KeptPair : Type 0 where
   pub asked : Bytes
   pub xid : ℕ
   pub outcome : Outcome
-  pub letters : List Letter
+  pub callbacks : List Callback
 
 -- the world and the kept replies, newest use first
 pub record State : Type 0 where
@@ -44,15 +44,15 @@ pub data Event : Type 0 where
   Restart : Event
 
 -- whether the event was done, or met want of memory
-pub data Doing : Type 0 where
-  Applied Starved : Doing
+pub data Completion : Type 0 where
+  Applied Starved : Completion
 
 -- what an event gives: nothing, the reply to a record, the answer to a line, the next due call, or the refusal of an event that has nobody to answer
 pub data Given : Type 0 where
   Nothing : Given
   Replies : ℕ → Outcome → Given
   Says : LineReply → Given
-  Sends : ℕ → Letter → Given
+  Sends : ℕ → Callback → Given
   IsStarved : Given
   IsRefused : Given
 
@@ -102,14 +102,14 @@ moved_to_front k kept = k ∷ without_first (is_same_key k.peer k.asked) kept
 -- a repeat: the kept reply, its calls due again, its pair first; where the calls find no slots, nothing but SYSTEM_ERR
 abbrev pub repeated : Limits → State → KeptPair → Stepped
 repeated limits s k =
-    cond (leb (length k.letters) (slots_free limits s.world))
-    (record { given = Replies k.xid k.outcome; state = record { world = with_all_due s.world k.letters; kept = moved_to_front k s.kept } })
+    cond (leb (length k.callbacks) (slots_free limits s.world))
+    (record { given = Replies k.xid k.outcome; state = record { world = with_all_due s.world k.callbacks; kept = moved_to_front k s.kept } })
     (record { given = Replies k.xid SystemErr; state = s })
 
 abbrev pub kept_after : Limits → Peer → Bytes → ℕ → Call → Answered → List KeptPair → List KeptPair
 kept_after limits peer asked xid call a kept =
     cond (is_success a.outcome && is_kept_kind call)
-    (take limits.kept (record { peer = peer; asked = asked; xid = xid; outcome = a.outcome; letters = a.due } ∷ kept))
+    (take limits.kept (record { peer = peer; asked = asked; xid = xid; outcome = a.outcome; callbacks = a.due } ∷ kept))
     kept
 
 -- SM_SIMU_CRASH that the store agreed to acts as a restart, and kept replies go with one
@@ -138,12 +138,12 @@ taken limits s peer asked xid call store None = fresh limits s peer asked xid ca
 
 abbrev pub sent : State → Option Outgoing → Stepped
 sent s None = nothing s
-sent s (Some c) = record { given = Sends c.number c.letter; state = with_world s (with_calls s.world (after_sending s.world.calls)) }
+sent s (Some c) = record { given = Sends c.number c.callback; state = with_world s (with_calls s.world (after_sending s.world.calls)) }
 
-abbrev pub settled_after : Limits → Told TableChange → World
+abbrev pub settled_after : Limits → Response TableChange → World
 settled_after limits t = elim t.says [ TableStays ↦ t.world | TableChanges ↦ settled limits t.world ]
 
-abbrev pub told_line : Limits → State → Told LineReply → Stepped
+abbrev pub told_line : Limits → State → Response LineReply → Stepped
 told_line limits s t = record { given = Says t.says; state = with_world s (settled limits t.world) }
 
 -- every event that begins the state anew: the store's new own state, and no kept replies
@@ -200,12 +200,12 @@ starved limits s (Take peer asked (Asks xid call)) store = record {
 starved limits s (Local l line) store = record { given = Says LineStarved; state = s }
 starved limits s _ store = record { given = IsStarved; state = s }
 
-abbrev pub step : Limits → State → Event → Doing → StoreAnswer → Stepped
+abbrev pub step : Limits → State → Event → Completion → StoreAnswer → Stepped
 step limits s event Applied store = applied limits s event store
 step limits s event Starved store = starved limits s event store
 
 -- a call whose reply is kept is not applied again: whatever it says, locks, waiters, shares, phase and hosts stay
 abbrev pub RepeatLaw : Type 0
 RepeatLaw =
-    (limits : Limits) (s : State) (peer : Peer) (asked : Bytes) (xid : ℕ) (call : Call) (doing : Doing) (store : StoreAnswer) (k : KeptPair)
-    → look s peer asked ≡ Some k → LeavesRest s.world (step limits s (Take peer asked (Asks xid call)) doing store).state.world
+    (limits : Limits) (s : State) (peer : Peer) (asked : Bytes) (xid : ℕ) (call : Call) (completion : Completion) (store : StoreAnswer) (k : KeptPair)
+    → look s peer asked ≡ Some k → LeavesRest s.world (step limits s (Take peer asked (Asks xid call)) completion store).state.world

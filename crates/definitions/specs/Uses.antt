@@ -12,11 +12,11 @@ use Rattle.definitions.specs.World.{Limits, slots_free}
 
 -- the pair of a call that is answered for the first time
 abbrev pub new_pair : Peer → Bytes → ℕ → Answered → KeptPair
-new_pair peer asked xid a = record { peer = peer; asked = asked; xid = xid; outcome = a.outcome; letters = a.due }
+new_pair peer asked xid a = record { peer = peer; asked = asked; xid = xid; outcome = a.outcome; callbacks = a.due }
 
 -- a repeat that finds its slots uses its pair; a call whose kind is kept and whose reply is SUCCESS uses a new one; a restart forgets all uses
 abbrev pub used_by_call : Limits → State → Peer → Bytes → ℕ → Call → StoreAnswer → Option KeptPair → List KeptPair → List KeptPair
-used_by_call limits s peer asked xid call store (Some k) uses = cond (leb (length k.letters) (slots_free limits s.world)) (k ∷ uses) uses
+used_by_call limits s peer asked xid call store (Some k) uses = cond (leb (length k.callbacks) (slots_free limits s.world)) (k ∷ uses) uses
 used_by_call limits s peer asked xid call store None uses =
     let a = ruled store (ruling limits s.world peer.local call) in
     cond (is_restart peer call store) [] (cond (is_success a.outcome && is_kept_kind call) (new_pair peer asked xid a ∷ uses) uses)
@@ -28,7 +28,7 @@ used_by_event limits s _ store uses = uses
 
 -- what starved uses nothing
 abbrev pub used_by : Limits → State → Done → List KeptPair → List KeptPair
-used_by limits s d uses = elim d.doing [ Applied ↦ used_by_event limits s d.event d.store uses | Starved ↦ uses ]
+used_by limits s d uses = elim d.completion [ Applied ↦ used_by_event limits s d.event d.store uses | Starved ↦ uses ]
 
 -- all uses of some events, newest first, behind those of before
 abbrev pub uses_after : Limits → State → List KeptPair → List Done → List KeptPair

@@ -16,10 +16,10 @@ goes_past a all after =
 abbrev pub allowance : ℕ → ℕ → Allowance
 allowance has may = record { used = has; quota = may }
 
-pub record IsTold (settings : List Setting) (t : Setting) (host : Bytes) (may : ℕ) : Type 0 where
+pub record IsAnswered (settings : List Setting) (t : Setting) (host : Bytes) (may : ℕ) : Type 0 where
   pub by_all : goes_past (allowance (used_of host settings) may) (all_used settings) (all_used (settings ++ t ∷ [])) ≡ is_past settings t host may
   pub far : ltb may (used_of host settings + 2) ≡ false → is_past settings t host may ≡ false
 
 -- the number of all runs after a setting says whether it goes past, and where two more are allowed, none does
 abbrev pub PastLaw : Type 0
-PastLaw = (settings : List Setting) (t : Setting) (host : Bytes) (may : ℕ) → is_of_host host t.owner ≡ true → IsTold settings t host may
+PastLaw = (settings : List Setting) (t : Setting) (host : Bytes) (may : ℕ) → is_of_host host t.owner ≡ true → IsAnswered settings t host may

@@ -9,7 +9,7 @@ use Rattle.definition_laws.proofs.KeptLaws.{local_same, local_is}
 use Rattle.definitions.specs.Bytes.{Bytes, same_bytes}
 use Rattle.definitions.specs.Step.{Peer}
 use Rattle.book.specs.declared.entry.Entry.{Entry}
-use Rattle.book.specs.Notes.{view_of_entry, is_take, Happening, Takes, SendsNext, HearsAnswer, AsksLine, FallsSilent, GraceEnds, BeginsAnew, Note}
+use Rattle.book.specs.Notes.{view_of_entry, is_take, JournalEvent, Takes, SendsNext, HearsAnswer, AsksLine, FallsSilent, GraceEnds, BeginsAnew, Note}
 use Rattle.book.specs.Given.{record_of}
 use Rattle.book.specs.Journal.{Journal}
 use Rattle.book.specs.Receipts.{Receipt, receipt_of, same_receipt, same_event, same_peer}
@@ -59,7 +59,7 @@ peers_are a b e =
     let s = and_parts (same_bytes a.address b.address) (cond a.local b.local (not b.local)) e in
     λ i. record { address = (bytes_eq-Decides a.address b.address).0 s.0 i; local = local_same a.local b.local s.1 i }
 
-takes_are : (p : Peer) (asked : Bytes) (e : Happening) → same_event (Takes p asked) e ≡ true → Takes p asked ≡ e
+takes_are : (p : Peer) (asked : Bytes) (e : JournalEvent) → same_event (Takes p asked) e ≡ true → Takes p asked ≡ e
 takes_are p asked (Takes q bytes) h =
     let s = and_parts (same_peer p q) (same_bytes asked bytes) h in
     λ i. Takes (peers_are p q s.0 i) ((bytes_eq-Decides asked bytes).0 s.1 i)
@@ -70,10 +70,10 @@ takes_are p asked (FallsSilent number) h = absurd (true≢false (sym h))
 takes_are p asked GraceEnds h = absurd (true≢false (sym h))
 takes_are p asked BeginsAnew h = absurd (true≢false (sym h))
 
-abbrev told : ℕ → Happening → Bytes → Receipt
+abbrev told : ℕ → JournalEvent → Bytes → Receipt
 told number event reply = record { number = number; event = event; reply = reply }
 
-receipt_is : (number : ℕ) (e : Happening) (reply : Bytes) (r : Receipt) → is_take e ≡ true → same_receipt (told number e reply) r ≡ true → told number e reply ≡ r
+receipt_is : (number : ℕ) (e : JournalEvent) (reply : Bytes) (r : Receipt) → is_take e ≡ true → same_receipt (told number e reply) r ≡ true → told number e reply ≡ r
 receipt_is number (Takes p asked) reply r t h =
     let s = and_parts (number == r.number) (same_event (Takes p asked) r.event && same_bytes reply r.reply) h in
     let u = and_parts (same_event (Takes p asked) r.event) (same_bytes reply r.reply) s.1 in
@@ -85,7 +85,7 @@ receipt_is number (FallsSilent n) reply r t h = absurd (true≢false (sym t))
 receipt_is number GraceEnds reply r t h = absurd (true≢false (sym t))
 receipt_is number BeginsAnew reply r t h = absurd (true≢false (sym t))
 
-receipt_own : (number : ℕ) (e : Happening) (reply : Bytes) → is_take e ≡ true → same_receipt (told number e reply) (told number e reply) ≡ true
+receipt_own : (number : ℕ) (e : JournalEvent) (reply : Bytes) → is_take e ≡ true → same_receipt (told number e reply) (told number e reply) ≡ true
 receipt_own number (Takes p asked) reply t =
     and_from _ _ (eq-eqb number number refl)
     (and_from _ _ (and_from _ _ (and_from _ _ ((bytes_eq-Decides p.address p.address).1 refl) (local_is p.local)) ((bytes_eq-Decides asked asked).1 refl)) ((bytes_eq-Decides reply reply).1 refl))
@@ -113,7 +113,7 @@ own_first : (n : Note) (notes : List Note) (k : ℕ) (r : Receipt) (rest : List 
 own_first n notes k r rest false t s after e = absurd (none-some (k, []) e)
 own_first n notes k r rest true t s after e =
     let m = after rest e in
-    (m.0, λ i. sym (receipt_is n.number n.event (record_of n.upshot.given) r t s) i ∷ m.1 i)
+    (m.0, λ i. sym (receipt_is n.number n.event (record_of n.step_result.given) r t s) i ∷ m.1 i)
 
 from_taken : (n : Note) (notes : List Note) (k : ℕ) (left : List Receipt) (t : Bool) → is_take n.event ≡ t → Follows n notes k → onwards (taken_from left n t) notes ≡ Some (k, []) → RunOn (suc n.number) notes × (left ≡ cond t (receipt_of n ∷ receipts_of notes) (receipts_of notes))
 from_taken n notes k left false t after e = after left e
@@ -134,7 +134,7 @@ meets_from last left (n ∷ notes) k e =
 
 taken_own : (n : Note) (rest : List Receipt) (t : Bool) → is_take n.event ≡ t → taken_from (cond t (receipt_of n ∷ rest) rest) n t ≡ Some (n.number, rest)
 taken_own n rest false t = refl
-taken_own n rest true t = ap (λ b. cond b (Some (n.number, rest)) None) (receipt_own n.number n.event (record_of n.upshot.given) t)
+taken_own n rest true t = ap (λ b. cond b (Some (n.number, rest)) None) (receipt_own n.number n.event (record_of n.step_result.given) t)
 
 pub meets_to : (last : ℕ) (notes : List Note) → RunOn (suc last) notes → (k : ℕ) × (meet_all last (receipts_of notes) notes ≡ Some (k, []))
 meets_to last [] run = (last, refl)

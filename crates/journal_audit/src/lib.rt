@@ -8,7 +8,7 @@ ghost use Rattle.book.specs.Notes.{is_take, view_of_entry};
 ghost use Rattle.book.specs.Histories.{notes_of};
 ghost use Rattle.journal_audit.specs.Audits.{Agrees, meet, meet_all};
 
-use book::{Act, BookEvent, Closed, Entry, Receipt};
+use book::{BookEvent, Closed, Entry, Operation, Receipt};
 use hosts_db::HostStore;
 use range_table::RangeTable;
 use thiserror::Error;
@@ -102,8 +102,8 @@ fn met<'a>(last: u64, left: &'a [Receipt], entry: &Entry) -> Option<(u64, &'a [R
 fn took(entry: &Entry) -> bool
     ensures { result ≡ is_take (view_of_entry entry.now).event }
 {
-    match &entry.act {
-        Act::Event { event, .. } => matches!(event, BookEvent::Take { .. }),
-        Act::Line { .. } | Act::Sent { .. } => false,
+    match &entry.operation {
+        Operation::Event { event, .. } => matches!(event, BookEvent::Take { .. }),
+        Operation::Line { .. } | Operation::Sent { .. } => false,
     }
 }

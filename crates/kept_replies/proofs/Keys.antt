@@ -10,7 +10,7 @@ use Rattle.std.specs.Option.{option_map_or}
 use Rattle.lru.proofs.CallerLemmas.{Contains-lookup_entry}
 use Rattle.lru.specs.LruCache.{LruCache, promoted, put_entries}
 use Rattle.definitions.specs.Replies.{Outcome}
-use Rattle.definitions.specs.Outgoing.{Letter}
+use Rattle.definitions.specs.Outgoing.{Callback}
 use Rattle.definitions.specs.Bytes.{without_first}
 use Rattle.definitions.specs.Step.{KeptPair, is_same_key}
 use Rattle.kept_replies.specs.declared.key.Key.{Key}
@@ -58,26 +58,26 @@ key_is key k h =
     let local = local_is key.peer.is_local k.peer.local p.2 in
     (rw (← address, ← local) refl, (bytes_eq-Decides k.asked key.record).0 p.0)
 
-module _ {V : Type 0} (xid : V → ℕ) (outcome : V → Outcome) (letters : V → List Letter) (key : Key) where
+module _ {V : Type 0} (xid : V → ℕ) (outcome : V → Outcome) (callbacks : V → List Callback) (key : Key) where
   abbrev P : Key → V → KeptPair
-  P = pair xid outcome letters
+  P = pair xid outcome callbacks
 
   abbrev Ps : List (Key × V) → List KeptPair
-  Ps = pairs xid outcome letters
+  Ps = pairs xid outcome callbacks
 
   -- a pair under an equal key is the pair under the key itself
   same_pair : (k : Key) (v : V) → same_key key k ≡ true → P key v ≡ P k v
   same_pair k v h = let p = key_is key (P k v) (sym (same_key_is key k) ∙ h) in rw (← p.0, ← p.1) refl
 
-  shown_here : (e : Key × V) (o : Option (Bor V)) → same_key key e.0 ≡ true → option_copied o ≡ Some e.1 → shown xid outcome letters key o ≡ Some (P e.0 e.1)
+  shown_here : (e : Key × V) (o : Option (Bor V)) → same_key key e.0 ≡ true → option_copied o ≡ Some e.1 → shown xid outcome callbacks key o ≡ Some (P e.0 e.1)
   shown_here e None t k = cc
   shown_here e (Some v) t k = let q : v.now ≡ e.1 = cc in rw q (ap Some (same_pair e.0 e.1 t))
 
   -- what `peek` shows is the first pair with the key
-  pub shown_is : (es : List (Key × V)) (o : Option (Bor V)) → option_copied o ≡ lookup (same_key key) es → shown xid outcome letters key o ≡ at_key key (Ps es)
+  pub shown_is : (es : List (Key × V)) (o : Option (Bor V)) → option_copied o ≡ lookup (same_key key) es → shown xid outcome callbacks key o ≡ at_key key (Ps es)
   shown_is [] None h = refl
   shown_is [] (Some v) h = cc
-  shown_is (e ∷ es) o h = rw (← same_key_is key e.0) ((elim (same_key key e.0) as (λ y. same_key key e.0 ≡ y → option_copied o ≡ cond y (Some e.1) (lookup (same_key key) es) → shown xid outcome letters key o ≡ cond y (Some (P e.0 e.1)) (at_key key (Ps es))) [
+  shown_is (e ∷ es) o h = rw (← same_key_is key e.0) ((elim (same_key key e.0) as (λ y. same_key key e.0 ≡ y → option_copied o ≡ cond y (Some e.1) (lookup (same_key key) es) → shown xid outcome callbacks key o ≡ cond y (Some (P e.0 e.1)) (at_key key (Ps es))) [
     | true ↦ λ t k. shown_here e o t k
     | false ↦ λ t k. shown_is es o k
   ]) refl h)

@@ -2,7 +2,7 @@
 use Rattle.std.specs.Prelude.{ℕ, List, ◌∷◌, map, take, Option, Some, None}
 use Rattle.std.specs.Borrow.{Bor}
 use Rattle.definitions.specs.Replies.{Outcome}
-use Rattle.definitions.specs.Outgoing.{Letter}
+use Rattle.definitions.specs.Outgoing.{Callback}
 use Rattle.definitions.specs.Step.{KeptPair, is_same_key, moved_to_front, Peer as Asker}
 use Rattle.definitions.specs.Bytes.{first_that}
 use Rattle.kept_replies.specs.declared.key.Key.{Key}
@@ -11,10 +11,10 @@ use Rattle.kept_replies.specs.declared.key.Peer.{Peer}
 abbrev pub view_of_peer : Peer → Asker
 view_of_peer p = record { address = p.address; local = p.is_local }
 
-module _ {V : Type 0} (xid : V → ℕ) (outcome : V → Outcome) (letters : V → List Letter) where
+module _ {V : Type 0} (xid : V → ℕ) (outcome : V → Outcome) (callbacks : V → List Callback) where
   -- a key and what is kept under it
   abbrev pub pair : Key → V → KeptPair
-  pair key v = record { peer = view_of_peer key.peer; asked = key.record; xid = xid v; outcome = outcome v; letters = letters v }
+  pair key v = record { peer = view_of_peer key.peer; asked = key.record; xid = xid v; outcome = outcome v; callbacks = callbacks v }
 
   abbrev pub pairs : List (Key × V) → List KeptPair
   pairs = map (λ e. pair e.0 e.1)

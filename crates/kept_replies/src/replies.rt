@@ -1,7 +1,7 @@
 //! Kept replies, the newest use first.
 ghost use Rattle.std.specs.Prelude.{◌≡◌, ◌≤◌, ◌↔◌, IsTrue, ℕ, List, [], length, IfOk, OnOk, OnErr};
 ghost use Rattle.definitions.specs.Replies.{Outcome};
-ghost use Rattle.definitions.specs.Outgoing.{Letter};
+ghost use Rattle.definitions.specs.Outgoing.{Callback};
 ghost use Rattle.kept_replies.specs.Pairs.{pair, shown, found, at_key, kept_first};
 ghost use Rattle.std.specs.Borrow.{sem};
 
@@ -21,7 +21,7 @@ pub trait Kept: Drop {
 
     ghost outcome: { Self → Outcome };
 
-    ghost letters: { Self → List Letter };
+    ghost callbacks: { Self → List Callback };
 }
 
 /// The kept replies, at most `MOST_KEPT`. Contracts see the pairs of key and reply, the newest use first.
@@ -37,7 +37,7 @@ impl<V: Kept> Model for KeptReplies<V> {
 
     ghost Value = { List KeptPair };
 
-    ghost view = { λ r. pairs V.xid V.outcome V.letters r.cache.entries };
+    ghost view = { λ r. pairs V.xid V.outcome V.callbacks r.cache.entries };
 
     ghost invariant = { λ r. r.cache.cap ≡ 1024 };
 }
@@ -72,7 +72,7 @@ impl<V: Kept> KeptReplies<V> {
 
     /// What is kept under the key. The order of uses stays.
     pub fn look(&self, key: &Key) -> Option<&V>
-        ensures { shown V.xid V.outcome V.letters key.now result ≡ at_key key.now self.now }
+        ensures { shown V.xid V.outcome V.callbacks key.now result ≡ at_key key.now self.now }
     {
         self.cache.peek(key)
     }
@@ -80,7 +80,7 @@ impl<V: Kept> KeptReplies<V> {
     /// What is kept under the key, which is now the newest use.
     pub fn find(&mut self, key: &Key) -> Option<&V>
         ensures* moved { sem 𝓛 (ends_as V.row V.Kept self.entry (found (at_key key.now self.old) self.old)) }
-        ensures value { shown V.xid V.outcome V.letters key.now result ≡ at_key key.now self.old }
+        ensures value { shown V.xid V.outcome V.callbacks key.now result ≡ at_key key.now self.old }
     {
         if !self.cache.promote(key) {
             return None;
@@ -91,7 +91,7 @@ impl<V: Kept> KeptReplies<V> {
     /// Keeps a call's reply as the newest, in place of what was kept under its key. Where nothing was, and `MOST_KEPT` are
     /// kept, the one whose use is longest ago goes. Starved: nothing has changed.
     pub fn keep(&mut self, key: Key, kept: V) -> Result<(), Starved>
-        ensures ok { OnOk result (self.new ≡ kept_first (at_key key self.old) (pair V.xid V.outcome V.letters key kept) self.old) }
+        ensures ok { OnOk result (self.new ≡ kept_first (at_key key self.old) (pair V.xid V.outcome V.callbacks key kept) self.old) }
         ensures err { OnErr result (self.new ≡ self.old) }
     {
         match self.cache.put(key, kept) {

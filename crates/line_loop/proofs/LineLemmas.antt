@@ -11,8 +11,8 @@ use Rattle.definitions.specs.Bytes.{Bytes}
 use Rattle.definitions.specs.Step.{State, Given, Starved}
 use Rattle.definitions.specs.Hosts.{NotAsked}
 use Rattle.book.specs.declared.event.BookEvent.{BookEvent}
-use Rattle.book.specs.Given.{Upshot}
-use Rattle.book.specs.Notes.{Happening, AsksLine, Note, Steps, view_of_event}
+use Rattle.book.specs.Given.{StepResult}
+use Rattle.book.specs.Notes.{JournalEvent, AsksLine, Note, Steps, view_of_event}
 use Rattle.workers.specs.Holds.{Held, entry_of, Notes, Adds}
 use Rattle.workers.specs.Answers.{StarvesAs}
 use Rattle.byte_io.specs.Written.{Wrote, WroteFront}
@@ -228,18 +228,18 @@ module _ (c : ℕ) (p piece : Bytes) (i d : ℕ) (q : Bytes) (x y : Trace) (with
 
 -- ---- what a hold gave
 
-pub starved_told : (event : Happening) (given : Given) (u : Upshot) → u.doing ≡ Starved → u.store ≡ NotAsked → ((s : State) → Steps s event u s) → given ≡ u.given → StarvesAs event given
-starved_told event given u doing store steps is = λ s. subst (λ (u : Upshot). Steps s event u s) (λ i. record { doing = doing i; store = store i; given = sym is i }) (steps s)
+pub starved_told : (event : JournalEvent) (given : Given) (u : StepResult) → u.completion ≡ Starved → u.store ≡ NotAsked → ((s : State) → Steps s event u s) → given ≡ u.given → StarvesAs event given
+starved_told event given u completion store steps is = λ s. subst (λ (u : StepResult). Steps s event u s) (λ i. record { completion = completion i; store = store i; given = sym is i }) (steps s)
 
 module _ (old new : Held) (c : ℕ) (line : Bytes) (event : BookEvent) (told told' : List Note) (is : view_of_event event ≡ AsksLine c line) where
-  entered : (u : Upshot) (given : Given) (number : ℕ) → Notes old (view_of_event event) u new → Adds new (entry_of number (view_of_event event) u) told told' → given ≡ u.given → Asks c line given told told'
+  entered : (u : StepResult) (given : Given) (number : ℕ) → Notes old (view_of_event event) u new → Adds new (entry_of number (view_of_event event) u) told told' → given ≡ u.given → Asks c line given told told'
   entered u given number notes adds gave = (
     Some (entry_of number (view_of_event event) u),
-    record { before = old; after = new; notes = subst (λ (h : Happening). Notes old h u new) is notes; is_newest = adds.is_newest; event = is; gave = sym gave },
+    record { before = old; after = new; notes = subst (λ (h : JournalEvent). Notes old h u new) is notes; is_newest = adds.is_newest; event = is; gave = sym gave },
     adds.added,
   )
 
-  pub asked : (r : Result Upshot BookEvent) (given : Given) → IfOk r (λ u. Notes old (view_of_event event) u new) → IfOk r (λ u. (number : ℕ) × Adds new (entry_of number (view_of_event event) u) told told') → IfErr r (λ back. (back ≡ event) × (told' ≡ told)) → TellsOf r given → Asks c line given told told'
+  pub asked : (r : Result StepResult BookEvent) (given : Given) → IfOk r (λ u. Notes old (view_of_event event) u new) → IfOk r (λ u. (number : ℕ) × Adds new (entry_of number (view_of_event event) u) told told') → IfErr r (λ back. (back ≡ event) × (told' ≡ told)) → TellsOf r given → Asks c line given told told'
   asked (Ok u) given noted adds none gave = entered u given adds.0 noted adds.1 gave
   asked (Err back) given noted adds none starved =
-      (None, subst (λ (h : Happening). StarvesAs h given) (ap view_of_event none.0 ∙ is) starved, none.1 ∙ sym (append-nil told))
+      (None, subst (λ (h : JournalEvent). StarvesAs h given) (ap view_of_event none.0 ∙ is) starved, none.1 ∙ sym (append-nil told))

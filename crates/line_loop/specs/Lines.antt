@@ -7,7 +7,7 @@ use Rattle.definitions.specs.Bytes.{Bytes}
 use Rattle.definitions.specs.Step.{Given, Nothing, Replies, Says, Sends, IsStarved, IsRefused}
 use Rattle.local_ops.specs.Texts.{reply_text}
 use Rattle.book.specs.declared.event.BookEvent.{BookEvent}
-use Rattle.book.specs.Given.{Upshot}
+use Rattle.book.specs.Given.{StepResult}
 use Rattle.book.specs.Notes.{AsksLine, Note, view_of_event}
 use Rattle.book.specs.Receipts.{newest}
 use Rattle.workers.specs.Holds.{Held, Notes}
@@ -44,7 +44,7 @@ abbrev pub text_of : Given → Bytes
 text_of (Says reply) = reply_text reply
 text_of Nothing = []
 text_of (Replies xid outcome) = []
-text_of (Sends number letter) = []
+text_of (Sends number callback) = []
 text_of IsStarved = []
 text_of IsRefused = []
 
@@ -58,10 +58,10 @@ entries answers = flat_map (λ (a : Answer). option_to_list a.entry) answers
 pub record IsEntered (connection : ℕ) (line : Bytes) (given : Given) (entry : Note) : Type 0 where
   pub before : Held
   pub after : Held
-  pub notes : Notes before (AsksLine connection line) entry.upshot after
+  pub notes : Notes before (AsksLine connection line) entry.step_result after
   pub is_newest : newest after.book.journal.notes ≡ Some entry
   pub event : entry.event ≡ AsksLine connection line
-  pub gave : entry.upshot.given ≡ given
+  pub gave : entry.step_result.given ≡ given
 
 -- what the line's entry gave; without one, what a line gets that starved
 abbrev pub IsAnswered : ℕ → Bytes → Given → Option Note → Type 0
@@ -195,6 +195,6 @@ Finishes (Err fault) (Some ending.ReadFault) = ⊥
 Finishes (Err fault) (Some ending.Stopped) = ⊥
 
 -- what is told of an event: what its entry gave, or what it gives without one
-abbrev pub TellsOf : Result Upshot BookEvent → Given → Type 0
-TellsOf (Ok upshot) given = given ≡ upshot.given
+abbrev pub TellsOf : Result StepResult BookEvent → Given → Type 0
+TellsOf (Ok step_result) given = given ≡ step_result.given
 TellsOf (Err event) given = StarvesAs (view_of_event event) given

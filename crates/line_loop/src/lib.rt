@@ -1,8 +1,8 @@
 //! The loop of a local connection: the lines of a local program are answered over one shared book.
 #![tactic(auto)]
 
-mod clerk;
 mod ending;
+mod line_handler;
 mod lines;
 mod part;
 mod signals;

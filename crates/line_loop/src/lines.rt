@@ -5,8 +5,8 @@ ghost use Rattle.byte_io.specs.Reads.{TakesAtMost};
 ghost use Rattle.byte_io.specs.Written.{Wrote};
 ghost use Rattle.line_loop.specs.Lines.{AnswersLine, Ends, Finishes, Hears, Takes, Turns, text_of, trace};
 
-use crate::clerk::{Answers, Clerk};
 use crate::ending::Ending;
+use crate::line_handler::{Answers, LineHandler};
 use crate::part::Part;
 use crate::signals::Signals;
 use book::{LocalAnswer, Reply, Starved};
@@ -17,7 +17,7 @@ use std::alloc::Global;
 use std::io::{Read, Write};
 use std::sync::ledger::Ledger;
 use std::sync::{Mutex, Wait};
-use workers::{Shared, Transcript};
+use workers::{GhostTrace, Shared};
 
 /// The most bytes that are read at once.
 pub const MOST_READ_BYTES: usize = 4_096;
@@ -28,7 +28,7 @@ pub struct Served {
     /// How its connection ended.
     pub ending: Ending,
     /// What the holds of its lines gave.
-    pub transcript: Transcript,
+    pub ghost_trace: GhostTrace,
 }
 
 // Writes what a line is answered.
@@ -55,7 +55,7 @@ fn tell<O: Write>(output: &mut O, reply: &Reply) -> Result<(), WriteFault>
 
 // How the line ends the connection, if it does.
 fn finish<A: Answers>(
-    clerk: &A,
+    line_handler: &A,
     told: Result<(), WriteFault>,
     is_stop: bool,
     reply: Reply,
@@ -66,7 +66,7 @@ fn finish<A: Answers>(
         return Some(Ending::WriteFault);
     }
     if is_stop && matches!(reply, Reply::Says(LocalAnswer::Done)) {
-        clerk.stop();
+        line_handler.stop();
         return Some(Ending::Stopped);
     }
     None
@@ -74,17 +74,17 @@ fn finish<A: Answers>(
 
 // Answers a line. How that ends the connection, if it does.
 fn answer_line<A: Answers, O: Write>(
-    clerk: &mut A,
+    line_handler: &mut A,
     connection: u64,
     output: &mut O,
     line: Vec<u8>,
 ) -> Option<Ending>
-    ensures { AnswersLine result connection line.items (trace (O.contents output.old) (A.told clerk.old)) (trace (O.contents output.new) (A.told clerk.new)) }
+    ensures { AnswersLine result connection line.items (trace (O.contents output.old) (A.told line_handler.old)) (trace (O.contents output.new) (A.told line_handler.new)) }
 {
     let is_stop = line.as_slice() == b"stop".as_slice();
-    let reply = clerk.ask(connection, line);
+    let reply = line_handler.ask(connection, line);
     let told = tell(output, &reply);
-    finish(clerk, told, is_stop, reply)
+    finish(line_handler, told, is_stop, reply)
 }
 
 fn is_feed(byte: u8) -> bool
@@ -95,47 +95,47 @@ fn is_feed(byte: u8) -> bool
 
 // There is no memory to hand the line on: it is answered `starved`, without an entry, and the connection goes on.
 fn starve_line<A: Answers, O: Write>(
-    clerk: &A,
+    line_handler: &A,
     connection: u64,
     part: &mut Part,
     output: &mut O,
 ) -> Option<Ending>
-    ensures { Takes result connection part.old (10 ∷ []) part.new (trace (O.contents output.old) (A.told clerk.now)) (trace (O.contents output.new) (A.told clerk.now)) }
+    ensures { Takes result connection part.old (10 ∷ []) part.new (trace (O.contents output.old) (A.told line_handler.now)) (trace (O.contents output.new) (A.told line_handler.now)) }
 {
     let reply = part.starve(connection);
     let told = tell(output, &reply);
-    finish(clerk, told, false, reply)
+    finish(line_handler, told, false, reply)
 }
 
 // The line is whole, and is answered.
 fn end_line<A: Answers, O: Write>(
-    clerk: &mut A,
+    line_handler: &mut A,
     connection: u64,
     part: &mut Part,
     output: &mut O,
 ) -> Option<Ending>
-    ensures { Takes result connection part.old (10 ∷ []) part.new (trace (O.contents output.old) (A.told clerk.old)) (trace (O.contents output.new) (A.told clerk.new)) }
+    ensures { Takes result connection part.old (10 ∷ []) part.new (trace (O.contents output.old) (A.told line_handler.old)) (trace (O.contents output.new) (A.told line_handler.new)) }
 {
     match part.end() {
-        Ok(line) => answer_line(clerk, connection, output, line),
-        Err(Starved) => starve_line(clerk, connection, part, output),
+        Ok(line) => answer_line(line_handler, connection, output, line),
+        Err(Starved) => starve_line(line_handler, connection, part, output),
     }
 }
 
 // One byte more: the end of a line answers it.
 #[tactic(auto, using(crate::proofs::LineLemmas::byte_ended))]
 fn take_byte<A: Answers, O: Write>(
-    clerk: &mut A,
+    line_handler: &mut A,
     connection: u64,
     part: &mut Part,
     output: &mut O,
     byte: u8,
 ) -> Option<Ending>
-    ensures { Takes result connection part.old (byte ∷ []) part.new (trace (O.contents output.old) (A.told clerk.old)) (trace (O.contents output.new) (A.told clerk.new)) }
+    ensures { Takes result connection part.old (byte ∷ []) part.new (trace (O.contents output.old) (A.told line_handler.old)) (trace (O.contents output.new) (A.told line_handler.new)) }
 {
     let is_end = is_feed(byte);
     if is_end {
-        return end_line(clerk, connection, part, output);
+        return end_line(line_handler, connection, part, output);
     }
     part.add(byte);
     None
@@ -143,17 +143,17 @@ fn take_byte<A: Answers, O: Write>(
 
 // Bytes more: each line that ends among them is answered.
 fn take_piece<A: Answers, O: Write>(
-    clerk: &mut A,
+    line_handler: &mut A,
     connection: u64,
     part: &mut Part,
     output: &mut O,
     piece: &[u8],
 ) -> Option<Ending>
-    ensures { Takes result connection part.old piece.now part.new (trace (O.contents output.old) (A.told clerk.old)) (trace (O.contents output.new) (A.told clerk.new)) }
+    ensures { Takes result connection part.old piece.now part.new (trace (O.contents output.old) (A.told line_handler.old)) (trace (O.contents output.new) (A.told line_handler.new)) }
 {
     part.has_no_feed();
     for byte in piece {
-        match take_byte(clerk, connection, part, output, *byte) {
+        match take_byte(line_handler, connection, part, output, *byte) {
             Some(ending) => return Some(ending),
             None => {}
         }
@@ -163,27 +163,27 @@ fn take_piece<A: Answers, O: Write>(
 
 // What was read is answered. None was the stream's end.
 fn hear<A: Answers, O: Write>(
-    clerk: &mut A,
+    line_handler: &mut A,
     connection: u64,
     part: &mut Part,
     output: &mut O,
     piece: &[u8],
 ) -> Option<Ending>
-    ensures { Hears result connection part.old piece.now part.new (trace (O.contents output.old) (A.told clerk.old)) (trace (O.contents output.new) (A.told clerk.new)) }
+    ensures { Hears result connection part.old piece.now part.new (trace (O.contents output.old) (A.told line_handler.old)) (trace (O.contents output.new) (A.told line_handler.new)) }
 {
     part.has_no_feed();
     if piece.is_empty() {
         return Some(Ending::Over);
     }
-    if clerk.is_stopping() {
+    if line_handler.is_stopping() {
         return Some(Ending::Stopped);
     }
-    take_piece(clerk, connection, part, output, piece)
+    take_piece(line_handler, connection, part, output, piece)
 }
 
 // Reads once, into this place, and answers what came.
 fn turn<A: Answers, I: Read, O: Write>(
-    clerk: &mut A,
+    line_handler: &mut A,
     connection: u64,
     part: &mut Part,
     place: &mut [u8],
@@ -191,12 +191,12 @@ fn turn<A: Answers, I: Read, O: Write>(
     output: &mut O,
 ) -> Option<Ending>
     requires { length place.old ≡ MOST_READ_BYTES }
-    ensures turns { Turns result connection part.old part.new (I.remaining input.old) (I.remaining input.new) (trace (O.contents output.old) (A.told clerk.old)) (trace (O.contents output.new) (A.told clerk.new)) }
+    ensures turns { Turns result connection part.old part.new (I.remaining input.old) (I.remaining input.new) (trace (O.contents output.old) (A.told line_handler.old)) (trace (O.contents output.new) (A.told line_handler.new)) }
     ensures few { TakesAtMost MOST_READ_BYTES (I.remaining input.old) (I.remaining input.new) }
 {
     part.has_no_feed();
     match read_piece(input, place) {
-        Ok(count) => hear(clerk, connection, part, output, &place[..count]),
+        Ok(count) => hear(line_handler, connection, part, output, &place[..count]),
         Err(failed) if failed.is_interrupted => None,
         Err(_) => Some(Ending::ReadFault),
     }
@@ -205,13 +205,13 @@ fn turn<A: Answers, I: Read, O: Write>(
 // Answers the lines of a stream, from its start, in so many reads at most.
 fn serve<A: Answers, I: Read, O: Write>(
     alloc: Global,
-    clerk: &mut A,
+    line_handler: &mut A,
     connection: u64,
     input: &mut I,
     output: &mut O,
     bound: u64,
 ) -> Ending
-    ensures ends { Ends result connection (I.remaining input.old) (I.remaining input.new) (trace (O.contents output.old) (A.told clerk.old)) (trace (O.contents output.new) (A.told clerk.new)) }
+    ensures ends { Ends result connection (I.remaining input.old) (I.remaining input.new) (trace (O.contents output.old) (A.told line_handler.old)) (trace (O.contents output.new) (A.told line_handler.new)) }
     ensures few { TakesAtMost (MOST_READ_BYTES * bound) (I.remaining input.old) (I.remaining input.new) }
 {
     // All memory that the connection needs is got before the first read, so that no line is lost for want of it.
@@ -223,7 +223,7 @@ fn serve<A: Answers, I: Read, O: Write>(
     };
     let place = bytes.as_mut_slice();
     for _read in 0..bound {
-        match turn(clerk, connection, &mut part, place, input, output) {
+        match turn(line_handler, connection, &mut part, place, input, output) {
             Some(ending) => return ending,
             None => {}
         }
@@ -232,7 +232,7 @@ fn serve<A: Answers, I: Read, O: Write>(
 }
 
 /// Answers the lines of a local program on the connection of this number, each in a hold of its own, in order, and writes what
-/// each is answered, whole, and nothing else. The transcript has the lines' entries: one for each that had room, and no others.
+/// each is answered, whole, and nothing else. The trace has the lines' entries: one for each that had room, and no others.
 /// It ends with the stream, where the server stops, where there is no memory for a line, where a read or a write fails, and
 /// behind so many reads, each of `MOST_READ_BYTES` at most, which is told as a read that failed. A line past 512 bytes is answered `bad`, and its first 513 stand in
 /// the journal. What the connection's lines locked stays.
@@ -254,13 +254,13 @@ where
     I: Read,
     O: Write,
     W: Wait,
-    ensures ends { Ends result.ending connection (I.remaining input.old) (I.remaining input.new) (trace (O.contents output.old) []) (trace (O.contents output.new) result.transcript) }
+    ensures ends { Ends result.ending connection (I.remaining input.old) (I.remaining input.new) (trace (O.contents output.old) []) (trace (O.contents output.new) result.ghost_trace) }
     ensures few { TakesAtMost (MOST_READ_BYTES * bound) (I.remaining input.old) (I.remaining input.new) }
 {
-    let mut clerk = Clerk::new(rt, shared, signals);
-    let ending = serve(alloc, &mut clerk, connection, input, output, bound);
+    let mut line_handler = LineHandler::new(rt, shared, signals);
+    let ending = serve(alloc, &mut line_handler, connection, input, output, bound);
     Served {
         ending,
-        transcript: clerk.into_transcript(),
+        ghost_trace: line_handler.into_ghost_trace(),
     }
 }

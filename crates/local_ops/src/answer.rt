@@ -150,11 +150,11 @@ fn write_remote<W: Write>(
     write_hex(writer, oh)
 }
 
-fn write_numbered<W: Write>(writer: &mut W, letter: &[u8], number: u64) -> Result<(), WriteFault>
-    ensures { Wrote (W.contents writer.old) (W.contents writer.new) result (letter.now ++ decimal number) }
+fn write_numbered<W: Write>(writer: &mut W, callback: &[u8], number: u64) -> Result<(), WriteFault>
+    ensures { Wrote (W.contents writer.old) (W.contents writer.new) result (callback.now ++ decimal number) }
 {
     let mut digits = Buffer::new();
-    write_parts(writer, &[letter, digits.format(number).as_bytes()])
+    write_parts(writer, &[callback, digits.format(number).as_bytes()])
 }
 
 fn write_svid<W: Write>(writer: &mut W, svid: i32) -> Result<(), WriteFault>

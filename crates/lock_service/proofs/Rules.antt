@@ -15,7 +15,7 @@ use Rattle.definitions.specs.Nlm.{Stat}
 use Rattle.definitions.specs.Waits.{Waiter, is_waiting, without_waiter, same_request as is_same_request, closes_cycle}
 use Rattle.definitions.specs.World.{World, the_limits, slots_free, with_hosts, with_setting, with_waiter}
 use Rattle.definitions.specs.Ranges.{range_refusal, request_of}
-use Rattle.definitions.specs.Rulings.{Ruling, Told, decided, stays}
+use Rattle.definitions.specs.Rulings.{Ruling, Response, decided, stays}
 use Rattle.definitions.specs.Outgoing.{Granted, GrantedMsg}
 use Rattle.definitions.specs.LockRules.{LockAsk, NewHost, row_asked, after_row, lock_rules, blocked_lock}
 use Rattle.definitions.specs.Answer.{Answered, cancel_answer, cancel_unless, lock_unless, lock_ask, caller_row}
@@ -61,12 +61,12 @@ module _ (w : World) (a : LockAsk) where
   no_place e f none = rw (e, f, none) refl
 
   pub waits_now : is_waiting a.request w.waiters ≡ false → closes_cycle w.settings w.waiters a.request ≡ false → eqb a.slots 0 ≡ false
-      → blocked_lock w a ≡ after_row w (row_asked w a.row) nlm.BLOCKED (λ v. with_waiter v (record { request = a.request; letter = a.letter }))
+      → blocked_lock w a ≡ after_row w (row_asked w a.row) nlm.BLOCKED (λ v. with_waiter v (record { request = a.request; callback = a.callback }))
   waits_now e f some = rw (e, f, some) refl
 
 -- the row of a host that has none
 pub row_first : (w : World) (h : NewHost) (stat : Stat) (f : World → World) (call : StoreCall) → has_row w.hosts h.name ≡ false → call ≡ Monitor h.name h.state
-    → ◌≡◌ {A = Ruling (Told Stat)} (record { asks = Some call; agreed = record { says = stat; world = f (with_hosts w (after_store w.hosts call)) }; refused = record { says = nlm.DENIED_NOLOCKS; world = w } }) (after_row w (row_asked w (Some h)) stat f)
+    → ◌≡◌ {A = Ruling (Response Stat)} (record { asks = Some call; agreed = record { says = stat; world = f (with_hosts w (after_store w.hosts call)) }; refused = record { says = nlm.DENIED_NOLOCKS; world = w } }) (after_row w (row_asked w (Some h)) stat f)
 row_first w h stat f call none is = rw (none, is) refl
 
 can_ask : (asked : Asked) (w : World) (h : NewHost) → view_of_asked asked ≡ Monitor h.name h.state → has_row w.hosts h.name ≡ false → CanAskFor asked w
@@ -144,7 +144,7 @@ room_behind w x n reserved is more =
     let longer = length-append w.waiters (x ∷ []) in
     omega arith
 
-pub made_so : {E : Type 0} (r : Result Verdict E) (w : World) (change : Change) (n : ℕ) (x y : Ruling (Told Stat)) → y ≡ x → LeavesRoomBy n change w → LeavesRoomAfter n change w → IfOk r (λ v. (m : ℕ) → LeavesRoomBy m change w → LeavesRoomAfter m change w → IsVerdict x m w v) → IfOk r (λ v. IsVerdict y n w v)
+pub made_so : {E : Type 0} (r : Result Verdict E) (w : World) (change : Change) (n : ℕ) (x y : Ruling (Response Stat)) → y ≡ x → LeavesRoomBy n change w → LeavesRoomAfter n change w → IfOk r (λ v. (m : ℕ) → LeavesRoomBy m change w → LeavesRoomAfter m change w → IsVerdict x m w v) → IfOk r (λ v. IsVerdict y n w v)
 made_so (Ok v) w change n x y same room after h = subst (λ z. IsVerdict z n w v) (sym same) (h n room after)
 made_so (Err e) w change n x y same room after h = tt
 

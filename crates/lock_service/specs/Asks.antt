@@ -2,9 +2,9 @@
 use Rattle.std.specs.Prelude.{ℕ, ◌-◌, cond, not, ◌&&◌}
 use Rattle.std.specs.Option.{option_map}
 use Rattle.definitions.specs.Nlm.{Stat, DENIED}
-use Rattle.definitions.specs.Outgoing.{Letter, Message, ToHost, ToConnection, Granted, GrantedMsg, GrantedLine}
+use Rattle.definitions.specs.Outgoing.{Callback, Message, ToHost, ToConnection, Granted, GrantedMsg, GrantedLine}
 use Rattle.definitions.specs.World.{World}
-use Rattle.definitions.specs.Rulings.{Told, Ruling, stays}
+use Rattle.definitions.specs.Rulings.{Response, Ruling, stays}
 use Rattle.definitions.specs.LockRules.{NewHost, LockAsk, blocked_lock}
 use Rattle.callbacks.specs.Meanings.{view_of_local_lock}
 use Rattle.callbacks.specs.declared.lock.LocalLock as local
@@ -26,13 +26,13 @@ abbrev pub view_of_granted : call.GrantCall → Message
 view_of_granted c =
     cond c.by_message (GrantedMsg (view_of_version c.version) c.exclusive (view_of_lock c.lock)) (Granted (view_of_version c.version) c.exclusive (view_of_lock c.lock))
 
-abbrev pub view_of_grant_call : call.GrantCall → Letter
+abbrev pub view_of_grant_call : call.GrantCall → Callback
 view_of_grant_call c = record { to = ToHost c.lock.caller_name.bytes.now; message = view_of_granted c }
 
-abbrev pub view_of_grant_line : ℕ → Mode → local.LocalLock → Letter
+abbrev pub view_of_grant_line : ℕ → Mode → local.LocalLock → Callback
 view_of_grant_line l mode lock = record { to = ToConnection l; message = GrantedLine (view_of_mode mode) (view_of_local_lock lock) }
 
-abbrev pub view_of_grant : Grant → Letter
+abbrev pub view_of_grant : Grant → Callback
 view_of_grant (grant.Call c) = view_of_grant_call c
 view_of_grant (grant.Line l mode lock) = view_of_grant_line l mode lock.now
 
@@ -43,10 +43,10 @@ view_of_ask a free = record {
   block = a.block;
   reclaim = a.reclaim;
   row = option_map view_of_new_host a.row;
-  letter = view_of_grant a.grant;
+  callback = view_of_grant a.grant;
   slots = free - a.reserved;
 }
 
 -- what the rules say where another lock is in the way
-abbrev pub kept_out : World → LockAsk → Ruling (Told Stat)
+abbrev pub kept_out : World → LockAsk → Ruling (Response Stat)
 kept_out w a = cond (a.block && not a.reclaim) (blocked_lock w a) (stays w DENIED)

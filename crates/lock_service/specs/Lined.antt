@@ -3,7 +3,7 @@ use Rattle.std.specs.Prelude.{ℕ, Bool, true, false}
 use Rattle.definitions.specs.Lines.{line_ask}
 use Rattle.definitions.specs.LockRules.{LockAsk}
 use Rattle.definitions.specs.World.{World}
-use Rattle.definitions.specs.Rulings.{Told}
+use Rattle.definitions.specs.Rulings.{Response}
 use Rattle.definitions.specs.Replies.{Line, LineReply, SetLock, SetLockWait}
 use Rattle.callbacks.specs.Meanings.{view_of_local_lock}
 use Rattle.local_ops.specs.Answers.{view_of_local_answer}
@@ -13,7 +13,7 @@ use Rattle.call_plans.specs.Planned.{changed}
 use Rattle.lock_service.specs.declared.local.LinePlan.{LinePlan}
 use Rattle.lock_service.specs.declared.local.SetLine as line
 
-abbrev pub line_planned : LinePlan → World → Told LineReply
+abbrev pub line_planned : LinePlan → World → Response LineReply
 line_planned p w = record { says = view_of_local_answer p.answer; world = changed p.change w }
 
 -- `setlk`, or `setlkw`, which waits

@@ -2,7 +2,7 @@
 use Rattle.std.specs.Prelude.{Bool, true, false, Option, None}
 use Rattle.definitions.specs.Nlm as nlm
 use Rattle.definitions.specs.World.{World, the_limits}
-use Rattle.definitions.specs.Rulings.{Told, Ruling}
+use Rattle.definitions.specs.Rulings.{Response, Ruling}
 use Rattle.definitions.specs.LockRules.{NewHost}
 use Rattle.definitions.specs.Answer.{caller_row, lock_answer, nm_lock_answer, lock_msg_answer}
 use Rattle.lock_service.specs.declared.lock.LockCall.{LockCall}
@@ -10,7 +10,7 @@ use Rattle.lock_service.specs.declared.lock.LockCall.TheVariants as call
 use Rattle.lock_service.specs.declared.telling.Form.{Form}
 use Rattle.lock_service.specs.declared.telling.Form.TheVariants as form
 
-abbrev pub answer_by : LockCall → World → nlm.Version → nlm.LockArgs → Ruling (Told nlm.Stat)
+abbrev pub answer_by : LockCall → World → nlm.Version → nlm.LockArgs → Ruling (Response nlm.Stat)
 answer_by call.Lock w version a = lock_answer the_limits w version a
 answer_by call.NmLock w version a = nm_lock_answer the_limits w version a
 answer_by call.LockMsg w version a = lock_msg_answer the_limits w version a

@@ -3,7 +3,7 @@ use Rattle.std.specs.Prelude.{◌≡◌, ◌≤◌, ℕ}
 use Rattle.definitions.specs.Nlm as nlm
 use Rattle.definitions.specs.Outgoing.{Message, ToHost, LockResult, CancelResult, UnlockResult}
 use Rattle.definitions.specs.Replies.{Success, ResResult}
-use Rattle.definitions.specs.Rulings.{Told, Ruling, each}
+use Rattle.definitions.specs.Rulings.{Response, Ruling, each}
 use Rattle.definitions.specs.Shown.{res}
 use Rattle.definitions.specs.World.{World, the_limits, slots_free}
 use Rattle.definitions.specs.Answer.{Answered, gives, sent_back, by_reply, by_message}
@@ -38,23 +38,23 @@ told_as form.Reply t stat w = gives w (Success (ResResult (res_told t stat)))
 told_as form.Message t stat w =
     sent_back (record { to = ToHost t.host.bytes.now; message = result_message t.result (view_of_version t.version) (res_told t stat) }) w
 
-abbrev pub told_by : telling.Telling → Told nlm.Stat → Answered
+abbrev pub told_by : telling.Telling → Response nlm.Stat → Answered
 told_by t x = told_as t.form t x.says x.world
 
 -- what the rules say of a call that is told so, where this is what they say of it before that is known
-abbrev pub telling_of : Form → telling.Telling → World → Ruling (Told nlm.Stat) → Ruling Answered
+abbrev pub telling_of : Form → telling.Telling → World → Ruling (Response nlm.Stat) → Ruling Answered
 telling_of form.Reply t w ruling = by_reply (view_of_version t.version) t.cookie.bytes.now ruling
 telling_of form.Message t w ruling =
     by_message the_limits w (λ (stat : nlm.Stat). record { to = ToHost t.host.bytes.now; message = result_message t.result (view_of_version t.version) (res_told t stat) }) ruling
 
 -- a plan that tells a verdict where the places for it are free
-abbrev pub IsToldIn : World → telling.Telling → Verdict → Plan → Type 0
-IsToldIn w t v p =
-    (ruling : Ruling (Told nlm.Stat)) → places t.form ≤ slots_free the_limits w → IsVerdict ruling (places t.form) w v
+abbrev pub IsAnsweredIn : World → telling.Telling → Verdict → Plan → Type 0
+IsAnsweredIn w t v p =
+    (ruling : Ruling (Response nlm.Stat)) → places t.form ≤ slots_free the_limits w → IsVerdict ruling (places t.form) w v
     → IsPlan (each (told_by t) ruling) w p
 
 -- and wherever it is, if so many places are free
-abbrev pub IsTold : ℕ → telling.Telling → Verdict → Plan → Type 0
-IsTold free t v p =
-    (w : World) (ruling : Ruling (Told nlm.Stat)) → free ≡ slots_free the_limits w → IsVerdict ruling (places t.form) w v
+abbrev pub IsAnswered : ℕ → telling.Telling → Verdict → Plan → Type 0
+IsAnswered free t v p =
+    (w : World) (ruling : Ruling (Response nlm.Stat)) → free ≡ slots_free the_limits w → IsVerdict ruling (places t.form) w v
     → IsPlan (telling_of t.form t w ruling) w p

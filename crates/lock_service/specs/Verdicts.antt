@@ -3,7 +3,7 @@ use Rattle.std.specs.Prelude.{◌≡◌, ◌≤◌, ℕ, Bool, true, Some}
 use Rattle.definitions.specs.Hosts.{Hosts, StoreCall}
 use Rattle.definitions.specs.Nlm as nlm
 use Rattle.definitions.specs.World.{World, the_limits, slots_free, with_hosts}
-use Rattle.definitions.specs.Rulings.{Told, Ruling, decided}
+use Rattle.definitions.specs.Rulings.{Response, Ruling, decided}
 use Rattle.nlm4_types.specs.declared.stat.Stat.{Stat}
 use Rattle.nlm4_types.specs.Stat.{view_of_stat}
 use Rattle.call_plans.specs.declared.plans.Change.{Change}
@@ -11,7 +11,7 @@ use Rattle.call_plans.specs.Planned.{changed, view_of_asked, after_asked, FitsCh
 use Rattle.lock_service.specs.declared.verdict.Verdict.{Verdict}
 use Rattle.lock_service.specs.declared.verdict.Verdict.TheVariants as verdict
 
-abbrev pub verdict_in : Verdict → World → Ruling (Told nlm.Stat)
+abbrev pub verdict_in : Verdict → World → Ruling (Response nlm.Stat)
 verdict_in (verdict.Decided stat change) w = decided (record { says = view_of_stat stat; world = changed change w })
 verdict_in (verdict.AfterStore asked stat change) w = record {
   asks = Some (view_of_asked asked);
@@ -41,13 +41,13 @@ IsAfterRow call stat change (verdict.Decided s c) = ⊥
 IsAfterRow call stat change (verdict.AfterStore asked s c) = (view_of_asked asked ≡ call) × (s ≡ stat) × (c ≡ change)
 
 -- the verdict is what the rules say of a call in this world
-pub record IsVerdict (ruling : Ruling (Told nlm.Stat)) (reserved : ℕ) (w : World) (v : Verdict) : Type 0 where
+pub record IsVerdict (ruling : Ruling (Response nlm.Stat)) (reserved : ℕ) (w : World) (v : Verdict) : Type 0 where
   pub ruled : verdict_in v w ≡ ruling
   pub fits : FitsIn v w
   pub room : LeavesRoom reserved v w
 
 -- and so where the change leaves the places that the telling takes
-abbrev pub IsVerdictWith : Change → Ruling (Told nlm.Stat) → World → Verdict → Type 0
+abbrev pub IsVerdictWith : Change → Ruling (Response nlm.Stat) → World → Verdict → Type 0
 IsVerdictWith change ruling w v = (reserved : ℕ) → LeavesRoomBy reserved change w → LeavesRoomAfter reserved change w → IsVerdict ruling reserved w v
 
 -- the store is asked only where that is allowed

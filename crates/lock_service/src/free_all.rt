@@ -6,7 +6,7 @@ ghost use Rattle.definitions.specs.Answer.{nlm_answer};
 ghost use Rattle.call_plans.specs.Planned.{IsPlan, AsksOnlyIf};
 
 use call_codec::{CallResult, Outcome};
-use call_plans::{Answer, Change, Plan, Told};
+use call_plans::{Answer, Change, Plan, Response};
 use nlm4_types::Notify;
 use owner_ids::Starved;
 use std::alloc::Global;
@@ -15,7 +15,7 @@ pub(crate) fn plan(alloc: Global, args: &Notify<'_>) -> Result<Plan, Starved>
     ensures plan { IfOk result (λ made. (w : SaidWorld) (version : nlm.Version) → IsPlan (nlm_answer the_limits w version (nlm.FreeAll args.now.name.bytes.now args.now.state)) w made) }
     ensures asks { IfOk result (AsksOnlyIf false) }
 {
-    let told = Told::reply(alloc, Outcome::Success(CallResult::Nothing))?;
+    let told = Response::reply(alloc, Outcome::Success(CallResult::Nothing))?;
     let name = Vec::from_slice(alloc, args.name.bytes)?;
     Ok(Plan::Decided(Answer {
         told,

@@ -8,7 +8,7 @@ ghost use Rattle.call_plans.specs.Planned.{IsPlan, AsksOnlyIf};
 
 use crate::copies::cookie_of;
 use call_codec::{CallResult, Outcome};
-use call_plans::{Answer, Change, Plan, Told};
+use call_plans::{Answer, Change, Plan, Response};
 use nlm4_types::Res;
 use owner_ids::Starved;
 use std::alloc::Global;
@@ -17,7 +17,7 @@ pub(crate) fn plan(alloc: Global, args: &Res<'_>) -> Result<Plan, Starved>
     ensures plan { IfOk result (λ made. (w : SaidWorld) (version : nlm.Version) → IsPlan (nlm_answer the_limits w version (nlm.GrantedRes (view_of_res args.now))) w made) }
     ensures asks { IfOk result (AsksOnlyIf false) }
 {
-    let told = Told::reply(alloc, Outcome::Success(CallResult::Nothing))?;
+    let told = Response::reply(alloc, Outcome::Success(CallResult::Nothing))?;
     let cookie = cookie_of(alloc, &args.cookie)?;
     Ok(Plan::Decided(Answer {
         told,

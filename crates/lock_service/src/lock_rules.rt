@@ -15,7 +15,7 @@ ghost use Rattle.lock_service.specs.Verdicts.{IsAfterRow, IsVerdict, IsVerdictWi
 use crate::lock_ask::{Grant, GrantCall, LockAsk, NewHost};
 use crate::verdict::Verdict;
 use call_plans::{Asked, Change};
-use callbacks::{Caller, Destination, Letter, LocalLock, Message, ShortBytes};
+use callbacks::{Callback, Caller, Destination, LocalLock, Message, ShortBytes};
 use hosts_db::HostStore;
 use lock_state::World;
 use nlm4_types::Stat;
@@ -77,7 +77,7 @@ fn blocked<R: RangeTable, S: HostStore>(
         drop(ask.wanted);
         return Ok(Verdict::of_stat(Stat::DeniedNolocks));
     }
-    let Ok(letter) = ask.grant.letter(world.alloc()) else {
+    let Ok(callback) = ask.grant.callback(world.alloc()) else {
         drop(ask.wanted);
         return Err(Starved);
     };
@@ -85,7 +85,7 @@ fn blocked<R: RangeTable, S: HostStore>(
         world,
         ask.row,
         Stat::Blocked,
-        Change::Wait(ask.wanted, letter),
+        Change::Wait(ask.wanted, callback),
     )
 }
 
@@ -135,22 +135,22 @@ fn after_row(
 
 impl Grant<'_> {
     // What is sent when the lock is granted.
-    fn letter(&self, alloc: Global) -> Result<Letter, Starved>
-        ensures { IfOk result (λ letter. letter ≡ view_of_grant self.now) }
+    fn callback(&self, alloc: Global) -> Result<Callback, Starved>
+        ensures { IfOk result (λ callback. callback ≡ view_of_grant self.now) }
     {
         match self {
-            Grant::Call(call) => call.letter(alloc),
+            Grant::Call(call) => call.callback(alloc),
             Grant::Line {
                 connection,
                 mode,
                 lock,
-            } => line_letter(*connection, *mode, lock),
+            } => line_callback(*connection, *mode, lock),
         }
     }
 }
 
-fn line_letter(connection: u64, mode: Mode, lock: &LocalLock) -> Result<Letter, Starved>
-    ensures { IfOk result (λ letter. letter ≡ view_of_grant_line connection mode lock.now) }
+fn line_callback(connection: u64, mode: Mode, lock: &LocalLock) -> Result<Callback, Starved>
+    ensures { IfOk result (λ callback. callback ≡ view_of_grant_line connection mode lock.now) }
 {
     let lock = LocalLock {
         owner: lock.owner.clone()?,
@@ -158,15 +158,15 @@ fn line_letter(connection: u64, mode: Mode, lock: &LocalLock) -> Result<Letter, 
         offset: lock.offset,
         len: lock.len,
     };
-    Ok(Letter::new(
+    Ok(Callback::new(
         Destination::Connection(connection),
         Message::GrantedLine { mode, lock },
     ))
 }
 
 impl GrantCall<'_> {
-    fn letter(&self, alloc: Global) -> Result<Letter, Starved>
-        ensures { IfOk result (λ letter. letter ≡ view_of_grant_call self.now) }
+    fn callback(&self, alloc: Global) -> Result<Callback, Starved>
+        ensures { IfOk result (λ callback. callback ≡ view_of_grant_call self.now) }
     {
         let name = self.lock.caller_name.bytes;
         let host = ShortBytes::copy_of(alloc, name)?;
@@ -178,7 +178,7 @@ impl GrantCall<'_> {
             l_offset: self.lock.l_offset,
             l_len: self.lock.l_len,
         };
-        Ok(Letter::new(Destination::Host(host), self.message(lock)))
+        Ok(Callback::new(Destination::Host(host), self.message(lock)))
     }
 
     fn message(&self, lock: callbacks::Lock) -> Message

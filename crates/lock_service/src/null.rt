@@ -6,7 +6,7 @@ ghost use Rattle.definitions.specs.Answer.{nlm_answer};
 ghost use Rattle.call_plans.specs.Planned.{IsPlan, AsksOnlyIf};
 
 use call_codec::{CallResult, Outcome};
-use call_plans::{Answer, Change, Plan, Told};
+use call_plans::{Answer, Change, Plan, Response};
 use owner_ids::Starved;
 use std::alloc::Global;
 
@@ -14,7 +14,7 @@ pub(crate) fn plan(alloc: Global) -> Result<Plan, Starved>
     ensures plan { IfOk result (λ made. (w : SaidWorld) (version : nlm.Version) → IsPlan (nlm_answer the_limits w version nlm.Null) w made) }
     ensures asks { IfOk result (AsksOnlyIf false) }
 {
-    let told = Told::reply(alloc, Outcome::Success(CallResult::Nothing))?;
+    let told = Response::reply(alloc, Outcome::Success(CallResult::Nothing))?;
     Ok(Plan::Decided(Answer {
         told,
         change: Change::Nothing,

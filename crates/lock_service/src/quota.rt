@@ -24,7 +24,7 @@ pub fn set_quota<R: RangeTable, S: HostStore>(
 ) -> (LocalAnswer, StoreAnswer)
     ensures reply { (l : ℕ) → view_of_local_answer result.0 ≡ (ruled (view_of_stored result.1) (line_answer the_limits world.old.world l (SetQuota quota.now.name quota.now.runs))).says }
     ensures world { (l : ℕ) → world.new.world ≡ settled the_limits (ruled (view_of_stored result.1) (line_answer the_limits world.old.world l (SetQuota quota.now.name quota.now.runs))).world }
-    ensures fits { (kept : List KeptPair) (l : ℕ) → fits the_limits (record { world = world.old.world; kept = kept }) (record { event = Local l (SetQuota quota.now.name quota.now.runs); doing = Applied; store = view_of_stored result.1 }) ≡ true }
+    ensures fits { (kept : List KeptPair) (l : ℕ) → fits the_limits (record { world = world.old.world; kept = kept }) (record { event = Local l (SetQuota quota.now.name quota.now.runs); completion = Applied; store = view_of_stored result.1 }) ≡ true }
     ensures refusals { world.new.refusals ≡ counted (view_of_stored result.1) world.old.refusals }
 {
     let (answer, store) = stored(world, quota);
@@ -38,7 +38,7 @@ fn stored<R: RangeTable, S: HostStore>(
     quota: &Quota,
 ) -> (LocalAnswer, StoreAnswer)
     ensures told { record { says = view_of_local_answer result.0; world = world.new.world } ≡ ruled (view_of_stored result.1) (quota_rules world.old.world quota.now.name quota.now.runs) }
-    ensures fits { (kept : List KeptPair) (l : ℕ) → fits the_limits (record { world = world.old.world; kept = kept }) (record { event = Local l (SetQuota quota.now.name quota.now.runs); doing = Applied; store = view_of_stored result.1 }) ≡ true }
+    ensures fits { (kept : List KeptPair) (l : ℕ) → fits the_limits (record { world = world.old.world; kept = kept }) (record { event = Local l (SetQuota quota.now.name quota.now.runs); completion = Applied; store = view_of_stored result.1 }) ≡ true }
     ensures refusals { world.new.refusals ≡ counted (view_of_stored result.1) world.old.refusals }
 {
     let name = quota.name.as_slice();

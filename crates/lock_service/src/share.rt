@@ -13,7 +13,7 @@ ghost use Rattle.call_plans.specs.Planned.{IsPlan, AsksOnlyIf, FitsChange, FitsD
 use crate::checks::check_file;
 use crate::copies::cookie_of;
 use call_codec::{CallResult, Outcome, ShareRes};
-use call_plans::{Answer, Change, Plan, Told};
+use call_plans::{Answer, Change, Plan, Response};
 use dos_shares::{Access, Share, ShareError};
 use grace::CallKind;
 use hosts_db::HostStore;
@@ -71,7 +71,12 @@ pub(crate) fn told(
 }
 
 // The status as the call's version shows it.
-fn reply(alloc: Global, version: Version, args: &ShareArgs<'_>, stat: Stat) -> Result<Told, Starved>
+fn reply(
+    alloc: Global,
+    version: Version,
+    args: &ShareArgs<'_>,
+    stat: Stat,
+) -> Result<Response, Starved>
     ensures told { IfOk result (λ made. (w : SaidWorld) → told_in made w ≡ share_told (view_of_version version) (view_of_shareargs args.now) (record { says = view_of_stat stat; world = w })) }
     ensures fits { IfOk result (λ made. (w : SaidWorld) → FitsDue made w) }
 {
@@ -81,7 +86,7 @@ fn reply(alloc: Global, version: Version, args: &ShareArgs<'_>, stat: Stat) -> R
         stat: stat.shown_in(version),
         sequence: 0,
     };
-    Told::reply(alloc, Outcome::Success(CallResult::ShareRes(res)))
+    Response::reply(alloc, Outcome::Success(CallResult::ShareRes(res)))
 }
 
 /// The share that a call names.

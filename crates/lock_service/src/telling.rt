@@ -9,14 +9,14 @@ ghost use Rattle.callbacks.specs.Meanings.{view_of_message, view_of_told_res};
 ghost use Rattle.nlm4_types.specs.Stat.{view_of_stat};
 ghost use Rattle.nlm4_types.specs.Version.{view_of_version};
 ghost use Rattle.call_plans.specs.Planned.{told_in, AsksOnlyIf, FitsDue, IsPlan};
-ghost use Rattle.lock_service.specs.Tellings.{places, result_message, told_as, IsTold, IsToldIn};
+ghost use Rattle.lock_service.specs.Tellings.{places, result_message, told_as, IsAnswered, IsAnsweredIn};
 ghost use Rattle.lock_service.specs.Verdicts.{OnlyAsksIf};
 
 use crate::copies::cookie_of;
 use crate::verdict::Verdict;
 use call_codec::{CallResult, Outcome};
-use call_plans::{Answer, Change, Plan, Told};
-use callbacks::{Destination, Letter, Message, Res, ShortBytes};
+use call_plans::{Answer, Change, Plan, Response};
+use callbacks::{Callback, Destination, Message, Res, ShortBytes};
 use nlm4_types::{Name, Netobj, Stat, Version};
 use owner_ids::Starved;
 use std::alloc::Global;
@@ -88,7 +88,7 @@ impl Telling<'_> {
     }
 
     // The status as the call's version shows it.
-    fn told(&self, alloc: Global, stat: Stat) -> Result<Told, Starved>
+    fn told(&self, alloc: Global, stat: Stat) -> Result<Response, Starved>
         ensures told { IfOk result (λ made. (w : SaidWorld) → told_in made w ≡ told_as self.now.form self.now (view_of_stat stat) w) }
         ensures fits { IfOk result (λ made. (w : SaidWorld) → places self.now.form ≤ slots_free the_limits w → FitsDue made w) }
     {
@@ -96,11 +96,11 @@ impl Telling<'_> {
         let stat = stat.shown_in(self.version);
         let res = Res { cookie, stat };
         match self.form {
-            Form::Reply => Told::reply(alloc, Outcome::Success(CallResult::Res(res))),
+            Form::Reply => Response::reply(alloc, Outcome::Success(CallResult::Res(res))),
             Form::Message => {
                 let to = Destination::Host(ShortBytes::copy_of(alloc, self.host.bytes)?);
                 let message = self.result.message(self.version, res);
-                Told::message(alloc, Letter::new(to, message))
+                Response::message(alloc, Callback::new(to, message))
             }
         }
     }
@@ -114,7 +114,7 @@ impl Verdict {
         free: usize,
         telling: &Telling<'_>,
     ) -> Result<Plan, Starved>
-        ensures plan { IfOk result (λ made. IsTold free telling.now self made) }
+        ensures plan { IfOk result (λ made. IsAnswered free telling.now self made) }
         ensures asks { IfOk result (λ made. (allowed : Bool) → OnlyAsksIf allowed self → AsksOnlyIf allowed made) }
     {
         if free < telling.form.places() {
@@ -125,7 +125,7 @@ impl Verdict {
     }
 
     fn told_in_place(self, alloc: Global, telling: &Telling<'_>) -> Result<Plan, Starved>
-        ensures plan { IfOk result (λ made. (w : SaidWorld) → IsToldIn w telling.now self made) }
+        ensures plan { IfOk result (λ made. (w : SaidWorld) → IsAnsweredIn w telling.now self made) }
         ensures asks { IfOk result (λ made. (allowed : Bool) → OnlyAsksIf allowed self → AsksOnlyIf allowed made) }
     {
         match self {
@@ -161,7 +161,7 @@ pub(crate) fn no_place(alloc: Global) -> Result<Plan, Starved>
     ensures plan { IfOk result (λ made. (w : SaidWorld) → IsPlan (decided (gives w SystemErr)) w made) }
     ensures asks { IfOk result (λ made. (allowed : Bool) → AsksOnlyIf allowed made) }
 {
-    let told = Told::reply(alloc, Outcome::SystemErr)?;
+    let told = Response::reply(alloc, Outcome::SystemErr)?;
     Ok(Plan::Decided(Answer {
         told,
         change: Change::Nothing,

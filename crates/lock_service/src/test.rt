@@ -18,8 +18,8 @@ use crate::checks::place_of;
 use crate::copies::{cookie_of, mode_of, owner_of};
 use crate::telling::no_place;
 use call_codec::{CallResult, Outcome};
-use call_plans::{Answer, Change, Plan, Told};
-use callbacks::{Destination, Holder, Letter, Message, ShortBytes, TestRes};
+use call_plans::{Answer, Change, Plan, Response};
+use callbacks::{Callback, Destination, Holder, Message, ShortBytes, TestRes};
 use grace::CallKind;
 use hosts_db::HostStore;
 use lock_state::World;
@@ -38,7 +38,7 @@ pub(crate) fn plan<R: RangeTable, S: HostStore>(
 {
     let res = test_res(world, version, args)?;
     Ok(Plan::Decided(Answer {
-        told: Told::reply(
+        told: Response::reply(
             world.alloc(),
             Outcome::Success(CallResult::TestRes(version, res)),
         )?,
@@ -61,11 +61,11 @@ pub(crate) fn plan_message<R: RangeTable, S: HostStore>(
     }
     let res = test_res(world, version, args)?;
     let host = ShortBytes::copy_of(alloc, args.alock.caller_name.bytes)?;
-    let letter = Letter::new(
+    let callback = Callback::new(
         Destination::Host(host),
         Message::TestResult { version, res },
     );
-    let told = Told::message(alloc, letter)?;
+    let told = Response::message(alloc, callback)?;
     Ok(Plan::Decided(Answer {
         told,
         change: Change::Nothing,

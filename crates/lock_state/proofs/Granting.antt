@@ -84,10 +84,10 @@ module _ (names : List (Option Owner)) (settings : List Setting) (slots left : T
   is_set (Err z) now refused ok = absurd (not_refused ((refused owner is_named).0 refl))
 
   pub whole_granted : (number : ℕ) (held : Bool) → held ≡ is_limited quotas owner → waiters_by (named names) left.waiters ≡ without_first (is_ready the_limits quotas settings) (waiters_by (named names) slots.waiters) → AreNamed (named names) left.waiters → left.calls ≡ slots.calls + 1 → waiting.wanted.first ≤ waiting.wanted.last → waiting.wanted.last < 2 ^ 63 → SettingFreesLaw
-      → IsWhole (settings ++ setting_by owner waiting.wanted ∷ []) names left (calls ++ due_now number waiting.letter ∷ []) quotas (after_grant unsettled held)
+      → IsWhole (settings ++ setting_by owner waiting.wanted ∷ []) names left (calls ++ due_now number waiting.callback ∷ []) quotas (after_grant unsettled held)
   whole_granted number held is gone in_use more ordered inside law = record {
     in_use = in_use;
-    counted = let k = length_more calls (due_now number waiting.letter) in let t = h.counted in omega arith;
+    counted = let k = length_more calls (due_now number waiting.callback) in let t = h.counted in omega arith;
     shown = shown_more settings (setting_by owner waiting.wanted) h.shown (first_shown (is_ready the_limits quotas settings) (waiters_by (named names) slots.waiters) (waiter_by (named names) waiting) h.waiters_shown there, omega arith, inside);
     waiters_shown = subst AreWaitersShown (sym gone) (waiters_without_first (is_ready the_limits quotas settings) (waiters_by (named names) slots.waiters) h.waiters_shown);
     ranges = subst AreRanges (sym gone) (ranges_without_first (is_ready the_limits quotas settings) (waiters_by (named names) slots.waiters) h.ranges);

@@ -65,7 +65,7 @@ module _ (names after : List (Option Owner)) where
   pub waiters_kept : (ws : List Waiting) → KeepsWaiters names after ws → waiters_by (named after) ws ≡ waiters_by (named names) ws
   waiters_kept [] k = refl
   waiters_kept (w ∷ ws) k =
-      ap (λ (o : Option Owner). record { request = record { file = w.wanted.file; owner = unwrap_or o (Process 0); first = w.wanted.first; last = w.wanted.last; mode = view_of_mode w.wanted.mode }; letter = w.letter } ∷ waiters_by (named after) ws) k.0
+      ap (λ (o : Option Owner). record { request = record { file = w.wanted.file; owner = unwrap_or o (Process 0); first = w.wanted.first; last = w.wanted.last; mode = view_of_mode w.wanted.mode }; callback = w.callback } ∷ waiters_by (named after) ws) k.0
       ∙ ap (λ xs. waiter_by (named names) w ∷ xs) (waiters_kept ws k.1)
 
   pub named_kept : (ws : List Waiting) → KeepsWaiters names after ws → AreNamed (named names) ws → AreNamed (named after) ws

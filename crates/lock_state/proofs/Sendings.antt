@@ -14,7 +14,7 @@ use Rattle.lock_state.proofs.Granting.{length_more}
 
 pub no_more_sent : (calls : List Outgoing) → length (after_sending calls) ≤ length calls
 no_more_sent [] = omega arith
-no_more_sent (c ∷ calls) = go c.is_due (ends_when_sent c.letter.message) (no_more_sent calls)
+no_more_sent (c ∷ calls) = go c.is_due (ends_when_sent c.callback.message) (no_more_sent calls)
   where
     go : (due ends : Bool) → length (after_sending calls) ≤ length calls → length (cond due (cond ends calls (once_more c ∷ calls)) (c ∷ after_sending calls)) ≤ length (c ∷ calls)
     go true true more = omega arith

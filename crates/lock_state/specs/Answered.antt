@@ -23,11 +23,11 @@ call_at (key.Cookie cookie) calls = call_of_cookie cookie.now calls
 -- what the call that was found grants, and which host it is for
 abbrev pub lock_at : Option Outgoing → Option Lock
 lock_at None = None
-lock_at (Some c) = granted_lock c.letter.message
+lock_at (Some c) = granted_lock c.callback.message
 
 abbrev pub host_at : Option Outgoing → Option Bytes
 host_at None = None
-host_at (Some c) = host_of c.letter.to
+host_at (Some c) = host_of c.callback.to
 
 -- the range is unlocked, unless that is refused for want of runs, or by its host's quota
 abbrev pub IsUnlocked : Quotas → Option Lock → Bool → List Setting → List Setting → Type 0

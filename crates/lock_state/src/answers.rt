@@ -20,7 +20,7 @@ use blocked_list::Quotas;
 use callbacks::Lock;
 use held_locks::{Locks, NewSetting};
 use hosts_db::{HostStore, StoreError};
-use out_calls::{Call, OutCalls};
+use out_calls::{OutCall, OutCalls};
 use range_table::RangeTable;
 
 /// Which of the server's own calls an answer belongs to: of those that were sent, the oldest.
@@ -34,14 +34,14 @@ pub enum AnswerKey<'a> {
 
 impl<R: RangeTable, S: HostStore> World<R, S> {
     /// The call that an answer belongs to.
-    pub fn call_of(&self, key: AnswerKey<'_>) -> Option<&Call>
+    pub fn call_of(&self, key: AnswerKey<'_>) -> Option<&OutCall>
         ensures { found result ≡ call_at key.entry self.now.world.calls }
     {
         find(&self.calls, key)
     }
 
     /// An answer ends the call of this number, which is given back. Its place is free. Where there is none nothing changes.
-    pub fn end(&mut self, number: u64) -> Option<Call>
+    pub fn end(&mut self, number: u64) -> Option<OutCall>
         ensures call { result ≡ first_that (is_numbered number) self.old.world.calls }
         ensures ended { self.new ≡ record self.old { world = with_calls self.old.world (without_call number self.old.world.calls) } }
     {
@@ -78,7 +78,7 @@ impl<R: RangeTable, S: HostStore> World<R, S> {
     }
 }
 
-fn find<'a>(calls: &'a OutCalls, key: AnswerKey<'_>) -> Option<&'a Call>
+fn find<'a>(calls: &'a OutCalls, key: AnswerKey<'_>) -> Option<&'a OutCall>
     ensures { found result ≡ call_at key.entry calls.now }
 {
     match key {
@@ -92,7 +92,7 @@ fn host_of(calls: &OutCalls, xid: u32) -> Option<&[u8]>
     ensures { option_copied result ≡ host_at (call_of_xid xid calls.now) }
 {
     match calls.of_xid(xid) {
-        Some(call) => call.letter().to().host(),
+        Some(call) => call.callback().to().host(),
         None => None,
     }
 }
@@ -102,7 +102,7 @@ fn lock_of<'a>(calls: &'a OutCalls, key: AnswerKey<'_>) -> Option<&'a Lock>
     ensures { view_of_found_lock result ≡ lock_at (call_at key.entry calls.now) }
 {
     match find(calls, key) {
-        Some(call) => call.letter().message().granted_lock(),
+        Some(call) => call.callback().message().granted_lock(),
         None => None,
     }
 }

@@ -1,14 +1,14 @@
 //! What is kept over a restart, read and changed: the own state, the rows of hosts and the watches (XNFS, NSM).
 ghost use Rattle.std.specs.Prelude.{◌≡◌, ◌≤◌, ◌<◌, false, length, map, IfOk};
 ghost use Rattle.std.specs.Option.{option_copied};
-ghost use Rattle.definitions.specs.Answer.{status_letter};
+ghost use Rattle.definitions.specs.Answer.{status_callback};
 ghost use Rattle.definitions.specs.Hosts.{row_of, has_row, watches_of, after_store, is_past_limit, Monitor, Seen, Quota, Watched, Unwatched};
 ghost use Rattle.definitions.specs.World.{with_hosts};
 ghost use Rattle.hosts_db.specs.Calls.{Counts, Makes, IsPastLimit, IsNotStarved};
 
 use crate::unsettled::Unsettled;
 use crate::world::World;
-use callbacks::{Destination, Letter, Message, ShortBytes};
+use callbacks::{Callback, Destination, Message, ShortBytes};
 use hosts_db::{HostRow, HostStore, MyId, StoreError, Watch};
 use owner_ids::Starved;
 use range_table::RangeTable;
@@ -50,17 +50,17 @@ impl<R: RangeTable, S: HostStore> World<R, S> {
 
     /// What a host's new state tells each who watches the host, in order of my_id: the call that the watch names, with its
     /// 16 bytes (XNFS, status). Starved: there is no memory for it.
-    pub fn status_letters(&self, name: &[u8], state: i32) -> Result<Vec<Letter>, Starved>
-        ensures { IfOk result (λ letters. letters.items ≡ map (status_letter state) (watches_of self.now.world.hosts name.now)) }
+    pub fn status_callbacks(&self, name: &[u8], state: i32) -> Result<Vec<Callback>, Starved>
+        ensures { IfOk result (λ callbacks. callbacks.items ≡ map (status_callback state) (watches_of self.now.world.hosts name.now)) }
     {
-        let mut letters = Vec::with_capacity(self.alloc, self.watch_count(name))?;
+        let mut callbacks = Vec::with_capacity(self.alloc, self.watch_count(name))?;
         let watches = self.store.watches();
         for watch in watches {
             if watch.mon_name() == name {
-                letters.push_reserved(status(self.alloc, watch, state)?);
+                callbacks.push_reserved(status(self.alloc, watch, state)?);
             }
         }
-        Ok(letters)
+        Ok(callbacks)
     }
 
     /// Stores the row of a host that has none. Where the store answers an error the world stays.
@@ -133,8 +133,8 @@ impl<R: RangeTable, S: HostStore> World<R, S> {
 }
 
 // What tells a watcher of a host's new state.
-fn status(alloc: Global, watch: &Watch, state: i32) -> Result<Letter, AllocError>
-    ensures { IfOk result (λ letter. letter ≡ status_letter state watch.now) }
+fn status(alloc: Global, watch: &Watch, state: i32) -> Result<Callback, AllocError>
+    ensures { IfOk result (λ callback. callback ≡ status_callback state watch.now) }
 {
     let my_id = watch.my_id();
     let watcher = ShortBytes::copy_of(alloc, my_id.my_name())?;
@@ -151,5 +151,5 @@ fn status(alloc: Global, watch: &Watch, state: i32) -> Result<Letter, AllocError
         state,
         private_bytes: *watch.private_bytes(),
     };
-    Ok(Letter::new(Destination::Host(watcher), message))
+    Ok(Callback::new(Destination::Host(watcher), message))
 }

@@ -2,12 +2,12 @@
 ghost use Rattle.std.specs.Prelude.{◌≡◌, ℕ, ◌+◌, ◌<◌, ◌≤◌, [], length, map, pos, OnOk, OnErr, IfOk};
 ghost use Rattle.definitions.specs.Hosts.{Begin, after_store, next_own};
 ghost use Rattle.definitions.specs.Outgoing.{ToHost, Notify};
-ghost use Rattle.definitions.specs.World.{opening, restarted, restart_letter, with_due, with_all_due, with_hosts, slots_free, the_limits};
+ghost use Rattle.definitions.specs.World.{opening, restarted, restart_callback, with_due, with_all_due, with_hosts, slots_free, the_limits};
 ghost use Rattle.hosts_db.specs.Calls.{Counts, Makes, IsNotStarved};
 
 use crate::unsettled::Unsettled;
 use crate::world::{World, first_number};
-use callbacks::{Destination, Letter, Message, ShortBytes};
+use callbacks::{Callback, Destination, Message, ShortBytes};
 use definitions::own_state::next_own_state;
 use grace::Phase;
 use hosts_db::{HostRow, HostStore, StoreError};
@@ -18,24 +18,24 @@ use std::alloc::{AllocError, Global};
 impl<R: RangeTable, S: HostStore> World<R, S> {
     /// What a restart tells each stored host, in order of name: the own name, and the own state that comes next (XNFS,
     /// SM_NOTIFY). Starved: there is no memory for it.
-    pub fn notices(&self) -> Result<Vec<Letter>, Starved>
-        ensures letters { IfOk result (λ letters. letters.items ≡ map (restart_letter self.now.world.own_name (next_own self.now.world.hosts.own)) self.now.world.hosts.rows) }
-        ensures few { IfOk result (λ letters. length letters.items ≤ 4096) }
+    pub fn notices(&self) -> Result<Vec<Callback>, Starved>
+        ensures callbacks { IfOk result (λ callbacks. callbacks.items ≡ map (restart_callback self.now.world.own_name (next_own self.now.world.hosts.own)) self.now.world.hosts.rows) }
+        ensures few { IfOk result (λ callbacks. length callbacks.items ≤ 4096) }
     {
         let rows = self.store.hosts();
         let own = next_own_state(self.store.own());
-        let mut letters = Vec::with_capacity(self.alloc, rows.len())?;
+        let mut callbacks = Vec::with_capacity(self.alloc, rows.len())?;
         for row in rows {
-            letters.push_reserved(notice(self.alloc, &self.own_name, own, row)?);
+            callbacks.push_reserved(notice(self.alloc, &self.own_name, own, row)?);
         }
-        Ok(letters)
+        Ok(callbacks)
     }
 
     /// Begins anew in the next own state, with the store's rows, in grace, and these notices due. Nobody is known. An error of
     /// the store leaves the world as it was.
-    pub fn restart(&mut self, notices: Vec<Letter>) -> Result<(), StoreError>
+    pub fn restart(&mut self, notices: Vec<Callback>) -> Result<(), StoreError>
         requires few { length notices.items ≤ 4096 }
-        requires notices { notices.items ≡ map (restart_letter self.old.world.own_name (next_own self.old.world.hosts.own)) self.old.world.hosts.rows }
+        requires notices { notices.items ≡ map (restart_callback self.old.world.own_name (next_own self.old.world.hosts.own)) self.old.world.hosts.rows }
         ensures ok { OnOk result (self.new.world ≡ restarted self.old.world (after_store self.old.world.hosts Begin)) }
         ensures err { OnErr result (self.new.world ≡ self.old.world) }
         ensures counts { Counts result self.old.refusals self.new.refusals }
@@ -63,7 +63,7 @@ impl<R: RangeTable, S: HostStore> World<R, S> {
 
     /// As at the opening, in the own state that is stored: with the store's rows, in grace, and these notices due. Nobody is
     /// known. It takes no memory.
-    pub fn begin(&mut self, notices: Vec<Letter>)
+    pub fn begin(&mut self, notices: Vec<Callback>)
         requires { length notices.items ≤ 8192 }
         ensures world { self.new.world ≡ with_all_due (opening self.old.world.own_name self.old.world.hosts) notices.items }
         ensures refusals { self.new.refusals ≡ self.old.refusals }
@@ -89,26 +89,26 @@ impl<R: RangeTable, S: HostStore> World<R, S> {
     }
 
     /// The calls become due, in their order, under the next numbers. As many places are free.
-    pub fn tell(&mut self, letters: Vec<Letter>)
-        requires { length letters.items ≤ slots_free the_limits self.old.world }
-        ensures world { self.new.world ≡ with_all_due self.old.world letters.items }
+    pub fn tell(&mut self, callbacks: Vec<Callback>)
+        requires { length callbacks.items ≤ slots_free the_limits self.old.world }
+        ensures world { self.new.world ≡ with_all_due self.old.world callbacks.items }
         ensures names { self.new.names ≡ self.old.names }
         ensures refusals { self.new.refusals ≡ self.old.refusals }
     {
-        for letter in letters {
-            self.make_due(letter);
+        for callback in callbacks {
+            self.make_due(callback);
         }
     }
 
     // A call becomes due, under the next number.
-    fn make_due(&mut self, letter: Letter)
+    fn make_due(&mut self, callback: Callback)
         requires { 0 < slots_free the_limits self.old.world }
-        ensures world { self.new.world ≡ with_due self.old.world letter }
+        ensures world { self.new.world ≡ with_due self.old.world callback }
         ensures names { self.new.names ≡ self.old.names }
         ensures refusals { self.new.refusals ≡ self.old.refusals }
     {
         let _ = self.slots.take(1);
-        self.calls.make_due(self.next, letter);
+        self.calls.make_due(self.next, callback);
         self.next = self.next.wrapping_add(1);
     }
 }
@@ -119,13 +119,13 @@ fn notice(
     own_name: &ShortBytes,
     own: u32,
     row: &HostRow,
-) -> Result<Letter, AllocError>
+) -> Result<Callback, AllocError>
     requires { own < 2147483648 }
-    ensures { IfOk result (λ letter. letter ≡ restart_letter own_name.now own row.now) }
+    ensures { IfOk result (λ callback. callback ≡ restart_callback own_name.now own row.now) }
 {
     let host = ShortBytes::copy_of(alloc, row.name())?;
     match ShortBytes::copy_of(alloc, own_name.as_slice()) {
-        Ok(name) => Ok(Letter::new(
+        Ok(name) => Ok(Callback::new(
             Destination::Host(host),
             Message::Notify {
                 name,

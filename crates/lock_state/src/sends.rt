@@ -6,7 +6,7 @@ ghost use Rattle.out_calls.specs.Found.{found};
 
 use crate::world::World;
 use hosts_db::HostStore;
-use out_calls::Call;
+use out_calls::OutCall;
 use range_table::RangeTable;
 
 impl<R: RangeTable, S: HostStore> World<R, S> {
@@ -18,7 +18,7 @@ impl<R: RangeTable, S: HostStore> World<R, S> {
     }
 
     /// The call that is to be sent next.
-    pub fn next_call(&self) -> Option<&Call>
+    pub fn next_call(&self) -> Option<&OutCall>
         ensures { found result ≡ next_due self.now.world.calls }
     {
         self.calls.next_due()

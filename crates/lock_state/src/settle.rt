@@ -69,7 +69,7 @@ impl<R: RangeTable, S: HostStore> Grantor for World<R, S> {
         let was_held = is_limited(&quotas, self.locks.owner(wanted.owner));
         self.unsettled = self.unsettled.after_grant(was_held);
         let _ = self.locks.set_run(waiter.asked());
-        self.calls.make_due(self.next, waiter.into_letter());
+        self.calls.make_due(self.next, waiter.into_callback());
         self.next = self.next.wrapping_add(1);
         true
     }

@@ -9,7 +9,7 @@ ghost use Rattle.lock_state.specs.Whole.{IsShown};
 
 use crate::world::World;
 use blocked_list::{NotWaiting, Waiter};
-use callbacks::Letter;
+use callbacks::Callback;
 use held_locks::Request;
 use hosts_db::HostStore;
 use range_table::RangeTable;
@@ -40,20 +40,20 @@ impl<R: RangeTable, S: HostStore> World<R, S> {
         }
     }
 
-    /// From now on the owner waits for this lock, behind all who wait, and the letter is what tells of the grant. It takes
+    /// From now on the owner waits for this lock, behind all who wait, and the callback is what tells of the grant. It takes
     /// no memory.
-    pub fn wait(&mut self, wanted: &Request<'_>, letter: Letter)
+    pub fn wait(&mut self, wanted: &Request<'_>, callback: Callback)
         requires room { 0 < slots_free the_limits self.old.world }
         requires known { Knows self.old (view_of_owner wanted.now.owner.now) }
         requires shown { IsShown (view_of_owner wanted.now.owner.now) }
-        ensures { self.new ≡ record self.old { world = with_waiter self.old.world (record { request = view_of_request wanted.now; letter = letter }) } }
+        ensures { self.new ≡ record self.old { world = with_waiter self.old.world (record { request = view_of_request wanted.now; callback = callback }) } }
     {
         let (_, owners) = self.locks.parts();
         let Some(number) = owners.number(wanted.owner) else {
             unreachable!();
         };
         self.unsettled = self.unsettled.with_file(&wanted.file);
-        let waiter = Waiter::new(wanted.by_number(number), letter);
+        let waiter = Waiter::new(wanted.by_number(number), callback);
         let _ = self.slots.block(waiter);
     }
 

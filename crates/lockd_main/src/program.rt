@@ -8,7 +8,7 @@ ghost use Rattle.lockd_main.specs.Ends.{EndsBy, RunsWords};
 use config::{Config, ConfigFault, config};
 use lockd_serving::{Console, end, serve_asked};
 use log::Log;
-use pipe_loops::Fault;
+use pipe_loops::StreamFault;
 use server::Runtime;
 use std::io::{BufWriter, Print, Read, Write};
 use std::net::{Net, TcpListener, TcpStream};
@@ -40,10 +40,10 @@ fn refuse(rt: &HostRuntime, fault: &ConfigFault) -> ExitCode
 {
     let status = fault.status();
     match fault {
-        ConfigFault::Starved => end(rt, Err(Fault::Starved)),
+        ConfigFault::Starved => end(rt, Err(StreamFault::Starved)),
         ConfigFault::Refused(text) if status == 0 => match print!(rt; "{text}") {
             Ok(()) => ExitCode::SUCCESS,
-            Err(_) => end(rt, Err(Fault::WriteFault)),
+            Err(_) => end(rt, Err(StreamFault::WriteFault)),
         },
         ConfigFault::Refused(text) => {
             let _ = eprint!(rt; "{text}");
@@ -110,7 +110,7 @@ where
         return refuse_for(host, "the words can't be read");
     };
     let Ok(output) = BufWriter::new(host.alloc(), io::writer(host)) else {
-        return end(host, Err(Fault::Starved));
+        return end(host, Err(StreamFault::Starved));
     };
     let input = host.reader();
     let mut console = Console { input, output };

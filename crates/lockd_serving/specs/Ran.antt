@@ -2,9 +2,9 @@
 use Rattle.std.specs.Prelude.{◌≡◌, ◌≤◌, ◌⊎◌, ℕ, List, [], Option, Some, None, Result, Ok, Err}
 use Rattle.definitions.specs.Hosts.{Hosts}
 use Rattle.daemon_core.specs.declared.event.Event.{Event}
-use Rattle.daemon_core.specs.Hub.{Hub, opening}
+use Rattle.daemon_core.specs.DaemonState.{DaemonState, opening}
 use Rattle.byte_io.specs.declared.pieces.TheConstants.{MOST_READS}
-use Rattle.pipe_loops.specs.declared.fault.Fault.{Fault}
+use Rattle.pipe_loops.specs.declared.fault.StreamFault.{StreamFault}
 use Rattle.pipe_loops.specs.Pipe.{beginning, PipeEnds}
 use Rattle.pipe_loops.specs.Table.{TableEnds}
 use Rattle.config.specs.declared.settings.Config.{Config}
@@ -25,22 +25,22 @@ abbrev pub stand : {I O : Type 0} → (I → Option (List ℕ)) → (O → Optio
 stand remaining contents console = record { unread = remaining console.input; written = contents console.output }
 
 -- how the loop of this output ends
-abbrev pub LoopEnds : Output → List Event → Hub → ℕ → Result (Unit {0}) Fault → Stand → Stand → Type 0
+abbrev pub LoopEnds : Output → List Event → DaemonState → ℕ → Result (Unit {0}) StreamFault → Stand → Stand → Type 0
 LoopEnds Replies events start bound result old new = PipeEnds events start bound result old.unread new.unread old.written new.written
 LoopEnds Table events start bound result old new = TableEnds events start bound result old.unread new.unread old.written new.written
 
 -- a stream is served as these words ask, over a store of these rows
-abbrev pub Served : Output → StreamConfig → Hosts → ℕ → Result (Unit {0}) Fault → Stand → Stand → Type 0
+abbrev pub Served : Output → StreamConfig → Hosts → ℕ → Result (Unit {0}) StreamFault → Stand → Stand → Type 0
 Served output asked rows refusals result old new = LoopEnds output (beginning asked.grace) (opening asked.name rows refusals) MOST_READS result old new
 
 -- the status of a program that ends so
-abbrev pub IsStatus : Result (Unit {0}) Fault → ℕ → Type 0
+abbrev pub IsStatus : Result (Unit {0}) StreamFault → ℕ → Type 0
 IsStatus (Ok done) status = status ≡ 0
 IsStatus (Err fault) status = status ≡ 1
 
 -- the stream was served, and the status says how that ended
 abbrev pub RunsStream : Output → StreamConfig → Hosts → ℕ → ℕ → Stand → Stand → Type 0
-RunsStream output asked rows refusals status old new = (ended : Result (Unit {0}) Fault) × Served output asked rows refusals ended old new × IsStatus ended status
+RunsStream output asked rows refusals status old new = (ended : Result (Unit {0}) StreamFault) × Served output asked rows refusals ended old new × IsStatus ended status
 
 -- it didn't start: nothing was read or written
 abbrev pub Fails : ℕ → Stand → Stand → Type 0

@@ -5,7 +5,7 @@ ghost use Rattle.lockd_serving.specs.Ran.{IsStatus};
 use crate::notes::{Note, tell};
 use crate::sockets::ServeFault;
 use config::{ServeConfig, StreamConfig};
-use pipe_loops::Fault;
+use pipe_loops::StreamFault;
 use std::fmt::Display;
 use std::process::ExitCode;
 
@@ -27,11 +27,11 @@ pub fn end<F: Display + Drop>(rt: &HostRuntime, ended: Result<(), F>) -> ExitCod
 pub(crate) fn end_stream(
     rt: &HostRuntime,
     asked: &StreamConfig,
-    ended: Result<(), Fault>,
+    ended: Result<(), StreamFault>,
 ) -> ExitCode
     ensures { IsStatus ended result.status }
 {
-    if let (Some(path), Err(Fault::StoreRefused)) = (&asked.db, ended) {
+    if let (Some(path), Err(StreamFault::StoreRefused)) = (&asked.db, ended) {
         let path = path.as_str();
         tell(rt, Note::NotBegun { path });
     }
@@ -50,7 +50,7 @@ pub(crate) fn end_server(
     match ended {
         Ok(calls) if asked.audit => match println!(rt; "audit yes {calls}") {
             Ok(()) => ExitCode::SUCCESS,
-            Err(_) => end(rt, Err(Fault::WriteFault)),
+            Err(_) => end(rt, Err(StreamFault::WriteFault)),
         },
         Ok(_) => ExitCode::SUCCESS,
         Err(fault) => {

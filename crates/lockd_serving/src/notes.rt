@@ -1,6 +1,6 @@
 //! What is told of a start that failed, in front of its fault.
 use hosts_sql::AdoptError;
-use server::{Fault, NoListener};
+use server::{NoListener, ServerFault};
 use std::io;
 use thiserror::Error;
 
@@ -50,13 +50,13 @@ pub enum Note<'a> {
 
 impl<'a> Note<'a> {
     /// Why a server over this database didn't start. None where its fault says all, or comes behind the start.
-    pub(crate) fn of_server(path: &'a str, fault: &Fault) -> Option<Note<'a>> {
+    pub(crate) fn of_server(path: &'a str, fault: &ServerFault) -> Option<Note<'a>> {
         match fault {
-            Fault::ReadFault(refused) => Some(Note::NoListener(*refused)),
-            Fault::NoSender(error) => Some(Note::NoSender(*error)),
-            Fault::NoThread => Some(Note::NoThread),
-            Fault::StoreRefused => Some(Note::NotBegun { path }),
-            Fault::Starved | Fault::AuditMismatch | Fault::WriteFault => None,
+            ServerFault::ReadFault(refused) => Some(Note::NoListener(*refused)),
+            ServerFault::NoSender(error) => Some(Note::NoSender(*error)),
+            ServerFault::NoThread => Some(Note::NoThread),
+            ServerFault::StoreRefused => Some(Note::NotBegun { path }),
+            ServerFault::Starved | ServerFault::AuditMismatch | ServerFault::WriteFault => None,
         }
     }
 }

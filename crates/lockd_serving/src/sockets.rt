@@ -10,7 +10,7 @@ use hosts_db::HostStore;
 use job_queue::Job;
 use peers::{Peers, PeersFault};
 use reply_outbox::Gate;
-use server::{Backing, CallSettings, Runtime, Settings, serve};
+use server::{Backing, CallSettings, Runtime, ServerSettings, serve};
 use std::alloc::Global;
 use std::fs;
 use std::net::SocketAddr;
@@ -31,7 +31,7 @@ pub(crate) enum ServeFault {
     ReadFault,
     /// The server ended.
     #[error("{0}")]
-    Server(server::Fault),
+    Server(server::ServerFault),
 }
 
 // Holds no job back.
@@ -67,7 +67,7 @@ fn peers_of(host: &HostRuntime, path: &str, bytes: &[u8]) -> Result<Peers, Serve
     }
 }
 
-fn settings_of(asked: &ServeConfig) -> Settings
+fn settings_of(asked: &ServeConfig) -> ServerSettings
     ensures calls { (socket_ip result.rpc ≡ asked.now.bind) × (socket_port result.rpc ≡ asked.now.ports.rpc) }
     ensures own { result.local_port ≡ asked.now.ports.local }
     ensures peers { (result.calls.nlm_port ≡ asked.now.ports.peer_nlm) × (result.calls.nsm_port ≡ asked.now.ports.peer_nsm) }
@@ -75,7 +75,7 @@ fn settings_of(asked: &ServeConfig) -> Settings
     ensures times { Lasts asked.now.times.grace result.calls.grace × Lasts asked.now.times.silence result.calls.silence × Lasts asked.now.times.idle result.idle }
     ensures workers { (result.workers ≡ asked.now.workers) × (result.is_audited ≡ asked.now.audit) }
 {
-    Settings {
+    ServerSettings {
         rpc: SocketAddr::new(asked.bind, asked.ports.rpc.get()),
         local_port: asked.ports.local.get(),
         calls: CallSettings {

@@ -8,7 +8,7 @@ use crate::notes::{Note, tell};
 use config::FilePath;
 use hosts_db::{HostStore, KeptHosts, MemHosts, StoreError};
 use hosts_sql::{AdoptError, SqlHosts};
-use pipe_loops::Fault;
+use pipe_loops::StreamFault;
 use sqlite::{Alter, Connection};
 use std::alloc::Global;
 
@@ -23,17 +23,17 @@ pub(crate) struct Opened<'a, S: Alter> {
     pub(crate) tried: Result<Connection<S>, sqlite::Error>,
 }
 
-fn fault_of(refusal: StoreError) -> Fault
-    ensures { refusal ≡ StoreError.StoreRefused → result ≡ Fault.StoreRefused }
+fn fault_of(refusal: StoreError) -> StreamFault
+    ensures { refusal ≡ StoreError.StoreRefused → result ≡ StreamFault.StoreRefused }
 {
     match refusal {
-        StoreError::Starved => Fault::Starved,
-        StoreError::StoreRefused => Fault::StoreRefused,
+        StoreError::Starved => StreamFault::Starved,
+        StoreError::StoreRefused => StreamFault::StoreRefused,
     }
 }
 
 // No hosts, in memory.
-fn no_hosts<S: Alter + Drop>(alloc: Global) -> Result<Hosts<S>, Fault>
+fn no_hosts<S: Alter + Drop>(alloc: Global) -> Result<Hosts<S>, StreamFault>
     ensures rows { IfOk result (λ hosts. AreStored None (⟦<Hosts<S> as HostStore>⟧.rows hosts)) }
     ensures refusals { IfOk result (λ hosts. ⟦<Hosts<S> as HostStore>⟧.refusals hosts ≡ 0) }
 {
@@ -44,8 +44,8 @@ fn no_hosts<S: Alter + Drop>(alloc: Global) -> Result<Hosts<S>, Fault>
 }
 
 // The fault of a database that isn't taken. A note says why, but for want of memory.
-fn refused(host: &HostRuntime, path: &FilePath, why: &AdoptError) -> Fault
-    ensures { refusal_of why.now ≡ StoreError.StoreRefused → result ≡ Fault.StoreRefused }
+fn refused(host: &HostRuntime, path: &FilePath, why: &AdoptError) -> StreamFault
+    ensures { refusal_of why.now ≡ StoreError.StoreRefused → result ≡ StreamFault.StoreRefused }
 {
     let refusal = why.refusal();
     if refusal == StoreError::StoreRefused {
@@ -59,8 +59,8 @@ fn refused(host: &HostRuntime, path: &FilePath, why: &AdoptError) -> Fault
 fn stored_hosts<S: Alter + Drop>(
     host: &HostRuntime,
     opened: Opened<'_, S>,
-) -> Result<Hosts<S>, Fault>
-    ensures refused { IfErr opened.entry.tried (λ _. result ≡ Err Fault.StoreRefused) }
+) -> Result<Hosts<S>, StreamFault>
+    ensures refused { IfErr opened.entry.tried (λ _. result ≡ Err StreamFault.StoreRefused) }
     ensures stored { IfOk result (λ hosts. IsStored hosts) }
     ensures refusals { IfOk result (λ hosts. ⟦<Hosts<S> as HostStore>⟧.refusals hosts ≡ 0) }
 {
@@ -75,10 +75,10 @@ fn stored_hosts<S: Alter + Drop>(
 pub(crate) fn hosts_of<S: Alter + Drop>(
     host: &HostRuntime,
     opened: Option<Opened<'_, S>>,
-) -> Result<Hosts<S>, Fault>
+) -> Result<Hosts<S>, StreamFault>
     ensures rows { IfOk result (λ hosts. AreStored (option_map (λ opened. opened.path.now) opened.entry) (⟦<Hosts<S> as HostStore>⟧.rows hosts)) }
     ensures refusals { IfOk result (λ hosts. ⟦<Hosts<S> as HostStore>⟧.refusals hosts ≡ 0) }
-    ensures refused { IfSome opened.entry (λ opened. IfErr opened.tried (λ _. result ≡ Err Fault.StoreRefused)) }
+    ensures refused { IfSome opened.entry (λ opened. IfErr opened.tried (λ _. result ≡ Err StreamFault.StoreRefused)) }
     ensures stored { IfSome opened.entry (λ _. IfOk result (λ hosts. IsStored hosts)) }
 {
     match opened {

@@ -1,14 +1,14 @@
 //! A stream is served.
 ghost use Rattle.std.specs.Prelude.{◌≡◌, [], IfOk};
 ghost use Rattle.lockd_serving.specs.Ran.{Served, LoopEnds, stand};
-ghost use Rattle.daemon_core.specs.Hub.{opening};
+ghost use Rattle.daemon_core.specs.DaemonState.{opening};
 ghost use Rattle.pipe_loops.specs.Pipe.{beginning};
 
 use byte_io::MOST_READS;
 use callbacks::ShortBytes;
 use config::{Name, StreamConfig};
 use hosts_db::HostStore;
-use pipe_loops::{Fault, Server, pipe_loop, table_loop};
+use pipe_loops::{Server, StreamFault, pipe_loop, table_loop};
 use range_arena::ArenaTable;
 use range_table::RangeTable;
 use std::alloc::Global;
@@ -31,12 +31,12 @@ pub struct Console<I, O> {
 }
 
 /// A copy of the server's own name.
-pub(crate) fn own_name(alloc: Global, name: &Name) -> Result<ShortBytes, Fault>
+pub(crate) fn own_name(alloc: Global, name: &Name) -> Result<ShortBytes, StreamFault>
     ensures { IfOk result (λ copy. copy ≡ name.now) }
 {
     match ShortBytes::copy_of(alloc, name.as_str().as_bytes()) {
         Ok(copy) => Ok(copy),
-        Err(_) => Err(Fault::Starved),
+        Err(_) => Err(StreamFault::Starved),
     }
 }
 
@@ -46,7 +46,7 @@ fn run_loop<T, S, I, O>(
     console: &mut Console<I, O>,
     output: Output,
     server: Server<T, S>,
-) -> Result<(), Fault>
+) -> Result<(), StreamFault>
 where
     T: RangeTable + Drop,
     S: HostStore + Drop,
@@ -71,7 +71,7 @@ pub(crate) fn serve_stream<S, I, O>(
     output: Output,
     asked: &StreamConfig,
     store: S,
-) -> Result<(), Fault>
+) -> Result<(), StreamFault>
 where
     S: HostStore + Drop,
     I: Read,
@@ -79,10 +79,10 @@ where
     ensures { Served output asked.now (S.rows store) (S.refusals store) result (stand I.remaining O.contents console.old) (stand I.remaining O.contents console.new) }
 {
     let Ok(own_name) = own_name(alloc, &asked.name) else {
-        return Err(Fault::Starved);
+        return Err(StreamFault::Starved);
     };
     let Ok(table) = ArenaTable::new(alloc) else {
-        return Err(Fault::Starved);
+        return Err(StreamFault::Starved);
     };
     let server = Server {
         table,

@@ -9,7 +9,7 @@ use crate::streams::{Console, Output, serve_stream};
 use config::{Config, FilePath, ServeConfig, StreamConfig};
 use hosts_db::{HostStore, KeptHosts, Lasting};
 use peers::Peers;
-use pipe_loops::Fault;
+use pipe_loops::StreamFault;
 use server::Runtime;
 use sqlite::{Alter, Connection};
 use std::io::{Read, Write};
@@ -59,7 +59,7 @@ fn serve_kept<M, S, R, I, O>(
     rt: &R,
     console: &mut Console<I, O>,
     work: Work<'_>,
-    store: Result<KeptHosts<M, S>, Fault>,
+    store: Result<KeptHosts<M, S>, StreamFault>,
 ) -> ExitCode
 where
     M: HostStore + Drop + Send,

@@ -16,15 +16,15 @@ pub after_sending-none : (calls : List Outgoing) → is_any due calls ≡ false 
 after_sending-none [] e = refl
 after_sending-none (c ∷ calls) e = go c.is_due (after_sending-none calls) e
   where
-    go : (b : Bool) → (is_any due calls ≡ false → after_sending calls ≡ calls) → (b || is_any due calls) ≡ false → cond b (cond (ends_when_sent c.letter.message) calls (once_more c ∷ calls)) (c ∷ after_sending calls) ≡ c ∷ calls
+    go : (b : Bool) → (is_any due calls ≡ false → after_sending calls ≡ calls) → (b || is_any due calls) ≡ false → cond b (cond (ends_when_sent c.callback.message) calls (once_more c ∷ calls)) (c ∷ after_sending calls) ≡ c ∷ calls
     go true k h = absurd (false≢true (sym h))
     go false k h = ap (λ l. c ∷ l) (k h)
 
-after_sending-split : (before : List Outgoing) (c : Outgoing) (behind : List Outgoing) → is_any due before ≡ false → c.is_due ≡ true → after_sending (before ++ c ∷ behind) ≡ before ++ cond (ends_when_sent c.letter.message) behind (once_more c ∷ behind)
+after_sending-split : (before : List Outgoing) (c : Outgoing) (behind : List Outgoing) → is_any due before ≡ false → c.is_due ≡ true → after_sending (before ++ c ∷ behind) ≡ before ++ cond (ends_when_sent c.callback.message) behind (once_more c ∷ behind)
 after_sending-split [] c behind n p = rw p refl
 after_sending-split (d ∷ ds) c behind n p = go d.is_due (λ h. after_sending-split ds c behind h p) n
   where
-    go : (b : Bool) → (is_any due ds ≡ false → after_sending (ds ++ c ∷ behind) ≡ ds ++ cond (ends_when_sent c.letter.message) behind (once_more c ∷ behind)) → (b || is_any due ds) ≡ false → cond b (cond (ends_when_sent d.letter.message) (ds ++ c ∷ behind) (once_more d ∷ (ds ++ c ∷ behind))) (d ∷ after_sending (ds ++ c ∷ behind)) ≡ d ∷ (ds ++ cond (ends_when_sent c.letter.message) behind (once_more c ∷ behind))
+    go : (b : Bool) → (is_any due ds ≡ false → after_sending (ds ++ c ∷ behind) ≡ ds ++ cond (ends_when_sent c.callback.message) behind (once_more c ∷ behind)) → (b || is_any due ds) ≡ false → cond b (cond (ends_when_sent d.callback.message) (ds ++ c ∷ behind) (once_more d ∷ (ds ++ c ∷ behind))) (d ∷ after_sending (ds ++ c ∷ behind)) ≡ d ∷ (ds ++ cond (ends_when_sent c.callback.message) behind (once_more c ∷ behind))
     go true k h = absurd (false≢true (sym h))
     go false k h = ap (λ l. d ∷ l) (k h)
 
@@ -37,16 +37,16 @@ set-split [] c d behind = refl
 set-split (e ∷ es) c d behind = ap (λ l. e ∷ l) (set-split es c d behind)
 
 -- a line ends
-pub after_sending-ends : (calls : List Outgoing) (i : ℕ) (y : Outgoing) → IsFirstAt due calls i → y ≡ slice_index_or calls i y → ends_when_sent y.letter.message ≡ true → remove calls i ≡ after_sending calls
+pub after_sending-ends : (calls : List Outgoing) (i : ℕ) (y : Outgoing) → IsFirstAt due calls i → y ≡ slice_index_or calls i y → ends_when_sent y.callback.message ≡ true → remove calls i ≡ after_sending calls
 after_sending-ends calls i y f is ends =
-    let e : ends_when_sent f.x.letter.message ≡ true = ap (λ (c : Outgoing). ends_when_sent c.letter.message) (sym (is ∙ first_is due calls i y f)) ∙ ends in
+    let e : ends_when_sent f.x.callback.message ≡ true = ap (λ (c : Outgoing). ends_when_sent c.callback.message) (sym (is ∙ first_is due calls i y f)) ∙ ends in
     rw (f.there, ← f.place, after_sending-split f.before f.x f.behind f.none_before f.passes, e) (remove-split f.before f.x f.behind)
 
 -- any other call waits
-pub after_sending-waits : (calls : List Outgoing) (i : ℕ) (y : Outgoing) → IsFirstAt due calls i → y ≡ slice_index_or calls i y → ends_when_sent y.letter.message ≡ false → set calls i (once_more y) ≡ after_sending calls
+pub after_sending-waits : (calls : List Outgoing) (i : ℕ) (y : Outgoing) → IsFirstAt due calls i → y ≡ slice_index_or calls i y → ends_when_sent y.callback.message ≡ false → set calls i (once_more y) ≡ after_sending calls
 after_sending-waits calls i y f is waits =
     let at : y ≡ f.x = is ∙ first_is due calls i y f in
-    let e : ends_when_sent f.x.letter.message ≡ false = ap (λ (c : Outgoing). ends_when_sent c.letter.message) (sym at) ∙ waits in
+    let e : ends_when_sent f.x.callback.message ≡ false = ap (λ (c : Outgoing). ends_when_sent c.callback.message) (sym at) ∙ waits in
     rw (at, f.there, ← f.place, after_sending-split f.before f.x f.behind f.none_before f.passes, e) (set-split f.before f.x (once_more f.x) f.behind)
 
 pub after_silence-none : (number : ℕ) (calls : List Outgoing) → is_any (is_numbered number) calls ≡ false → after_silence number calls ≡ calls

@@ -1,9 +1,9 @@
 //! One call.
 ghost use Rattle.std.specs.Prelude.{◌≡◌, ◌<◌, ◌≤◌, ◌&&◌, ◌^◌, eqb, ltb, true, false};
 ghost use Rattle.definitions.specs.Bytes.{same_bytes, eight_bytes};
-ghost use Rattle.definitions.specs.Outgoing.{Outgoing, Letter as SentLetter, due_now, once_more, xid_of, was_sent, is_grant_to, is_granted_msg, ends_when_sent};
+ghost use Rattle.definitions.specs.Outgoing.{Outgoing, Callback as SentCallback, due_now, once_more, xid_of, was_sent, is_grant_to, is_granted_msg, ends_when_sent};
 
-use callbacks::Letter;
+use callbacks::Callback;
 use std::marker::Model;
 
 /// How often a call is sent before a silence forgets it.
@@ -11,32 +11,32 @@ pub const MOST_SENDINGS: u8 = 3;
 
 /// A call of the server's own: its number, what it says and to whom, how often it was sent, and whether it is due now.
 #[derive(Drop)]
-pub struct Call {
+pub struct OutCall {
     number: u64,
-    letter: Letter,
+    callback: Callback,
     sendings: u8,
     is_due: bool,
 }
 
-impl Model for Call {
+impl Model for OutCall {
     ghost use Rattle.std.specs.Prelude.{◌≡◌, ◌≤◌, ◌<◌, true};
     ghost use Rattle.definitions.specs.Outgoing.{Outgoing};
 
     ghost Value = { Outgoing };
 
-    ghost view = { λ c. record { number = c.number; letter = c.letter; sendings = c.sendings; is_due = c.is_due } };
+    ghost view = { λ c. record { number = c.number; callback = c.callback; sendings = c.sendings; is_due = c.is_due } };
 
     ghost invariant = { λ c. (c.sendings ≤ 3) × (c.is_due ≡ true → c.sendings < 3) };
 }
 
-impl Call {
+impl OutCall {
     /// A call that is due and was never sent.
-    pub(crate) fn new(number: u64, letter: Letter) -> Call
-        ensures { result ≡ due_now number letter }
+    pub(crate) fn new(number: u64, callback: Callback) -> OutCall
+        ensures { result ≡ due_now number callback }
     {
-        Call {
+        OutCall {
             number,
-            letter,
+            callback,
             sendings: 0,
             is_due: true,
         }
@@ -56,17 +56,17 @@ impl Call {
     }
 
     /// What it says, and to whom: the same at each sending.
-    pub fn letter(&self) -> &Letter
-        ensures { result.now ≡ self.now.letter }
+    pub fn callback(&self) -> &Callback
+        ensures { result.now ≡ self.now.callback }
     {
-        &self.letter
+        &self.callback
     }
 
     /// Gives up what it says, and to whom.
-    pub fn into_letter(self) -> Letter
-        ensures { result ≡ self.letter }
+    pub fn into_callback(self) -> Callback
+        ensures { result ≡ self.callback }
     {
-        self.letter
+        self.callback
     }
 
     pub fn is_due(&self) -> bool
@@ -92,9 +92,9 @@ impl Call {
 
     // Whether it is a GRANTED_MSG that was sent and this is its cookie, the 8 bytes of its number.
     pub(crate) fn is_answered_with(&self, cookie: &[u8]) -> bool
-        ensures { result ≡ (is_granted_msg self.now.letter.message && (same_bytes (eight_bytes self.now.number) cookie.now && was_sent self.now)) }
+        ensures { result ≡ (is_granted_msg self.now.callback.message && (same_bytes (eight_bytes self.now.number) cookie.now && was_sent self.now)) }
     {
-        self.letter.message().is_granted_msg() && self.has_cookie(cookie) && self.sendings >= 1
+        self.callback.message().is_granted_msg() && self.has_cookie(cookie) && self.sendings >= 1
     }
 
     fn has_cookie(&self, cookie: &[u8]) -> bool
@@ -103,7 +103,7 @@ impl Call {
         self.number.to_be_bytes().as_slice() == cookie
     }
 
-    pub(crate) fn is_older(&self, other: &Call) -> bool
+    pub(crate) fn is_older(&self, other: &OutCall) -> bool
         ensures { result ≡ ltb self.now.number other.now.number }
     {
         self.number < other.number
@@ -112,13 +112,13 @@ impl Call {
     pub(crate) fn is_grant_to(&self, name: &[u8]) -> bool
         ensures { result ≡ is_grant_to name.now self.now }
     {
-        self.letter.is_grant_to(name)
+        self.callback.is_grant_to(name)
     }
 
     pub(crate) fn ends_when_sent(&self) -> bool
-        ensures { result ≡ ends_when_sent self.now.letter.message }
+        ensures { result ≡ ends_when_sent self.now.callback.message }
     {
-        self.letter.message().ends_when_sent()
+        self.callback.message().ends_when_sent()
     }
 
     // It is sent once more, and no longer due.
@@ -131,11 +131,11 @@ impl Call {
     }
 
     // It is due once more, as it was.
-    pub(crate) fn repeat(self) -> Call
+    pub(crate) fn repeat(self) -> OutCall
         requires { self.sendings < MOST_SENDINGS }
         ensures { result ≡ record self { is_due = true } }
     {
-        Call {
+        OutCall {
             is_due: true,
             ..self
         }

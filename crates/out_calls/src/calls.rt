@@ -2,12 +2,12 @@
 ghost use Rattle.std.specs.Prelude.{◌≡◌, ◌↔◌, ◌≤◌, ◌<◌, ◌++◌, ◌∷◌, [], length, IfOk, IsTrue, Option, None, Some, IfSome, IfNone, slice_index_or};
 ghost use Rattle.std.specs.List.{position_or_len, remove};
 ghost use Rattle.definitions.specs.Bytes.{first_that, without_first};
-ghost use Rattle.definitions.specs.Outgoing.{Outgoing, Letter as SentLetter, due_now, next_due, is_numbered, without_call, after_sending, after_silence, call_of_xid, call_of_cookie, without_grants_to};
+ghost use Rattle.definitions.specs.Outgoing.{Outgoing, Callback as SentCallback, due_now, next_due, is_numbered, without_call, after_sending, after_silence, call_of_xid, call_of_cookie, without_grants_to};
 ghost use Rattle.definitions.specs.First.{IsFirstPlace};
 ghost use Rattle.out_calls.specs.Found.{found, kept_or};
 
-use crate::call::{Call, MOST_SENDINGS};
-use callbacks::{Letter, MOST_SLOTS};
+use crate::call::{MOST_SENDINGS, OutCall};
+use callbacks::{Callback, MOST_SLOTS};
 use owner_ids::Starved;
 use std::alloc::Global;
 use std::marker::Model;
@@ -21,7 +21,7 @@ use std::marker::Model;
 /// first. Room for all is reserved at the start, so no later call takes memory.
 #[derive(Drop)]
 pub struct OutCalls {
-    calls: Vec<Call>,
+    calls: Vec<OutCall>,
     // How many were sent and wait: here stands the first that is due.
     sent: usize,
 }
@@ -63,22 +63,22 @@ impl OutCalls {
     }
 
     /// The calls, the one that became due last at the end.
-    pub fn as_slice(&self) -> &[Call]
+    pub fn as_slice(&self) -> &[OutCall]
         ensures { result.now ≡ self.now }
     {
         self.calls.as_slice()
     }
 
     /// A call becomes due, behind the others, under this number.
-    pub fn make_due(&mut self, number: u64, letter: Letter)
+    pub fn make_due(&mut self, number: u64, callback: Callback)
         requires { length self.old < MOST_SLOTS }
-        ensures { self.new ≡ self.old ++ due_now number letter ∷ [] }
+        ensures { self.new ≡ self.old ++ due_now number callback ∷ [] }
     {
-        self.calls.push_reserved(Call::new(number, letter));
+        self.calls.push_reserved(OutCall::new(number, callback));
     }
 
     /// The call that is to be sent next: of those that are due, the one that became so first.
-    pub fn next_due(&self) -> Option<&Call>
+    pub fn next_due(&self) -> Option<&OutCall>
         ensures { found result ≡ next_due self.now }
     {
         match self.due_place() {
@@ -98,11 +98,11 @@ impl OutCalls {
     }
 
     /// The call that a reply of this xid belongs to (RFC 5531): of those that were sent, the oldest.
-    pub fn of_xid(&self, xid: u32) -> Option<&Call>
+    pub fn of_xid(&self, xid: u32) -> Option<&OutCall>
         ensures { found result ≡ call_of_xid xid self.now }
     {
         let calls = self.calls.as_slice();
-        let mut oldest: Option<&Call> = None;
+        let mut oldest: Option<&OutCall> = None;
         for call in calls {
             if call.is_answered_by(xid) {
                 oldest = Some(older(oldest, call));
@@ -112,11 +112,11 @@ impl OutCalls {
     }
 
     /// The call that a GRANTED_RES with this cookie belongs to (XNFS, NLM_GRANTED_RES): a GRANTED_MSG that was sent.
-    pub fn of_cookie(&self, cookie: &[u8]) -> Option<&Call>
+    pub fn of_cookie(&self, cookie: &[u8]) -> Option<&OutCall>
         ensures { found result ≡ call_of_cookie cookie.now self.now }
     {
         let calls = self.calls.as_slice();
-        let mut oldest: Option<&Call> = None;
+        let mut oldest: Option<&OutCall> = None;
         for call in calls {
             if call.is_answered_with(cookie) {
                 oldest = Some(older(oldest, call));
@@ -126,7 +126,7 @@ impl OutCalls {
     }
 
     /// An answer ends the call of this number, which is given back. Where there is none nothing changes.
-    pub fn answered(&mut self, number: u64) -> Option<Call>
+    pub fn answered(&mut self, number: u64) -> Option<OutCall>
         ensures call { result ≡ first_that (is_numbered number) self.old }
         ensures calls { self.new ≡ without_call number self.old }
     {
@@ -209,7 +209,7 @@ impl OutCalls {
 
     // The call at this place goes, and those behind it stand one place further in front: the first that is due, too, where
     // the call was sent.
-    fn take_out(&mut self, place: usize) -> Call
+    fn take_out(&mut self, place: usize) -> OutCall
         requires { place < length self.old }
         ensures call { result ≡ slice_index_or self.old place result }
         ensures others { self.new ≡ remove self.old place }
@@ -224,7 +224,7 @@ impl OutCalls {
 }
 
 // Where the first call stands that is due, or how many there are where none is.
-fn first_due(calls: &[Call]) -> usize
+fn first_due(calls: &[OutCall]) -> usize
     ensures { result ≡ position_or_len (λ c. c.is_due) calls.now }
 {
     calls
@@ -234,7 +234,7 @@ fn first_due(calls: &[Call]) -> usize
 }
 
 // Of two calls the one of lesser number; the first where they have one.
-fn older<'a>(first: Option<&'a Call>, call: &'a Call) -> &'a Call
+fn older<'a>(first: Option<&'a OutCall>, call: &'a OutCall) -> &'a OutCall
     ensures { result.now ≡ kept_or (found first.entry) call.now }
 {
     match first {

@@ -5,6 +5,6 @@
 mod call;
 mod calls;
 
-pub use call::{Call, MOST_SENDINGS};
+pub use call::{MOST_SENDINGS, OutCall};
 pub use calls::OutCalls;
 pub use owner_ids::Starved;

@@ -8,20 +8,20 @@ use Rattle.std.proofs.KnownBytes.{Appends-trans}
 use Rattle.daemon_core.specs.declared.event.Event.TheVariants.{Take}
 use Rattle.daemon_core.specs.declared.outputs.Outputs.{Outputs}
 use Rattle.daemon_core.specs.Outputs.{bytes_sent}
-use Rattle.daemon_core.specs.Hub.{Hub, HubStep, SendStep, all_bytes_sent}
-use Rattle.pipe_loops.specs.declared.fault.Fault.{Fault}
+use Rattle.daemon_core.specs.DaemonState.{DaemonState, DaemonStep, SendStep, all_bytes_sent}
+use Rattle.pipe_loops.specs.declared.fault.StreamFault.{StreamFault}
 use Rattle.byte_io.specs.Written.{WroteFront}
 use Rattle.pipe_loops.specs.Answered.{NothingDue, Sends, AnswersRecord, AnswersEach, in_order, SendsAll, SendsSome, SendsDue, AnswersBegun, AnswersNext}
 use Rattle.pipe_loops.proofs.PipeLemmas.{bytes-append, bytes-more, Breaks-after}
 
 -- ---- the calls that are due
 
-Sends-append : (old mid new : Hub) (calls more : List Outputs) → Sends old calls mid → Sends mid more new → Sends old (calls ++ more) new
-Sends-append old mid new [] more h k = subst (λ (x : Hub). Sends x more new) h k
+Sends-append : (old mid new : DaemonState) (calls more : List Outputs) → Sends old calls mid → Sends mid more new → Sends old (calls ++ more) new
+Sends-append old mid new [] more h k = subst (λ (x : DaemonState). Sends x more new) h k
 Sends-append old mid new (c ∷ calls) more h k = (h.0, h.1, h.2, Sends-append h.0 mid new calls more h.3 k)
 
-module _ (old new : Hub) (before : Option (List ℕ)) (out : Outputs) (step : SendStep old out new) where
-  pub send-broken : (after : Option (List ℕ)) → IsSome out.sent → WroteFront before after (bytes_sent out.sent) → SendsSome Fault.WriteFault old new before after
+module _ (old new : DaemonState) (before : Option (List ℕ)) (out : Outputs) (step : SendStep old out new) where
+  pub send-broken : (after : Option (List ℕ)) → IsSome out.sent → WroteFront before after (bytes_sent out.sent) → SendsSome StreamFault.WriteFault old new before after
   send-broken after some front = record {
     calls = out ∷ [];
     mid = new;
@@ -29,7 +29,7 @@ module _ (old new : Hub) (before : Option (List ℕ)) (out : Outputs) (step : Se
     breaks = let P : List ℕ → Type 0 = λ b. WroteFront before after b in (refl, subst P (sym (append-nil (bytes_sent out.sent))) front);
   }
 
-module _ (old mid new : Hub) (before between after : Option (List ℕ)) (calls : List Outputs) (sends : Sends old calls mid) (wrote : Appends before between (all_bytes_sent calls)) where
+module _ (old mid new : DaemonState) (before between after : Option (List ℕ)) (calls : List Outputs) (sends : Sends old calls mid) (wrote : Appends before between (all_bytes_sent calls)) where
   pub due-more : (call : Outputs) × SendStep mid call new × IsSome call.sent × Appends between after (bytes_sent call.sent) → (more : List Outputs) × Sends old more new × Appends before after (all_bytes_sent more)
   due-more s = (
     calls ++ s.0 ∷ [],
@@ -40,12 +40,12 @@ module _ (old mid new : Hub) (before between after : Option (List ℕ)) (calls :
   pub due-done : (new ≡ mid) × NothingDue new × (after ≡ between) → SendsAll old new before after
   due-done s = record {
     calls = calls;
-    sends = subst (λ (h : Hub). Sends old calls h) (sym s.0) sends;
+    sends = subst (λ (h : DaemonState). Sends old calls h) (sym s.0) sends;
     none_left = s.1;
     wrote = subst (λ (x : Option (List ℕ)). Appends before x (all_bytes_sent calls)) (sym s.2) wrote;
   }
 
-  pub due-broken : (fault : Fault) → SendsSome fault mid new between after → SendsSome fault old new before after
+  pub due-broken : (fault : StreamFault) → SendsSome fault mid new between after → SendsSome fault old new before after
   due-broken fault s = record {
     calls = calls ++ s.calls;
     mid = s.mid;
@@ -55,7 +55,7 @@ module _ (old mid new : Hub) (before between after : Option (List ℕ)) (calls :
 
 -- ---- a record and the calls behind it
 
-pub reply-broken : (old mid : Hub) (before after : Option (List ℕ)) (reply : Outputs) → HubStep old (Take 0 0) reply mid → WroteFront before after (bytes_sent reply.sent) → AnswersBegun Fault.WriteFault old mid before after
+pub reply-broken : (old mid : DaemonState) (before after : Option (List ℕ)) (reply : Outputs) → DaemonStep old (Take 0 0) reply mid → WroteFront before after (bytes_sent reply.sent) → AnswersBegun StreamFault.WriteFault old mid before after
 reply-broken old mid before after reply step front = record {
   outs = reply ∷ [];
   mid = mid;
@@ -64,8 +64,8 @@ reply-broken old mid before after reply step front = record {
   breaks = let P : List ℕ → Type 0 = λ b. WroteFront before after b in (refl, subst P (sym (append-nil (bytes_sent reply.sent))) front);
 }
 
-module _ (old mid new : Hub) (before between after : Option (List ℕ)) (reply : Outputs) (step : HubStep old (Take 0 0) reply mid) where
-  pub record-answered : (r : Result (Unit {0}) Fault) → Appends before between (bytes_sent reply.sent) → SendsDue r mid new between after → AnswersNext r old new before after
+module _ (old mid new : DaemonState) (before between after : Option (List ℕ)) (reply : Outputs) (step : DaemonStep old (Take 0 0) reply mid) where
+  pub record-answered : (r : Result (Unit {0}) StreamFault) → Appends before between (bytes_sent reply.sent) → SendsDue r mid new between after → AnswersNext r old new before after
   record-answered (Ok done) wrote s = record {
     outs = reply ∷ s.calls;
     answers = record { reply = reply; mid = mid; takes = step; calls = s.calls; sends = s.sends; all = refl; none_left = s.none_left };
@@ -82,8 +82,8 @@ module _ (old mid new : Hub) (before between after : Option (List ℕ)) (reply :
 
 -- ---- many records
 
-pub Each-more : (old mid new : Hub) (answers : List (List Outputs)) (outs : List Outputs) → AnswersEach old answers mid → AnswersRecord mid outs new → AnswersEach old (answers ++ outs ∷ []) new
-Each-more old mid new [] outs h r = (new, subst (λ (x : Hub). AnswersRecord x outs new) h r, refl)
+pub Each-more : (old mid new : DaemonState) (answers : List (List Outputs)) (outs : List Outputs) → AnswersEach old answers mid → AnswersRecord mid outs new → AnswersEach old (answers ++ outs ∷ []) new
+Each-more old mid new [] outs h r = (new, subst (λ (x : DaemonState). AnswersRecord x outs new) h r, refl)
 Each-more old mid new (o ∷ answers) outs h r = (h.0, h.1, Each-more h.0 mid new answers outs h.2 r)
 
 pub in_order-more : (answers : List (List Outputs)) (outs : List Outputs) → in_order (answers ++ outs ∷ []) ≡ in_order answers ++ outs

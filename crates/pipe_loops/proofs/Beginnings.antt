@@ -5,15 +5,15 @@ use Rattle.std.specs.Prelude.{Result, Ok, Err}
 use Rattle.definitions.specs.Step.{Given, Nothing, Replies, Says, Sends, IsStarved, IsRefused}
 use Rattle.daemon_core.specs.declared.event_outcome.EventOutcome.{EventOutcome}
 use Rattle.daemon_core.specs.declared.event_outcome.EventOutcome.TheVariants.{Applied, Starved, NoSegment}
-use Rattle.book.specs.Notes.{Happening, GraceEnds, BeginsAnew}
+use Rattle.book.specs.Notes.{JournalEvent, GraceEnds, BeginsAnew}
 use Rattle.daemon_core.specs.declared.event.Event.{Event}
 use Rattle.daemon_core.specs.declared.event.Event.TheVariants.{Connect, GraceOver, Restart}
 use Rattle.daemon_core.specs.declared.outputs.Outputs.{Outputs}
 use Rattle.daemon_core.specs.declared.event.Refusal.{Refusal}
 use Rattle.kept_replies.specs.declared.key.Peer.{Peer}
 use Rattle.daemon_core.specs.Outputs.{told, refusal_of}
-use Rattle.daemon_core.specs.Hub.{Hub, place_of, Connects, Happens, HubStep}
-use Rattle.pipe_loops.specs.declared.fault.Fault.{Fault}
+use Rattle.daemon_core.specs.DaemonState.{DaemonState, place_of, Connects, Happens, DaemonStep}
+use Rattle.pipe_loops.specs.declared.fault.StreamFault.{StreamFault}
 use Rattle.pipe_loops.specs.Pipe.{beginning, Passes, Begins, refusals}
 
 abbrev more : Option Refusal → List Refusal → List Refusal
@@ -27,13 +27,13 @@ told-short IsRefused e = cc
 told-short Nothing e = cc
 told-short (Replies xid outcome) e = cc
 told-short (Says line) e = cc
-told-short (Sends call letter) e = cc
+told-short (Sends call callback) e = cc
 
-happens-short : (event : Happening) (old new : Hub) (out : Outputs) (why : Refusal) → Happens told event old out new → out.refusal ≡ Some why → why ≡ Refusal.RecordTooLong → ⊥
+happens-short : (event : JournalEvent) (old new : DaemonState) (out : Outputs) (why : Refusal) → Happens told event old out new → out.refusal ≡ Some why → why ≡ Refusal.RecordTooLong → ⊥
 happens-short event old new out why h met is =
     told-short h.given (sym (ap (λ (o : Outputs). o.refusal) h.outputs) ∙ met ∙ ap (λ r. Some r) is)
 
-connect-short : (place : Option ℕ) (o : EventOutcome) (number : ℕ) (peer : Peer) (old new : Hub) (out : Outputs) (why : Refusal) → Connects place o number peer old out new → out.refusal ≡ Some why → why ≡ Refusal.RecordTooLong → ⊥
+connect-short : (place : Option ℕ) (o : EventOutcome) (number : ℕ) (peer : Peer) (old new : DaemonState) (out : Outputs) (why : Refusal) → Connects place o number peer old out new → out.refusal ≡ Some why → why ≡ Refusal.RecordTooLong → ⊥
 connect-short (Some place) o number peer old new out why h met is = let e : None ≡ Some why = sym (ap (λ (x : Outputs). x.refusal) h.1) ∙ met in cc
 connect-short None Applied number peer old new out why h met is = let e : None ≡ Some why = sym (ap (λ (x : Outputs). x.refusal) h.1) ∙ met in cc
 connect-short None Starved number peer old new out why h met is = let e : Some Refusal.Starved ≡ Some Refusal.RecordTooLong = sym (ap (λ (x : Outputs). x.refusal) h.1) ∙ met ∙ ap (λ r. Some r) is in cc
@@ -46,18 +46,18 @@ Opens GraceOver = Unit {0}
 Opens (Connect number peer) = Unit {0}
 Opens _ = ⊥
 
-opens-short : (event : Event) → Opens event → (old new : Hub) (out : Outputs) (why : Refusal) → HubStep old event out new → out.refusal ≡ Some why → why ≡ Refusal.RecordTooLong → ⊥
+opens-short : (event : Event) → Opens event → (old new : DaemonState) (out : Outputs) (why : Refusal) → DaemonStep old event out new → out.refusal ≡ Some why → why ≡ Refusal.RecordTooLong → ⊥
 opens-short Restart o old new out why h = happens-short BeginsAnew old new out why h
 opens-short GraceOver o old new out why h = happens-short GraceEnds old new out why h
 opens-short (Connect number peer) o old new out why h = connect-short (place_of number old.links) out.outcome number peer old new out why h
 opens-short _ o old new out why h = absurd o
 
 -- the first of these events is refused
-pub refused : (event : Event) (rest : List Event) → Opens event → (old new : Hub) (fault : Fault) → Passes (Err fault) event old new → Begins (event ∷ rest) (Err fault) old new
+pub refused : (event : Event) (rest : List Event) → Opens event → (old new : DaemonState) (fault : StreamFault) → Passes (Err fault) event old new → Begins (event ∷ rest) (Err fault) old new
 refused event rest o old new fault a = (a.2, a.4, record { count = 1; outs = a.0 ∷ []; run = (new, a.1, refl); met_is = ap (λ r. more r []) a.3 }, opens-short event o old new a.0 a.2 a.1 a.3)
 
 -- or it is not, and the others decide
-pub passed : (event : Event) (rest : List Event) (old mid new : Hub) (r : Result (Unit {0}) Fault) → Passes (Ok tt) event old mid → Begins rest r mid new → Begins (event ∷ rest) r old new
+pub passed : (event : Event) (rest : List Event) (old mid new : DaemonState) (r : Result (Unit {0}) StreamFault) → Passes (Ok tt) event old mid → Begins rest r mid new → Begins (event ∷ rest) r old new
 passed event rest old mid new (Ok done) a b = record { outs = a.0 ∷ b.outs; run = (mid, a.1, b.run); agreed = ap (λ r. more r (refusals b.outs)) a.2 ∙ b.agreed }
 passed event rest old mid new (Err fault) a b = (
   b.0,
@@ -67,11 +67,11 @@ passed event rest old mid new (Err fault) a b = (
 )
 
 -- it is the last of them
-pub last : (event : Event) → Opens event → (old new : Hub) (r : Result (Unit {0}) Fault) → Passes r event old new → Begins (event ∷ []) r old new
+pub last : (event : Event) → Opens event → (old new : DaemonState) (r : Result (Unit {0}) StreamFault) → Passes r event old new → Begins (event ∷ []) r old new
 last event o old new (Ok done) a = record { outs = a.0 ∷ []; run = (new, a.1, refl); agreed = ap (λ r. more r []) a.2 }
 last event o old new (Err fault) a = refused event [] o old new fault a
 
 -- whatever comes behind it, the first event of a beginning is a restart
-pub anew-refused : (grace : Bool) (old new : Hub) (fault : Fault) → Passes (Err fault) Restart old new → Begins (beginning grace) (Err fault) old new
+pub anew-refused : (grace : Bool) (old new : DaemonState) (fault : StreamFault) → Passes (Err fault) Restart old new → Begins (beginning grace) (Err fault) old new
 anew-refused true old new fault a = refused Restart _ tt old new fault a
 anew-refused false old new fault a = refused Restart _ tt old new fault a

@@ -7,24 +7,24 @@ use Rattle.std.proofs.lemmas.List.{length-append}
 use Rattle.std.proofs.lemmas.List.Elements.{All-nil, All-push}
 use Rattle.daemon_core.specs.declared.event.Event.{Event}
 use Rattle.daemon_core.specs.declared.event.Refusal.{Refusal}
-use Rattle.daemon_core.specs.Hub.{Hub}
-use Rattle.pipe_loops.specs.declared.fault.Fault.{Fault}
-use Rattle.pipe_loops.specs.declared.fault.Fault.TheVariants.{Starved, RecordTooLong, StoreRefused, ReadFault, WriteFault}
+use Rattle.daemon_core.specs.DaemonState.{DaemonState}
+use Rattle.pipe_loops.specs.declared.fault.StreamFault.{StreamFault}
+use Rattle.pipe_loops.specs.declared.fault.StreamFault.TheVariants.{Starved, RecordTooLong, StoreRefused, ReadFault, WriteFault}
 use Rattle.pipe_loops.specs.Pipe.{IsShort, EndsAt, BrokenPipe, PipeStarves, ComesWithin, ReadsAreBounded}
 use Rattle.pipe_loops.proofs.PipeLemmas.{joined-more}
 
 untouched_within : (bound : ℕ) (unread left : Option (List ℕ)) → Keeps unread left → ComesWithin bound unread left
 untouched_within bound unread left k = ([], omega arith, All-nil IsShort, Consumes-kept unread unread left [] (Consumes-nil unread) k)
 
-ends_within : (events : List Event) (start : Hub) (most bound : ℕ) → most ≤ bound → (unread left before after : Option (List ℕ)) (met : List Refusal) (hub : Hub) → EndsAt events start most unread left before after met hub → ComesWithin bound unread left
-ends_within events start most bound fits unread left before after met hub e = (e.pieces, omega arith, e.short, e.read)
+ends_within : (events : List Event) (start : DaemonState) (most bound : ℕ) → most ≤ bound → (unread left before after : Option (List ℕ)) (met : List Refusal) (daemon_state : DaemonState) → EndsAt events start most unread left before after met daemon_state → ComesWithin bound unread left
+ends_within events start most bound fits unread left before after met daemon_state e = (e.pieces, omega arith, e.short, e.read)
 
-broken_within : (fault : Fault) (events : List Event) (start : Hub) (bound : ℕ) (unread left before after : Option (List ℕ)) → BrokenPipe fault events start bound unread left before after → ComesWithin bound unread left
+broken_within : (fault : StreamFault) (events : List Event) (start : DaemonState) (bound : ℕ) (unread left before after : Option (List ℕ)) → BrokenPipe fault events start bound unread left before after → ComesWithin bound unread left
 broken_within fault events start bound unread left before after b =
     let longer : length (b.pieces ++ b.last ∷ []) ≡ length b.pieces + 1 = length-append b.pieces (b.last ∷ []) in
     (b.pieces ++ b.last ∷ [], omega arith, All-push IsShort b.pieces b.last b.short b.last_short, subst (Consumes unread left) (sym (joined-more b.pieces b.last)) b.read)
 
-starved_within : (events : List Event) (start : Hub) (bound : ℕ) (unread left before after : Option (List ℕ)) → PipeStarves events start bound unread left before after → ComesWithin bound unread left
+starved_within : (events : List Event) (start : DaemonState) (bound : ℕ) (unread left before after : Option (List ℕ)) → PipeStarves events start bound unread left before after → ComesWithin bound unread left
 starved_within events start bound unread left before after (inl (inl u)) = untouched_within bound unread left u.read
 starved_within events start bound unread left before after (inl (inr u)) = untouched_within bound unread left u.untouched.read
 starved_within events start bound unread left before after (inr (inl (inl e))) = ends_within events start 0 bound (omega arith) unread left before after [] e.0 e.1

@@ -18,8 +18,8 @@ use Rattle.kept_replies.specs.declared.key.Peer.{Peer}
 use Rattle.kept_replies.specs.declared.key.TheConstants.Peer.{PIPE}
 use Rattle.daemon_core.specs.Outputs.{bytes_sent, marked_by}
 use Rattle.daemon_core.specs.Link.{Link, Hears as HearsOn, Receives}
-use Rattle.daemon_core.specs.Hub.{Hub, place_of, Pieces, Connects, Waits, HubStep, Run, all_bytes_sent}
-use Rattle.pipe_loops.specs.declared.fault.Fault.{Fault}
+use Rattle.daemon_core.specs.DaemonState.{DaemonState, place_of, Pieces, Connects, Waits, DaemonStep, Run, all_bytes_sent}
+use Rattle.pipe_loops.specs.declared.fault.StreamFault.{StreamFault}
 use Rattle.pipe_loops.specs.FaultOf.{fault_of}
 use Rattle.byte_io.specs.Written.{WroteFront}
 use Rattle.pipe_loops.specs.Answered.{in_order, Breaks}
@@ -47,11 +47,11 @@ receives-sends : (receives : Bool) (old new : Link) (bytes : List ℕ) (out : Ou
 receives-sends true old new bytes out h = hears-sends out.outcome old new bytes out h
 receives-sends false old new bytes out h = sent_of h.1
 
-pieces-send : (place : Option ℕ) (bytes : List ℕ) (old new : Hub) (out : Outputs) → Pieces place bytes old out new → out.sent ≡ None
+pieces-send : (place : Option ℕ) (bytes : List ℕ) (old new : DaemonState) (out : Outputs) → Pieces place bytes old out new → out.sent ≡ None
 pieces-send None bytes old new out h = sent_of h.1
 pieces-send (Some place) bytes old new out h = receives-sends h.link.receives h.link h.link' bytes out h.receives
 
-piece-sends : (old new : Hub) (event : Event) (bytes : List ℕ) (out : Outputs) → IsPiece event bytes → HubStep old event out new → out.sent ≡ None
+piece-sends : (old new : DaemonState) (event : Event) (bytes : List ℕ) (out : Outputs) → IsPiece event bytes → DaemonStep old event out new → out.sent ≡ None
 piece-sends old new (Piece number v) bytes out is h = pieces-send (place_of number old.links) v.items old new out h
 piece-sends old new _ bytes out is h = absurd is
 
@@ -63,40 +63,40 @@ heard-bytes heard answers e = ap (λ (s : Option Sending). bytes_sent s ++ all_b
 
 -- ---- what ends it
 
-pub Breaks-after : (fault : Fault) (old new : Hub) (a b d : Option (List ℕ)) (outs more : List Outputs) → Appends a b (all_bytes_sent outs) → Breaks fault old new b d more → Breaks fault old new a d (outs ++ more)
-Breaks-after Fault.WriteFault old new a b d outs more w h =
+pub Breaks-after : (fault : StreamFault) (old new : DaemonState) (a b d : Option (List ℕ)) (outs more : List Outputs) → Appends a b (all_bytes_sent outs) → Breaks fault old new b d more → Breaks fault old new a d (outs ++ more)
+Breaks-after StreamFault.WriteFault old new a b d outs more w h =
     let P : List ℕ → Type 0 = λ x. WroteFront a d x in (h.0, subst P (sym (bytes-append outs more)) (WroteFront-after a b d _ _ w h.1))
-Breaks-after Fault.Starved old new a b d outs more w h =
+Breaks-after StreamFault.Starved old new a b d outs more w h =
     let P : List ℕ → Type 0 = λ x. Appends a d x in (h.0, subst P (sym (bytes-append outs more)) (Appends-trans a b d _ _ w h.1))
-Breaks-after Fault.RecordTooLong old new a b d outs more w h = absurd h
-Breaks-after Fault.StoreRefused old new a b d outs more w h = absurd h
-Breaks-after Fault.ReadFault old new a b d outs more w h = absurd h
+Breaks-after StreamFault.RecordTooLong old new a b d outs more w h = absurd h
+Breaks-after StreamFault.StoreRefused old new a b d outs more w h = absurd h
+Breaks-after StreamFault.ReadFault old new a b d outs more w h = absurd h
 
 Front-kept : (a b d : Option (List ℕ)) (x : List ℕ) → WroteFront a b x → Keeps b d → WroteFront a d x
 Front-kept a b d x w k = record { front = w.front; rest = w.rest; parts = w.parts; appends = Appends-kept a b d w.front w.appends k }
 
-Breaks-kept : (fault : Fault) (old new : Hub) (a b d : Option (List ℕ)) (outs : List Outputs) → Breaks fault old new a b outs → Keeps b d → Breaks fault old new a d outs
-Breaks-kept Fault.WriteFault old new a b d outs h k = (h.0, Front-kept a b d _ h.1 k)
-Breaks-kept Fault.Starved old new a b d outs h k = (h.0, Appends-kept a b d _ h.1 k)
-Breaks-kept Fault.RecordTooLong old new a b d outs h k = absurd h
-Breaks-kept Fault.StoreRefused old new a b d outs h k = absurd h
-Breaks-kept Fault.ReadFault old new a b d outs h k = absurd h
+Breaks-kept : (fault : StreamFault) (old new : DaemonState) (a b d : Option (List ℕ)) (outs : List Outputs) → Breaks fault old new a b outs → Keeps b d → Breaks fault old new a d outs
+Breaks-kept StreamFault.WriteFault old new a b d outs h k = (h.0, Front-kept a b d _ h.1 k)
+Breaks-kept StreamFault.Starved old new a b d outs h k = (h.0, Appends-kept a b d _ h.1 k)
+Breaks-kept StreamFault.RecordTooLong old new a b d outs h k = absurd h
+Breaks-kept StreamFault.StoreRefused old new a b d outs h k = absurd h
+Breaks-kept StreamFault.ReadFault old new a b d outs h k = absurd h
 
 -- behind an event that sends nothing
-Breaks-heard : (fault : Fault) (old new : Hub) (a b : Option (List ℕ)) (heard : Outputs) (outs : List Outputs) → heard.sent ≡ None → Breaks fault old new a b outs → Breaks fault old new a b (heard ∷ outs)
-Breaks-heard Fault.WriteFault old new a b heard outs e h = let P : List ℕ → Type 0 = λ x. WroteFront a b x in (h.0, subst P (sym (heard-bytes heard outs e)) h.1)
-Breaks-heard Fault.Starved old new a b heard outs e h = let P : List ℕ → Type 0 = λ x. Appends a b x in (h.0, subst P (sym (heard-bytes heard outs e)) h.1)
-Breaks-heard Fault.RecordTooLong old new a b heard outs e h = absurd h
-Breaks-heard Fault.StoreRefused old new a b heard outs e h = absurd h
-Breaks-heard Fault.ReadFault old new a b heard outs e h = absurd h
+Breaks-heard : (fault : StreamFault) (old new : DaemonState) (a b : Option (List ℕ)) (heard : Outputs) (outs : List Outputs) → heard.sent ≡ None → Breaks fault old new a b outs → Breaks fault old new a b (heard ∷ outs)
+Breaks-heard StreamFault.WriteFault old new a b heard outs e h = let P : List ℕ → Type 0 = λ x. WroteFront a b x in (h.0, subst P (sym (heard-bytes heard outs e)) h.1)
+Breaks-heard StreamFault.Starved old new a b heard outs e h = let P : List ℕ → Type 0 = λ x. Appends a b x in (h.0, subst P (sym (heard-bytes heard outs e)) h.1)
+Breaks-heard StreamFault.RecordTooLong old new a b heard outs e h = absurd h
+Breaks-heard StreamFault.StoreRefused old new a b heard outs e h = absurd h
+Breaks-heard StreamFault.ReadFault old new a b heard outs e h = absurd h
 
 -- ---- turns
 
-module _ (old mid new : Hub) (piece : Event) (bytes : List ℕ) (heard : Outputs) (is : IsPiece piece bytes) (step : HubStep old piece heard mid) (before after later : Option (List ℕ)) (kept : Keeps after later) where
+module _ (old mid new : DaemonState) (piece : Event) (bytes : List ℕ) (heard : Outputs) (is : IsPiece piece bytes) (step : DaemonStep old piece heard mid) (before after later : Option (List ℕ)) (kept : Keeps after later) where
   hears : (whole : ℕ) → Waits (place_of 0 mid.links) mid whole → Hears old bytes heard whole mid
   hears whole waits = record { piece = piece; is = is; step = step; waits = waits }
 
-  breaks : (fault : Fault) → AnswersSome fault mid new before after → BrokenTurn fault old new bytes before later
+  breaks : (fault : StreamFault) → AnswersSome fault mid new before after → BrokenTurn fault old new bytes before later
   breaks fault a = record {
     outs = heard ∷ (in_order a.answers ++ a.last);
     mid = a.mid;
@@ -105,20 +105,20 @@ module _ (old mid new : Hub) (piece : Event) (bytes : List ℕ) (heard : Outputs
   }
 
   -- an answer that was cut short ends the turn
-  pub broken : (fault : Fault) → AnswersSome fault mid new before after → TurnEnds (Err fault) old new bytes before later
-  broken Fault.WriteFault a = breaks Fault.WriteFault a
-  broken Fault.Starved a = inr (breaks Fault.Starved a)
-  broken Fault.RecordTooLong a = absurd a.breaks
-  broken Fault.StoreRefused a = absurd a.breaks
-  broken Fault.ReadFault a = absurd a.breaks
+  pub broken : (fault : StreamFault) → AnswersSome fault mid new before after → TurnEnds (Err fault) old new bytes before later
+  broken StreamFault.WriteFault a = breaks StreamFault.WriteFault a
+  broken StreamFault.Starved a = inr (breaks StreamFault.Starved a)
+  broken StreamFault.RecordTooLong a = absurd a.breaks
+  broken StreamFault.StoreRefused a = absurd a.breaks
+  broken StreamFault.ReadFault a = absurd a.breaks
 
   -- all was written, and could not be handed on
-  pub unflushed : AnswersAll mid new before after → BrokenTurn Fault.WriteFault old new bytes before later
+  pub unflushed : AnswersAll mid new before after → BrokenTurn StreamFault.WriteFault old new bytes before later
   unflushed a = record {
     outs = heard ∷ (in_order a.answers ++ []);
     mid = new;
     turn = record { heard = heard; mid = mid; whole = length a.answers; hears = hears (length a.answers) a.waits; answers = a.answers; next = new; each = a.each; last = []; part = refl; some = omega arith; all = refl };
-    breaks = Breaks-heard Fault.WriteFault new new before later heard (in_order a.answers ++ []) (piece-sends old mid piece bytes heard is step) (let P : List Outputs → Type 0 = λ os. WroteFront before later (all_bytes_sent os) in (refl, subst P (sym (append-nil (in_order a.answers))) (Front-kept before after later _ (WroteFront-whole before after _ a.wrote) kept)));
+    breaks = Breaks-heard StreamFault.WriteFault new new before later heard (in_order a.answers ++ []) (piece-sends old mid piece bytes heard is step) (let P : List Outputs → Type 0 = λ os. WroteFront before later (all_bytes_sent os) in (refl, subst P (sym (append-nil (in_order a.answers))) (Front-kept before after later _ (WroteFront-whole before after _ a.wrote) kept)));
   }
 
   pub whole : (met : Option Refusal) → heard.refusal ≡ met → AnswersAll mid new before after → WholeTurn old new bytes before later (option_to_list met)
@@ -145,25 +145,25 @@ receives-agreed : (receives : Bool) (old new : Link) (bytes : List ℕ) (out : O
 receives-agreed true old new bytes out h e = hears-agreed out.outcome old new bytes out h e
 receives-agreed false old new bytes out h e = cc
 
-pieces-at-agreed : (place : Option ℕ) (bytes : List ℕ) (old new : Hub) (out : Outputs) → Pieces place bytes old out new → out.refusal ≡ Some Refusal.StoreRefused → ⊥
+pieces-at-agreed : (place : Option ℕ) (bytes : List ℕ) (old new : DaemonState) (out : Outputs) → Pieces place bytes old out new → out.refusal ≡ Some Refusal.StoreRefused → ⊥
 pieces-at-agreed None bytes old new out h e = cc
 pieces-at-agreed (Some place) bytes old new out h e = receives-agreed h.link.receives h.link h.link' bytes out h.receives e
 
-pieces-agreed : (old new : Hub) (event : Event) (bytes : List ℕ) (out : Outputs) → IsPiece event bytes → HubStep old event out new → out.refusal ≡ Some Refusal.StoreRefused → ⊥
+pieces-agreed : (old new : DaemonState) (event : Event) (bytes : List ℕ) (out : Outputs) → IsPiece event bytes → DaemonStep old event out new → out.refusal ≡ Some Refusal.StoreRefused → ⊥
 pieces-agreed old new (Piece number v) bytes out is h e = pieces-at-agreed (place_of number old.links) v.items old new out h e
 pieces-agreed old new _ bytes out is h e = absurd is
 
 -- a piece that was refused
-pub refused-turn : (old mid new : Hub) (piece : Event) (bytes : List ℕ) (heard : Outputs) → IsPiece piece bytes → HubStep old piece heard mid → (before after later : Option (List ℕ)) → Keeps after later → (r : Refusal) → heard.refusal ≡ Some r
+pub refused-turn : (old mid new : DaemonState) (piece : Event) (bytes : List ℕ) (heard : Outputs) → IsPiece piece bytes → DaemonStep old piece heard mid → (before after later : Option (List ℕ)) → Keeps after later → (r : Refusal) → heard.refusal ≡ Some r
     → AnswersAll mid new before after → TurnEnds (Err (fault_of r)) old new bytes before later
 refused-turn old mid new piece bytes heard is step before after later kept Refusal.Starved e a = inl (whole old mid new piece bytes heard is step before after later kept (Some Refusal.Starved) e a)
 refused-turn old mid new piece bytes heard is step before after later kept Refusal.StoreRefused e a = absurd (pieces-agreed old mid piece bytes heard is step e)
 refused-turn old mid new piece bytes heard is step before after later kept Refusal.RecordTooLong e a = whole old mid new piece bytes heard is step before after later kept (Some Refusal.RecordTooLong) e a
 
-first-turn : (old mid new : Hub) (outs more : List Outputs) (met : List Refusal) (piece : List ℕ) → mid ≡ old → outs ≡ [] → met ≡ [] → (t : Turn mid piece more new)
+first-turn : (old mid new : DaemonState) (outs more : List Outputs) (met : List Refusal) (piece : List ℕ) → mid ≡ old → outs ≡ [] → met ≡ [] → (t : Turn mid piece more new)
     → Turns old (piece ∷ []) (outs ++ more) (met ++ met_by t.heard) new
 first-turn old mid new outs more met piece h o m t =
-    let P : Hub → Type 0 = λ q. (u : Turn q piece more new) × (met_by u.heard ≡ met_by t.heard) in
+    let P : DaemonState → Type 0 = λ q. (u : Turn q piece more new) × (met_by u.heard ≡ met_by t.heard) in
     let moved = subst P h (t, refl) in (
       new,
       more,
@@ -175,7 +175,7 @@ first-turn old mid new outs more met piece h o m t =
       ap (λ (rs : List Refusal). rs ++ met_by t.heard) m ∙ sym moved.1 ∙ sym (append-nil (met_by moved.0.heard)),
     )
 
-pub Turns-more : (old mid new : Hub) (pieces : List (List ℕ)) (outs more : List Outputs) (met : List Refusal) (piece : List ℕ) → Turns old pieces outs met mid → (t : Turn mid piece more new)
+pub Turns-more : (old mid new : DaemonState) (pieces : List (List ℕ)) (outs more : List Outputs) (met : List Refusal) (piece : List ℕ) → Turns old pieces outs met mid → (t : Turn mid piece more new)
     → Turns old (pieces ++ piece ∷ []) (outs ++ more) (met ++ met_by t.heard) new
 Turns-more old mid new [] outs more met piece h t = first-turn old mid new outs more met piece h.0 h.1 h.2 t
 Turns-more old mid new (p ∷ pieces) outs more met piece h t =
@@ -190,7 +190,7 @@ Turns-more old mid new (p ∷ pieces) outs more met piece h t =
       ap (λ (rs : List Refusal). rs ++ met_by t.heard) h.7 ∙ append_assoc (met_by h.4.heard) h.3 (met_by t.heard),
     )
 
-pub PipeRun-more : (events : List Event) (start : Hub) (pieces : List (List ℕ)) (outs more : List Outputs) (met : List Refusal) (mid new : Hub) (piece : List ℕ) → PipeRun events start pieces outs met mid → (t : Turn mid piece more new)
+pub PipeRun-more : (events : List Event) (start : DaemonState) (pieces : List (List ℕ)) (outs more : List Outputs) (met : List Refusal) (mid new : DaemonState) (piece : List ℕ) → PipeRun events start pieces outs met mid → (t : Turn mid piece more new)
     → PipeRun events start (pieces ++ piece ∷ []) (outs ++ more) (met ++ met_by t.heard) new
 PipeRun-more events start pieces outs more met mid new piece r t = record {
   begun = r.begun;
@@ -208,14 +208,14 @@ joined-more pieces piece = flat_map-append (λ p. p) pieces (piece ∷ []) ∙ a
 -- ---- the whole loop
 
 -- so many pieces, and perhaps more
-pub ends-within : (events : List Event) (start : Hub) (most bound : ℕ) → most ≤ bound → (unread left before after : Option (List ℕ)) (hub : Hub) → EndsAt events start most unread left before after [] hub → EndsAt events start bound unread left before after [] hub
-ends-within events start most bound fits unread left before after hub e = record { pieces = e.pieces; few = omega arith; short = e.short; outs = e.outs; run = e.run; read = e.read; wrote = e.wrote }
+pub ends-within : (events : List Event) (start : DaemonState) (most bound : ℕ) → most ≤ bound → (unread left before after : Option (List ℕ)) (daemon_state : DaemonState) → EndsAt events start most unread left before after [] daemon_state → EndsAt events start bound unread left before after [] daemon_state
+ends-within events start most bound fits unread left before after daemon_state e = record { pieces = e.pieces; few = omega arith; short = e.short; outs = e.outs; run = e.run; read = e.read; wrote = e.wrote }
 
 -- there was no memory for the place of the pieces
-pub unplaced : (events : List Event) (start : Hub) (bound : ℕ) (unread left before after : Option (List ℕ)) (hub : Hub) → EndsAt events start 0 unread left before after [] hub → (end : Hub) → StreamEnds events start bound (Err Fault.Starved) unread left before after end
-unplaced events start bound unread left before after hub e end = inr (inl (inl (hub, e)))
+pub unplaced : (events : List Event) (start : DaemonState) (bound : ℕ) (unread left before after : Option (List ℕ)) (daemon_state : DaemonState) → EndsAt events start 0 unread left before after [] daemon_state → (end : DaemonState) → StreamEnds events start bound (Err StreamFault.Starved) unread left before after end
+unplaced events start bound unread left before after daemon_state e end = inr (inl (inl (daemon_state, e)))
 
-module _ (events : List Event) (start : Hub) (most next : ℕ) (one_more : most < next) (unread left before after : Option (List ℕ)) (mid : Hub) (so_far : EndsAt events start most unread left before after [] mid) where
+module _ (events : List Event) (start : DaemonState) (most next : ℕ) (one_more : most < next) (unread left before after : Option (List ℕ)) (mid : DaemonState) (so_far : EndsAt events start most unread left before after [] mid) where
   -- a read that failed
   pub read-kept : (later : Option (List ℕ)) → Keeps left later → EndsAt events start next unread later before after [] mid
   read-kept later k = record { pieces = so_far.pieces; few = omega arith; short = so_far.short; outs = so_far.outs; run = so_far.run; read = Consumes-kept unread left later _ so_far.read k; wrote = so_far.wrote }
@@ -233,7 +233,7 @@ module _ (events : List Event) (start : Hub) (most next : ℕ) (one_more : most 
     wrote = so_far.wrote;
   }
 
-  module _ (later : Option (List ℕ)) (piece : List ℕ) (short : IsShort piece) (read : Consumes left later piece) (new : Hub) (written : Option (List ℕ)) where
+  module _ (later : Option (List ℕ)) (piece : List ℕ) (short : IsShort piece) (read : Consumes left later piece) (new : DaemonState) (written : Option (List ℕ)) where
     pub turn-more : (met : List Refusal) → WholeTurn mid new piece after written met → EndsAt events start next unread later before written met new
     turn-more met t = record {
       pieces = so_far.pieces ++ piece ∷ [];
@@ -246,7 +246,7 @@ module _ (events : List Event) (start : Hub) (most next : ℕ) (one_more : most 
       wrote = let P : List ℕ → Type 0 = λ x. Appends before written x in subst P (sym (bytes-append so_far.outs t.outs)) (Appends-trans before after written _ _ so_far.wrote t.wrote);
     }
 
-    turn-broken : (fault : Fault) → BrokenTurn fault mid new piece after written → BrokenPipe fault events start next unread later before written
+    turn-broken : (fault : StreamFault) → BrokenTurn fault mid new piece after written → BrokenPipe fault events start next unread later before written
     turn-broken fault t = record {
       pieces = so_far.pieces;
       few = omega arith;
@@ -264,50 +264,50 @@ module _ (events : List Event) (start : Hub) (most next : ℕ) (one_more : most 
       breaks = Breaks-after fault t.mid new before after written so_far.outs t.outs so_far.wrote t.breaks;
     }
 
-    turn-starved : WholeTurn mid new piece after written (Refusal.Starved ∷ []) ⊎ BrokenTurn Fault.Starved mid new piece after written → (end : Hub) → StreamEnds events start next (Err Fault.Starved) unread later before written end
+    turn-starved : WholeTurn mid new piece after written (Refusal.Starved ∷ []) ⊎ BrokenTurn StreamFault.Starved mid new piece after written → (end : DaemonState) → StreamEnds events start next (Err StreamFault.Starved) unread later before written end
     turn-starved (inl t) end = inr (inl (inr (new, turn-more (Refusal.Starved ∷ []) t)))
-    turn-starved (inr t) end = inr (inr (turn-broken Fault.Starved t))
+    turn-starved (inr t) end = inr (inr (turn-broken StreamFault.Starved t))
 
-    pub turn-failed : (f : Fault) → TurnEnds (Err f) mid new piece after written → (end : Hub) → StreamEnds events start next (Err f) unread later before written end
-    turn-failed Fault.Starved t end = turn-starved t end
-    turn-failed Fault.RecordTooLong t end = (new, turn-more (Refusal.RecordTooLong ∷ []) t)
-    turn-failed Fault.WriteFault t end = turn-broken Fault.WriteFault t
-    turn-failed Fault.ReadFault t end = absurd t
-    turn-failed Fault.StoreRefused t end = absurd t
+    pub turn-failed : (f : StreamFault) → TurnEnds (Err f) mid new piece after written → (end : DaemonState) → StreamEnds events start next (Err f) unread later before written end
+    turn-failed StreamFault.Starved t end = turn-starved t end
+    turn-failed StreamFault.RecordTooLong t end = (new, turn-more (Refusal.RecordTooLong ∷ []) t)
+    turn-failed StreamFault.WriteFault t end = turn-broken StreamFault.WriteFault t
+    turn-failed StreamFault.ReadFault t end = absurd t
+    turn-failed StreamFault.StoreRefused t end = absurd t
 
 -- ---- the beginning
 
-connects-sends : (place : Option ℕ) (o : EventOutcome) (number : ℕ) (peer : Peer) (old new : Hub) (out : Outputs) → Connects place o number peer old out new → out.sent ≡ None
+connects-sends : (place : Option ℕ) (o : EventOutcome) (number : ℕ) (peer : Peer) (old new : DaemonState) (out : Outputs) → Connects place o number peer old out new → out.sent ≡ None
 connects-sends (Some place) o number peer old new out h = sent_of h.1
 connects-sends None Applied number peer old new out h = sent_of h.1
 connects-sends None Starved number peer old new out h = sent_of h.1
 connects-sends None NoSegment number peer old new out h = absurd h
 
 -- the events of the beginning send nothing
-connect-quiet : (old new : Hub) (outs : List Outputs) → Run old (Connect 0 PIPE ∷ []) outs new → all_bytes_sent outs ≡ []
+connect-quiet : (old new : DaemonState) (outs : List Outputs) → Run old (Connect 0 PIPE ∷ []) outs new → all_bytes_sent outs ≡ []
 connect-quiet old new [] h = absurd h
 connect-quiet old new (a ∷ []) h = heard-bytes a [] (connects-sends (place_of 0 old.links) a.outcome 0 PIPE old h.0 a h.1)
 connect-quiet old new (a ∷ b ∷ outs) h = absurd h.2
 
-begins-quietly : (grace : Bool) (old new : Hub) (outs : List Outputs) → Run old (beginning grace) outs new → all_bytes_sent outs ≡ []
+begins-quietly : (grace : Bool) (old new : DaemonState) (outs : List Outputs) → Run old (beginning grace) outs new → all_bytes_sent outs ≡ []
 begins-quietly true old new [] h = absurd h
 begins-quietly true old new (a ∷ outs) h = heard-bytes a outs (sent_of h.1.outputs) ∙ connect-quiet h.0 new outs h.2
 begins-quietly false old new [] h = absurd h
 begins-quietly false old new (a ∷ []) h = absurd h.2
 begins-quietly false old new (a ∷ b ∷ outs) h = heard-bytes a (b ∷ outs) (sent_of h.1.outputs) ∙ heard-bytes b outs (sent_of h.2.1.outputs) ∙ connect-quiet h.2.0 new outs h.2.2
 
-pub at-start : (grace : Bool) (start hub : Hub) (unread before : Option (List ℕ)) → BeginsAll (beginning grace) start hub → EndsAt (beginning grace) start 0 unread unread before before [] hub
-at-start grace start hub unread before b = record {
+pub at-start : (grace : Bool) (start daemon_state : DaemonState) (unread before : Option (List ℕ)) → BeginsAll (beginning grace) start daemon_state → EndsAt (beginning grace) start 0 unread unread before before [] daemon_state
+at-start grace start daemon_state unread before b = record {
   pieces = [];
   few = omega arith;
   short = All-nil IsShort;
   outs = b.outs;
-  run = record { begun = hub; firsts = b.outs; begins = b.run; agreed = b.agreed; rest = []; turns = (refl, refl, refl); all = sym (append-nil b.outs) };
+  run = record { begun = daemon_state; firsts = b.outs; begins = b.run; agreed = b.agreed; rest = []; turns = (refl, refl, refl); all = sym (append-nil b.outs) };
   read = Consumes-nil unread;
-  wrote = let P : List ℕ → Type 0 = λ x. Appends before before x in subst P (sym (begins-quietly grace start hub b.outs b.run)) (Appends-nil before);
+  wrote = let P : List ℕ → Type 0 = λ x. Appends before before x in subst P (sym (begins-quietly grace start daemon_state b.outs b.run)) (Appends-nil before);
 }
 
-pub unbegun : (events : List Event) (start hub : Hub) (bound : ℕ) (why : Refusal) (unread before : Option (List ℕ)) (end : Hub) → BeginsSome events why start hub → (why ≡ Refusal.RecordTooLong → ⊥) → StreamEnds events start bound (Err (fault_of why)) unread unread before before end
-unbegun events start hub bound Refusal.Starved unread before end some short = inl (inr (record { end = hub; some = some; untouched = record { read = Keeps-refl unread; wrote = Keeps-refl before } }))
-unbegun events start hub bound Refusal.RecordTooLong unread before end some short = absurd (short refl)
-unbegun events start hub bound Refusal.StoreRefused unread before end some short = record { end = hub; some = some; untouched = record { read = Keeps-refl unread; wrote = Keeps-refl before } }
+pub unbegun : (events : List Event) (start daemon_state : DaemonState) (bound : ℕ) (why : Refusal) (unread before : Option (List ℕ)) (end : DaemonState) → BeginsSome events why start daemon_state → (why ≡ Refusal.RecordTooLong → ⊥) → StreamEnds events start bound (Err (fault_of why)) unread unread before before end
+unbegun events start daemon_state bound Refusal.Starved unread before end some short = inl (inr (record { end = daemon_state; some = some; untouched = record { read = Keeps-refl unread; wrote = Keeps-refl before } }))
+unbegun events start daemon_state bound Refusal.RecordTooLong unread before end some short = absurd (short refl)
+unbegun events start daemon_state bound Refusal.StoreRefused unread before end some short = record { end = daemon_state; some = some; untouched = record { read = Keeps-refl unread; wrote = Keeps-refl before } }

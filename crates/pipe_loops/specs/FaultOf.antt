@@ -1,20 +1,20 @@
 -- The fault that a refused event is.
 use Rattle.daemon_core.specs.declared.event.Refusal.{Refusal}
-use Rattle.pipe_loops.specs.declared.fault.Fault.{Fault}
+use Rattle.pipe_loops.specs.declared.fault.StreamFault.{StreamFault}
 
-abbrev pub fault_of : Refusal → Fault
-fault_of Refusal.Starved = Fault.Starved
-fault_of Refusal.RecordTooLong = Fault.RecordTooLong
-fault_of Refusal.StoreRefused = Fault.StoreRefused
+abbrev pub fault_of : Refusal → StreamFault
+fault_of Refusal.Starved = StreamFault.Starved
+fault_of Refusal.RecordTooLong = StreamFault.RecordTooLong
+fault_of Refusal.StoreRefused = StreamFault.StoreRefused
 
 -- memory was wanting
-abbrev pub starved : Fault
-starved = Fault.Starved
+abbrev pub starved : StreamFault
+starved = StreamFault.Starved
 
 -- a read failed
-abbrev pub failed_read : Fault
-failed_read = Fault.ReadFault
+abbrev pub failed_read : StreamFault
+failed_read = StreamFault.ReadFault
 
 -- a write failed
-abbrev pub failed_write : Fault
-failed_write = Fault.WriteFault
+abbrev pub failed_write : StreamFault
+failed_write = StreamFault.WriteFault

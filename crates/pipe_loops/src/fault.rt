@@ -9,7 +9,7 @@ use thiserror::Error;
 
 /// What ends a loop before its input does. It is printed by number and name.
 #[derive(Clone, Copy, Debug, PartialEq, Eq, Error)]
-pub enum Fault {
+pub enum StreamFault {
     /// A growth was refused.
     #[error("1 Starved")]
     Starved,
@@ -27,46 +27,46 @@ pub enum Fault {
     WriteFault,
 }
 
-impl From<Refusal> for Fault {
+impl From<Refusal> for StreamFault {
     ghost use Rattle.pipe_loops.specs.FaultOf.{fault_of};
 
     ghost from_gives = { λ r f. f ≡ fault_of r };
 
-    fn from(refusal: Refusal) -> Fault {
+    fn from(refusal: Refusal) -> StreamFault {
         match refusal {
-            Refusal::Starved => Fault::Starved,
-            Refusal::RecordTooLong => Fault::RecordTooLong,
-            Refusal::StoreRefused => Fault::StoreRefused,
+            Refusal::Starved => StreamFault::Starved,
+            Refusal::RecordTooLong => StreamFault::RecordTooLong,
+            Refusal::StoreRefused => StreamFault::StoreRefused,
         }
     }
 }
 
-impl From<WriteFault> for Fault {
+impl From<WriteFault> for StreamFault {
     ghost use Rattle.pipe_loops.specs.FaultOf.{failed_write};
 
     ghost from_gives = { λ w f. f ≡ failed_write };
 
-    fn from(_fault: WriteFault) -> Fault {
-        Fault::WriteFault
+    fn from(_fault: WriteFault) -> StreamFault {
+        StreamFault::WriteFault
     }
 }
 
-impl From<FailedRead> for Fault {
+impl From<FailedRead> for StreamFault {
     ghost use Rattle.pipe_loops.specs.FaultOf.{failed_read};
 
     ghost from_gives = { λ r f. f ≡ failed_read };
 
-    fn from(_failed: FailedRead) -> Fault {
-        Fault::ReadFault
+    fn from(_failed: FailedRead) -> StreamFault {
+        StreamFault::ReadFault
     }
 }
 
-impl From<Starved> for Fault {
+impl From<Starved> for StreamFault {
     ghost use Rattle.pipe_loops.specs.FaultOf.{starved};
 
     ghost from_gives = { λ s f. f ≡ starved };
 
-    fn from(_starved: Starved) -> Fault {
-        Fault::Starved
+    fn from(_starved: Starved) -> StreamFault {
+        StreamFault::Starved
     }
 }

@@ -8,7 +8,7 @@ mod pipe;
 mod server;
 mod table;
 
-pub use fault::Fault;
+pub use fault::StreamFault;
 pub use law::reads_are_bounded;
 pub use pipe::pipe_loop;
 pub use server::Server;

@@ -4,7 +4,7 @@ ghost use Rattle.daemon_core.specs.Outputs.{bytes_sent};
 ghost use Rattle.byte_io.specs.Written.{Wrote};
 
 use byte_io::WriteFault;
-use daemon_core::{Frame, Outputs, Posting};
+use daemon_core::{Frame, Outputs, SendBuffer};
 use std::io::Write;
 
 /// The places of what is sent: of a reply's record, and of a call of the server's own. They have some 9 KiB, which are got and
@@ -12,7 +12,7 @@ use std::io::Write;
 #[derive(Drop)]
 pub(crate) struct Places {
     pub(crate) reply: Frame,
-    pub(crate) call: Posting,
+    pub(crate) call: SendBuffer,
 }
 
 impl Places {
@@ -20,7 +20,7 @@ impl Places {
     pub(crate) fn new() -> Places {
         Places {
             reply: Frame::new(),
-            call: Posting::new(),
+            call: SendBuffer::new(),
         }
     }
 }

@@ -2,16 +2,16 @@
 
 ghost use Rattle.std.specs.Prelude.{◌≡◌, ◌≤◌, [], ◌∷◌, length};
 ghost use Rattle.kept_replies.specs.declared.key.TheConstants.Peer.{PIPE};
-ghost use Rattle.daemon_core.specs.Hub.{opening};
+ghost use Rattle.daemon_core.specs.DaemonState.{opening};
 ghost use Rattle.pipe_loops.specs.Answered.{SendsNext, SendsDue, AnswersNext};
 ghost use Rattle.daemon_core.specs.declared.event.Event.TheVariants.{Connect};
 ghost use Rattle.pipe_loops.specs.Pipe.{beginning, AnswersWaiting, TurnEnds, IsServed, Passes, Begins, StreamEnds, PipeEnds};
 
-use crate::fault::Fault;
+use crate::fault::StreamFault;
 use crate::output::{Places, write_outputs};
 use crate::server::Server;
 use byte_io::{make_place, read_piece};
-use daemon_core::{Daemon, Event, Peer, Posted, Posting};
+use daemon_core::{Daemon, Event, Peer, Posted, SendBuffer};
 use hosts_db::HostStore;
 use range_table::RangeTable;
 use std::alloc::Global;
@@ -26,16 +26,16 @@ const PIECE: usize = 8192;
 /// Sends the call of the server's own that is due first. Whether there was one.
 fn send_next<T: RangeTable, S: HostStore, W: Write>(
     daemon: &mut Daemon<T, S>,
-    posting: &mut Posting,
+    send_buffer: &mut SendBuffer,
     writer: &mut W,
-) -> Result<bool, Fault>
+) -> Result<bool, StreamFault>
     ensures { SendsNext result daemon.old daemon.new (W.contents writer.old) (W.contents writer.new) }
 {
-    match daemon.send(posting) {
+    match daemon.send(send_buffer) {
         Posted::Nothing => Ok(false),
-        Posted::NoSegment => Err(Fault::Starved),
+        Posted::NoSegment => Err(StreamFault::Starved),
         Posted::Sent => {
-            posting.write(writer)?;
+            send_buffer.write(writer)?;
             Ok(true)
         }
     }
@@ -44,12 +44,12 @@ fn send_next<T: RangeTable, S: HostStore, W: Write>(
 /// Sends every call of the server's own that is due, in order.
 fn send_due<T: RangeTable, S: HostStore, W: Write>(
     daemon: &mut Daemon<T, S>,
-    posting: &mut Posting,
+    send_buffer: &mut SendBuffer,
     writer: &mut W,
-) -> Result<(), Fault>
+) -> Result<(), StreamFault>
     ensures { SendsDue result daemon.old daemon.new (W.contents writer.old) (W.contents writer.new) }
 {
-    while send_next(daemon, posting, writer)? {}
+    while send_next(daemon, send_buffer, writer)? {}
     Ok(())
 }
 
@@ -58,7 +58,7 @@ fn answer_next<T: RangeTable, S: HostStore, W: Write>(
     daemon: &mut Daemon<T, S>,
     places: &mut Places,
     writer: &mut W,
-) -> Result<(), Fault>
+) -> Result<(), StreamFault>
     ensures { AnswersNext result daemon.old daemon.new (W.contents writer.old) (W.contents writer.new) }
 {
     let outputs = daemon.step(Event::Take {
@@ -75,7 +75,7 @@ fn answer_waiting<T: RangeTable, S: HostStore, W: Write>(
     daemon: &mut Daemon<T, S>,
     places: &mut Places,
     writer: &mut W,
-) -> Result<(), Fault>
+) -> Result<(), StreamFault>
     ensures { AnswersWaiting result daemon.old daemon.new (W.contents writer.old) (W.contents writer.new) }
 {
     for _answered in 0..daemon.waiting(CONNECTION) {
@@ -91,7 +91,7 @@ fn turn<T: RangeTable, S: HostStore, W: Write>(
     places: &mut Places,
     writer: &mut W,
     piece: &[u8],
-) -> Result<(), Fault>
+) -> Result<(), StreamFault>
     requires { length piece.now ≤ PIECE }
     ensures { TurnEnds result daemon.old daemon.new piece.now (W.contents writer.old) (W.contents writer.new) }
 {
@@ -103,11 +103,11 @@ fn turn<T: RangeTable, S: HostStore, W: Write>(
     let flushed = writer.flush();
     answered?;
     if flushed.is_err() {
-        return Err(Fault::WriteFault);
+        return Err(StreamFault::WriteFault);
     }
     match refused {
         None => Ok(()),
-        Some(refusal) => Err(Fault::from(refusal)),
+        Some(refusal) => Err(StreamFault::from(refusal)),
     }
 }
 
@@ -118,12 +118,12 @@ fn answer_pieces<T: RangeTable, S: HostStore, R: Read, W: Write>(
     reader: &mut R,
     writer: &mut W,
     bound: u64,
-) -> Result<(), Fault>
+) -> Result<(), StreamFault>
     ensures { IsServed bound result (R.remaining reader.old) (R.remaining reader.new) (W.contents writer.old) (W.contents writer.new) daemon.old daemon.new }
 {
     // The place is got first, so that no byte is lost.
     let Ok(mut place) = make_place(alloc, PIECE) else {
-        return Err(Fault::Starved);
+        return Err(StreamFault::Starved);
     };
     let mut places = Places::new();
     for _turn in 0..bound {
@@ -132,24 +132,27 @@ fn answer_pieces<T: RangeTable, S: HostStore, R: Read, W: Write>(
             Ok(0) => return Ok(()),
             Ok(count) => turn(daemon, &mut places, writer, &piece[..count])?,
             Err(failed) if failed.is_interrupted => {}
-            Err(failed) => return Err(Fault::from(failed)),
+            Err(failed) => return Err(StreamFault::from(failed)),
         }
     }
-    Err(Fault::ReadFault)
+    Err(StreamFault::ReadFault)
 }
 
 /// Does an event that nobody asked for. It ends the program where it is refused.
-fn pass<T: RangeTable, S: HostStore>(daemon: &mut Daemon<T, S>, event: Event) -> Result<(), Fault>
+fn pass<T: RangeTable, S: HostStore>(
+    daemon: &mut Daemon<T, S>,
+    event: Event,
+) -> Result<(), StreamFault>
     ensures { Passes result event daemon.old daemon.new }
 {
     match daemon.step(event).refusal {
         None => Ok(()),
-        Some(refusal) => Err(Fault::from(refusal)),
+        Some(refusal) => Err(StreamFault::from(refusal)),
     }
 }
 
 /// The stream's connection begins.
-fn connect<T: RangeTable, S: HostStore>(daemon: &mut Daemon<T, S>) -> Result<(), Fault>
+fn connect<T: RangeTable, S: HostStore>(daemon: &mut Daemon<T, S>) -> Result<(), StreamFault>
     ensures { Begins (Connect 0 PIPE ∷ []) result daemon.old daemon.new }
 {
     pass(
@@ -165,7 +168,7 @@ fn connect<T: RangeTable, S: HostStore>(daemon: &mut Daemon<T, S>) -> Result<(),
 fn begin<T: RangeTable, S: HostStore>(
     daemon: &mut Daemon<T, S>,
     is_grace: bool,
-) -> Result<(), Fault>
+) -> Result<(), StreamFault>
     ensures { Begins (beginning is_grace) result daemon.old daemon.new }
 {
     pass(daemon, Event::Restart)?;
@@ -185,7 +188,7 @@ pub(crate) fn answer_stream<T: RangeTable, S: HostStore, R: Read, W: Write>(
     reader: &mut R,
     writer: &mut W,
     bound: u64,
-) -> Result<(), Fault>
+) -> Result<(), StreamFault>
     ensures { StreamEnds (beginning is_grace) daemon.old bound result (R.remaining reader.old) (R.remaining reader.new) (W.contents writer.old) (W.contents writer.new) daemon.new }
 {
     begin(daemon, is_grace)?;
@@ -202,7 +205,7 @@ pub fn pipe_loop<T: RangeTable + Drop, S: HostStore + Drop, R: Read, W: Write>(
     reader: &mut R,
     writer: &mut W,
     bound: u64,
-) -> Result<(), Fault>
+) -> Result<(), StreamFault>
     requires { T.settings server.table ≡ [] }
     ensures { PipeEnds (beginning server.is_grace) (opening server.own_name (S.rows server.store) (S.refusals server.store)) bound result (R.remaining reader.old) (R.remaining reader.new) (W.contents writer.old) (W.contents writer.new) }
 {

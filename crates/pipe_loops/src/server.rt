@@ -1,7 +1,7 @@
 //! What serves a stream.
 
 ghost use Rattle.std.specs.Prelude.{◌≡◌, [], IfOk};
-ghost use Rattle.daemon_core.specs.Hub.{opening};
+ghost use Rattle.daemon_core.specs.DaemonState.{opening};
 
 use callbacks::ShortBytes;
 use daemon_core::Daemon;

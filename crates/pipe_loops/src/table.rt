@@ -1,12 +1,12 @@
 //! The table of locks that one stream leaves.
 
 ghost use Rattle.std.specs.Prelude.{◌≡◌, []};
-ghost use Rattle.daemon_core.specs.Hub.{opening};
+ghost use Rattle.daemon_core.specs.DaemonState.{opening};
 ghost use Rattle.pipe_loops.specs.Pipe.{beginning};
 ghost use Rattle.pipe_loops.specs.Table.{table_of, TableEnds};
 ghost use Rattle.byte_io.specs.Written.{Wrote};
 
-use crate::fault::Fault;
+use crate::fault::StreamFault;
 use crate::pipe::answer_stream;
 use crate::server::Server;
 use byte_io::WriteFault;
@@ -39,7 +39,7 @@ fn print_stream<T: RangeTable, S: HostStore, R: Read, W: Write>(
     reader: &mut R,
     writer: &mut W,
     bound: u64,
-) -> Result<(), Fault>
+) -> Result<(), StreamFault>
     ensures { TableEnds (beginning is_grace) daemon.old bound result (R.remaining reader.old) (R.remaining reader.new) (W.contents writer.old) (W.contents writer.new) }
 {
     let mut nowhere = io::sink();
@@ -56,7 +56,7 @@ pub fn table_loop<T: RangeTable + Drop, S: HostStore + Drop, R: Read, W: Write>(
     reader: &mut R,
     writer: &mut W,
     bound: u64,
-) -> Result<(), Fault>
+) -> Result<(), StreamFault>
     requires { T.settings server.table ≡ [] }
     ensures { TableEnds (beginning server.is_grace) (opening server.own_name (S.rows server.store) (S.refusals server.store)) bound result (R.remaining reader.old) (R.remaining reader.new) (W.contents writer.old) (W.contents writer.new) }
 {

@@ -1,18 +1,18 @@
--- What an `Inbox` keeps.
+-- What a `RecordQueue` keeps.
 use Rattle.std.specs.Prelude.{◌≡◌, ℕ, ◌≤◌, Bool, true, false, List, [], ◌∷◌, length}
 use Rattle.record_mark.specs.Stream.{Splits}
 use Rattle.record_mark.specs.Assembled.{Assembled}
-use Rattle.record_mark.specs.Received.{Received}
+use Rattle.record_mark.specs.Received.{ReceivedBytes}
 use Rattle.record_mark.specs.Untaken.{untaken, marked}
-use Rattle.record_mark.specs.declared.inbox.Inbox.TheInside.{Inside}
+use Rattle.record_mark.specs.declared.record_queue.RecordQueue.TheInside.{Inside}
 
 -- the flags after these were taken, each counted among those that were left
 abbrev pub flags_from : List Bool → List ℕ → List Bool
 flags_from flags [] = flags
 flags_from flags (i ∷ is) = flags_from (marked flags i) is
 
-abbrev pub view_of_inbox : Inside → Received
-view_of_inbox c = record { received = c.received.items; taken = flags_from [] c.takes.items; receives = c.receives }
+abbrev pub view_of_record_queue : Inside → ReceivedBytes
+view_of_record_queue c = record { received = c.received.items; taken = flags_from [] c.takes.items; receives = c.receives }
 
 -- while bytes are received, the assembler took them all
 abbrev pub IsInStep : Bool → Assembled → List ℕ → List (List ℕ) → Type 0

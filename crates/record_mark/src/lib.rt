@@ -3,17 +3,17 @@
 #![tactic(auto)]
 
 mod assembler;
-mod inbox;
 mod intake;
 mod law;
 mod progress;
+mod record_queue;
 mod sent;
 mod writing;
 
 pub use crate::assembler::{Assembler, MarkError};
-pub use crate::inbox::{Heard, Inbox};
 pub use crate::intake::{Ending, Intake};
 pub use crate::law::{one_reading, sent_is_one_record};
+pub use crate::record_queue::{Received, RecordQueue};
 pub use crate::sent::last_mark;
 pub use crate::writing::{Spelled, write_record, write_spelled};
 use bytes::Bytes;

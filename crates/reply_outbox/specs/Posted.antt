@@ -14,6 +14,6 @@ abbrev pub posted : ℕ → Given → List Sent
 posted connection (Replies xid outcome) = record { connection = connection; reply = reply_bytes xid outcome } ∷ []
 posted connection Nothing = []
 posted connection (Says line) = []
-posted connection (Sends number letter) = []
+posted connection (Sends number callback) = []
 posted connection IsStarved = []
 posted connection IsRefused = []

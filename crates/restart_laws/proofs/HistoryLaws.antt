@@ -9,14 +9,14 @@ use Rattle.definitions.specs.Phases.{Grace}
 use Rattle.definitions.specs.Moves.{IsReclaim, AreHonest}
 use Rattle.definitions.specs.Reclaims.{IsHonest, IsUnder}
 use Rattle.definitions.specs.World.{the_limits}
-use Rattle.definitions.specs.Step.{State, Doing, Applied, step}
+use Rattle.definitions.specs.Step.{State, Completion, Applied, step}
 use Rattle.definitions.specs.Replay.{Done, Entry, after, state_after, done_of, fits, all_fit, IsLegal as IsLegalFrom}
 use Rattle.definition_laws.specs.Numbers.{is_beginning}
 use Rattle.definition_laws.proofs.RunLaws.{grace_run_law}
 use Rattle.definition_laws.proofs.HistoryLaws.{history_grows}
 use Rattle.call_codec.specs.Readings.{OneReading}
-use Rattle.book.specs.Given.{Upshot}
-use Rattle.book.specs.Notes.{Note, Happening, Steps}
+use Rattle.book.specs.Given.{StepResult}
+use Rattle.book.specs.Notes.{Note, JournalEvent, Steps}
 use Rattle.book.specs.Journal.{Journal, AreEntriesOf, IsLegal, begun, next_of, noted}
 use Rattle.book.specs.Histories.{IsHistory}
 use Rattle.book.proofs.Journals.{more_entries, as_many}
@@ -37,7 +37,7 @@ rows_over : (s : State) (done : List Done) → all_fit the_limits s done ≡ tru
 rows_over s [] fit name e = e
 rows_over s (d ∷ done) fit name e =
     let p = both (fits the_limits s d) (all_fit the_limits (after the_limits s d).state done) fit in
-    rows_over (after the_limits s d).state done p.1 name (step_keeps s d.event d.doing d.store p.0 name e)
+    rows_over (after the_limits s d).state done p.1 name (step_keeps s d.event d.completion d.store p.0 name e)
 
 pub histories_keep_rows : HistoriesKeepRows
 histories_keep_rows j legal name e = subst (λ (s : State). has_row s.world.hosts name ≡ true) legal.legal.ends (rows_over j.base (done_of legal.entries) legal.legal.store name e)
@@ -48,7 +48,7 @@ kept_over one (n ∷ notes) [] s are fit kept = elim are [ ]
 kept_over one (n ∷ notes) (e ∷ entries) s are fit kept =
     let d = e.done in
     let p = both (fits the_limits s d) (all_fit the_limits (after the_limits s d).state (done_of entries)) fit in
-    kept_over one notes entries (after the_limits s d).state are.1 p.1 (kept_rows one s d.event d.doing d.store p.0 (read_of n.event d.event are.0.event) kept)
+    kept_over one notes entries (after the_limits s d).state are.1 p.1 (kept_rows one s d.event d.completion d.store p.0 (read_of n.event d.event are.0.event) kept)
 
 kept_from_opening : OneReading → (name : Bytes) (hosts : Hosts) (j : Journal) → IsHistory name hosts j → KeptHaveRows j.end
 kept_from_opening one name hosts j h =
@@ -58,7 +58,7 @@ kept_from_opening one name hosts j h =
 pub histories_monitor_hosts : OneReading → HistoriesMonitorHosts
 histories_monitor_hosts one name hosts j h =
     let kept = kept_from_opening one name hosts j h in
-    record { kept = kept; standing = λ new event upshot s peer asked xid call host is done monitors told. standing_has_row j.end new event upshot s kept peer asked xid call host is done monitors told }
+    record { kept = kept; standing = λ new event step_result s peer asked xid call host is done monitors told. standing_has_row j.end new event step_result s kept peer asked xid call host is done monitors told }
 
 -- ---- reclaims
 
@@ -77,12 +77,12 @@ module _ (list : List Setting) (j : Journal) (h : IsHonestSince list j) where
   all_done : done_of (h.before ++ h.begun ∷ h.since) ≡ done_of h.before ++ h.begun.done ∷ done_of h.since
   all_done = map-append (λ (e : Entry). e.done) h.before (h.begun ∷ h.since)
 
-  fit : fits the_limits old (record { event = h.begun.done.event; doing = Applied; store = h.begun.done.store }) ≡ true
-  fit = subst (λ (d : Doing). fits the_limits old (record { event = h.begun.done.event; doing = d; store = h.begun.done.store }) ≡ true) h.done
+  fit : fits the_limits old (record { event = h.begun.done.event; completion = Applied; store = h.begun.done.store }) ≡ true
+  fit = subst (λ (d : Completion). fits the_limits old (record { event = h.begun.done.event; completion = d; store = h.begun.done.store }) ≡ true) h.done
       (fit_at j.base (done_of h.before) h.begun.done (done_of h.since) (subst (λ (ds : List Done). all_fit the_limits j.base ds ≡ true) all_done h.legal.store))
 
   starts_under : IsUnder list start.world
-  starts_under = subst (λ (d : Doing). IsUnder list (step the_limits old h.begun.done.event d h.begun.done.store).state.world) (sym h.done) (begins_under old h.begun.done.event h.begun.done.store fit h.agreed list)
+  starts_under = subst (λ (d : Completion). IsUnder list (step the_limits old h.begun.done.event d h.begun.done.store).state.world) (sym h.done) (begins_under old h.begun.done.event h.begun.done.store fit h.agreed list)
 
   pub leads_on : state_after the_limits start (done_of h.since) ≡ j.end
   leads_on = sym (state_behind j.base (done_of h.before) (h.begun.done ∷ done_of h.since)) ∙ ap (state_after the_limits j.base) (sym all_done) ∙ h.legal.ends
@@ -94,26 +94,26 @@ pub honest_histories_stay_under : HonestHistoriesStayUnder
 honest_histories_stay_under list j h = is_under list j h
 
 pub honest_histories_grant : HonestHistoriesGrant
-honest_histories_grant list compatible j h new event upshot s peer asked xid version call a is done reclaim =
-    reclaim_is_granted list compatible j.end new event upshot s (is_under list j h) peer asked xid version call a is done reclaim
+honest_histories_grant list compatible j h new event step_result s peer asked xid version call a is done reclaim =
+    reclaim_is_granted list compatible j.end new event step_result s (is_under list j h) peer asked xid version call a is done reclaim
 
 -- ---- one step more
 
-module _ (j : Journal) (entries : List Entry) (are : AreEntriesOf j.notes entries) (legal : IsLegalFrom the_limits j.first j.base entries j.end) (event : Happening) (upshot : Upshot) (new : State) (s : Steps j.end event upshot new) where
+module _ (j : Journal) (entries : List Entry) (are : AreEntriesOf j.notes entries) (legal : IsLegalFrom the_limits j.first j.base entries j.end) (event : JournalEvent) (step_result : StepResult) (new : State) (s : Steps j.end event step_result new) where
   abbrev did : Done
-  did = record { event = s.said; doing = upshot.doing; store = upshot.store }
+  did = record { event = s.said; completion = step_result.completion; store = step_result.store }
 
   abbrev entry : Entry
   entry = record { number = j.first + length entries; done = did; given = (after the_limits j.end did).given }
 
   abbrev more : Journal
-  more = noted j (record { number = next_of j; event = event; upshot = upshot }) new
+  more = noted j (record { number = next_of j; event = event; step_result = step_result }) new
 
   are_more : AreEntriesOf more.notes (entries ++ entry ∷ [])
-  are_more = more_entries j.notes entries (record { number = next_of j; event = event; upshot = upshot }) entry are (record {
+  are_more = more_entries j.notes entries (record { number = next_of j; event = event; step_result = step_result }) entry are (record {
     number = ap (λ (k : ℕ). j.first + k) (as_many j.notes entries are);
     event = s.reads;
-    doing = refl;
+    completion = refl;
     store = refl;
     given = s.step.gives;
   })
@@ -122,16 +122,16 @@ module _ (j : Journal) (entries : List Entry) (are : AreEntriesOf j.notes entrie
   legal_more = subst (λ (t : State). IsLegalFrom the_limits j.first j.base (entries ++ entry ∷ []) t) s.step.leaves (history_grows the_limits j.first j.base j.end entries did legal s.step.fits)
 
 -- the restart, as the first entry
-pub honest_begins : (list : List Setting) (old new : State) (event : Happening) (upshot : Upshot) (s : Steps old event upshot new) → upshot.doing ≡ Applied → is_beginning s.said upshot.store ≡ true
-    → IsHonestSince list (noted (begun 1 old) (record { number = next_of (begun 1 old); event = event; upshot = upshot }) new)
-honest_begins list old new event upshot s done agreed =
+pub honest_begins : (list : List Setting) (old new : State) (event : JournalEvent) (step_result : StepResult) (s : Steps old event step_result new) → step_result.completion ≡ Applied → is_beginning s.said step_result.store ≡ true
+    → IsHonestSince list (noted (begun 1 old) (record { number = next_of (begun 1 old); event = event; step_result = step_result }) new)
+honest_begins list old new event step_result s done agreed =
     let nothing : IsLegalFrom the_limits 1 old [] old = record { numbers = refl; given = refl; ends = refl; store = refl } in
     record {
       before = [];
-      begun = entry (begun 1 old) [] refl nothing event upshot new s;
+      begun = entry (begun 1 old) [] refl nothing event step_result new s;
       since = [];
-      are = are_more (begun 1 old) [] refl nothing event upshot new s;
-      legal = legal_more (begun 1 old) [] refl nothing event upshot new s;
+      are = are_more (begun 1 old) [] refl nothing event step_result new s;
+      legal = legal_more (begun 1 old) [] refl nothing event step_result new s;
       done = done;
       agreed = agreed;
       honest = tt;
@@ -142,19 +142,19 @@ honest_more list s [] d before grace last = (grace, last, tt)
 honest_more list s (x ∷ xs) d before grace last = (before.0, before.1, honest_more list (after the_limits s x).state xs d before.2 grace last)
 
 -- an event that finds grace, and reclaims nothing but what is honest
-pub honest_goes_on : (list : List Setting) (j : Journal) (h : IsHonestSince list j) (event : Happening) (upshot : Upshot) (new : State) (s : Steps j.end event upshot new) → j.end.world.phase ≡ Grace → ((r : Request) → IsReclaim s.said r → IsHonest list r)
-    → IsHonestSince list (noted j (record { number = next_of j; event = event; upshot = upshot }) new)
-honest_goes_on list j h event upshot new s grace reclaims =
+pub honest_goes_on : (list : List Setting) (j : Journal) (h : IsHonestSince list j) (event : JournalEvent) (step_result : StepResult) (new : State) (s : Steps j.end event step_result new) → j.end.world.phase ≡ Grace → ((r : Request) → IsReclaim s.said r → IsHonest list r)
+    → IsHonestSince list (noted j (record { number = next_of j; event = event; step_result = step_result }) new)
+honest_goes_on list j h event step_result new s grace reclaims =
     let entries = h.before ++ h.begun ∷ h.since in
-    let e : Entry = entry j entries h.are h.legal event upshot new s in
+    let e : Entry = entry j entries h.are h.legal event step_result new s in
     let again : entries ++ e ∷ [] ≡ h.before ++ h.begun ∷ (h.since ++ e ∷ []) = append_assoc h.before (h.begun ∷ h.since) (e ∷ []) in
     let in_grace : (state_after the_limits (start list j h) (done_of h.since)).world.phase ≡ Grace = ap (λ (t : State). t.world.phase) (leads_on list j h) ∙ grace in
     record {
       before = h.before;
       begun = h.begun;
       since = h.since ++ e ∷ [];
-      are = subst (λ (es : List Entry). AreEntriesOf (j.notes ++ record { number = next_of j; event = event; upshot = upshot } ∷ []) es) again (are_more j entries h.are h.legal event upshot new s);
-      legal = subst (λ (es : List Entry). IsLegalFrom the_limits j.first j.base es new) again (legal_more j entries h.are h.legal event upshot new s);
+      are = subst (λ (es : List Entry). AreEntriesOf (j.notes ++ record { number = next_of j; event = event; step_result = step_result } ∷ []) es) again (are_more j entries h.are h.legal event step_result new s);
+      legal = subst (λ (es : List Entry). IsLegalFrom the_limits j.first j.base es new) again (legal_more j entries h.are h.legal event step_result new s);
       done = h.done;
       agreed = h.agreed;
       honest = subst (λ (ds : List Done). AreHonest the_limits list (start list j h) ds) (sym (map-append (λ (x : Entry). x.done) h.since (e ∷ []))) (honest_more list (start list j h) (done_of h.since) e.done h.honest in_grace reclaims);

@@ -16,9 +16,9 @@ use Rattle.definitions.specs.Outgoing.{Outgoing, Message, Granted, GrantedMsg, d
 use Rattle.definitions.specs.Replies.{Nlm, Asks, Success, NoResult, ResResult, SystemErr}
 use Rattle.definitions.specs.Shown.{res}
 use Rattle.definitions.specs.World.{World, the_limits, slots_free, settled, with_setting}
-use Rattle.definitions.specs.Rulings.{Told, Ruling, ruled, decided, stays}
+use Rattle.definitions.specs.Rulings.{Response, Ruling, ruled, decided, stays}
 use Rattle.definitions.specs.LockRules.{LockAsk, NewHost, row_asked, after_row, free_lock, blocked_lock, lock_rules}
-use Rattle.definitions.specs.Answer.{Answered, gives, replied, sent_back, by_reply, by_call, lock_letter, lock_ask, caller_row, lock_unless, lock_verdict, lock_msg_answer, nlm_answer, ruling}
+use Rattle.definitions.specs.Answer.{Answered, gives, replied, sent_back, by_reply, by_call, lock_callback, lock_ask, caller_row, lock_unless, lock_verdict, lock_msg_answer, nlm_answer, ruling}
 use Rattle.definitions.specs.Reclaims.{AreCompatible, IsUnder}
 use Rattle.definitions.specs.Step.{Peer, KeptPair, State, Event, Take, Applied, Replies, taken, applied, store_call, asked_unless_kept}
 use Rattle.definitions.specs.Replay.{fits}
@@ -34,7 +34,7 @@ rules_grant w a free room =
     ∙ ap (λ b. cond b (stays w DENIED_NOLOCKS) (after_row w (row_asked w a.row) GRANTED (λ v. with_setting v (setting_of a.request)))) room
 
 -- a grant that the store doesn't refuse: the setting is made, and nothing else but a row
-record IsGrant (w : World) (r : Request) (t : Told Stat) : Type 0 where
+record IsGrant (w : World) (r : Request) (t : Response Stat) : Type 0 where
   says : t.says ≡ GRANTED
   settings : t.world.settings ≡ w.settings ++ setting_of r ∷ []
   calls : t.world.calls ≡ w.calls
@@ -78,7 +78,7 @@ module _ (list : List Setting) (compatible : AreCompatible list) (s : State) (un
       ap (lock_unless the_limits w (lock_ask a row message slots)) ok
       ∙ rules_grant w (lock_ask a row message slots) free room
 
-  abbrev grant : Option NewHost → Ruling (Told Stat)
+  abbrev grant : Option NewHost → Ruling (Response Stat)
   grant row = after_row w (row_asked w row) GRANTED (λ v. with_setting v (setting_of request))
 
   is_grant : (row : Option NewHost) → IsGrant w request (grant row).agreed
@@ -90,16 +90,16 @@ module _ (list : List Setting) (compatible : AreCompatible list) (s : State) (un
   by_nm_lock : nlm_answer the_limits w version (NmLock a) ≡ by_reply version a.cookie (grant None)
   by_nm_lock = ap (by_reply version a.cookie) (verdict None (Granted version a.exclusive a.alock) (slots_free the_limits w))
 
-  by_lock_msg : leb 1 (slots_free the_limits w) ≡ true → nlm_answer the_limits w version (LockMsg a) ≡ by_call (lock_letter version a) (grant (caller_row a))
+  by_lock_msg : leb 1 (slots_free the_limits w) ≡ true → nlm_answer the_limits w version (LockMsg a) ≡ by_call (lock_callback version a) (grant (caller_row a))
   by_lock_msg p =
-      ap (λ b. cond b (by_call (lock_letter version a) (lock_msg_answer the_limits w version a)) (decided (gives w SystemErr))) p
-      ∙ ap (by_call (lock_letter version a)) (verdict (caller_row a) (GrantedMsg version a.exclusive a.alock) (slots_free the_limits w - 1))
+      ap (λ b. cond b (by_call (lock_callback version a) (lock_msg_answer the_limits w version a)) (decided (gives w SystemErr))) p
+      ∙ ap (by_call (lock_callback version a)) (verdict (caller_row a) (GrantedMsg version a.exclusive a.alock) (slots_free the_limits w - 1))
 
   abbrev event_of : NlmCall → Event
   event_of c = Take peer asked (Asks xid (Nlm version c))
 
   abbrev Fits : NlmCall → StoreAnswer → Type 0
-  Fits c answer = fits the_limits s (record { event = event_of c; doing = Applied; store = answer }) ≡ true
+  Fits c answer = fits the_limits s (record { event = event_of c; completion = Applied; store = answer }) ≡ true
 
   -- the store was asked and agreed, or there was nothing to ask
   agreed : (c : NlmCall) (r : Ruling Answered) → nlm_answer the_limits w version c ≡ r → (r.asks ≡ None → r.refused ≡ r.agreed) → Fits c store → ruled store (ruling the_limits w peer.local (Nlm version c)) ≡ r.agreed
@@ -114,7 +114,7 @@ module _ (list : List Setting) (compatible : AreCompatible list) (s : State) (un
       go NotAsked None e f n = unasked e
       go NotAsked (Some asked_of) e f n =
           let has : store_call the_limits s (event_of c) ≡ Some asked_of = call_is ∙ e in
-          let unfit : fits the_limits s (record { event = event_of c; doing = Applied; store = NotAsked }) ≡ false = rw has refl in
+          let unfit : fits the_limits s (record { event = event_of c; completion = Applied; store = NotAsked }) ≡ false = rw has refl in
           absurd (true≢false (sym f ∙ unfit))
 
   -- the table after it, and what its caller is told
@@ -131,21 +131,21 @@ module _ (list : List Setting) (compatible : AreCompatible list) (s : State) (un
   called_grant : leb 1 (slots_free the_limits w) ≡ true → Fits (LockMsg a) store
       → ((taken the_limits s peer asked xid (Nlm version (LockMsg a)) store None).state.world.settings ≡ w.settings ++ setting_of request ∷ [])
       × ((taken the_limits s peer asked xid (Nlm version (LockMsg a)) store None).given ≡ Replies xid (Success NoResult))
-      × (map (λ (c : Outgoing). c.letter) (taken the_limits s peer asked xid (Nlm version (LockMsg a)) store None).state.world.calls ≡ map (λ (c : Outgoing). c.letter) w.calls ++ lock_letter version a GRANTED ∷ [])
+      × (map (λ (c : Outgoing). c.callback) (taken the_limits s peer asked xid (Nlm version (LockMsg a)) store None).state.world.calls ≡ map (λ (c : Outgoing). c.callback) w.calls ++ lock_callback version a GRANTED ∷ [])
   called_grant p fit =
       let row = caller_row a in
       let t = (grant row).agreed in
       let g = is_grant row in
-      let back : Told Stat → Answered = λ told. sent_back (lock_letter version a told.says) told.world in
-      let same = agreed (LockMsg a) (by_call (lock_letter version a) (grant row)) (by_lock_msg p) (λ e. ap back (row_unasked w (row_asked w row) GRANTED (λ v. with_setting v (setting_of request)) e)) fit in
+      let back : Response Stat → Answered = λ told. sent_back (lock_callback version a told.says) told.world in
+      let same = agreed (LockMsg a) (by_call (lock_callback version a) (grant row)) (by_lock_msg p) (λ e. ap back (row_unasked w (row_asked w row) GRANTED (λ v. with_setting v (setting_of request)) e)) fit in
       let rest = settled_nobody the_limits (back t).world (g.waiters ∙ under.waiters) in (
         ap (λ (x : Answered). (settled the_limits x.world).settings) same ∙ ap (λ (v : World). v.settings) rest ∙ g.settings,
         ap (λ (x : Answered). Replies xid x.outcome) same,
-        ap (λ (x : Answered). map (λ (c : Outgoing). c.letter) (settled the_limits x.world).calls) same
-            ∙ ap (λ (v : World). map (λ (c : Outgoing). c.letter) v.calls) rest
-            ∙ map-append (λ (c : Outgoing). c.letter) t.world.calls (due_now t.world.next (lock_letter version a t.says) ∷ [])
-            ∙ ap (λ (calls : List Outgoing). map (λ (c : Outgoing). c.letter) calls ++ lock_letter version a t.says ∷ []) g.calls
-            ∙ ap (λ stat. map (λ (c : Outgoing). c.letter) w.calls ++ lock_letter version a stat ∷ []) g.says,
+        ap (λ (x : Answered). map (λ (c : Outgoing). c.callback) (settled the_limits x.world).calls) same
+            ∙ ap (λ (v : World). map (λ (c : Outgoing). c.callback) v.calls) rest
+            ∙ map-append (λ (c : Outgoing). c.callback) t.world.calls (due_now t.world.next (lock_callback version a t.says) ∷ [])
+            ∙ ap (λ (calls : List Outgoing). map (λ (c : Outgoing). c.callback) calls ++ lock_callback version a t.says ∷ []) g.calls
+            ∙ ap (λ stat. map (λ (c : Outgoing). c.callback) w.calls ++ lock_callback version a stat ∷ []) g.says,
       )
 
   abbrev Granted_by : NlmCall → Option KeptPair → Type 0

@@ -6,7 +6,7 @@ use Rattle.definitions.specs.Hosts.{Hosts, Begin, StoreAnswer, NotAsked, Yes, Re
 use Rattle.definitions.specs.Nsm.{NsmCall, SmNull, SmStat, SmMon, SmUnmon, SmUnmonAll, SmSimuCrash, SmNotify}
 use Rattle.definitions.specs.Settings.{Setting}
 use Rattle.definitions.specs.Replies.{Call, Nlm, Nsm, Ignored, Turned, Asks}
-use Rattle.definitions.specs.World.{World, the_limits, opening, restart_letter, restarted, settled}
+use Rattle.definitions.specs.World.{World, the_limits, opening, restart_callback, restarted, settled}
 use Rattle.definitions.specs.Rulings.{ruled}
 use Rattle.definitions.specs.Answer.{ruling}
 use Rattle.definition_laws.specs.Numbers.{is_beginning}
@@ -29,7 +29,7 @@ module _ (s : State) where
   LeadsAnew t = t ≡ anew
 
   nobody : anew_world.waiters ≡ []
-  nobody = let hosts = after_store s.world.hosts Begin in (due_keeps (opening s.world.own_name hosts) (map (restart_letter s.world.own_name hosts.own) hosts.rows)).waiters
+  nobody = let hosts = after_store s.world.hosts Begin in (due_keeps (opening s.world.own_name hosts) (map (restart_callback s.world.own_name hosts.own) hosts.rows)).waiters
 
   crash_leads : (peer : Peer) (asked : Bytes) (xid : ℕ) → peer.local ≡ true → LeadsAnew (fresh the_limits s peer asked xid (Nsm SmSimuCrash) Yes).state
   crash_leads peer asked xid local =
@@ -40,16 +40,16 @@ module _ (s : State) where
       ap to local ∙ ap (λ (w : World). record { world = w; kept = [] }) (settled_nobody the_limits anew_world nobody)
 
   -- a call whose reply is kept asks the store nothing
-  unkept : (peer : Peer) (asked : Bytes) (xid : ℕ) (call : Call) → fits the_limits s (record { event = Take peer asked (Asks xid call); doing = Applied; store = Yes }) ≡ true → look s peer asked ≡ None
+  unkept : (peer : Peer) (asked : Bytes) (xid : ℕ) (call : Call) → fits the_limits s (record { event = Take peer asked (Asks xid call); completion = Applied; store = Yes }) ≡ true → look s peer asked ≡ None
   unkept peer asked xid call fit = go (look s peer asked) refl
     where
       go : (o : Option KeptPair) → look s peer asked ≡ o → o ≡ None
       go None e = refl
       go (Some k) e =
-          let not_asked : fits the_limits s (record { event = Take peer asked (Asks xid call); doing = Applied; store = Yes }) ≡ false = rw e refl in
+          let not_asked : fits the_limits s (record { event = Take peer asked (Asks xid call); completion = Applied; store = Yes }) ≡ false = rw e refl in
           absurd (true≢false (sym fit ∙ not_asked))
 
-  taken_leads : (peer : Peer) (asked : Bytes) (xid : ℕ) → fits the_limits s (record { event = Take peer asked (Asks xid (Nsm SmSimuCrash)); doing = Applied; store = Yes }) ≡ true → peer.local ≡ true → LeadsAnew (applied the_limits s (Take peer asked (Asks xid (Nsm SmSimuCrash))) Yes).state
+  taken_leads : (peer : Peer) (asked : Bytes) (xid : ℕ) → fits the_limits s (record { event = Take peer asked (Asks xid (Nsm SmSimuCrash)); completion = Applied; store = Yes }) ≡ true → peer.local ≡ true → LeadsAnew (applied the_limits s (Take peer asked (Asks xid (Nsm SmSimuCrash))) Yes).state
   taken_leads peer asked xid fit local =
       ap (λ (o : Option KeptPair). (taken the_limits s peer asked xid (Nsm SmSimuCrash) Yes o).state) (unkept peer asked xid (Nsm SmSimuCrash) fit)
       ∙ crash_leads peer asked xid local
@@ -57,7 +57,7 @@ module _ (s : State) where
   no_start : {A : Type 0} → false ≡ true → A
   no_start e = absurd (true≢false (sym e))
 
-  nsm_leads : (peer : Peer) (asked : Bytes) (xid : ℕ) (call : NsmCall) (store : StoreAnswer) → fits the_limits s (record { event = Take peer asked (Asks xid (Nsm call)); doing = Applied; store = store }) ≡ true → is_restart peer (Nsm call) store ≡ true → LeadsAnew (applied the_limits s (Take peer asked (Asks xid (Nsm call))) store).state
+  nsm_leads : (peer : Peer) (asked : Bytes) (xid : ℕ) (call : NsmCall) (store : StoreAnswer) → fits the_limits s (record { event = Take peer asked (Asks xid (Nsm call)); completion = Applied; store = store }) ≡ true → is_restart peer (Nsm call) store ≡ true → LeadsAnew (applied the_limits s (Take peer asked (Asks xid (Nsm call))) store).state
   nsm_leads peer asked xid SmSimuCrash Yes fit e = taken_leads peer asked xid fit e
   nsm_leads peer asked xid SmSimuCrash NotAsked fit e = no_start e
   nsm_leads peer asked xid SmSimuCrash Refused fit e = no_start e
@@ -68,7 +68,7 @@ module _ (s : State) where
   nsm_leads peer asked xid (SmUnmonAll my) store fit e = no_start e
   nsm_leads peer asked xid (SmNotify name state) store fit e = no_start e
 
-  leads_anew : (event : Event) (store : StoreAnswer) → fits the_limits s (record { event = event; doing = Applied; store = store }) ≡ true → is_beginning event store ≡ true → LeadsAnew (applied the_limits s event store).state
+  leads_anew : (event : Event) (store : StoreAnswer) → fits the_limits s (record { event = event; completion = Applied; store = store }) ≡ true → is_beginning event store ≡ true → LeadsAnew (applied the_limits s event store).state
   leads_anew Restart Yes fit e = refl
   leads_anew Restart NotAsked fit e = no_start e
   leads_anew Restart Refused fit e = no_start e
@@ -85,10 +85,10 @@ module _ (s : State) where
   is_anew : IsAnew s anew
   is_anew =
       let hosts = after_store s.world.hosts Begin in
-      let letters = map (restart_letter s.world.own_name hosts.own) hosts.rows in
+      let callbacks = map (restart_callback s.world.own_name hosts.own) hosts.rows in
       let w = opening s.world.own_name hosts in
       let told = restart_notices s.world hosts in
-      let kept = due_keeps w letters in
+      let kept = due_keeps w callbacks in
       let same = kept.hosts in
       record {
         name = kept.own_name;
@@ -102,12 +102,12 @@ module _ (s : State) where
         waiters = kept.waiters;
         shares = kept.shares;
         kept = refl;
-        letters = told.0 ∙ ap (λ (h : Hosts). map (restart_letter s.world.own_name h.own) s.world.hosts.rows) (sym same);
+        callbacks = told.0 ∙ ap (λ (h : Hosts). map (restart_callback s.world.own_name h.own) s.world.hosts.rows) (sym same);
         due = told.1;
       }
 
-  pub begins_anew : (event : Event) (store : StoreAnswer) → fits the_limits s (record { event = event; doing = Applied; store = store }) ≡ true → is_beginning event store ≡ true → IsAnew s (applied the_limits s event store).state
+  pub begins_anew : (event : Event) (store : StoreAnswer) → fits the_limits s (record { event = event; completion = Applied; store = store }) ≡ true → is_beginning event store ≡ true → IsAnew s (applied the_limits s event store).state
   begins_anew event store fit e = subst (IsAnew s) (sym (leads_anew event store fit e)) is_anew
 
-  pub begins_under : (event : Event) (store : StoreAnswer) → fits the_limits s (record { event = event; doing = Applied; store = store }) ≡ true → is_beginning event store ≡ true → (old : List Setting) → IsUnder old (applied the_limits s event store).state.world
+  pub begins_under : (event : Event) (store : StoreAnswer) → fits the_limits s (record { event = event; completion = Applied; store = store }) ≡ true → is_beginning event store ≡ true → (old : List Setting) → IsUnder old (applied the_limits s event store).state.world
   begins_under event store fit e old = subst (λ (t : State). IsUnder old t.world) (sym (leads_anew event store fit e)) (restart_is_under s.world (after_store s.world.hosts Begin) old)

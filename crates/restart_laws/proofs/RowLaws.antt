@@ -10,10 +10,10 @@ use Rattle.definition_laws.specs.Monitored.{stands}
 use Rattle.definitions.specs.Shown.{shown_stat}
 use Rattle.definitions.specs.Replies.{Call, Nlm, Nsm, SystemErr, Ignored, Turned, Asks}
 use Rattle.definitions.specs.World.{World, the_limits, slots_free}
-use Rattle.definitions.specs.Rulings.{Told, Ruling, each, decided, ruled}
+use Rattle.definitions.specs.Rulings.{Response, Ruling, each, decided, ruled}
 use Rattle.definitions.specs.Outgoing.{Outgoing, next_due}
-use Rattle.definitions.specs.Answer.{Answered, gives, replied, sent_back, by_reply, by_call, by_message, lock_letter, lock_answer, lock_msg_answer, ruling}
-use Rattle.definitions.specs.Step.{Peer, KeptPair, State, Event, Take, Send, Answer, Silent, Local, GraceOver, Restart, Doing, Applied, Starved, Stepped, look, is_same_key, is_success, is_kept_kind, is_restart, kept_after, taken, applied, starved, sent, restart, step, store_call, with_row_stored}
+use Rattle.definitions.specs.Answer.{Answered, gives, replied, sent_back, by_reply, by_call, by_message, lock_callback, lock_answer, lock_msg_answer, ruling}
+use Rattle.definitions.specs.Step.{Peer, KeptPair, State, Event, Take, Send, Answer, Silent, Local, GraceOver, Restart, Completion, Applied, Starved, Stepped, look, is_same_key, is_success, is_kept_kind, is_restart, kept_after, taken, applied, starved, sent, restart, step, store_call, with_row_stored}
 use Rattle.definitions.specs.Replay.{fits}
 use Rattle.definition_laws.specs.Asking.{hosts_after}
 use Rattle.definitions.specs.Uses.{new_pair}
@@ -36,9 +36,9 @@ module _ (name : Bytes) where
   asked_keeps hosts (Some call) NotAsked e = e
   asked_keeps hosts (Some call) Refused e = e
 
-pub step_keeps : (s : State) (event : Event) (doing : Doing) (store : StoreAnswer) → fits the_limits s (record { event = event; doing = doing; store = store }) ≡ true → (name : Bytes) → has_row s.world.hosts name ≡ true → has_row (step the_limits s event doing store).state.world.hosts name ≡ true
-step_keeps s event doing store fit name e =
-    subst (λ (hosts : Hosts). has_row hosts name ≡ true) (sym (store_law the_limits s event doing store fit)) (asked_keeps name s.world.hosts (store_call the_limits s event) store e)
+pub step_keeps : (s : State) (event : Event) (completion : Completion) (store : StoreAnswer) → fits the_limits s (record { event = event; completion = completion; store = store }) ≡ true → (name : Bytes) → has_row s.world.hosts name ≡ true → has_row (step the_limits s event completion store).state.world.hosts name ≡ true
+step_keeps s event completion store fit name e =
+    subst (λ (hosts : Hosts). has_row hosts name ≡ true) (sym (store_law the_limits s event completion store fit)) (asked_keeps name s.world.hosts (store_call the_limits s event) store e)
 
 -- ---- what is told of a call that is done for the first time
 
@@ -57,29 +57,29 @@ ruled_decided x Yes = refl
 ruled_decided x Refused = refl
 
 -- if this says that a lock stands, the host has a row
-abbrev HasIfTold : Bytes → Answered → Type 0
-HasIfTold name a = tells_lock (telling_of a) ≡ true → has_row a.world.hosts name ≡ true
+abbrev HasIfAnswered : Bytes → Answered → Type 0
+HasIfAnswered name a = tells_lock (telling_of a) ≡ true → has_row a.world.hosts name ≡ true
 
 module _ (w : World) (version : Version) (a : LockArgs) (store : StoreAnswer) where
-  replied_has : HasIfTold a.alock.caller_name (ruled store (by_reply version a.cookie (lock_answer the_limits w version a)))
+  replied_has : HasIfAnswered a.alock.caller_name (ruled store (by_reply version a.cookie (lock_answer the_limits w version a)))
   replied_has =
       let r = lock_answer the_limits w version a in
       let t = ruled store r in
-      subst (HasIfTold a.alock.caller_name) (sym (ruled_each (replied version a.cookie) store r))
+      subst (HasIfAnswered a.alock.caller_name) (sym (ruled_each (replied version a.cookie) store r))
       (λ told. (monitored_law the_limits w version a store).0 (sym (shown_law version t.says) ∙ one_side (stands (shown_stat version t.says)) false refl told))
 
-  called_has : HasIfTold a.alock.caller_name (ruled store (by_message the_limits w (lock_letter version a) (lock_msg_answer the_limits w version a)))
+  called_has : HasIfAnswered a.alock.caller_name (ruled store (by_message the_limits w (lock_callback version a) (lock_msg_answer the_limits w version a)))
   called_has =
       let r = lock_msg_answer the_limits w version a in
       let t = ruled store r in
-      let back : Told Stat → Answered = λ told. sent_back (lock_letter version a told.says) told.world in
-      by_cond (λ (q : Ruling Answered). HasIfTold a.alock.caller_name (ruled store q)) (leb 1 (slots_free the_limits w)) (by_call (lock_letter version a) r) (decided (gives w SystemErr))
-      (λ _. subst (HasIfTold a.alock.caller_name) (sym (ruled_each back store r)) (λ told. (monitored_law the_limits w version a store).1 (sym (shown_law version t.says) ∙ one_side (stands (shown_stat version t.says)) false refl told)))
-      (λ _. subst (HasIfTold a.alock.caller_name) (sym (ruled_decided (gives w SystemErr) store)) (λ told. absurd (true≢false (sym told))))
+      let back : Response Stat → Answered = λ told. sent_back (lock_callback version a told.says) told.world in
+      by_cond (λ (q : Ruling Answered). HasIfAnswered a.alock.caller_name (ruled store q)) (leb 1 (slots_free the_limits w)) (by_call (lock_callback version a) r) (decided (gives w SystemErr))
+      (λ _. subst (HasIfAnswered a.alock.caller_name) (sym (ruled_each back store r)) (λ told. (monitored_law the_limits w version a store).1 (sym (shown_law version t.says) ∙ one_side (stands (shown_stat version t.says)) false refl told)))
+      (λ _. subst (HasIfAnswered a.alock.caller_name) (sym (ruled_decided (gives w SystemErr) store)) (λ told. absurd (true≢false (sym told))))
 
-answered_has : (w : World) (local : Bool) (call : Call) (store : StoreAnswer) (name : Bytes) → monitored_by call ≡ Some name → HasIfTold name (ruled store (ruling the_limits w local call))
-answered_has w local (Nlm version (Locks a)) store name e = subst (λ (n : Bytes). HasIfTold n (ruled store (ruling the_limits w local (Nlm version (Locks a))))) (same_Some a.alock.caller_name name e) (replied_has w version a store)
-answered_has w local (Nlm version (LockMsg a)) store name e = subst (λ (n : Bytes). HasIfTold n (ruled store (ruling the_limits w local (Nlm version (LockMsg a))))) (same_Some a.alock.caller_name name e) (called_has w version a store)
+answered_has : (w : World) (local : Bool) (call : Call) (store : StoreAnswer) (name : Bytes) → monitored_by call ≡ Some name → HasIfAnswered name (ruled store (ruling the_limits w local call))
+answered_has w local (Nlm version (Locks a)) store name e = subst (λ (n : Bytes). HasIfAnswered n (ruled store (ruling the_limits w local (Nlm version (Locks a))))) (same_Some a.alock.caller_name name e) (replied_has w version a store)
+answered_has w local (Nlm version (LockMsg a)) store name e = subst (λ (n : Bytes). HasIfAnswered n (ruled store (ruling the_limits w local (Nlm version (LockMsg a))))) (same_Some a.alock.caller_name name e) (called_has w version a store)
 answered_has w local (Nlm version Null) store name e = absurd (none-some name e)
 answered_has w local (Nlm version (Test a)) store name e = absurd (none-some name e)
 answered_has w local (Nlm version (Cancel a)) store name e = absurd (none-some name e)
@@ -134,7 +134,7 @@ module _ (P : KeptPair → Type 0) where
   module _ (s : State) (all : All s.kept) where
     taken_all : (peer : Peer) (asked : Bytes) (xid : ℕ) (call : Call) (store : StoreAnswer) (o : Option KeptPair) → look s peer asked ≡ o → (o ≡ None → P (new_pair peer asked xid (ruled store (ruling the_limits s.world peer.local call)))) → All (taken the_limits s peer asked xid call store o).state.kept
     taken_all peer asked xid call store (Some k) e new =
-        by_cond (λ (t : Stepped). All t.state.kept) (leb (length k.letters) (slots_free the_limits s.world)) _ _
+        by_cond (λ (t : Stepped). All t.state.kept) (leb (length k.callbacks) (slots_free the_limits s.world)) _ _
         (λ _. all_more k _ (all k (holds_first (is_same_key peer asked) s.kept k e)) (all_but_first (is_same_key k.peer k.asked) s.kept all))
         (λ _. all)
     taken_all peer asked xid call store None e new =
@@ -185,8 +185,8 @@ abbrev pub IsRead : Event → Type 0
 IsRead (Take peer asked reading) = IsReading asked reading
 IsRead _ = Unit {0}
 
-still : (s : State) (event : Event) (doing : Doing) (store : StoreAnswer) → fits the_limits s (record { event = event; doing = doing; store = store }) ≡ true → KeptHaveRows s → (k : KeptPair) → Holds s.kept k → PairHasRow (step the_limits s event doing store).state.world.hosts k
-still s event doing store fit old k h xid call name reads is told = step_keeps s event doing store fit name (old k h xid call name reads is told)
+still : (s : State) (event : Event) (completion : Completion) (store : StoreAnswer) → fits the_limits s (record { event = event; completion = completion; store = store }) ≡ true → KeptHaveRows s → (k : KeptPair) → Holds s.kept k → PairHasRow (step the_limits s event completion store).state.world.hosts k
+still s event completion store fit old k h xid call name reads is told = step_keeps s event completion store fit name (old k h xid call name reads is told)
 
 same_call : (xid other : ℕ) (call asked : Call) → Asks xid call ≡ Asks other asked → asked ≡ call
 same_call xid other call asked e = cc
@@ -202,14 +202,14 @@ module _ (one : OneReading) (s : State) (store : StoreAnswer) where
       (fresh_has s peer asked xid call store name (ap monitored_by (sym e) ∙ is) told))
   newly_has hosts _ reads same all = tt
 
-pub kept_rows : (one : OneReading) (s : State) (event : Event) (doing : Doing) (store : StoreAnswer) → fits the_limits s (record { event = event; doing = doing; store = store }) ≡ true → IsRead event → KeptHaveRows s → KeptHaveRows (step the_limits s event doing store).state
+pub kept_rows : (one : OneReading) (s : State) (event : Event) (completion : Completion) (store : StoreAnswer) → fits the_limits s (record { event = event; completion = completion; store = store }) ≡ true → IsRead event → KeptHaveRows s → KeptHaveRows (step the_limits s event completion store).state
 kept_rows one s event Applied store fit reads old =
     let hosts = (applied the_limits s event store).state.world.hosts in
     let all = still s event Applied store fit old in
     applied_all (PairHasRow hosts) s all event store (newly_has one s store hosts event reads refl all)
 kept_rows one s event Starved store fit reads old = starved_all (PairHasRow (starved the_limits s event store).state.world.hosts) s (still s event Starved store fit old) event store
 
-pub standing_has : (s : State) (peer : Peer) (asked : Bytes) (xid : ℕ) (call : Call) (store : StoreAnswer) → fits the_limits s (record { event = Take peer asked (Asks xid call); doing = Applied; store = store }) ≡ true → IsReading asked (Asks xid call) → KeptHaveRows s → (name : Bytes) → monitored_by call ≡ Some name → tells_lock (telling s peer call store (look s peer asked)) ≡ true → has_row (applied the_limits s (Take peer asked (Asks xid call)) store).state.world.hosts name ≡ true
+pub standing_has : (s : State) (peer : Peer) (asked : Bytes) (xid : ℕ) (call : Call) (store : StoreAnswer) → fits the_limits s (record { event = Take peer asked (Asks xid call); completion = Applied; store = store }) ≡ true → IsReading asked (Asks xid call) → KeptHaveRows s → (name : Bytes) → monitored_by call ≡ Some name → tells_lock (telling s peer call store (look s peer asked)) ≡ true → has_row (applied the_limits s (Take peer asked (Asks xid call)) store).state.world.hosts name ≡ true
 standing_has s peer asked xid call store fit reads old name is told = go (look s peer asked) refl told
   where
     go : (o : Option KeptPair) → look s peer asked ≡ o → tells_lock (telling s peer call store o) ≡ true → has_row (applied the_limits s (Take peer asked (Asks xid call)) store).state.world.hosts name ≡ true

@@ -13,14 +13,14 @@ use Rattle.definitions.specs.Step as said
 use Rattle.definitions.specs.Step.{State}
 use Rattle.kept_replies.specs.Pairs.{view_of_peer}
 use Rattle.call_plans.specs.Planned.{view_of_stored}
-use Rattle.book.specs.Given.{Upshot}
-use Rattle.book.specs.Notes.{Happening, Steps}
+use Rattle.book.specs.Given.{StepResult}
+use Rattle.book.specs.Notes.{JournalEvent, Steps}
 use Rattle.book.specs.Journal.{Journal, begun, next_of, noted}
 use Rattle.book.specs.Histories.{Leads}
 use Rattle.daemon_core.specs.declared.event.Event.{Event}
 use Rattle.daemon_core.specs.declared.event.Event.TheVariants.{Connect, Piece, Disconnect, Take, Send, Answer, Local, Silent, GraceOver, Restart}
 use Rattle.daemon_core.specs.declared.outputs.Outputs.{Outputs}
-use Rattle.daemon_core.specs.Hub.{Hub, opening, place_of, TakesAt, HubStep, Run}
+use Rattle.daemon_core.specs.DaemonState.{DaemonState, opening, place_of, TakesAt, DaemonStep, Run}
 use Rattle.daemon_core.specs.Laws.{RunsAreHistories}
 use Rattle.daemon_core.proofs.Histories.{connects, disconnects, pieces}
 use Rattle.restart_laws.specs.Rows.{KeptHaveRows}
@@ -33,22 +33,22 @@ use Rattle.restart_laws.proofs.HistoryLaws.{honest_begins, honest_goes_on}
 -- ---- rows
 
 module _ (are : RunsAreHistories) (keep : HistoriesKeepRows) (monitor : HistoriesMonitorHosts) where
-  stays : (old new : Hub) (events : List Event) (outs : List Outputs) → Run old events outs new → (name : Bytes) → has_row old.state.world.hosts name ≡ true → has_row new.state.world.hosts name ≡ true
+  stays : (old new : DaemonState) (events : List Event) (outs : List Outputs) → Run old events outs new → (name : Bytes) → has_row old.state.world.hosts name ≡ true → has_row new.state.world.hosts name ≡ true
   stays old new events outs run name h =
       let r = are old new events outs run in
       let first : has_row r.history.base.world.hosts name ≡ true = subst (λ (s : State). has_row s.world.hosts name ≡ true) (sym r.base) h in
       subst (λ (s : State). has_row s.world.hosts name ≡ true) r.ends (keep r.history r.legal name first)
 
-  monitors_hosts : (name : Bytes) (hosts : Hosts) (refusals : ℕ) (events : List Event) (outs : List Outputs) (hub : Hub) → Run (opening name hosts refusals) events outs hub → MonitorsHosts hub.state
-  monitors_hosts name hosts refusals events outs hub run =
-      let r = are (opening name hosts refusals) hub events outs run in
+  monitors_hosts : (name : Bytes) (hosts : Hosts) (refusals : ℕ) (events : List Event) (outs : List Outputs) (daemon_state : DaemonState) → Run (opening name hosts refusals) events outs daemon_state → MonitorsHosts daemon_state.state
+  monitors_hosts name hosts refusals events outs daemon_state run =
+      let r = are (opening name hosts refusals) daemon_state events outs run in
       subst MonitorsHosts r.ends (monitor name hosts r.history (record { first = r.first; base = r.base; legal = r.legal }))
 
   pub runs_keep_rows : RunsKeepRows
   runs_keep_rows = record {
     stay = stays;
-    kept = λ name hosts refusals events outs hub run. (monitors_hosts name hosts refusals events outs hub run).kept;
-    standing = λ name hosts refusals events outs hub new run place i out taken xid call host is done monitors told. (monitors_hosts name hosts refusals events outs hub run).standing new.state _ _ taken.step (view_of_peer taken.link.peer) taken.bytes xid call host is done monitors told;
+    kept = λ name hosts refusals events outs daemon_state run. (monitors_hosts name hosts refusals events outs daemon_state run).kept;
+    standing = λ name hosts refusals events outs daemon_state new run place i out taken xid call host is done monitors told. (monitors_hosts name hosts refusals events outs daemon_state run).standing new.state _ _ taken.step (view_of_peer taken.link.peer) taken.bytes xid call host is done monitors told;
   }
 
 -- ---- reclaims
@@ -56,7 +56,7 @@ module _ (are : RunsAreHistories) (keep : HistoriesKeepRows) (monitor : Historie
 -- a step of the daemon leaves the state, or it is one of the book that reclaims nothing but what is honest in the list
 data MovedHonestly (list : List Setting) (old new : State) : Type 0 where
   IsStill : new ≡ old → MovedHonestly list old new
-  IsStep : (event : Happening) (upshot : Upshot) → (s : Steps old event upshot new) → ((r : Request) → IsReclaim s.said r → IsHonest list r) → MovedHonestly list old new
+  IsStep : (event : JournalEvent) (step_result : StepResult) → (s : Steps old event step_result new) → ((r : Request) → IsReclaim s.said r → IsHonest list r) → MovedHonestly list old new
 
 -- a history that is honest since a restart, and ends in this state
 record HasBeenHonest (list : List Setting) (s : State) : Type 0 where
@@ -69,17 +69,17 @@ module _ (list : List Setting) where
   no_reclaim : (is other : said.Event) → is ≡ other → ((r : Request) → IsReclaim other r → ⊥) → (r : Request) → IsReclaim is r → IsHonest list r
   no_reclaim is other e none r k = absurd (none r (subst (λ (x : said.Event). IsReclaim x r) e k))
 
-  takes : (place : Option ℕ) (number i : ℕ) (old new : Hub) (out : Outputs) → TakesAt place i old out new → ReclaimsHonestly list (Take number i) old out new → MovedHonestly list old.state new.state
-  takes None number i old new out h honest = IsStill (ap (λ (x : Hub). x.state) h.0)
+  takes : (place : Option ℕ) (number i : ℕ) (old new : DaemonState) (out : Outputs) → TakesAt place i old out new → ReclaimsHonestly list (Take number i) old out new → MovedHonestly list old.state new.state
+  takes None number i old new out h honest = IsStill (ap (λ (x : DaemonState). x.state) h.0)
   takes (Some place) number i old new out (inl h) honest = IsStep _ _ h.step (honest place h)
-  takes (Some place) number i old new out (inr h) honest = IsStill (ap (λ (x : Hub). x.state) h.quiet.0)
+  takes (Some place) number i old new out (inr h) honest = IsStill (ap (λ (x : DaemonState). x.state) h.quiet.0)
 
-  moved : (old new : Hub) (event : Event) (out : Outputs) → HubStep old event out new → ReclaimsHonestly list event old out new → MovedHonestly list old.state new.state
+  moved : (old new : DaemonState) (event : Event) (out : Outputs) → DaemonStep old event out new → ReclaimsHonestly list event old out new → MovedHonestly list old.state new.state
   moved old new (Connect number peer) out h honest = IsStill (connects (place_of number old.links) out.outcome number peer old new out h)
   moved old new (Piece number v) out h honest = IsStill (pieces (place_of number old.links) v.items old new out h)
   moved old new (Disconnect number) out h honest = IsStill (disconnects (place_of number old.links) old new out h)
   moved old new (Take number i) out h honest = takes (place_of number old.links) number i old new out h honest
-  moved old new (Send posting) out h honest = IsStep _ _ h.step (no_reclaim h.step.said said.Send h.step.reads (λ r k. k))
+  moved old new (Send send_buffer) out h honest = IsStep _ _ h.step (no_reclaim h.step.said said.Send h.step.reads (λ r k. k))
   moved old new (Answer bytes) out h honest = IsStep _ _ h.step (no_reclaim h.step.said (said.Answer h.step.reads.0) h.step.reads.2 (λ r k. k))
   moved old new (Local l line) out h honest = IsStep _ _ h.step (no_reclaim h.step.said (said.Local l h.step.reads.0) h.step.reads.2 (λ r k. k))
   moved old new (Silent number) out h honest = IsStep _ _ h.step (no_reclaim h.step.said (said.Silent number) h.step.reads (λ r k. k))
@@ -88,15 +88,15 @@ module _ (list : List Setting) where
 
   goes_on : (old new : State) → MovedHonestly list old new → old.world.phase ≡ Grace → HasBeenHonest list old → HasBeenHonest list new
   goes_on old new (IsStill e) grace r = subst (HasBeenHonest list) (sym e) r
-  goes_on old new (IsStep event upshot s reclaims) grace r = go old r.ends s reclaims grace
+  goes_on old new (IsStep event step_result s reclaims) grace r = go old r.ends s reclaims grace
     where
-      go : (at : State) → r.history.end ≡ at → (s : Steps at event upshot new) → ((q : Request) → IsReclaim s.said q → IsHonest list q) → at.world.phase ≡ Grace → HasBeenHonest list new
+      go : (at : State) → r.history.end ≡ at → (s : Steps at event step_result new) → ((q : Request) → IsReclaim s.said q → IsHonest list q) → at.world.phase ≡ Grace → HasBeenHonest list new
       go at e s reclaims grace =
-          let P : State → Type 0 = λ t. (s : Steps t event upshot new) → ((q : Request) → IsReclaim s.said q → IsHonest list q) → t.world.phase ≡ Grace → HasBeenHonest list new in
-          subst P e (λ s reclaims grace. record { history = noted r.history (record { number = next_of r.history; event = event; upshot = upshot }) new; is = honest_goes_on list r.history r.is event upshot new s grace reclaims; ends = refl }) s reclaims grace
+          let P : State → Type 0 = λ t. (s : Steps t event step_result new) → ((q : Request) → IsReclaim s.said q → IsHonest list q) → t.world.phase ≡ Grace → HasBeenHonest list new in
+          subst P e (λ s reclaims grace. record { history = noted r.history (record { number = next_of r.history; event = event; step_result = step_result }) new; is = honest_goes_on list r.history r.is event step_result new s grace reclaims; ends = refl }) s reclaims grace
 
-  run_honest : (old : Hub) (events : List Event) (outs : List Outputs) (new : Hub) (run : Run old events outs new) → HasBeenHonest list old.state → AreHonest list old events outs new run → HasBeenHonest list new.state
-  run_honest old [] [] new run r honest = subst (λ (x : Hub). HasBeenHonest list x.state) (sym run) r
+  run_honest : (old : DaemonState) (events : List Event) (outs : List Outputs) (new : DaemonState) (run : Run old events outs new) → HasBeenHonest list old.state → AreHonest list old events outs new run → HasBeenHonest list new.state
+  run_honest old [] [] new run r honest = subst (λ (x : DaemonState). HasBeenHonest list x.state) (sym run) r
   run_honest old [] (out ∷ outs) new run r honest = absurd run
   run_honest old (event ∷ events) [] new run r honest = absurd run
   run_honest old (event ∷ events) (out ∷ outs) new run r honest = run_honest run.0 events outs new run.2 (goes_on old.state run.0.state (moved old run.0 event out run.1 honest.1) honest.0 r) honest.2
@@ -105,26 +105,26 @@ module _ (list : List Setting) where
 
 -- the step that begins anew
 record BeginningStep (old new : State) : Type 0 where
-  event : Happening
-  upshot : Upshot
-  step : Steps old event upshot new
-  done : upshot.doing ≡ said.Applied
-  agreed : is_beginning step.said upshot.store ≡ true
+  event : JournalEvent
+  step_result : StepResult
+  step : Steps old event step_result new
+  done : step_result.completion ≡ said.Applied
+  agreed : is_beginning step.said step_result.store ≡ true
 
-beginning : (old new : Hub) (out : Outputs) → IsBegun old out new → BeginningStep old.state new.state
+beginning : (old new : DaemonState) (out : Outputs) → IsBegun old out new → BeginningStep old.state new.state
 beginning old new out begun = go begun.begins
   where
     go : Begins old out new → BeginningStep old.state new.state
     go (ByRestart h) = record {
       event = _;
-      upshot = _;
+      step_result = _;
       step = h.step;
       done = begun.done;
       agreed = ap (λ (e : said.Event). is_beginning e (view_of_stored out.store)) h.step.reads ∙ ap (is_beginning said.Restart) begun.agreed;
     }
     go (ByCrash taken xid is local) = record {
       event = _;
-      upshot = _;
+      step_result = _;
       step = taken.step;
       done = begun.done;
       agreed = ap (λ (e : said.Event). is_beginning e (view_of_stored out.store)) is ∙ ap (said.is_restart (view_of_peer taken.link.peer) (Nsm SmSimuCrash)) begun.agreed ∙ local;
@@ -133,15 +133,15 @@ beginning old new out begun = go begun.begins
 pub daemon_begins_anew : DaemonBeginsAnew
 daemon_begins_anew old new out begun =
     let b = beginning old new out begun in
-    begins_anew_law old.state new.state b.event b.upshot b.step b.done b.agreed
+    begins_anew_law old.state new.state b.event b.step_result b.step b.done b.agreed
 
 -- since the restart the run has been honest
-honest_run : (list : List Setting) (mid : Hub) → ReclaimsAfterRestart list mid → HasBeenHonest list mid.state
+honest_run : (list : List Setting) (mid : DaemonState) → ReclaimsAfterRestart list mid → HasBeenHonest list mid.state
 honest_run list mid r =
     let b = beginning r.before r.start r.begun r.restart in
     let from : HasBeenHonest list r.start.state = record {
-      history = noted (begun 1 r.before.state) (record { number = next_of (begun 1 r.before.state); event = b.event; upshot = b.upshot }) r.start.state;
-      is = honest_begins list r.before.state r.start.state b.event b.upshot b.step b.done b.agreed;
+      history = noted (begun 1 r.before.state) (record { number = next_of (begun 1 r.before.state); event = b.event; step_result = b.step_result }) r.start.state;
+      is = honest_begins list r.before.state r.start.state b.event b.step_result b.step b.done b.agreed;
       ends = refl;
     } in
     run_honest list r.start r.events r.outs mid r.run from r.honest

@@ -3,7 +3,7 @@ use Rattle.std.specs.Prelude.{◌≡◌, ◌≢◌, ◌%◌, true, [], map}
 use Rattle.definitions.specs.Hosts.{HostRow, next_own}
 use Rattle.definitions.specs.Outgoing.{Outgoing}
 use Rattle.definitions.specs.Phases.{Grace}
-use Rattle.definitions.specs.World.{restart_letter}
+use Rattle.definitions.specs.World.{restart_callback}
 use Rattle.definitions.specs.Step.{State}
 
 -- nothing of before is left but the name, the rows and the watches; the own state is odd, and not the stored one
@@ -20,5 +20,5 @@ pub record IsAnew (old new : State) : Type 0 where
   pub shares : new.world.shares ≡ []
   pub kept : new.kept ≡ []
   -- one SM_NOTIFY of the own name and the new state is due for each row, in order of name, and no other call
-  pub letters : map (λ (c : Outgoing). c.letter) new.world.calls ≡ map (restart_letter old.world.own_name new.world.hosts.own) old.world.hosts.rows
+  pub callbacks : map (λ (c : Outgoing). c.callback) new.world.calls ≡ map (restart_callback old.world.own_name new.world.hosts.own) old.world.hosts.rows
   pub due : map (λ (c : Outgoing). c.is_due) new.world.calls ≡ map (λ (row : HostRow). true) old.world.hosts.rows

@@ -11,8 +11,8 @@ use Rattle.definitions.specs.World.{the_limits}
 use Rattle.definitions.specs.Step.{Peer, State, Take, Applied, look}
 use Rattle.definitions.specs.Replay.{Entry, after, state_after, done_of, IsLegal as IsLegalFrom}
 use Rattle.definition_laws.specs.Numbers.{is_beginning}
-use Rattle.book.specs.Given.{Upshot}
-use Rattle.book.specs.Notes.{Happening, Steps}
+use Rattle.book.specs.Given.{StepResult}
+use Rattle.book.specs.Notes.{JournalEvent, Steps}
 use Rattle.book.specs.Journal.{Journal, AreEntriesOf, IsLegal}
 use Rattle.book.specs.Histories.{IsHistory}
 use Rattle.restart_laws.specs.Rows.{monitored_by, tells_lock, telling, KeptHaveRows}
@@ -27,10 +27,10 @@ HistoriesKeepRows = (j : Journal) → IsLegal j → (name : Bytes) → has_row j
 -- a step from there that tells that a lock is granted or waits, a repeat among them, leaves a row of its host
 abbrev pub StandingHaveRows : State → Type 0
 StandingHaveRows old =
-    (new : State) (event : Happening) (upshot : Upshot) (step : Steps old event upshot new)
+    (new : State) (event : JournalEvent) (step_result : StepResult) (step : Steps old event step_result new)
     → (peer : Peer) (asked : Bytes) (xid : ℕ) (call : Call) (host : Bytes) → step.said ≡ Take peer asked (Asks xid call)
-    → upshot.doing ≡ Applied → monitored_by call ≡ Some host
-    → tells_lock (telling old peer call upshot.store (look old peer asked)) ≡ true → has_row new.world.hosts host ≡ true
+    → step_result.completion ≡ Applied → monitored_by call ≡ Some host
+    → tells_lock (telling old peer call step_result.store (look old peer asked)) ≡ true → has_row new.world.hosts host ≡ true
 
 -- kept replies are of hosts with rows, and so is each call that is told that its lock is granted or waits
 pub record MonitorsHosts (s : State) : Type 0 where
@@ -51,7 +51,7 @@ pub record IsHonestSince (list : List Setting) (j : Journal) : Type 0 where
   pub since : List Entry
   pub are : AreEntriesOf j.notes (before ++ begun ∷ since)
   pub legal : IsLegalFrom the_limits j.first j.base (before ++ begun ∷ since) j.end
-  pub done : begun.done.doing ≡ Applied
+  pub done : begun.done.completion ≡ Applied
   pub agreed : is_beginning begun.done.event begun.done.store ≡ true
   pub honest : AreHonest the_limits list (after the_limits (state_after the_limits j.base (done_of before)) begun.done).state (done_of since)
 
@@ -63,7 +63,7 @@ HonestHistoriesStayUnder = (list : List Setting) (j : Journal) → IsHonestSince
 abbrev pub HonestHistoriesGrant : Type 0
 HonestHistoriesGrant =
     (list : List Setting) → AreCompatible list → (j : Journal) → IsHonestSince list j
-    → (new : State) (event : Happening) (upshot : Upshot) (step : Steps j.end event upshot new)
+    → (new : State) (event : JournalEvent) (step_result : StepResult) (step : Steps j.end event step_result new)
     → (peer : Peer) (asked : Bytes) (xid : ℕ) (version : Version) (call : NlmCall) (a : LockArgs)
-    → step.said ≡ Take peer asked (Asks xid (Nlm version call)) → upshot.doing ≡ Applied
-    → IsHonestReclaim list j.end peer asked call a upshot.store → IsGranted version call a xid j.end upshot.given new
+    → step.said ≡ Take peer asked (Asks xid (Nlm version call)) → step_result.completion ≡ Applied
+    → IsHonestReclaim list j.end peer asked call a step_result.store → IsGranted version call a xid j.end step_result.given new

@@ -8,11 +8,11 @@ use Rattle.definitions.specs.Phases.{Grace}
 use Rattle.definitions.specs.Nlm.{Version, NlmCall, Locks, LockMsg, NmLock, LockArgs, GRANTED}
 use Rattle.definitions.specs.Ranges.{is_stale, is_too_far, request_of}
 use Rattle.definitions.specs.Hosts.{StoreAnswer, Refused}
-use Rattle.definitions.specs.Outgoing.{Letter, Outgoing}
+use Rattle.definitions.specs.Outgoing.{Callback, Outgoing}
 use Rattle.definitions.specs.Replies.{Success, NoResult, ResResult}
 use Rattle.definitions.specs.Shown.{res}
 use Rattle.definitions.specs.World.{the_limits, slots_free}
-use Rattle.definitions.specs.Answer.{lock_letter}
+use Rattle.definitions.specs.Answer.{lock_callback}
 use Rattle.definitions.specs.Reclaims.{IsHonest}
 use Rattle.definitions.specs.Step.{Peer, State, Given, Replies, look}
 
@@ -43,13 +43,13 @@ pub record IsHonestReclaim (list : List Setting) (s : State) (peer : Peer) (aske
   pub place : has_place s call ≡ true
   pub row : store ≢ Refused
 
-abbrev letters_of : State → List Letter
-letters_of s = map (λ (c : Outgoing). c.letter) s.world.calls
+abbrev callbacks_of : State → List Callback
+callbacks_of s = map (λ (c : Outgoing). c.callback) s.world.calls
 
 -- the reply says GRANTED, or it is empty and the LOCK_RES behind it says so
 abbrev pub TellsGranted : Version → NlmCall → LockArgs → ℕ → State → Given → State → Type 0
 TellsGranted version (LockMsg b) a xid old given new =
-    (given ≡ Replies xid (Success NoResult)) × (letters_of new ≡ letters_of old ++ lock_letter version a GRANTED ∷ [])
+    (given ≡ Replies xid (Success NoResult)) × (callbacks_of new ≡ callbacks_of old ++ lock_callback version a GRANTED ∷ [])
 TellsGranted version _ a xid old given new = given ≡ Replies xid (Success (ResResult (res version a.cookie GRANTED)))
 
 -- the lock is the newest setting, and its caller is told that it is granted

@@ -4,7 +4,7 @@ use Rattle.definitions.specs.Bytes.{Bytes, Holds, is_any}
 use Rattle.definitions.specs.Nlm.{Locks, LockMsg}
 use Rattle.definitions.specs.Hosts.{Hosts, StoreAnswer, has_row}
 use Rattle.definition_laws.specs.Monitored.{stands}
-use Rattle.definitions.specs.Outgoing.{Letter, Message, LockResult}
+use Rattle.definitions.specs.Outgoing.{Callback, Message, LockResult}
 use Rattle.definitions.specs.Replies.{Call, Nlm, Nsm, Outcome, Success, ResResult, Asks}
 use Rattle.definitions.specs.World.{the_limits}
 use Rattle.definitions.specs.Answer.{Answered, answer}
@@ -21,7 +21,7 @@ monitored_by (Nsm call) = None
 -- what is told of a call: its reply, and the calls of the server's own that go with it
 pub record Telling : Type 0 where
   pub outcome : Outcome
-  pub letters : List Letter
+  pub callbacks : List Callback
 
 abbrev outcome_stands : Outcome → Bool
 outcome_stands (Success (ResResult r)) = stands r.stat
@@ -33,13 +33,13 @@ message_stands _ = false
 
 -- whether it says that a lock is granted or waits: the reply to LOCK does, or the LOCK_RES behind the reply to LOCK_MSG
 abbrev pub tells_lock : Telling → Bool
-tells_lock t = outcome_stands t.outcome || is_any (λ (letter : Letter). message_stands letter.message) t.letters
+tells_lock t = outcome_stands t.outcome || is_any (λ (callback : Callback). message_stands callback.message) t.callbacks
 
 abbrev pub telling_of : Answered → Telling
-telling_of a = record { outcome = a.outcome; letters = a.due }
+telling_of a = record { outcome = a.outcome; callbacks = a.due }
 
 abbrev pub kept_telling : KeptPair → Telling
-kept_telling k = record { outcome = k.outcome; letters = k.letters }
+kept_telling k = record { outcome = k.outcome; callbacks = k.callbacks }
 
 -- what a call is told: what is kept of it, or else what its rules give
 abbrev pub telling : State → Peer → Call → StoreAnswer → Option KeptPair → Telling

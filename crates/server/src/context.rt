@@ -3,9 +3,9 @@ use crate::incoming::Incoming;
 use crate::notes;
 use crate::outbox::SocketOutbox;
 use crate::peer::peer_at;
-use crate::signals::Bells;
+use crate::signals::StopSignals;
 use byte_io::MOST_READS;
-use connections::{Guest, Latch, Roster, Service, Side, Writer};
+use connections::{Accepted, ConnectionTable, Service, ShutdownHandle, Side, Writer};
 use hosts_db::HostStore;
 use job_queue::{Channel, Place};
 use line_loop::{Signals, serve_lines};
@@ -21,16 +21,16 @@ use workers::{Origin, Shared, Source, Worker};
 
 /// The connections that are open. Those for calls lend what it takes to answer jobs.
 #[derive(Drop)]
-pub(crate) struct Rosters<P: Place, L: Ledger> {
-    pub(crate) callers: Mutex<Roster<Worker<P, L>>>,
-    pub(crate) locals: Mutex<Roster<()>>,
+pub(crate) struct ConnectionTables<P: Place, L: Ledger> {
+    pub(crate) callers: Mutex<ConnectionTable<Worker<P, L>>>,
+    pub(crate) locals: Mutex<ConnectionTable<()>>,
 }
 
-/// What shuts the doors.
+/// What shuts the listeners.
 #[derive(Drop)]
-pub(crate) struct Latches {
-    pub(crate) callers: Latch,
-    pub(crate) locals: Latch,
+pub(crate) struct ShutdownHandles {
+    pub(crate) callers: ShutdownHandle,
+    pub(crate) locals: ShutdownHandle,
 }
 
 /// What every thread knows. No thread holds two of the locks at once.
@@ -39,9 +39,9 @@ pub(crate) struct Context<'a, P: Place, L: Ledger, T: RangeTable, S: HostStore, 
     pub(crate) alloc: Global,
     pub(crate) channel: &'a Channel<P>,
     pub(crate) shared: &'a Mutex<Shared<T, S, L>>,
-    pub(crate) rosters: &'a Rosters<P, L>,
-    pub(crate) latches: &'a Latches,
-    pub(crate) bells: &'a Bells,
+    pub(crate) connection_tables: &'a ConnectionTables<P, L>,
+    pub(crate) shutdown_handles: &'a ShutdownHandles,
+    pub(crate) stop_signals: &'a StopSignals,
     pub(crate) gate: &'a G,
     pub(crate) idle: Duration,
 }
@@ -55,17 +55,23 @@ impl<'a, P: Place, L: Ledger, T: RangeTable + Drop, S: HostStore + Drop, G: Gate
     G,
 > {
     // Answers the calls of a connection until no more come and each is answered.
-    fn read<R: Wait + Log>(&self, rt: &R, guest: &Guest, worker: &mut Worker<P, L>) {
-        let number = guest.connection.number();
-        let home = Some(&guest.connection);
-        let mut outbox = SocketOutbox::new(self.alloc, rt, &self.rosters.callers, home, self.bells);
+    fn read<R: Wait + Log>(&self, rt: &R, accepted: &Accepted, worker: &mut Worker<P, L>) {
+        let number = accepted.connection.number();
+        let home = Some(&accepted.connection);
+        let mut outbox = SocketOutbox::new(
+            self.alloc,
+            rt,
+            &self.connection_tables.callers,
+            home,
+            self.stop_signals,
+        );
         let origin = Origin {
             connection: number,
-            peer: peer_at(guest.from),
+            peer: peer_at(accepted.from),
             put: 0,
         };
         let mut source = Source {
-            stream: Incoming::new(guest.connection.stream(), self.bells),
+            stream: Incoming::new(accepted.connection.stream(), self.stop_signals),
             bound: MOST_READS,
             origin,
         };
@@ -77,39 +83,42 @@ impl<'a, P: Place, L: Ledger, T: RangeTable + Drop, S: HostStore + Drop, G: Gate
             &mut outbox,
             &mut source,
         );
-        notes::caller(rt, guest.from, ending);
-        guest.connection.wait_for(rt, source.origin.put);
+        notes::caller(rt, accepted.from, ending);
+        accepted.connection.wait_for(rt, source.origin.put);
     }
 
     // What answers jobs is lent here and not before the thread stands, so that it can't be lost with it.
-    fn serve_caller<R: Wait + Log>(&self, rt: &R, guest: &Guest) {
-        let number = guest.connection.number();
-        let lent = self.rosters.callers.lock(rt).lend(number);
+    fn serve_caller<R: Wait + Log>(&self, rt: &R, accepted: &Accepted) {
+        let number = accepted.connection.number();
+        let lent = self.connection_tables.callers.lock(rt).lend(number);
         if let Some(mut worker) = lent {
-            self.read(rt, guest, &mut worker);
-            self.rosters.callers.lock(rt).give_back(number, worker);
+            self.read(rt, accepted, &mut worker);
+            self.connection_tables
+                .callers
+                .lock(rt)
+                .give_back(number, worker);
         }
-        self.rosters.callers.lock(rt).leave(number);
+        self.connection_tables.callers.lock(rt).leave(number);
     }
 
     // Answers the lines of a local program.
-    fn serve_local<R: Wait + Log>(&self, rt: &R, guest: &Guest) {
-        let number = guest.connection.number();
-        let mut input = guest.connection.stream();
-        let mut output = Writer::new(self.alloc, rt, &guest.connection);
+    fn serve_local<R: Wait + Log>(&self, rt: &R, accepted: &Accepted) {
+        let number = accepted.connection.number();
+        let mut input = accepted.connection.stream();
+        let mut output = Writer::new(self.alloc, rt, &accepted.connection);
         let served = serve_lines(
             self.alloc,
             rt,
             self.shared,
-            self.bells,
+            self.stop_signals,
             number,
             &mut input,
             &mut output,
             MOST_READS,
         );
         drop(output);
-        notes::local(rt, guest.from, served.ending);
-        self.rosters.locals.lock(rt).leave(number);
+        notes::local(rt, accepted.from, served.ending);
+        self.connection_tables.locals.lock(rt).leave(number);
     }
 }
 
@@ -122,49 +131,59 @@ impl<
     G: Gate,
     R: Wait + Log,
 > Service<R, Worker<P, L>> for Context<'a, P, L, T, S, G> {
-    fn admit(&self, rt: &R, side: Side, stream: TcpStream, from: SocketAddr) -> Option<Guest> {
+    fn admit(&self, rt: &R, side: Side, stream: TcpStream, from: SocketAddr) -> Option<Accepted> {
         let connection = match side {
-            Side::Callers => self.rosters.callers.lock(rt).admit(stream, Some(self.idle)),
-            Side::Locals => self.rosters.locals.lock(rt).admit(stream, None),
+            Side::Callers => self
+                .connection_tables
+                .callers
+                .lock(rt)
+                .admit(stream, Some(self.idle)),
+            Side::Locals => self.connection_tables.locals.lock(rt).admit(stream, None),
         };
-        Some(Guest {
+        Some(Accepted {
             side,
             connection: connection?,
             from,
         })
     }
 
-    fn attend(&self, rt: &R, guest: Guest) {
-        match guest.side {
-            Side::Callers => self.serve_caller(rt, &guest),
-            Side::Locals => self.serve_local(rt, &guest),
+    fn attend(&self, rt: &R, accepted: Accepted) {
+        match accepted.side {
+            Side::Callers => self.serve_caller(rt, &accepted),
+            Side::Locals => self.serve_local(rt, &accepted),
         }
     }
 
     fn dismiss(&self, rt: &R, side: Side, number: u64) {
         match side {
-            Side::Callers => self.rosters.callers.lock(rt).leave(number),
-            Side::Locals => self.rosters.locals.lock(rt).leave(number),
+            Side::Callers => self.connection_tables.callers.lock(rt).leave(number),
+            Side::Locals => self.connection_tables.locals.lock(rt).leave(number),
         }
     }
 
     fn work(&self, rt: &R, worker: Worker<P, L>) -> Worker<P, L> {
         let mut worker = worker;
-        let mut outbox = SocketOutbox::new(self.alloc, rt, &self.rosters.callers, None, self.bells);
+        let mut outbox = SocketOutbox::new(
+            self.alloc,
+            rt,
+            &self.connection_tables.callers,
+            None,
+            self.stop_signals,
+        );
         worker.work(rt, self.channel, self.shared, self.gate, &mut outbox);
         worker
     }
 
     fn stop(&self, rt: &R) {
-        self.bells.stop();
-        self.latches.callers.shut();
-        self.latches.locals.shut();
-        self.rosters.callers.lock(rt).close();
-        self.rosters.locals.lock(rt).close();
+        self.stop_signals.stop();
+        self.shutdown_handles.callers.shut();
+        self.shutdown_handles.locals.shut();
+        self.connection_tables.callers.lock(rt).close();
+        self.connection_tables.locals.lock(rt).close();
     }
 
     fn is_stopping(&self) -> bool {
-        self.bells.is_stopping()
+        self.stop_signals.is_stopping()
     }
 
     fn close(&self) {

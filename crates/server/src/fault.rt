@@ -1,7 +1,7 @@
 //! Why a server ends before it is told to.
 ghost use Rattle.std.specs.Prelude.{◌≡◌};
 
-use crate::staff::StaffFault;
+use crate::worker_pool::PoolFault;
 use std::alloc::AllocError;
 use std::io;
 use std::net::SocketAddr;
@@ -22,7 +22,7 @@ pub struct NoListener {
 /// What ends a server, or what its audit finds. It is printed by number and name. What it carries says why, and is no part of
 /// that text.
 #[derive(Clone, Copy, Debug, Error)]
-pub enum Fault {
+pub enum ServerFault {
     /// A growth was refused.
     #[error("1 Starved")]
     Starved,
@@ -46,31 +46,31 @@ pub enum Fault {
     WriteFault,
 }
 
-impl From<AllocError> for Fault {
+impl From<AllocError> for ServerFault {
     ghost use Rattle.std.specs.Prelude.{◌≡◌};
-    ghost use Rattle.server.specs.declared.fault.Fault.TheVariants.{Starved};
+    ghost use Rattle.server.specs.declared.fault.ServerFault.TheVariants.{Starved};
 
     ghost from_gives = { λ _ f. f ≡ Starved };
 
-    fn from(_refused: AllocError) -> Fault {
-        Fault::Starved
+    fn from(_refused: AllocError) -> ServerFault {
+        ServerFault::Starved
     }
 }
 
-impl From<StaffFault> for Fault {
-    fn from(fault: StaffFault) -> Fault {
+impl From<PoolFault> for ServerFault {
+    fn from(fault: PoolFault) -> ServerFault {
         match fault {
-            StaffFault::Starved => Fault::Starved,
-            StaffFault::AuditMismatch => Fault::AuditMismatch,
+            PoolFault::Starved => ServerFault::Starved,
+            PoolFault::AuditMismatch => ServerFault::AuditMismatch,
         }
     }
 }
 
-impl From<NotBegun> for Fault {
-    fn from(why: NotBegun) -> Fault {
+impl From<NotBegun> for ServerFault {
+    fn from(why: NotBegun) -> ServerFault {
         match why {
-            NotBegun::Starved => Fault::Starved,
-            NotBegun::StoreRefused => Fault::StoreRefused,
+            NotBegun::Starved => ServerFault::Starved,
+            NotBegun::StoreRefused => ServerFault::StoreRefused,
         }
     }
 }

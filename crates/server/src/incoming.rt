@@ -1,5 +1,5 @@
 //! What comes in from a caller.
-use crate::signals::Bells;
+use crate::signals::StopSignals;
 use line_loop::Signals;
 use std::io::{self, Read};
 use std::net::TcpStream;
@@ -9,18 +9,21 @@ use std::net::TcpStream;
 #[derive(Drop)]
 pub(crate) struct Incoming<'a> {
     stream: &'a TcpStream,
-    bells: &'a Bells,
+    stop_signals: &'a StopSignals,
 }
 
 impl<'a> Incoming<'a> {
-    pub(crate) fn new(stream: &'a TcpStream, bells: &'a Bells) -> Incoming<'a> {
-        Incoming { stream, bells }
+    pub(crate) fn new(stream: &'a TcpStream, stop_signals: &'a StopSignals) -> Incoming<'a> {
+        Incoming {
+            stream,
+            stop_signals,
+        }
     }
 }
 
 impl<'a> Read for Incoming<'a> {
     fn read(&mut self, buf: &mut [u8]) -> io::Result<usize> {
-        if self.bells.is_stopping() {
+        if self.stop_signals.is_stopping() {
             return Ok(0);
         }
         let mut from = self.stream;

@@ -1,11 +1,11 @@
-//! The server over sockets: what its threads do, the staff that answers jobs, and the sender, over one book.
+//! The server over sockets: what its threads do, the pool that answers jobs, and the sender, over one book.
 #![tactic(auto)]
 
-mod chief;
 mod context;
 mod fault;
 mod incoming;
 mod lines;
+mod main_loop;
 mod notes;
 mod outbox;
 mod peer;
@@ -14,10 +14,10 @@ mod seats;
 mod serving;
 mod settings;
 mod signals;
-pub mod staff;
+pub mod worker_pool;
 
-pub use callback_sender::Settings as CallSettings;
-pub use fault::{Fault, NoListener};
+pub use callback_sender::CallSettings;
+pub use fault::{NoListener, ServerFault};
 pub use runtime::Runtime;
 pub use serving::serve;
-pub use settings::{Backing, Settings};
+pub use settings::{Backing, ServerSettings};

@@ -2,7 +2,7 @@
 ghost use Rattle.std.specs.Prelude.{◌≡◌, [], ◌∷◌, ◌++◌};
 
 use book::Reply;
-use connections::{Connection, Roster, Wire};
+use connections::{Connection, ConnectionTable, ReplyBuffer};
 use ghost_list::History;
 use line_loop::Signals;
 use reply_outbox::{Outbox, SentReply};
@@ -13,7 +13,7 @@ use xdr_core::Frame;
 /// Joins the replies of one connection, and writes them to its socket.
 #[derive(Drop)]
 pub(crate) struct SocketOutbox<'a, 'h, K, Q, R> {
-    wire: Wire<'a, 'h, K, R>,
+    reply_buffer: ReplyBuffer<'a, 'h, K, R>,
     signals: &'a Q,
     // The place of each reply's record in turn.
     sent: SentReply,
@@ -25,7 +25,7 @@ impl<'a, 'h, K: Drop, Q: Signals, R: Wait> SocketOutbox<'a, 'h, K, Q, R> {
     pub(crate) fn new(
         alloc: Global,
         rt: &'a R,
-        callers: &'a Mutex<Roster<K>>,
+        callers: &'a Mutex<ConnectionTable<K>>,
         home: Option<&'h Arc<Connection, Global>>,
         signals: &'a Q,
     ) -> SocketOutbox<'a, 'h, K, Q, R> {
@@ -35,7 +35,7 @@ impl<'a, 'h, K: Drop, Q: Signals, R: Wait> SocketOutbox<'a, 'h, K, Q, R> {
             record,
         };
         SocketOutbox {
-            wire: Wire::new(alloc, rt, callers, home),
+            reply_buffer: ReplyBuffer::new(alloc, rt, callers, home),
             signals,
             sent,
             all: History::new(),
@@ -54,27 +54,27 @@ impl<'a, 'h, K: Drop, Q: Signals, R: Wait> Outbox for SocketOutbox<'a, 'h, K, Q,
         // An empty frame has room for each reply.
         let _ = reply.put(&mut self.sent.record);
         self.all = self.all.and(&self.sent);
-        self.wire.turn_to(connection);
-        self.wire.join(&self.sent.record);
+        self.reply_buffer.turn_to(connection);
+        self.reply_buffer.join(&self.sent.record);
     }
 
     fn turn_to(&mut self, connection: u64) {
-        self.wire.turn_to(connection);
+        self.reply_buffer.turn_to(connection);
     }
 
     fn will_write(&self, connection: u64) -> bool {
-        self.wire.will_write(connection)
+        self.reply_buffer.will_write(connection)
     }
 
     fn done(&mut self, connection: u64, is_due: bool) {
-        self.wire.turn_to(connection);
-        self.wire.count();
+        self.reply_buffer.turn_to(connection);
+        self.reply_buffer.count();
         if is_due {
             self.signals.call_is_due();
         }
     }
 
     fn flush(&mut self) {
-        self.wire.flush();
+        self.reply_buffer.flush();
     }
 }

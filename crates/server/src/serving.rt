@@ -1,19 +1,21 @@
 //! A server, from its start to its end.
 ghost use Rattle.std.specs.Prelude.{◌≡◌, ◌+◌, [], IfOk};
 
-use crate::chief::Sends;
-use crate::context::{Context, Latches, Rosters};
-use crate::fault::{Fault, NoListener};
+use crate::context::{ConnectionTables, Context, ShutdownHandles};
+use crate::fault::{NoListener, ServerFault};
 use crate::lines::LocalLines;
+use crate::main_loop::Sends;
 use crate::runtime::Runtime;
 use crate::seats::{callers, locals, take_back};
-use crate::settings::{Backing, Settings};
-use crate::signals::Bells;
-use crate::staff::{Cutter, Gatherer};
+use crate::settings::{Backing, ServerSettings};
+use crate::signals::StopSignals;
+use crate::worker_pool::{PoolBuilder, PoolShutdown};
 use book::Book;
 use callback_sender::Sender;
 use callbacks::ShortBytes;
-use connections::{Door, Latch, NoThread, PLACES, Roster, Service, Staff, run};
+use connections::{
+    ConnectionTable, Listener, NoThread, PLACES, Service, ShutdownHandle, WorkerPool, run,
+};
 use hosts_db::HostStore;
 use job_queue::{Channel, Opened, Place};
 use peers::Peers;
@@ -32,45 +34,45 @@ use workers::{Shared, Worker};
 /// The bytes of a thread's stack.
 const STACK: usize = 262_144;
 
-// Both doors, and what shuts them.
+// Both listeners, and what shuts them.
 #[derive(Drop)]
 struct Listening {
-    callers: Door,
-    locals: Door,
-    latches: Latches,
+    callers: Listener,
+    locals: Listener,
+    shutdown_handles: ShutdownHandles,
 }
 
 fn loopback(port: u16) -> SocketAddr {
     SocketAddr::V4(SocketAddrV4::new(Ipv4Addr::LOCALHOST, port))
 }
 
-// A door at this address, and what shuts it.
-fn open_door<R>(rt: &R, at: SocketAddr) -> Result<(Door, Latch), NoListener>
+// A listener at this address, and what shuts it.
+fn open_listener<R>(rt: &R, at: SocketAddr) -> Result<(Listener, ShutdownHandle), NoListener>
 where
     R: Net<Listener = TcpListener, Stream = TcpStream>,
 {
     let opened = match TcpListener::bind(rt, at) {
-        Ok(listener) => Door::new(listener),
+        Ok(listener) => Listener::new(listener),
         Err(error) => Err(error),
     };
     match opened {
-        Ok(door) => Ok(door),
+        Ok(listener) => Ok(listener),
         Err(error) => Err(NoListener { at, error }),
     }
 }
 
-fn listen<R>(rt: &R, settings: &Settings) -> Result<Listening, NoListener>
+fn listen<R>(rt: &R, settings: &ServerSettings) -> Result<Listening, NoListener>
 where
     R: Net<Listener = TcpListener, Stream = TcpStream>,
 {
-    let (callers, callers_latch) = open_door(rt, settings.rpc)?;
-    let (locals, locals_latch) = open_door(rt, loopback(settings.local_port))?;
+    let (callers, callers_shutdown_handle) = open_listener(rt, settings.rpc)?;
+    let (locals, locals_shutdown_handle) = open_listener(rt, loopback(settings.local_port))?;
     Ok(Listening {
         callers,
         locals,
-        latches: Latches {
-            callers: callers_latch,
-            locals: locals_latch,
+        shutdown_handles: ShutdownHandles {
+            callers: callers_shutdown_handle,
+            locals: locals_shutdown_handle,
         },
     })
 }
@@ -79,9 +81,9 @@ where
 fn run_threads<P, L, T, S, G, R>(
     rt: &R,
     context: &Context<'_, P, L, T, S, G>,
-    staff: Staff<Worker<P, L>>,
+    worker_pool: WorkerPool<Worker<P, L>>,
     sender: Sender<'_, R, LocalLines<'_, R>>,
-) -> Result<Vec<Worker<P, L>>, Fault>
+) -> Result<Vec<Worker<P, L>>, ServerFault>
 where
     P: Place + Send + Sync,
     L: Ledger + Send + Sync,
@@ -90,17 +92,17 @@ where
     G: Gate + Sync,
     R: Runtime,
 {
-    let mut sends = Sends::new(sender, context.shared, context.bells);
-    let ran = run(rt, context, staff, &mut sends);
+    let mut sends = Sends::new(sender, context.shared, context.stop_signals);
+    let ran = run(rt, context, worker_pool, &mut sends);
     if_told(ran, sends.is_told())
 }
 
 // What came back, where it was said that the server is ready.
-fn if_told<W: Drop>(ran: Result<Vec<W>, NoThread>, is_told: bool) -> Result<Vec<W>, Fault> {
+fn if_told<W: Drop>(ran: Result<Vec<W>, NoThread>, is_told: bool) -> Result<Vec<W>, ServerFault> {
     match ran {
         Ok(back) if is_told => Ok(back),
-        Ok(_) => Err(Fault::WriteFault),
-        Err(NoThread) => Err(Fault::NoThread),
+        Ok(_) => Err(ServerFault::WriteFault),
+        Err(NoThread) => Err(ServerFault::NoThread),
     }
 }
 
@@ -109,38 +111,41 @@ fn if_told<W: Drop>(ran: Result<Vec<W>, NoThread>, is_told: bool) -> Result<Vec<
 struct Inside<'a, P: Place, L: Ledger, T: RangeTable, S: HostStore> {
     channel: &'a Channel<P>,
     shared: Mutex<Shared<T, S, L>>,
-    rosters: Rosters<P, L>,
+    connection_tables: ConnectionTables<P, L>,
 }
 
 // What the server's own calls need.
 #[derive(Drop)]
 struct Calling<'a, R> {
     sender: Sender<'a, R, LocalLines<'a, R>>,
-    bells: Bells,
+    stop_signals: StopSignals,
 }
 
 fn call<'a, R: Net + Clock + Wait>(
     rt: &'a R,
     alloc: Global,
-    settings: &Settings,
+    settings: &ServerSettings,
     peers: Peers,
     locals: &'a LocalLines<'a, R>,
 ) -> io::Result<Calling<'a, R>> {
     let sender = Sender::new(alloc, rt, settings.calls, peers, locals)?;
-    let bells = Bells::new(sender.waker()?);
-    Ok(Calling { sender, bells })
+    let stop_signals = StopSignals::new(sender.waker()?);
+    Ok(Calling {
+        sender,
+        stop_signals,
+    })
 }
 
-// Opens the doors, and serves until it is stopped.
+// Opens the listeners, and serves until it is stopped.
 fn serve_inside<P, L, T, S, G, R>(
     rt: &R,
     alloc: Global,
-    settings: &Settings,
+    settings: &ServerSettings,
     gate: &G,
     peers: Peers,
     inside: &Inside<'_, P, L, T, S>,
     workers: Vec<Worker<P, L>>,
-) -> Result<Vec<Worker<P, L>>, Fault>
+) -> Result<Vec<Worker<P, L>>, ServerFault>
 where
     P: Place + Send + Sync,
     L: Ledger + Send + Sync,
@@ -152,34 +157,37 @@ where
     let Listening {
         callers,
         locals,
-        latches,
+        shutdown_handles,
     } = match listen(rt, settings) {
         Ok(listening) => listening,
-        Err(refused) => return Err(Fault::ReadFault(refused)),
+        Err(refused) => return Err(ServerFault::ReadFault(refused)),
     };
-    let lines = LocalLines::new(rt, &inside.rosters.locals);
-    let Calling { sender, bells } = match call(rt, alloc, settings, peers, &lines) {
+    let lines = LocalLines::new(rt, &inside.connection_tables.locals);
+    let Calling {
+        sender,
+        stop_signals,
+    } = match call(rt, alloc, settings, peers, &lines) {
         Ok(calling) => calling,
-        Err(error) => return Err(Fault::NoSender(error)),
+        Err(error) => return Err(ServerFault::NoSender(error)),
     };
     let context = Context {
         alloc,
         channel: inside.channel,
         shared: &inside.shared,
-        rosters: &inside.rosters,
-        latches: &latches,
-        bells: &bells,
+        connection_tables: &inside.connection_tables,
+        shutdown_handles: &shutdown_handles,
+        stop_signals: &stop_signals,
         gate,
         idle: settings.idle,
     };
-    let staff = Staff {
+    let worker_pool = WorkerPool {
         alloc,
         callers,
         locals,
         workers,
         stack: STACK,
     };
-    run_threads(rt, &context, staff, sender)
+    run_threads(rt, &context, worker_pool, sender)
 }
 
 // What all threads share: a book over the store, whose server has begun anew.
@@ -190,34 +198,34 @@ fn shared_over<T: RangeTable + Drop, S: HostStore + Drop, L: Ledger>(
     own_name: ShortBytes,
     total: Total<L>,
     is_audited: bool,
-) -> Result<Shared<T, S, L>, Fault>
+) -> Result<Shared<T, S, L>, ServerFault>
     requires empty { T.settings table ≡ [] }
     requires total { total.total ≡ 0 }
 {
     match Book::new(alloc, table, store, own_name) {
         Ok(book) => Ok(Shared::new(alloc, book, total, is_audited)?),
-        Err(_) => Err(Fault::Starved),
+        Err(_) => Err(ServerFault::Starved),
     }
 }
 
 // What connections and workers have before the first comes.
 #[derive(Drop)]
 struct Seated<P: Place, L: Ledger> {
-    rosters: Rosters<P, L>,
+    connection_tables: ConnectionTables<P, L>,
     workers: Vec<Worker<P, L>>,
 }
 
 fn seat_all<P: Place, L: Ledger>(
     alloc: Global,
-    cutter: &mut Cutter<P, L>,
+    pool_builder: &mut PoolBuilder<P, L>,
     channel: &Channel<P>,
     workers: u16,
-) -> Result<Seated<P, L>, Fault> {
-    let callers = callers(alloc, cutter, channel)?;
-    let workers = cutter.cut_all(channel, workers)?;
+) -> Result<Seated<P, L>, ServerFault> {
+    let callers = callers(alloc, pool_builder, channel)?;
+    let workers = pool_builder.cut_all(channel, workers)?;
     let locals = locals(alloc)?;
     Ok(Seated {
-        rosters: Rosters {
+        connection_tables: ConnectionTables {
             callers: Mutex::new(callers),
             locals: Mutex::new(locals),
         },
@@ -229,14 +237,14 @@ fn seat_all<P: Place, L: Ledger>(
 fn serve_seated<P, L, T, S, G, R>(
     rt: &R,
     alloc: Global,
-    settings: &Settings,
+    settings: &ServerSettings,
     gate: &G,
     peers: Peers,
     channel: &Channel<P>,
     shared: Shared<T, S, L>,
-    mut cutter: Cutter<P, L>,
+    mut pool_builder: PoolBuilder<P, L>,
     parts: u64,
-) -> Result<u64, Fault>
+) -> Result<u64, ServerFault>
 where
     P: Place + Send + Sync,
     L: Ledger + Send + Sync,
@@ -246,19 +254,24 @@ where
     R: Runtime,
     requires { parts ≡ L.parts }
 {
-    match seat_all(alloc, &mut cutter, channel, settings.workers) {
-        Ok(Seated { rosters, workers }) => {
+    match seat_all(alloc, &mut pool_builder, channel, settings.workers) {
+        Ok(
+            Seated {
+                connection_tables,
+                workers,
+            },
+        ) => {
             let inside = Inside {
                 channel,
                 shared: Mutex::new(shared),
-                rosters,
+                connection_tables,
             };
             let back = serve_inside(rt, alloc, settings, gate, peers, &inside, workers);
-            end(cutter.into_gatherer(), inside, back, parts)
+            end(pool_builder.into_pool_shutdown(), inside, back, parts)
         }
         Err(fault) => {
             drop(shared);
-            drop(cutter);
+            drop(pool_builder);
             drop(peers);
             Err(fault)
         }
@@ -269,14 +282,14 @@ where
 fn serve_as<P, L, T, S, G, R>(
     rt: &R,
     alloc: Global,
-    settings: &Settings,
+    settings: &ServerSettings,
     table: T,
     backing: Backing<S>,
     gate: &G,
     opened: Opened,
     blank: Blank,
     parts: u64,
-) -> Result<u64, Fault>
+) -> Result<u64, ServerFault>
 where
     P: Place + Send + Sync,
     L: Ledger + Send + Sync,
@@ -291,7 +304,7 @@ where
     let is_audited = settings.is_audited;
     let (channel, keeper) = opened.named::<P>();
     let (total, share) = blank.open::<L>();
-    let cutter = Cutter::new(alloc, keeper, share, parts, is_audited);
+    let pool_builder = PoolBuilder::new(alloc, keeper, share, parts, is_audited);
     let Backing {
         store,
         peers,
@@ -299,10 +312,18 @@ where
     } = backing;
     let served = match shared_over(alloc, table, store, own_name, total, is_audited) {
         Ok(shared) => serve_seated(
-            rt, alloc, settings, gate, peers, &channel, shared, cutter, parts,
+            rt,
+            alloc,
+            settings,
+            gate,
+            peers,
+            &channel,
+            shared,
+            pool_builder,
+            parts,
         ),
         Err(fault) => {
-            drop(cutter);
+            drop(pool_builder);
             drop(peers);
             Err(fault)
         }
@@ -313,14 +334,14 @@ where
 
 // Everybody gives back what he had.
 fn gather_all<P: Place, L: Ledger>(
-    gatherer: &mut Gatherer<P, L>,
+    pool_shutdown: &mut PoolShutdown<P, L>,
     channel: &Channel<P>,
-    callers: &mut Roster<Worker<P, L>>,
-    back: Result<Vec<Worker<P, L>>, Fault>,
-) -> Result<(), Fault> {
+    callers: &mut ConnectionTable<Worker<P, L>>,
+    back: Result<Vec<Worker<P, L>>, ServerFault>,
+) -> Result<(), ServerFault> {
     let workers = back?;
-    match take_back(gatherer, channel, callers) {
-        Ok(()) => Ok(gatherer.take_all(channel, workers)?),
+    match take_back(pool_shutdown, channel, callers) {
+        Ok(()) => Ok(pool_shutdown.take_all(channel, workers)?),
         Err(fault) => {
             drop(workers);
             Err(fault)
@@ -330,47 +351,47 @@ fn gather_all<P: Place, L: Ledger>(
 
 // What was cut is taken back, and the journal is checked.
 fn end<P: Place, L: Ledger, T: RangeTable + Drop, S: HostStore + Drop>(
-    gatherer: Gatherer<P, L>,
+    pool_shutdown: PoolShutdown<P, L>,
     inside: Inside<'_, P, L, T, S>,
-    back: Result<Vec<Worker<P, L>>, Fault>,
+    back: Result<Vec<Worker<P, L>>, ServerFault>,
     parts: u64,
-) -> Result<u64, Fault>
+) -> Result<u64, ServerFault>
     requires { parts ≡ L.parts }
 {
-    let mut gatherer = gatherer;
+    let mut pool_shutdown = pool_shutdown;
     let Inside {
         channel,
         shared,
-        rosters,
+        connection_tables,
     } = inside;
-    let mut callers = rosters.callers.into_inner();
-    let gathered = gather_all(&mut gatherer, channel, &mut callers, back);
+    let mut callers = connection_tables.callers.into_inner();
+    let gathered = gather_all(&mut pool_shutdown, channel, &mut callers, back);
     drop(callers);
     match gathered {
-        Ok(()) => Ok(gatherer.settle(channel, shared.into_inner(), parts)?),
+        Ok(()) => Ok(pool_shutdown.settle(channel, shared.into_inner(), parts)?),
         Err(fault) => {
             drop(shared);
-            drop(gatherer);
+            drop(pool_shutdown);
             Err(fault)
         }
     }
 }
 
 /// Serves until a local program says `stop`: how many calls were taken, where that was audited, and else 0. It begins the server
-/// anew over the store's hosts, opens both doors, starts the threads, and prints `ready`; in the end all threads are joined and
+/// anew over the store's hosts, opens both listeners, starts the threads, and prints `ready`; in the end all threads are joined and
 /// what they did is settled. Before each job the gate is told.
 ///
 /// `Starved`: no memory. `NoSender`: what calls peers could not be had. `NoThread`: a thread could not be started. `StoreRefused`:
-/// the store refused the new own state. `ReadFault`: a door could not be had; the store has the new own state by then.
+/// the store refused the new own state. `ReadFault`: a listener could not be had; the store has the new own state by then.
 /// `WriteFault`: `ready` could not be written. `AuditMismatch`: the journal and the receipts don't agree, after all was served.
 /// With each of these every thread that was started has ended.
 pub fn serve<S, G, R>(
     rt: &R,
     alloc: Global,
-    settings: &Settings,
+    settings: &ServerSettings,
     backing: Backing<S>,
     gate: &G,
-) -> Result<u64, Fault>
+) -> Result<u64, ServerFault>
 where
     S: HostStore + Drop + Send,
     G: Gate + Sync,
@@ -378,12 +399,12 @@ where
 {
     let Ok(table) = ArenaTable::new(alloc) else {
         drop(backing);
-        return Err(Fault::Starved);
+        return Err(ServerFault::Starved);
     };
     let Ok(opened) = Opened::new(alloc) else {
         drop(table);
         drop(backing);
-        return Err(Fault::Starved);
+        return Err(ServerFault::Starved);
     };
     let parts = PLACES as u64 + u64::from(settings.workers);
     serve_as::<Brand, Brand, _, _, _, _>(

@@ -6,13 +6,13 @@ use std::time::Duration;
 
 /// What a server is told.
 #[derive(Clone, Copy)]
-pub struct Settings {
+pub struct ServerSettings {
     /// Where calls by record come in.
     pub rpc: SocketAddr,
     /// The port of loopback on which the lines of local programs come in.
     pub local_port: u16,
     /// The ports of its peers, and how long it waits for them.
-    pub calls: callback_sender::Settings,
+    pub calls: callback_sender::CallSettings,
     /// How long a connection for calls by record may be idle. A zero refuses each.
     pub idle: Duration,
     /// How many workers there are beside the connections' own threads.

@@ -5,21 +5,21 @@ use std::sync::atomic::{AtomicBool, Ordering};
 
 /// Whether the server is to stop, and what wakes the sender.
 #[derive(Drop)]
-pub(crate) struct Bells {
+pub(crate) struct StopSignals {
     is_stopping: AtomicBool,
     waker: Waker,
 }
 
-impl Bells {
-    pub(crate) fn new(waker: Waker) -> Bells {
-        Bells {
+impl StopSignals {
+    pub(crate) fn new(waker: Waker) -> StopSignals {
+        StopSignals {
             is_stopping: AtomicBool::new(false),
             waker,
         }
     }
 }
 
-impl Signals for Bells {
+impl Signals for StopSignals {
     fn is_stopping(&self) -> bool {
         self.is_stopping.load(Ordering::SeqCst)
     }

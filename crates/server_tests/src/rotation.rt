@@ -33,9 +33,9 @@ fn taken(book: &mut MemBook, call: Bytes, same: Bytes) -> Receipt
     requires same { same ≡ call }
 {
     let peer = Peer::PIPE;
-    let upshot = book.apply(BookEvent::Take { peer, record: call });
+    let step_result = book.apply(BookEvent::Take { peer, record: call });
     newest_entered();
-    book.receipt(Taken { peer, record: same }, upshot.reply)
+    book.receipt(Taken { peer, record: same }, step_result.reply)
 }
 
 /// Takes a NULL of this xid, and keeps its receipt: whether that is the one of its SUCCESS.

@@ -1,6 +1,5 @@
 //! The threads over one book: the channel of jobs, workers and the audit, and the loops of a server's other threads, over memory.
 mod answering;
-mod bells;
 mod local;
 mod memory;
 mod overlapping;
@@ -9,3 +8,4 @@ mod reading;
 mod restarting;
 mod rounds;
 mod sending;
+mod stop_signals;

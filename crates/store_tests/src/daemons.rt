@@ -4,7 +4,7 @@ use crate::stops::{Stop, Trial, after_crash, are_met, stopping};
 use crate::visits::{Trials, Work, visit_files};
 use daemon_core::Daemon;
 use daemon_scripts::{
-    Deed, Line, are_rows_after, goes_well, lines_done, notifies, parted, with_daemon,
+    DaemonTask, Line, are_rows_after, goes_well, lines_done, notifies, parted, with_daemon,
 };
 use hosts_db::HostStore;
 use range_table::RangeTable;
@@ -21,7 +21,7 @@ struct Play<'a> {
     done: Option<usize>,
 }
 
-impl Deed for Play<'_> {
+impl DaemonTask for Play<'_> {
     fn act<T: RangeTable, S: HostStore>(&mut self, daemon: &mut Daemon<T, S>) {
         self.done = lines_done(self.alloc, daemon, self.script);
     }
@@ -83,7 +83,7 @@ impl Anew<'_> {
     }
 }
 
-impl Deed for Anew<'_> {
+impl DaemonTask for Anew<'_> {
     fn act<T: RangeTable, S: HostStore>(&mut self, daemon: &mut Daemon<T, S>) {
         self.is_so = self.begins(daemon);
     }

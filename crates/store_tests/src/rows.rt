@@ -3,7 +3,7 @@
 use crate::tables::SECOND;
 use crate::visits::{Work, fresh, visit_files};
 use daemon_core::Daemon;
-use daemon_scripts::{Deed, Server, first_wrong, parted, with_daemon};
+use daemon_scripts::{DaemonTask, Server, first_wrong, parted, with_daemon};
 use hosts_db::HostStore;
 use range_table::RangeTable;
 use std::alloc::Global;
@@ -17,7 +17,7 @@ struct Play {
     wrong: Option<&'static str>,
 }
 
-impl Deed for Play {
+impl DaemonTask for Play {
     fn act<T: RangeTable, S: HostStore>(&mut self, daemon: &mut Daemon<T, S>) {
         self.wrong = first_wrong(self.alloc, daemon, self.server);
     }

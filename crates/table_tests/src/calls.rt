@@ -4,9 +4,9 @@ ghost use Rattle.std.specs.Prelude.{◌<◌, IfSome, length};
 use crate::random::next_bits;
 use crate::wrong::{NO_MEMORY, Wrong, all_hold, nowhere};
 use blocked_list::MOST_SLOTS;
-use callbacks::{Caller, Destination, Letter, LocalLock, Lock, Message, ShortBytes};
+use callbacks::{Callback, Caller, Destination, LocalLock, Lock, Message, ShortBytes};
 use nlm4_types::Version;
-use out_calls::{Call, OutCalls};
+use out_calls::{OutCall, OutCalls};
 use owner_ids::Owner;
 use range_table::{FileId, Mode};
 use std::alloc::{AllocError, Global};
@@ -82,10 +82,10 @@ fn destination(alloc: Global, kind: Kind, name: u8) -> Result<Destination, Alloc
     Ok(Destination::Host(host))
 }
 
-fn letter(alloc: Global, kind: Kind, name: u8) -> Result<Letter, AllocError> {
+fn callback(alloc: Global, kind: Kind, name: u8) -> Result<Callback, AllocError> {
     let to = destination(alloc, kind, name)?;
     let message = message(alloc, kind, name)?;
-    Ok(Letter::new(to, message))
+    Ok(Callback::new(to, message))
 }
 
 /// A call of this kind becomes due. Whether there was room and memory for it.
@@ -93,9 +93,9 @@ fn add(calls: &mut OutCalls, alloc: Global, number: u64, (kind, name): (Kind, u8
     if calls.len() >= MOST_SLOTS {
         return false;
     }
-    match letter(alloc, kind, name) {
-        Ok(letter) => {
-            calls.make_due(number, letter);
+    match callback(alloc, kind, name) {
+        Ok(callback) => {
+            calls.make_due(number, callback);
             true
         }
         Err(AllocError) => false,
@@ -104,16 +104,16 @@ fn add(calls: &mut OutCalls, alloc: Global, number: u64, (kind, name): (Kind, u8
 
 /// An answer ends the call of this number. Whether that was a grant to `b`, or None where there is no such call.
 fn answer(calls: &mut OutCalls, number: u64) -> Option<bool> {
-    let letter = calls.answered(number)?.into_letter();
-    let is_to_b = letter.is_grant_to(b"b");
+    let callback = calls.answered(number)?.into_callback();
+    let is_to_b = callback.is_grant_to(b"b");
     // Called, its drop is proved once, and not here for each kind of message.
-    drop(letter);
+    drop(callback);
     Some(is_to_b)
 }
 
 /// The number of the call that is next, or 0.
 fn next(calls: &OutCalls) -> u64 {
-    calls.next_due().map_or(0, Call::number)
+    calls.next_due().map_or(0, OutCall::number)
 }
 
 /// A grant that is answered once it was sent, and not twice.
@@ -130,8 +130,8 @@ fn is_answered(alloc: Global, calls: &mut OutCalls) -> bool {
 fn is_next_to_c(calls: &OutCalls, sendings: u8) -> bool {
     match calls.next_due() {
         Some(call) => {
-            call.letter().to().is_host(b"c")
-                && call.letter().message().is_grant()
+            call.callback().to().is_host(b"c")
+                && call.callback().message().is_grant()
                 && call.sendings() == sendings
         }
         None => false,
@@ -249,7 +249,7 @@ fn send_four(calls: &mut OutCalls) {
 fn named_by_fifth(calls: &OutCalls) -> Option<u64> {
     calls
         .of_cookie(&(FIRST + 4).to_be_bytes())
-        .map(Call::number)
+        .map(OutCall::number)
 }
 
 /// The message forms alone are known by their cookie, which is all eight bytes of the number.
@@ -289,7 +289,7 @@ struct Plain {
 }
 
 impl Plain {
-    fn is(self, call: &Call) -> bool {
+    fn is(self, call: &OutCall) -> bool {
         call.number() == self.number
             && call.sendings() == self.sendings
             && call.is_due() == self.due
@@ -409,7 +409,7 @@ fn turn(alloc: Global, calls: &mut OutCalls, list: &mut Vec<Plain>, bits: u64) -
         }
     }
     let xid = low as u32;
-    let found = calls.of_xid(xid).map_or(0, Call::number);
+    let found = calls.of_xid(xid).map_or(0, OutCall::number);
     has_memory && is_all(calls, list) && found == oldest(list, xid)
 }
 

@@ -18,7 +18,7 @@ impl Kept for Numbered {
 
     ghost outcome = { λ _. SystemErr };
 
-    ghost letters = { λ _. [] };
+    ghost callbacks = { λ _. [] };
 }
 
 const PEER: Peer = Peer {

@@ -114,13 +114,13 @@ fn put_owner<W: Write>(block: &mut Frame, writer: &mut W, owner: &Owner) -> Resu
 fn put_numbered<W: Write>(
     block: &mut Frame,
     writer: &mut W,
-    letter: &[u8],
+    callback: &[u8],
     number: u64,
 ) -> Result<(), WriteFault>
-    ensures { Passed (W.contents writer.old) (W.contents writer.new) result block.new (block.old ++ (letter.now ++ decimal number)) }
+    ensures { Passed (W.contents writer.old) (W.contents writer.new) result block.new (block.old ++ (callback.now ++ decimal number)) }
 {
     let mut digits = Buffer::new();
-    put_parts(block, writer, &[letter, digits.format(number).as_bytes()])
+    put_parts(block, writer, &[callback, digits.format(number).as_bytes()])
 }
 
 fn put_remote<W: Write>(

@@ -3,13 +3,13 @@ use Rattle.std.proofs.Common.{◌≡◌, ℕ, ◌+◌, List, [], ◌∷◌, ◌+
 use Rattle.definitions.specs.Bytes.{Bytes}
 use Rattle.definitions.specs.Hosts.{Hosts, Yes}
 use Rattle.definitions.specs.World.{the_limits}
-use Rattle.definitions.specs.Step.{State, Event, Restart, Doing, Applied, Given, Nothing, opening_state}
+use Rattle.definitions.specs.Step.{State, Event, Restart, Completion, Applied, Given, Nothing, opening_state}
 use Rattle.definitions.specs.Hosts.{StoreAnswer}
 use Rattle.definitions.specs.Replay.{after}
 use Rattle.call_codec.specs.declared.records.dest.Dest.{Dest}
-use Rattle.book.specs.Given.{Upshot, comes_to}
+use Rattle.book.specs.Given.{StepResult, comes_to}
 use Rattle.std.specs.Prelude.{option_map}
-use Rattle.book.specs.Notes.{Note, Happening, Takes, SendsNext, BeginsAnew, Steps, is_take}
+use Rattle.book.specs.Notes.{Note, JournalEvent, Takes, SendsNext, BeginsAnew, Steps, is_take}
 use Rattle.book.specs.Receipts.{Receipt, receipt_of, newest, newest_receipt}
 use Rattle.book.specs.Journal.{Journal, Book, IsLegal, begun, next_of, rotated, Enters, IsNext}
 use Rattle.book.specs.Histories.{notes_of, Join, AreLegal, BeginsWithRestart, SegmentsAreLegal}
@@ -19,23 +19,23 @@ use Rattle.workers.proofs.Joins.{takes_in_append, takes_of_append, join_last, jo
 -- ---- the beginning
 
 -- a restart that was done, and to which the store agreed, gives nothing
-begins_so : (old new : State) (upshot : Upshot) → Steps old BeginsAnew upshot new → upshot.doing ≡ Applied → upshot.store ≡ Yes → upshot ≡ comes_to Applied Yes Nothing
-begins_so old new upshot s done agreed =
-    let given : Event → Doing → StoreAnswer → Given = λ e d a. (after the_limits old (record { event = e; doing = d; store = a })).given in
-    let is : upshot.given ≡ Nothing =
-    sym s.step.gives ∙ ap (λ (e : Event). given e upshot.doing upshot.store) s.reads ∙ ap (λ (d : Doing). given Restart d upshot.store) done ∙ ap (given Restart Applied) agreed in
-    λ i. record { doing = done i; store = agreed i; given = is i }
+begins_so : (old new : State) (step_result : StepResult) → Steps old BeginsAnew step_result new → step_result.completion ≡ Applied → step_result.store ≡ Yes → step_result ≡ comes_to Applied Yes Nothing
+begins_so old new step_result s done agreed =
+    let given : Event → Completion → StoreAnswer → Given = λ e d a. (after the_limits old (record { event = e; completion = d; store = a })).given in
+    let is : step_result.given ≡ Nothing =
+    sym s.step.gives ∙ ap (λ (e : Event). given e step_result.completion step_result.store) s.reads ∙ ap (λ (d : Completion). given Restart d step_result.store) done ∙ ap (given Restart Applied) agreed in
+    λ i. record { completion = done i; store = agreed i; given = is i }
 
-pub begins : (is_kept : _) (b b' : Book) (closed : List Journal) (upshot : Upshot) → Enters b BeginsAnew upshot b' → upshot.doing ≡ Applied → upshot.store ≡ Yes → closed ≡ [] → Begins b is_kept (record { closed = closed; book = b'; keeps = is_kept })
-begins is_kept b b' closed upshot enters done agreed none = record {
+pub begins : (is_kept : _) (b b' : Book) (closed : List Journal) (step_result : StepResult) → Enters b BeginsAnew step_result b' → step_result.completion ≡ Applied → step_result.store ≡ Yes → closed ≡ [] → Begins b is_kept (record { closed = closed; book = b'; keeps = is_kept })
+begins is_kept b b' closed step_result enters done agreed none = record {
   closed = none;
   keeps = refl;
-  enters = subst (λ (u : Upshot). Enters b BeginsAnew u b') (begins_so b.journal.end b'.journal.end upshot enters.steps done agreed) enters;
+  enters = subst (λ (u : StepResult). Enters b BeginsAnew u b') (begins_so b.journal.end b'.journal.end step_result enters.steps done agreed) enters;
 }
 
-pub begins_in_step : (total : ℕ) (closed : List Journal) (b b' : Book) (upshot : Upshot) → IsNew b.journal → Enters b BeginsAnew upshot b' → upshot.doing ≡ Applied → upshot.store ≡ Yes → closed ≡ [] → total ≡ 0 → IsLegal b'.journal → IsInStep total closed b'.journal
-begins_in_step total closed b b' upshot new enters done agreed none zero legal =
-    let n : Note = record { number = next_of b.journal; event = BeginsAnew; upshot = upshot } in
+pub begins_in_step : (total : ℕ) (closed : List Journal) (b b' : Book) (step_result : StepResult) → IsNew b.journal → Enters b BeginsAnew step_result b' → step_result.completion ≡ Applied → step_result.store ≡ Yes → closed ≡ [] → total ≡ 0 → IsLegal b'.journal → IsInStep total closed b'.journal
+begins_in_step total closed b b' step_result new enters done agreed none zero legal =
+    let n : Note = record { number = next_of b.journal; event = BeginsAnew; step_result = step_result } in
     let notes : b'.journal.notes ≡ n ∷ [] = ap (λ (j : Journal). j.notes) enters.journal ∙ ap (λ (j : Journal). j.notes ++ n ∷ []) new in
     let took : takes_in b'.journal.notes ≡ 0 = ap takes_in notes in
     subst (λ (js : List Journal). IsInStep total js b'.journal) (sym none)
@@ -46,7 +46,7 @@ begins_in_step total closed b b' upshot new enters done agreed none zero legal =
         hosts = b.journal.base.world.hosts;
         joined = (ap (λ (j : Journal). j.base) enters.journal ∙ ap (λ (j : Journal). j.base) new, ap (λ (j : Journal). j.first) enters.journal ∙ ap (λ (j : Journal). j.first) new, tt);
         legal = (legal, tt);
-        restart = rw notes (refl, begins_so b.journal.end b'.journal.end upshot enters.steps done agreed);
+        restart = rw notes (refl, begins_so b.journal.end b'.journal.end step_result enters.steps done agreed);
       };
     })
 
@@ -71,9 +71,9 @@ turns_in_step total closed closed' j b b' same more turned legal old =
     })
 
 -- the open segment has one entry more
-goes_on : (closed : List Journal) (b b' : Book) (event : Happening) (upshot : Upshot) → Enters b event upshot b' → IsLegal b'.journal → IsOneHistory (closed ++ b.journal ∷ []) → IsOneHistory (closed ++ b'.journal ∷ [])
-goes_on closed b b' event upshot enters legal h =
-    let n : Note = record { number = next_of b.journal; event = event; upshot = upshot } in
+goes_on : (closed : List Journal) (b b' : Book) (event : JournalEvent) (step_result : StepResult) → Enters b event step_result b' → IsLegal b'.journal → IsOneHistory (closed ++ b.journal ∷ []) → IsOneHistory (closed ++ b'.journal ∷ [])
+goes_on closed b b' event step_result enters legal h =
+    let n : Note = record { number = next_of b.journal; event = event; step_result = step_result } in
     record {
       name = h.name;
       hosts = h.hosts;
@@ -82,25 +82,25 @@ goes_on closed b b' event upshot enters legal h =
       restart = restart_last closed b.journal b'.journal n (ap (λ (j : Journal). j.notes) enters.journal) h.restart;
     }
 
-pub enters_in_step : (total total' : ℕ) (closed : List Journal) (b b' : Book) (peer : _) (asked : _) (upshot : Upshot) → Enters b (Takes peer asked) upshot b' → IsLegal b'.journal → total' ≡ total + 1 → IsInStep total closed b.journal → IsInStep total' closed b'.journal
-enters_in_step total total' closed b b' peer asked upshot enters legal more old =
-    let n : Note = record { number = next_of b.journal; event = Takes peer asked; upshot = upshot } in
+pub enters_in_step : (total total' : ℕ) (closed : List Journal) (b b' : Book) (peer : _) (asked : _) (step_result : StepResult) → Enters b (Takes peer asked) step_result b' → IsLegal b'.journal → total' ≡ total + 1 → IsInStep total closed b.journal → IsInStep total' closed b'.journal
+enters_in_step total total' closed b b' peer asked step_result enters legal more old =
+    let n : Note = record { number = next_of b.journal; event = Takes peer asked; step_result = step_result } in
     let notes : b'.journal.notes ≡ b.journal.notes ++ n ∷ [] = ap (λ (j : Journal). j.notes) enters.journal in
     let took : takes_in b'.journal.notes ≡ takes_in b.journal.notes + 1 = ap takes_in notes ∙ takes_in_append b.journal.notes n in
     record {
       counted = let c = old.counted in omega (arith, c, took, more);
-      history = goes_on closed b b' (Takes peer asked) upshot enters legal old.history;
+      history = goes_on closed b b' (Takes peer asked) step_result enters legal old.history;
     }
 
 -- an entry that takes no record changes no total
-pub untaken_in_step : (total : ℕ) (closed : List Journal) (b b' : Book) (event : Happening) (upshot : Upshot) → Enters b event upshot b' → IsLegal b'.journal → is_take event ≡ false → IsInStep total closed b.journal → IsInStep total closed b'.journal
-untaken_in_step total closed b b' event upshot enters legal untaken old =
-    let n : Note = record { number = next_of b.journal; event = event; upshot = upshot } in
+pub untaken_in_step : (total : ℕ) (closed : List Journal) (b b' : Book) (event : JournalEvent) (step_result : StepResult) → Enters b event step_result b' → IsLegal b'.journal → is_take event ≡ false → IsInStep total closed b.journal → IsInStep total closed b'.journal
+untaken_in_step total closed b b' event step_result enters legal untaken old =
+    let n : Note = record { number = next_of b.journal; event = event; step_result = step_result } in
     let notes : b'.journal.notes ≡ b.journal.notes ++ n ∷ [] = ap (λ (j : Journal). j.notes) enters.journal in
     let took : takes_in b'.journal.notes ≡ takes_in b.journal.notes + 0 = subst (λ t. takes_in b'.journal.notes ≡ takes_in b.journal.notes + cond t 1 0) untaken (ap takes_in notes ∙ takes_in_append b.journal.notes n) in
     record {
       counted = let c = old.counted in omega (arith, c, took);
-      history = goes_on closed b b' event upshot enters legal old.history;
+      history = goes_on closed b b' event step_result enters legal old.history;
     }
 
 pub next_in_step : (total : ℕ) (closed : List Journal) (b b' : Book) (next : Option (ℕ × Dest × Bytes)) → IsNext b next b' → IsLegal b'.journal → IsInStep total closed b.journal → IsInStep total closed b'.journal
@@ -137,7 +137,7 @@ finished amount total closed all j last (Some s) items whole old same more is =
     omega (arith, whole, c, t)
 
 -- the event of a receipt, if there is one
-abbrev event_or : Happening → Option Receipt → Happening
+abbrev event_or : JournalEvent → Option Receipt → JournalEvent
 event_or e None = e
 event_or e (Some r) = r.event
 

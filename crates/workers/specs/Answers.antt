@@ -3,7 +3,7 @@ use Rattle.std.specs.Prelude.{◌≡◌, ℕ, Bool, List, [], ◌∷◌, ◌++�
 use Rattle.definitions.specs.Hosts.{NotAsked}
 use Rattle.definitions.specs.Step.{State, Given, Starved}
 use Rattle.book.specs.Given.{comes_to, record_of}
-use Rattle.book.specs.Notes.{Happening, Takes, Steps}
+use Rattle.book.specs.Notes.{JournalEvent, Takes, Steps}
 use Rattle.book.specs.Receipts.{Receipt}
 use Rattle.book.specs.declared.receipt.Taken.{Taken}
 use Rattle.kept_replies.specs.Pairs.{view_of_peer}
@@ -12,10 +12,10 @@ use Rattle.job_queue.specs.declared.passes.View.{View}
 use Rattle.job_queue.specs.Passes.{with_hand}
 use Rattle.reply_outbox.specs.Posted.{Sent, posted}
 
-abbrev pub asks : Task → Happening
+abbrev pub asks : Task → JournalEvent
 asks job = Takes job.peer job.asked
 
-abbrev pub view_of_taken : Taken → Happening
+abbrev pub view_of_taken : Taken → JournalEvent
 view_of_taken t = Takes (view_of_peer t.peer) t.«record»
 
 -- the receipts of the calls that were taken, and whether they are kept
@@ -33,7 +33,7 @@ TakesCall taken connection papers papers' sent sent' =
     × (papers' ≡ with_receipt papers receipt) × (sent' ≡ sent ++ posted connection given)
 
 -- what an event gives that met want of memory before it began: a call SYSTEM_ERR, or nothing where its record is ignored
-abbrev pub StarvesAs : Happening → Given → Type 0
+abbrev pub StarvesAs : JournalEvent → Given → Type 0
 StarvesAs event given = (s : State) → Steps s event (comes_to Starved NotAsked given) s
 
 -- that is what is handed over

@@ -2,9 +2,9 @@
 use Rattle.std.specs.Prelude.{◌≡◌, ◌≢◌, ◌⊎◌, ℕ, ◌+◌, Bool, cond, Option, Some, None, List, [], ◌∷◌, ◌++◌}
 use Rattle.definitions.specs.Bytes.{Bytes}
 use Rattle.definitions.specs.Hosts.{Hosts, StoreAnswer, Yes}
-use Rattle.definitions.specs.Step.{State, Doing, Applied, Starved, Nothing, opening_state}
-use Rattle.book.specs.Given.{Upshot, comes_to}
-use Rattle.book.specs.Notes.{Happening, BeginsAnew, Note, is_take}
+use Rattle.definitions.specs.Step.{State, Completion, Applied, Starved, Nothing, opening_state}
+use Rattle.book.specs.Given.{StepResult, comes_to}
+use Rattle.book.specs.Notes.{JournalEvent, BeginsAnew, Note, is_take}
 use Rattle.book.specs.Receipts.{newest}
 use Rattle.book.specs.Journal.{Journal, Book, begun, room_of, rotated, Enters}
 use Rattle.book.specs.Histories.{notes_of, Join, AreLegal, joined, IsHistory, BeginsWithRestart}
@@ -73,14 +73,14 @@ pub record Begins (book : Book) (is_kept : Bool) (new : Held) : Type 0 where
   pub enters : Enters book BeginsAnew (comes_to Applied Yes Nothing) new.book
 
 -- why a restart was not made, if it was not
-abbrev pub IsWhy : Option NotBegun → Upshot → Type 0
-IsWhy None upshot = (upshot.doing ≡ Applied) × (upshot.store ≡ Yes)
-IsWhy (Some not_begun.Starved) upshot = upshot.doing ≡ Starved
-IsWhy (Some not_begun.StoreRefused) upshot = (upshot.doing ≡ Applied) × (upshot.store ≢ Yes)
+abbrev pub IsWhy : Option NotBegun → StepResult → Type 0
+IsWhy None step_result = (step_result.completion ≡ Applied) × (step_result.store ≡ Yes)
+IsWhy (Some not_begun.Starved) step_result = step_result.completion ≡ Starved
+IsWhy (Some not_begun.StoreRefused) step_result = (step_result.completion ≡ Applied) × (step_result.store ≢ Yes)
 
 -- a restart of this book comes to no more than that
 abbrev pub BeginsNot : Book → NotBegun → Type 0
-BeginsNot book why = (upshot : Upshot) × ((new : Book) × (Enters book BeginsAnew upshot new × IsWhy (Some why) upshot))
+BeginsNot book why = (step_result : StepResult) × ((new : Book) × (Enters book BeginsAnew step_result new × IsWhy (Some why) step_result))
 
 -- ---- holds
 
@@ -89,17 +89,17 @@ abbrev pub Rests : Held → Held → Type 0
 Rests old new = (new ≡ old) ⊎ ((room_of old.book.journal ≡ 0) × (new ≡ turned old))
 
 -- one event was one entry, the newest, and nothing else happened, but perhaps that a full segment was closed before it
-pub record Notes (old : Held) (event : Happening) (upshot : Upshot) (new : Held) : Type 0 where
+pub record Notes (old : Held) (event : JournalEvent) (step_result : StepResult) (new : Held) : Type 0 where
   pub before : Held
   pub rests : Rests old before
   pub closed : new.closed ≡ before.closed
   pub keeps : new.keeps ≡ before.keeps
-  pub enters : Enters before.book event upshot new.book
+  pub enters : Enters before.book event step_result new.book
 
-abbrev pub entry_of : ℕ → Happening → Upshot → Note
-entry_of number event upshot = record { number = number; event = event; upshot = upshot }
+abbrev pub entry_of : ℕ → JournalEvent → StepResult → Note
+entry_of number event step_result = record { number = number; event = event; step_result = step_result }
 
--- this entry is the journal's newest, and a transcript has it behind those that it had, and no other
+-- this entry is the journal's newest, and a trace has it behind those that it had, and no other
 pub record Adds (held : Held) (entry : Note) (old new : List Note) : Type 0 where
   pub is_newest : newest held.book.journal.notes ≡ Some entry
   pub added : new ≡ old ++ entry ∷ []

@@ -2,7 +2,7 @@
 use Rattle.std.specs.Prelude.{◌≡◌, ℕ, List, Option, Some, None}
 use Rattle.definitions.specs.Bytes.{Bytes}
 use Rattle.definitions.specs.Hosts.{NotAsked}
-use Rattle.definitions.specs.Outgoing.{Letter, next_due}
+use Rattle.definitions.specs.Outgoing.{Callback, next_due}
 use Rattle.definitions.specs.Step as step
 use Rattle.call_codec.specs.declared.records.dest.Dest.{Dest}
 use Rattle.call_codec.specs.Dests.{view_of_dest}
@@ -23,13 +23,13 @@ pub record Sends (old : Held) (next : Option _) (new : Held) : Type 0 where
 
 -- the entry sent the call of this number, to whom it is for, and these are its bytes
 pub record IsSending (entry : Note) (number : ℕ) (to : Dest) (bytes : Bytes) : Type 0 where
-  pub letter : Letter
+  pub callback : Callback
   pub event : entry.event ≡ SendsNext
-  pub upshot : entry.upshot ≡ comes_to step.Applied NotAsked (step.Sends number letter)
-  pub is_for : view_of_dest to ≡ letter.to
-  pub spells : bytes ≡ record_of (step.Sends number letter)
+  pub step_result : entry.step_result ≡ comes_to step.Applied NotAsked (step.Sends number callback)
+  pub is_for : view_of_dest to ≡ callback.to
+  pub spells : bytes ≡ record_of (step.Sends number callback)
 
--- a call is sent, and a transcript has its entry, too; or none is due; or one is due, and there was no room for its entry
+-- a call is sent, and a trace has its entry, too; or none is due; or one is due, and there was no room for its entry
 abbrev pub IsNextOf : Held → List Note → Next → Held → List Note → Type 0
 IsNextOf old told (Call number to bytes) new told' =
     Sends old (Some (number, to, bytes)) new × ((entry : Note) × IsSending entry number to bytes × Adds new entry told told')

@@ -1,7 +1,7 @@
 //! How what the lock keeps begins.
 ghost use Rattle.workers.specs.Holds.{IsWhy};
 
-use book::{Doing, StoreAnswer, Upshot};
+use book::{Completion, StepResult, StoreAnswer};
 use thiserror::Error;
 
 /// The server has not begun anew.
@@ -16,12 +16,12 @@ pub enum NotBegun {
 }
 
 // Why a restart that came to this was not made, if it was not.
-pub(crate) fn why_not(upshot: &Upshot) -> Option<NotBegun>
-    ensures { IsWhy result upshot.now }
+pub(crate) fn why_not(step_result: &StepResult) -> Option<NotBegun>
+    ensures { IsWhy result step_result.now }
 {
-    match upshot.doing {
-        Doing::Starved => Some(NotBegun::Starved),
-        Doing::Applied => match upshot.store {
+    match step_result.completion {
+        Completion::Starved => Some(NotBegun::Starved),
+        Completion::Applied => match step_result.store {
             StoreAnswer::Yes => None,
             StoreAnswer::NotAsked | StoreAnswer::Refused => Some(NotBegun::StoreRefused),
         },

@@ -7,7 +7,7 @@ ghost use Rattle.workers.specs.Answers.{Papers, TakesCall, TurnsBack, view_of_ta
 use book::{Starved, Taken};
 use bytes::Bytes;
 
-/// Where calls come to their entries, each in one hold. What stays beside the book lies on a desk, and an outbox takes the replies.
+/// Where calls come to their entries, each in one hold. What stays beside the book lies on a call handler, and an outbox takes the replies.
 /// That a call could not be prepared, or found no room, only `prepare` and `enter` can tell.
 pub(crate) trait Entering<D, O> {
     /// There was no memory for what has to be there before the call's hold.
@@ -16,7 +16,7 @@ pub(crate) trait Entering<D, O> {
     /// The call's hold found the segment full, and no other for its entry.
     ghost FoundFull: { Taken → Type 0 };
 
-    /// The receipts that lie on the desk, and whether they are kept.
+    /// The receipts that the call handler keeps, and whether it keeps any.
     ghost papers: { D → Papers };
 
     /// There is a place on it for one receipt more.
@@ -26,27 +26,27 @@ pub(crate) trait Entering<D, O> {
     ghost handed: { O → List Sent };
 
     /// Gets a place for the receipt, and a second handle on the record.
-    fn prepare(&self, desk: &mut D, taken: &Taken) -> Result<Bytes, Starved>
+    fn prepare(&self, call_handler: &mut D, taken: &Taken) -> Result<Bytes, Starved>
         ensures same { IfOk result (λ same. same ≡ taken.now.«record») }
-        ensures place { IfOk result (λ _. HasPlace desk.new) }
+        ensures place { IfOk result (λ _. HasPlace call_handler.new) }
         ensures unprepared { IfErr result (λ _. IsUnprepared taken.now) }
-        ensures papers { papers desk.new ≡ papers desk.old };
+        ensures papers { papers call_handler.new ≡ papers call_handler.old };
 
     /// Takes the call in one hold, and hands its reply over: whether a call of the server's own is due then. The call comes back
     /// where there was no room.
     fn enter(
         &self,
-        desk: &mut D,
+        call_handler: &mut D,
         outbox: &mut O,
         connection: u64,
         taken: Taken,
         same: Bytes,
     ) -> Result<bool, Taken>
         requires same { same ≡ taken.«record» }
-        requires place { HasPlace desk.old }
-        ensures taken { IfOk result (λ _. TakesCall taken connection (papers desk.old) (papers desk.new) (handed outbox.old) (handed outbox.new)) }
+        requires place { HasPlace call_handler.old }
+        ensures taken { IfOk result (λ _. TakesCall taken connection (papers call_handler.old) (papers call_handler.new) (handed outbox.old) (handed outbox.new)) }
         ensures full { IfErr result (λ back. (back ≡ taken) × FoundFull taken) }
-        ensures none { IfErr result (λ _. (papers desk.new ≡ papers desk.old) × (handed outbox.new ≡ handed outbox.old)) };
+        ensures none { IfErr result (λ _. (papers call_handler.new ≡ papers call_handler.old) × (handed outbox.new ≡ handed outbox.old)) };
 
     /// Hands over what a call gets that has no entry.
     fn turn_back(&self, outbox: &mut O, connection: u64, taken: Taken)
@@ -58,19 +58,19 @@ pub(crate) trait Entering<D, O> {
 /// could not be prepared, or found no room.
 pub(crate) fn answer_call<D, O, B: Entering<D, O>>(
     book: &B,
-    desk: &mut D,
+    call_handler: &mut D,
     outbox: &mut O,
     connection: u64,
     taken: Taken,
 ) -> bool
-    ensures { TakesCall taken connection (B.papers desk.old) (B.papers desk.new) (B.handed outbox.old) (B.handed outbox.new)
-        ⊎ ((B.IsUnprepared taken ⊎ B.FoundFull taken) × (B.papers desk.new ≡ B.papers desk.old) × TurnsBack taken connection (B.handed outbox.old) (B.handed outbox.new)) }
+    ensures { TakesCall taken connection (B.papers call_handler.old) (B.papers call_handler.new) (B.handed outbox.old) (B.handed outbox.new)
+        ⊎ ((B.IsUnprepared taken ⊎ B.FoundFull taken) × (B.papers call_handler.new ≡ B.papers call_handler.old) × TurnsBack taken connection (B.handed outbox.old) (B.handed outbox.new)) }
 {
-    let Ok(same) = book.prepare(desk, &taken) else {
+    let Ok(same) = book.prepare(call_handler, &taken) else {
         book.turn_back(outbox, connection, taken);
         return false;
     };
-    match book.enter(desk, outbox, connection, taken, same) {
+    match book.enter(call_handler, outbox, connection, taken, same) {
         Ok(is_due) => is_due,
         Err(taken) => {
             book.turn_back(outbox, connection, taken);

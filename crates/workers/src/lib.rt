@@ -4,16 +4,17 @@
 
 mod archive;
 mod beginning;
-mod desk;
+mod call_handler;
 mod entering;
+mod ghost_trace;
 mod law;
 mod patience;
 mod reading;
 mod shared;
-mod transcript;
 mod worker;
 
 pub use beginning::NotBegun;
+pub use ghost_trace::GhostTrace;
 pub use law::{
     hold_is_step, holds_are_sound, holds_give_kept_replies, holds_grant_reclaims_only,
     holds_tell_of_no_grant,
@@ -21,5 +22,4 @@ pub use law::{
 pub use reading::{MOST_READ_BYTES, Origin, Source};
 pub use record_mark::Ending;
 pub use shared::{Ends, Entered, Next, Shared};
-pub use transcript::Transcript;
 pub use worker::{Leaves, Worker};

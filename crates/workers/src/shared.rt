@@ -1,7 +1,7 @@
 //! What the lock keeps: the book, its closed segments, and the number of calls taken.
 ghost use Rattle.std.specs.Prelude.{◌≡◌, ℕ, ◌+◌, ◌<◌, false, is_some, Some, IfOk, IfErr, IfSome};
 ghost use Rattle.definitions.specs.Outgoing.{next_due};
-ghost use Rattle.book.specs.Given.{Upshot as Became};
+ghost use Rattle.book.specs.Given.{StepResult as Became};
 ghost use Rattle.book.specs.Journal.{room_of};
 ghost use Rattle.book.specs.Notes.{is_take, view_of_event};
 ghost use Rattle.book.specs.Receipts.{newest_receipt};
@@ -11,9 +11,9 @@ ghost use Rattle.workers.specs.Answers.{view_of_taken};
 
 use crate::archive::Archive;
 use crate::beginning::{NotBegun, why_not};
-use crate::transcript::Transcript;
+use crate::ghost_trace::GhostTrace;
 use book::{
-    Book, BookEvent, Closed, NoRoom, Receipt, Starved, Taken, Upshot, newest_entered,
+    Book, BookEvent, Closed, NoRoom, Receipt, Starved, StepResult, Taken, newest_entered,
     segments_are_one_history,
 };
 use bytes::Bytes;
@@ -126,7 +126,7 @@ impl<R: RangeTable, S: HostStore, L: Ledger> Shared<R, S, L> {
     ) -> Result<Entered<R, S>, Taken>
         requires same { same ≡ taken.«record» }
         requires part { 0 < share.old.parts }
-        ensures noted { IfOk result (λ entered. (upshot : Became) × Notes self.old (view_of_taken taken) upshot self.new × (newest_receipt self.new.book.journal.notes ≡ Some entered.receipt)) }
+        ensures noted { IfOk result (λ entered. (step_result : Became) × Notes self.old (view_of_taken taken) step_result self.new × (newest_receipt self.new.book.journal.notes ≡ Some entered.receipt)) }
         ensures told { IfOk result (λ entered. (entered.receipt.event ≡ view_of_taken taken) × (share.new.amount ≡ share.old.amount + 1)) }
         ensures due { IfOk result (λ entered. entered.is_due ≡ is_some (next_due self.new.book.journal.end.world.calls)) }
         ensures none { IfErr result (λ back. (back ≡ taken) × Rests self.old self.new × (share.new.amount ≡ share.old.amount)) }
@@ -138,9 +138,9 @@ impl<R: RangeTable, S: HostStore, L: Ledger> Shared<R, S, L> {
         };
         let peer = taken.peer;
         let record = same;
-        let upshot = self.book.apply(BookEvent::Take { peer, record });
+        let step_result = self.book.apply(BookEvent::Take { peer, record });
         newest_entered();
-        let receipt = self.book.receipt(taken, upshot.reply);
+        let receipt = self.book.receipt(taken, step_result.reply);
         self.total.add(share, 1);
         let is_due = self.book.has_due();
         let over = self.over.take();
@@ -152,30 +152,30 @@ impl<R: RangeTable, S: HostStore, L: Ledger> Shared<R, S, L> {
     }
 
     /// One hold of an event that is no record: a line, an answer, a silence, the end of grace, or a restart. It is one entry, which
-    /// the transcript has then, too. The event comes back where there was no room for its entry, and then none was made.
+    /// the trace has then, too. The event comes back where there was no room for its entry, and then none was made.
     pub fn apply(
         &mut self,
         event: BookEvent,
-        transcript: &mut Transcript,
-    ) -> Result<Upshot, BookEvent>
+        ghost_trace: &mut GhostTrace,
+    ) -> Result<StepResult, BookEvent>
         requires untaken { is_take (view_of_event event) ≡ false }
-        ensures noted { IfOk result (λ upshot. Notes self.old (view_of_event event) upshot self.new) }
-        ensures told { IfOk result (λ upshot. (number : ℕ) × Adds self.new (entry_of number (view_of_event event) upshot) transcript.old transcript.new) }
-        ensures none { IfErr result (λ back. (back ≡ event) × Rests self.old self.new × (transcript.new ≡ transcript.old)) }
+        ensures noted { IfOk result (λ step_result. Notes self.old (view_of_event event) step_result self.new) }
+        ensures told { IfOk result (λ step_result. (number : ℕ) × Adds self.new (entry_of number (view_of_event event) step_result) ghost_trace.old ghost_trace.new) }
+        ensures none { IfErr result (λ back. (back ≡ event) × Rests self.old self.new × (ghost_trace.new ≡ ghost_trace.old)) }
         ensures full { IfErr result (λ _. room_of self.old.book.journal ≡ 0) }
     {
         let Ok(()) = self.make_room() else {
             return Err(event);
         };
-        let upshot = self.book.apply(event);
+        let step_result = self.book.apply(event);
         newest_entered();
-        transcript.add(&self.book);
-        Ok(upshot)
+        ghost_trace.add(&self.book);
+        Ok(step_result)
     }
 
-    /// One hold that sends the call of the server's own that is due first, which is one entry. The transcript has it then, too.
-    pub fn next_call(&mut self, transcript: &mut Transcript) -> Next
-        ensures { IsNextOf self.old transcript.old result self.new transcript.new }
+    /// One hold that sends the call of the server's own that is due first, which is one entry. The trace has it then, too.
+    pub fn next_call(&mut self, ghost_trace: &mut GhostTrace) -> Next
+        ensures { IsNextOf self.old ghost_trace.old result self.new ghost_trace.new }
     {
         if !self.book.has_due() {
             return Next::NothingDue;
@@ -186,7 +186,7 @@ impl<R: RangeTable, S: HostStore, L: Ledger> Shared<R, S, L> {
         match self.book.next_call() {
             Some((number, to, frame)) => {
                 newest_entered();
-                transcript.add(&self.book);
+                ghost_trace.add(&self.book);
                 Next::Call { number, to, frame }
             }
             None => Next::NothingDue,
@@ -231,8 +231,8 @@ impl<R: RangeTable + Drop, S: HostStore + Drop, L: Ledger> Shared<R, S, L> {
         ensures refused { IfErr result (λ why. BeginsNot book why) }
     {
         let mut book = book;
-        let upshot = book.apply(BookEvent::Restart);
-        match why_not(&upshot) {
+        let step_result = book.apply(BookEvent::Restart);
+        match why_not(&step_result) {
             None => Ok(Shared {
                 alloc,
                 book,

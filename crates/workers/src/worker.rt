@@ -4,7 +4,7 @@ ghost use Rattle.job_queue.specs.Passes.{with_put, with_taken};
 ghost use Rattle.reply_outbox.specs.Posted.{posted};
 ghost use Rattle.workers.specs.Answers.{Answer, Worked, IsMet, listed, with_seat};
 
-use crate::desk::{AtBook, Desk};
+use crate::call_handler::{AtBook, CallHandler};
 use crate::entering::answer_call;
 use crate::shared::Shared;
 use book::{Receipt, Taken};
@@ -17,11 +17,11 @@ use std::marker::Model;
 use std::sync::ledger::{Ledger, Share};
 use std::sync::{Mutex, Wait};
 
-/// Whoever answers jobs: a worker's thread, or a connection's own. It has a seat at the channel, and a desk. Contracts see what
+/// Whoever answers jobs: a worker's thread, or a connection's own. It has a seat at the channel, and a call handler. Contracts see what
 /// the seat knows, the receipts of all calls that it took, and whether they are kept.
 pub struct Worker<P: Place, L: Ledger> {
     pub(crate) seat: Seat<P>,
-    pub(crate) desk: Desk<L>,
+    pub(crate) call_handler: CallHandler<L>,
 }
 
 impl<P: Place, L: Ledger> Model for Worker<P, L> {
@@ -30,13 +30,16 @@ impl<P: Place, L: Ledger> Model for Worker<P, L> {
 
     ghost Value = { Worker };
 
-    ghost view = { λ w. record { seat = w.seat; receipts = w.desk.receipts.all.items; keeps = is_some w.desk.receipts.kept } };
+    ghost view = { λ w. record { seat = w.seat; receipts = w.call_handler.receipts.all.items; keeps = is_some w.call_handler.receipts.kept } };
 }
 
 // It is written out, so that no crate above proves again how each part is dropped.
 impl<P: Place, L: Ledger> Drop for Worker<P, L> {
     fn drop(self) {
-        let Worker { seat: _, desk: _ } = self;
+        let Worker {
+            seat: _,
+            call_handler: _,
+        } = self;
     }
 }
 
@@ -70,7 +73,7 @@ impl<P: Place, L: Ledger> Worker<P, L> {
     {
         Worker {
             seat,
-            desk: Desk::new(alloc, share, is_kept),
+            call_handler: CallHandler::new(alloc, share, is_kept),
         }
     }
 
@@ -82,7 +85,7 @@ impl<P: Place, L: Ledger> Worker<P, L> {
     }
 
     pub(crate) fn alloc(&self) -> Global {
-        self.desk.alloc
+        self.call_handler.alloc
     }
 
     /// Ends it. Its share is the number of its receipts, which are given where they were kept.
@@ -92,8 +95,8 @@ impl<P: Place, L: Ledger> Worker<P, L> {
         ensures receipts { IfSome result.receipts (λ receipts. receipts.items ≡ self.receipts) }
         ensures kept { is_some result.receipts ≡ self.keeps }
     {
-        let Worker { seat, desk } = self;
-        let (share, receipts) = desk.into_parts();
+        let Worker { seat, call_handler } = self;
+        let (share, receipts) = call_handler.into_parts();
         Leaves {
             seat,
             share,
@@ -219,7 +222,7 @@ impl<P: Place, L: Ledger> Worker<P, L> {
         let book = AtBook { rt, shared };
         answer_call(
             &book,
-            &mut self.desk,
+            &mut self.call_handler,
             outbox,
             connection,
             Taken { peer, record },

@@ -3,7 +3,7 @@ ghost use Rattle.std.specs.Prelude.{◌≡◌, [], IfOk};
 
 use callbacks::ShortBytes;
 use hosts_db::{FULL_QUOTA, HostRow, MemHosts};
-use pipe_loops::{Fault, Server, pipe_loop, table_loop};
+use pipe_loops::{Server, StreamFault, pipe_loop, table_loop};
 use range_table::FlatTable;
 use std::alloc::Global;
 use test_kit::{Lent, Pace, Sink, Source, put_plain};
@@ -55,29 +55,29 @@ pub(crate) struct Stream {
     pub(crate) comes: &'static str,
     /// Words, or the text of the table.
     pub(crate) told: &'static str,
-    pub(crate) ended: Result<(), Fault>,
+    pub(crate) ended: Result<(), StreamFault>,
 }
 
 /// Of `lockd`, which gives up behind so many reads.
 const MOST_READS: u64 = 1_000;
 
 fn put_hosts(alloc: Global, hosts: &mut Vec<HostRow>) -> Option<()> {
-    for letter in [b'b', b'a'] {
-        let name = Vec::from_slice(alloc, [letter].as_slice()).ok()?;
+    for callback in [b'b', b'a'] {
+        let name = Vec::from_slice(alloc, [callback].as_slice()).ok()?;
         hosts.push(HostRow::new(name, 1, 3, FULL_QUOTA)).ok()?;
     }
     Some(())
 }
 
-fn store(alloc: Global, which: Loop) -> Result<MemHosts, Fault> {
+fn store(alloc: Global, which: Loop) -> Result<MemHosts, StreamFault> {
     let knows = which == Loop::RepliesToHosts;
     let mut hosts = Vec::new(alloc);
     if knows && put_hosts(alloc, &mut hosts).is_none() {
-        return Err(Fault::Starved);
+        return Err(StreamFault::Starved);
     }
     match MemHosts::new(alloc, u32::from(knows), hosts, Vec::new(alloc)) {
         Ok(store) => Ok(store),
-        Err(_) => Err(Fault::StoreRefused),
+        Err(_) => Err(StreamFault::StoreRefused),
     }
 }
 
@@ -86,11 +86,11 @@ fn server<'a>(
     alloc: Global,
     which: Loop,
     store: Lent<'a, MemHosts>,
-) -> Result<Server<FlatTable, Lent<'a, MemHosts>>, Fault>
+) -> Result<Server<FlatTable, Lent<'a, MemHosts>>, StreamFault>
     ensures { IfOk result (λ server. server.table ≡ []) }
 {
     let Ok(own_name) = ShortBytes::copy_of(alloc, b"server") else {
-        return Err(Fault::Starved);
+        return Err(StreamFault::Starved);
     };
     let table = FlatTable::new(alloc)?;
     Ok(Server {
@@ -106,7 +106,7 @@ fn serve(
     which: Loop,
     source: &mut Source<'_>,
     sink: &mut Sink,
-) -> Result<(), Fault> {
+) -> Result<(), StreamFault> {
     let mut store = store(alloc, which)?;
     let mut writes = 0;
     let server = server(alloc, which, Lent::new(&mut store, &mut writes))?;
@@ -118,7 +118,12 @@ fn serve(
 }
 
 // What is written for the bytes, and how the loop ends.
-fn written(alloc: Global, which: Loop, comes: &[u8], ends: Ends) -> (Vec<u8>, Result<(), Fault>) {
+fn written(
+    alloc: Global,
+    which: Loop,
+    comes: &[u8],
+    ends: Ends,
+) -> (Vec<u8>, Result<(), StreamFault>) {
     let pace = Pace {
         most: ends.most,
         interruptions: ends.interruptions,

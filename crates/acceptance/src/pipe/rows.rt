@@ -1,6 +1,6 @@
 //! Streams, by the names of the worked rows that they are of.
 use super::loops::{AMPLE, Ends, Loop, Stream, is_served};
-use pipe_loops::Fault;
+use pipe_loops::StreamFault;
 use std::alloc::{AllocError, Global};
 use std::fmt::Write;
 use std::test::*;
@@ -47,14 +47,14 @@ const LOCK_AND_TEST: Stream = Stream {
 const TOO_LONG: Stream = Stream {
     name: "record_too_long",
     comes: "80002001 80000028 1 0 2 186b5 4 0 0 0 0 0",
-    ended: Err(Fault::RecordTooLong),
+    ended: Err(StreamFault::RecordTooLong),
     ..EMPTY
 };
 
 const NULL_AND_TOO_LONG: Stream = Stream {
     name: "record_too_long: behind a NULL",
     comes: "80000028 1 0 2 186b5 4 0 0 0 0 0 80002001",
-    ended: Err(Fault::RecordTooLong),
+    ended: Err(StreamFault::RecordTooLong),
     ..NULL
 };
 
@@ -120,7 +120,7 @@ const ZEROS: Stream = Stream {
     name: "endless_zeros",
     pieces: &[1],
     comes: "00*2000",
-    ended: Err(Fault::ReadFault),
+    ended: Err(StreamFault::ReadFault),
     ..EMPTY
 };
 
@@ -161,7 +161,7 @@ const TABLE_AND_TOO_LONG: Stream = Stream {
     name: "table_printed: record too long",
     comes: "8000006c 2 0 2 186b5 4 2 0 0 0 0 4 2 0 1 1 61000000 4 1020304 1 41000000 7 0 0 0 a 0 3 8000005c 4 0 2 186b5 4 4 0 0 0 0 4 4 1 61000000 4 1020304 1 41000000 7 0 3 0 3 80002001",
     told: "",
-    ended: Err(Fault::RecordTooLong),
+    ended: Err(StreamFault::RecordTooLong),
     ..TABLE
 };
 
@@ -267,13 +267,13 @@ const NEVER_READ: &[Stream] = &[
         name: "pipe",
         pieces: &[8_192],
         told: "",
-        ended: Err(Fault::ReadFault),
+        ended: Err(StreamFault::ReadFault),
         ..NULL
     },
     Stream {
         name: "table",
         told: "",
-        ended: Err(Fault::ReadFault),
+        ended: Err(StreamFault::ReadFault),
         ..TABLE
     },
 ];
@@ -303,7 +303,7 @@ fn stream_cut_short(rt: HostRuntime) -> Result<(), usize> {
 }
 
 const UNREAD: &Stream = &Stream {
-    ended: Err(Fault::ReadFault),
+    ended: Err(StreamFault::ReadFault),
     ..TWO_NULLS
 };
 
@@ -327,7 +327,7 @@ fn failing_reads(rt: HostRuntime) -> Result<(), usize> {
 // The first room, of these, with which not just the front is written that it has room for, or the loop goes on.
 fn uncut(alloc: Global, stream: &Stream, first: usize, behind: usize) -> Option<usize> {
     let unwritten = Stream {
-        ended: Err(Fault::WriteFault),
+        ended: Err(StreamFault::WriteFault),
         ..*stream
     };
     for room in first..behind {
@@ -366,12 +366,12 @@ fn failing_writes(rt: HostRuntime) -> Result<(), (&'static str, usize)> {
     Ok(())
 }
 
-const FAULTS: &[Fault] = &[
-    Fault::Starved,
-    Fault::RecordTooLong,
-    Fault::StoreRefused,
-    Fault::ReadFault,
-    Fault::WriteFault,
+const FAULTS: &[StreamFault] = &[
+    StreamFault::Starved,
+    StreamFault::RecordTooLong,
+    StreamFault::StoreRefused,
+    StreamFault::ReadFault,
+    StreamFault::WriteFault,
 ];
 
 fn put_names(names: &mut String) -> Result<(), AllocError> {

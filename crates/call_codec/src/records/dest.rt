@@ -16,7 +16,7 @@ pub enum Dest {
 }
 
 impl Dest {
-    /// The same as a letter says.
+    /// The same as a callback says.
     pub fn of(to: &Destination) -> Dest
         ensures { view_of_dest result ≡ view_of_destination to.now }
     {

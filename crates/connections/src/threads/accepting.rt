@@ -1,6 +1,6 @@
-//! The thread of a door.
-use super::service::{Guest, Service, Side};
-use crate::door::Door;
+//! The thread of a listener.
+use super::service::{Accepted, Service, Side};
+use crate::listener::Listener;
 use std::net::{SocketAddr, TcpStream};
 use std::thread;
 use std::thread::{Builder, Scope, Threads};
@@ -9,7 +9,7 @@ use std::time::{Clock, Duration};
 /// The pause after a connection that could not be taken, in milliseconds.
 const PAUSE_MILLIS: u64 = 10;
 
-// What a door leads to.
+// What a listener leads to.
 #[derive(Clone, Copy)]
 pub(crate) struct Post {
     pub(crate) side: Side,
@@ -22,7 +22,7 @@ fn start<'s, E, R, W, C>(
     scope: &'s Scope<'s, E>,
     service: &'s C,
     stack: usize,
-    guest: Guest,
+    accepted: Accepted,
 ) -> bool
 where
     R: Threads + Sync,
@@ -31,7 +31,7 @@ where
 {
     Builder::new()
         .stack_size(stack)
-        .spawn_scoped(scope, move || service.attend(rt, guest))
+        .spawn_scoped(scope, move || service.attend(rt, accepted))
         .is_ok()
 }
 
@@ -49,11 +49,11 @@ where
     W: 's,
     C: Service<R, W> + Sync,
 {
-    let Some(guest) = service.admit(rt, post.side, stream, from) else {
+    let Some(accepted) = service.admit(rt, post.side, stream, from) else {
         return;
     };
-    let number = guest.connection.number();
-    if !start::<E, R, W, C>(rt, scope, service, post.stack, guest) {
+    let number = accepted.connection.number();
+    if !start::<E, R, W, C>(rt, scope, service, post.stack, accepted) {
         service.dismiss(rt, post.side, number);
     }
 }
@@ -64,7 +64,7 @@ pub(crate) fn accept<'s, E, R, W, C>(
     scope: &'s Scope<'s, E>,
     service: &'s C,
     post: Post,
-    door: &Door,
+    listener: &Listener,
 )
 where
     R: Threads + Clock + Sync,
@@ -72,7 +72,7 @@ where
     C: Service<R, W> + Sync,
 {
     for _ in 0..u64::MAX {
-        let accepted = door.accept();
+        let accepted = listener.accept();
         if service.is_stopping() {
             return;
         }

@@ -1,7 +1,7 @@
 //! All threads.
 use super::accepting::{Post, accept};
-use super::service::{Chief, Service, Side};
-use crate::door::Door;
+use super::service::{MainLoop, Service, Side};
+use crate::listener::Listener;
 use std::alloc::Global;
 use std::sync::Wait;
 use std::thread;
@@ -16,12 +16,12 @@ pub struct NoThread;
 
 /// Where connections come in, and what each worker has.
 #[derive(Drop)]
-pub struct Staff<W> {
+pub struct WorkerPool<W> {
     pub alloc: Global,
     /// For calls by record.
-    pub callers: Door,
+    pub callers: Listener,
     /// For local programs.
-    pub locals: Door,
+    pub locals: Listener,
     /// What each worker has, in the order in which they start.
     pub workers: Vec<W>,
     /// The bytes of each thread's stack.
@@ -29,7 +29,7 @@ pub struct Staff<W> {
 }
 
 // A worker's thread.
-fn hire<'s, E, R, W, C>(
+fn spawn<'s, E, R, W, C>(
     rt: &'s R,
     scope: &'s Scope<'s, E>,
     service: &'s C,
@@ -47,13 +47,13 @@ where
         .ok()
 }
 
-// The thread of a door. Whether there is one.
+// The thread of a listener. Whether there is one.
 fn open<'s, E, R, W, C>(
     rt: &'s R,
     scope: &'s Scope<'s, E>,
     service: &'s C,
     post: Post,
-    door: &'s Door,
+    listener: &'s Listener,
 ) -> bool
 where
     R: Threads + Clock + Sync,
@@ -64,13 +64,13 @@ where
         .stack_size(post.stack)
         .spawn_scoped(
             scope,
-            move || accept::<E, R, W, C>(rt, scope, service, post, door),
+            move || accept::<E, R, W, C>(rt, scope, service, post, listener),
         )
         .is_ok()
 }
 
 // A thread for each worker. False where one could not be started: its worker and those behind it are dropped.
-fn hire_all<'s, E, R, W, C>(
+fn spawn_all<'s, E, R, W, C>(
     rt: &'s R,
     scope: &'s Scope<'s, E>,
     service: &'s C,
@@ -84,7 +84,7 @@ where
     C: Service<R, W> + Sync,
 {
     for worker in workers {
-        let Some(hand) = hire::<E, R, W, C>(rt, scope, service, worker, stack) else {
+        let Some(hand) = spawn::<E, R, W, C>(rt, scope, service, worker, stack) else {
             return false;
         };
         if hands.push(hand).is_err() {
@@ -104,19 +104,19 @@ fn gather<R: Threads, W: Drop>(rt: &R, hands: Vec<JoinHandle<W>>, back: &mut Vec
     true
 }
 
-// Both doors are open while the chief presides. It comes back once no connection is left.
-fn serve_doors<R, W, C, K>(
+// Both listeners are open while the main loop runs. It comes back once no connection is left.
+fn serve_listeners<R, W, C, K>(
     rt: &R,
     service: &C,
-    callers: &Door,
-    locals: &Door,
+    callers: &Listener,
+    locals: &Listener,
     stack: usize,
-    chief: &mut K,
+    main_loop: &mut K,
 ) -> bool
 where
     R: Threads + Wait + Clock + Sync,
     C: Service<R, W> + Sync,
-    K: Chief<R>,
+    K: MainLoop<R>,
 {
     thread::scope(thread::scope_env(), rt, |scope| {
         let is_open = open::<_, R, W, C>(
@@ -139,7 +139,7 @@ where
             locals,
         );
         if is_open {
-            chief.preside(rt);
+            main_loop.run(rt);
         }
         service.stop(rt);
         is_open
@@ -150,30 +150,30 @@ where
 fn serve_all<R, W, C, K>(
     rt: &R,
     service: &C,
-    staff: Staff<W>,
-    chief: &mut K,
+    worker_pool: WorkerPool<W>,
+    main_loop: &mut K,
     back: &mut Vec<W>,
 ) -> bool
 where
     R: Threads + Wait + Clock + Sync,
     W: Send + Drop,
     C: Service<R, W> + Sync,
-    K: Chief<R>,
+    K: MainLoop<R>,
 {
-    let Staff {
+    let WorkerPool {
         alloc,
         callers,
         locals,
         workers,
         stack,
-    } = staff;
+    } = worker_pool;
     let callers = &callers;
     let locals = &locals;
     thread::scope(thread::scope_env(), rt, |scope| {
         let mut hands = Vec::new(alloc);
-        let is_staffed = hire_all::<_, R, W, C>(rt, scope, service, workers, stack, &mut hands);
-        let is_served = is_staffed
-            && serve_doors::<R, W, C, K>(rt, service, callers, locals, stack, chief);
+        let is_spawned = spawn_all::<_, R, W, C>(rt, scope, service, workers, stack, &mut hands);
+        let is_served = is_spawned
+            && serve_listeners::<R, W, C, K>(rt, service, callers, locals, stack, main_loop);
         service.close();
         gather(rt, hands, back) && is_served
     })
@@ -183,20 +183,20 @@ where
 pub fn run<R, W, C, K>(
     rt: &R,
     service: &C,
-    staff: Staff<W>,
-    chief: &mut K,
+    worker_pool: WorkerPool<W>,
+    main_loop: &mut K,
 ) -> Result<Vec<W>, NoThread>
 where
     R: Threads + Wait + Clock + Sync,
     W: Send + Drop,
     C: Service<R, W> + Sync,
-    K: Chief<R>,
+    K: MainLoop<R>,
 {
-    let mut back = Vec::new(staff.alloc);
-    if back.reserve(staff.workers.len()).is_err() {
+    let mut back = Vec::new(worker_pool.alloc);
+    if back.reserve(worker_pool.workers.len()).is_err() {
         return Err(NoThread);
     }
-    if serve_all::<R, W, C, K>(rt, service, staff, chief, &mut back) {
+    if serve_all::<R, W, C, K>(rt, service, worker_pool, main_loop, &mut back) {
         Ok(back)
     } else {
         Err(NoThread)

@@ -4,7 +4,7 @@ use std::alloc::Global;
 use std::net::{SocketAddr, TcpStream};
 use std::sync::Arc;
 
-/// Which door a connection came in by.
+/// Which listener a connection came in by.
 #[derive(Clone, Copy, PartialEq, Eq)]
 pub enum Side {
     /// Calls by record.
@@ -15,8 +15,8 @@ pub enum Side {
 
 /// A connection that was taken in.
 #[derive(Drop)]
-pub struct Guest {
-    /// By which door it came.
+pub struct Accepted {
+    /// By which listener it came.
     pub side: Side,
     pub connection: Arc<Connection, Global>,
     /// Where its peer is.
@@ -26,10 +26,10 @@ pub struct Guest {
 /// What the threads of a server do. `W` is what a worker has.
 pub trait Service<R, W> {
     /// Takes a connection in. `None`: there is no place for it, and it is closed.
-    fn admit(&self, rt: &R, side: Side, stream: TcpStream, from: SocketAddr) -> Option<Guest>;
+    fn admit(&self, rt: &R, side: Side, stream: TcpStream, from: SocketAddr) -> Option<Accepted>;
 
     /// All that the thread of a connection does, to its end. It leaves its place.
-    fn attend(&self, rt: &R, guest: Guest);
+    fn attend(&self, rt: &R, accepted: Accepted);
 
     /// There is no thread for the connection of this number: it leaves its place.
     fn dismiss(&self, rt: &R, side: Side, number: u64);
@@ -37,7 +37,7 @@ pub trait Service<R, W> {
     /// All that a worker's thread does, to its end.
     fn work(&self, rt: &R, worker: W) -> W;
 
-    /// Ends reading on every connection, and shuts the doors.
+    /// Ends reading on every connection, and shuts the listeners.
     fn stop(&self, rt: &R);
 
     /// Whether it was stopped.
@@ -48,7 +48,7 @@ pub trait Service<R, W> {
 }
 
 /// What the thread that started all others does meanwhile.
-pub trait Chief<R> {
+pub trait MainLoop<R> {
     /// It comes back once the server is stopped, or stops it.
-    fn preside(&mut self, rt: &R);
+    fn run(&mut self, rt: &R);
 }

@@ -2,7 +2,7 @@
 use super::memory::Memory;
 use crate::words::is_words;
 use call_codec::{Dest, put_record};
-use callbacks::{Destination, Letter, Message};
+use callbacks::{Callback, Destination, Message};
 use std::alloc::Global;
 use xdr_core::Frame;
 
@@ -12,12 +12,12 @@ fn is_record(number: u64, message: &Message, text: &str) -> bool {
     put_record(number, message, &mut f).is_ok() && is_words(&f, text)
 }
 
-/// Whether the record of the call of this number is these words, and so is that of its letter's copy.
+/// Whether the record of the call of this number is these words, and so is that of its callback's copy.
 fn tells(alloc: Global, number: u64, message: Message, text: &str) -> bool {
-    let letter = Letter::new(Destination::Connection(1), message);
-    let copy = letter.copy(alloc);
-    let is_so = is_record(number, letter.message(), text);
-    drop(letter);
+    let callback = Callback::new(Destination::Connection(1), message);
+    let copy = callback.copy(alloc);
+    let is_so = is_record(number, callback.message(), text);
+    drop(callback);
     match copy {
         Ok(copy) => {
             let is_copied = is_record(number, copy.message(), text);

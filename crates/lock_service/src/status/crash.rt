@@ -7,7 +7,7 @@ ghost use Rattle.call_plans.specs.Planned.{IsPlan};
 
 use super::stat;
 use call_codec::{CallResult, Outcome};
-use call_plans::{Answer, Asked, Change, Plan, Told, World};
+use call_plans::{Answer, Asked, Change, Plan, Response, World};
 use hosts_db::HostStore;
 use owner_ids::Starved;
 use range_table::RangeTable;
@@ -23,8 +23,8 @@ pub(crate) fn plan<R: RangeTable, S: HostStore>(
     }
     let alloc = world.alloc();
     let notices = world.notices()?;
-    let told = Told::reply(alloc, Outcome::Success(CallResult::Nothing))?;
-    let refused = Told::reply(alloc, Outcome::SystemErr)?;
+    let told = Response::reply(alloc, Outcome::Success(CallResult::Nothing))?;
+    let refused = Response::reply(alloc, Outcome::SystemErr)?;
     Ok(Plan::AfterStore {
         asked: Asked::Begin,
         agreed: Answer {

@@ -8,7 +8,7 @@ ghost use Rattle.lock_service.specs.Dropping.{dropped_if_room};
 
 use super::stat;
 use call_codec::{CallResult, Outcome};
-use call_plans::{Answer, Asked, Change, Plan, SharedOutcome, Told, World};
+use call_plans::{Answer, Asked, Change, Plan, Response, SharedOutcome, World};
 use callbacks::ShortBytes;
 use hosts_db::HostStore;
 use nsm_types::{Name, StatChge};
@@ -43,13 +43,13 @@ fn dropped<R: RangeTable, S: HostStore>(
         return stat::failed(world);
     }
     let gone = Vec::from_slice(alloc, name.bytes)?;
-    let due = world.status_letters(name.bytes, state)?;
+    let due = world.status_callbacks(name.bytes, state)?;
     let outcome = SharedOutcome::of(alloc, Outcome::Success(CallResult::Nothing))?;
     let agreed = Answer {
-        told: Told { outcome, due },
+        told: Response { outcome, due },
         change: Change::DropHost(gone),
     };
-    let Ok(refused) = Told::reply(alloc, Outcome::SystemErr) else {
+    let Ok(refused) = Response::reply(alloc, Outcome::SystemErr) else {
         drop(agreed);
         return Err(Starved);
     };

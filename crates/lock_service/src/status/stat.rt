@@ -8,7 +8,7 @@ ghost use Rattle.nsm_types.specs.Results.{view_of_monitor_res};
 ghost use Rattle.call_plans.specs.Planned.{told_in, FitsDue, IsPlan};
 
 use call_codec::{CallResult, Outcome};
-use call_plans::{Answer, Change, Plan, Told, World};
+use call_plans::{Answer, Change, Plan, Response, World};
 use hosts_db::HostStore;
 use nsm_types::{MonitorRes, SmStat, SmStatRes};
 use owner_ids::Starved;
@@ -18,14 +18,14 @@ use range_table::RangeTable;
 pub(crate) fn nothing<R: RangeTable, S: HostStore>(world: &World<R, S>) -> Result<Plan, Starved>
     ensures { IfOk result (λ made. IsPlan (says world.now.world NoResult) world.now.world made) }
 {
-    Ok(unchanged(Told::reply(world.alloc(), Outcome::Success(CallResult::Nothing))?))
+    Ok(unchanged(Response::reply(world.alloc(), Outcome::Success(CallResult::Nothing))?))
 }
 
 /// SYSTEM_ERR, and nothing changes.
 pub(crate) fn failed<R: RangeTable, S: HostStore>(world: &World<R, S>) -> Result<Plan, Starved>
     ensures { IfOk result (λ made. IsPlan (decided (gives world.now.world SystemErr)) world.now.world made) }
 {
-    Ok(unchanged(Told::reply(world.alloc(), Outcome::SystemErr)?))
+    Ok(unchanged(Response::reply(world.alloc(), Outcome::SystemErr)?))
 }
 
 /// This result with the own state, and nothing changes.
@@ -49,30 +49,30 @@ pub(crate) fn state<R: RangeTable, S: HostStore>(world: &World<R, S>) -> Result<
 pub(crate) fn monitored<R: RangeTable, S: HostStore>(
     world: &World<R, S>,
     res: MonitorRes,
-) -> Result<Told, Starved>
+) -> Result<Response, Starved>
     ensures told { IfOk result (λ made. (w : SaidWorld) → told_in made w ≡ gives w (Success (MonitorResult (view_of_monitor_res res) (pos world.now.world.hosts.own)))) }
     ensures fits { IfOk result (λ made. (w : SaidWorld) → FitsDue made w) }
 {
     let state = world.own_state() as i32;
-    Told::reply(
+    Response::reply(
         world.alloc(),
         Outcome::Success(CallResult::Monitor(SmStatRes { res, state })),
     )
 }
 
 /// The own state.
-pub(crate) fn own<R: RangeTable, S: HostStore>(world: &World<R, S>) -> Result<Told, Starved>
+pub(crate) fn own<R: RangeTable, S: HostStore>(world: &World<R, S>) -> Result<Response, Starved>
     ensures told { IfOk result (λ made. (w : SaidWorld) → told_in made w ≡ gives w (Success (own_state world.now.world))) }
     ensures fits { IfOk result (λ made. (w : SaidWorld) → FitsDue made w) }
 {
     let state = world.own_state() as i32;
-    Told::reply(
+    Response::reply(
         world.alloc(),
         Outcome::Success(CallResult::State(SmStat { state })),
     )
 }
 
-fn unchanged(told: Told) -> Plan
+fn unchanged(told: Response) -> Plan
     ensures { (w : SaidWorld) → FitsDue told w → IsPlan (decided (told_in told w)) w result }
 {
     Plan::Decided(Answer {

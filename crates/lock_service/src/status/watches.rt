@@ -11,7 +11,7 @@ ghost use Rattle.call_plans.specs.Planned.{view_of_asked, CanAskFor, IsPlan};
 
 use super::stat;
 use call_codec::Outcome;
-use call_plans::{Answer, Asked, Change, Plan, Told, World};
+use call_plans::{Answer, Asked, Change, Plan, Response, World};
 use callbacks::{self, ShortBytes};
 use hosts_db::HostStore;
 use nsm_types::{Mon, MonId, MonitorRes, MyId};
@@ -112,7 +112,7 @@ fn unwatched<R: RangeTable, S: HostStore>(
         drop(asked);
         return Err(Starved);
     };
-    let Ok(refused) = Told::reply(world.alloc(), Outcome::SystemErr) else {
+    let Ok(refused) = Response::reply(world.alloc(), Outcome::SystemErr) else {
         drop(asked);
         drop(told);
         return Err(Starved);

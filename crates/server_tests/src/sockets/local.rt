@@ -3,7 +3,7 @@
 use super::calls::LOCK_BY_FIRST;
 use super::client::{dial, read, stop, write};
 use super::servers::{Ports, loopback};
-use super::talks::{CALLED, GRACE, REPLY, Told, answered, lock_both, lock_first};
+use super::talks::{CALLED, GRACE, REPLY, Response, answered, lock_both, lock_first};
 use std::alloc::Global;
 use std::io;
 use std::net::{Net, TcpListener, TcpStream};
@@ -49,13 +49,13 @@ fn is_granted<R: Net<Stream = TcpStream> + Clock>(rt: &R, ports: Ports) -> io::R
 }
 
 /// A local program waits for a lock. One answer, where it is told of it.
-pub(crate) fn wait<R>(rt: &R, ports: Ports) -> io::Result<Told>
+pub(crate) fn wait<R>(rt: &R, ports: Ports) -> io::Result<Response>
 where
     R: Net<Stream = TcpStream> + Clock,
 {
     let goes = is_granted(rt, ports)?;
     let is_stopped = stop(rt, ports.local)?;
-    Ok(Told::of(u32::from(goes && is_stopped)))
+    Ok(Response::of(u32::from(goes && is_stopped)))
 }
 
 // Whether as many connections to the peer bring the same call, each for itself: none is answered, so that each is closed.
@@ -73,7 +73,7 @@ fn are_same(listener: &TcpListener) -> io::Result<bool> {
 
 /// A GRANTED is sent three times to a peer that says nothing, each over a connection of its own. The lock stays: the statuses of the
 /// calls, of which the last asks for it.
-pub(crate) fn stay_mute<R>(rt: &R, alloc: Global, ports: Ports) -> io::Result<Told>
+pub(crate) fn stay_mute<R>(rt: &R, alloc: Global, ports: Ports) -> io::Result<Response>
 where
     R: Net<Listener = TcpListener, Stream = TcpStream> + Clock,
 {
@@ -83,7 +83,7 @@ where
     let goes = are_same(&listener)?;
     let again = answered(&connection, alloc, 2_000, &LOCK_BY_FIRST)?;
     let is_stopped = stop(rt, ports.local)?;
-    Ok(Told {
+    Ok(Response {
         answered: u32::from(goes && is_stopped),
         statuses: [held, waits, freed, again],
         procedure: 5,
@@ -91,7 +91,7 @@ where
 }
 
 /// The server restarts by SM_SIMU_CRASH: its grace period begins, and ends once more. The statuses of the locks that are granted then.
-pub(crate) fn begin_anew<R>(rt: &R, alloc: Global, ports: Ports) -> io::Result<Told>
+pub(crate) fn begin_anew<R>(rt: &R, alloc: Global, ports: Ports) -> io::Result<Response>
 where
     R: Net<Stream = TcpStream> + Clock,
 {
@@ -103,7 +103,7 @@ where
     let _ = read::<REPLY>(&connection)?;
     let again = lock_first(rt, alloc, &connection, 1_000, GRACE)?;
     let is_stopped = stop(rt, ports.local)?;
-    Ok(Told {
+    Ok(Response {
         answered: u32::from(is_put && is_stopped),
         statuses: [held, again, 0, 0],
         procedure: 0,

@@ -89,7 +89,7 @@ enum Misdeed {
     // A caller sends nothing.
     Idle,
     // A local program asks often, and goes before it has all answers.
-    Deaf,
+    Closed,
     // A local program goes before it has read its answer whole, and after it came.
     Gone,
 }
@@ -102,7 +102,11 @@ const MISDEEDS: &[(Misdeed, &str, &str)] = &[
         "] ",
         " was idle, or its connection failed: closed",
     ),
-    (Misdeed::Deaf, "] local program ", " takes no bytes: closed"),
+    (
+        Misdeed::Closed,
+        "] local program ",
+        " takes no bytes: closed",
+    ),
     (Misdeed::Gone, "] local program ", " failed: closed"),
 ];
 
@@ -153,7 +157,7 @@ where
     let connection = match misdeed {
         Misdeed::TooLong => call(rt, ports, TOO_LONG)?,
         Misdeed::Idle => call(rt, ports, b"")?,
-        Misdeed::Deaf => ask_often(rt, alloc, ports)?,
+        Misdeed::Closed => ask_often(rt, alloc, ports)?,
         Misdeed::Gone => ask(rt, ports)?,
     };
     connection.local_addr()

@@ -1,9 +1,9 @@
 //! A GRANTED that reaches its peer, and what the peer says to it.
 use super::servers::served_to;
-use super::talks::{Talk, Told};
+use super::talks::{Response, Talk};
 use std::test::*;
 
-const GRANTED: Told = Told {
+const GRANTED: Response = Response {
     answered: 3,
     statuses: [0, 3, 0, 0],
     procedure: 5,
@@ -28,7 +28,7 @@ fn no_reply_leaves_its_call_waiting(rt: HostRuntime) {
 #[test]
 fn mute_peer(rt: HostRuntime) {
     let served = served_to(&rt, rt.alloc(), 2, 0, Talk::Mute);
-    let told = Told {
+    let told = Response {
         answered: 1,
         statuses: [0, 3, 0, 3],
         procedure: 5,
@@ -39,12 +39,12 @@ fn mute_peer(rt: HostRuntime) {
 #[test]
 fn granted_goes_to_its_local_program(rt: HostRuntime) {
     let served = served_to(&rt, rt.alloc(), 2, 0, Talk::Waiting);
-    assert!(rt; matches!(served, Some((0, found, _)) if found == Told::of(1)));
+    assert!(rt; matches!(served, Some((0, found, _)) if found == Response::of(1)));
 }
 
 // Both locks are granted, each behind a grace period.
 #[test]
 fn grace_begins_anew(rt: HostRuntime) {
     let served = served_to(&rt, rt.alloc(), 2, 0, Talk::Anew);
-    assert!(rt; matches!(served, Some((_, found, _)) if found == Told::of(1)));
+    assert!(rt; matches!(served, Some((_, found, _)) if found == Response::of(1)));
 }

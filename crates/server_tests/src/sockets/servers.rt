@@ -1,12 +1,12 @@
 //! A server, and who talks to it.
 use super::noted::{Noted, misbehaves};
-use super::talks::{Talk, Told};
+use super::talks::{Response, Talk};
 use crate::hall::{Hall, LONG};
 use callbacks::ShortBytes;
 use hosts_db::MemHosts;
 use log::{LevelFilter, Log, Logged};
 use peers::Peers;
-use server::{Backing, CallSettings, Runtime, Settings, serve};
+use server::{Backing, CallSettings, Runtime, ServerSettings, serve};
 use std::alloc::Global;
 use std::io::{self, Print};
 use std::net::{Ipv4Addr, Net, SocketAddr, SocketAddrV4, TcpListener, TcpStream};
@@ -45,8 +45,8 @@ impl Ports {
         })
     }
 
-    fn settings(&self, workers: u16, silence: Duration) -> Settings {
-        Settings {
+    fn settings(&self, workers: u16, silence: Duration) -> ServerSettings {
+        ServerSettings {
             rpc: loopback(self.rpc),
             local_port: self.local,
             calls: CallSettings {
@@ -75,12 +75,12 @@ fn backing(alloc: Global) -> Option<Backing<MemHosts>> {
 }
 
 /// How many calls the server took, by its audit, what the talk came to, and whether enough jobs were inside at once.
-pub(crate) type Served = (u64, Told, bool);
+pub(crate) type Served = (u64, Response, bool);
 
 fn served<R: Runtime>(
     rt: &R,
     alloc: Global,
-    settings: Settings,
+    settings: ServerSettings,
     backing: Backing<MemHosts>,
     wanted: u64,
     talk: (Ports, Talk),
@@ -132,7 +132,7 @@ where
 fn noted_of<R: Runtime, N: Wait + Clock + Sync>(
     rt: &R,
     alloc: Global,
-    settings: Settings,
+    settings: ServerSettings,
     backing: Backing<MemHosts>,
     ports: Ports,
     noted: &Noted<'_, N>,
@@ -163,7 +163,7 @@ where
 {
     match (Ports::free(rt), backing(alloc)) {
         (Ok(ports), Some(backing)) => {
-            let settings = Settings {
+            let settings = ServerSettings {
                 idle: Duration::from_millis(100),
                 ..ports.settings(2, Duration::from_secs(5))
             };

@@ -58,16 +58,16 @@ pub(crate) enum Talk {
 /// How many calls were answered, and of a grant the statuses of the replies, 0 where there were fewer, and the procedure of the
 /// call that came.
 #[derive(Clone, Copy, PartialEq, Eq)]
-pub(crate) struct Told {
+pub(crate) struct Response {
     pub(crate) answered: u32,
     pub(crate) statuses: [u8; 4],
     pub(crate) procedure: u8,
 }
 
-impl Told {
+impl Response {
     /// So many answers, and no grant.
-    pub(crate) fn of(answered: u32) -> Told {
-        Told {
+    pub(crate) fn of(answered: u32) -> Response {
+        Response {
             answered,
             statuses: [0; 4],
             procedure: 0,
@@ -115,7 +115,7 @@ fn count_answers(asked: &[(u32, TcpStream)]) -> io::Result<u32> {
 }
 
 // How many of sixteen connections are answered.
-fn ask_sixteen<R>(rt: &R, alloc: Global, ports: Ports, hall: &Hall<'_, R>) -> io::Result<Told>
+fn ask_sixteen<R>(rt: &R, alloc: Global, ports: Ports, hall: &Hall<'_, R>) -> io::Result<Response>
 where
     R: Net<Stream = TcpStream> + Clock,
 {
@@ -123,11 +123,11 @@ where
     ask_each(rt, alloc, ports.rpc, hall, &mut asked)?;
     let count = count_answers(&asked)?;
     let is_stopped = stop(rt, ports.local)?;
-    Ok(Told::of(if is_stopped { count } else { 0 }))
+    Ok(Response::of(if is_stopped { count } else { 0 }))
 }
 
 // One connection asks as often as this. How many are answered.
-fn ask_all<R>(rt: &R, alloc: Global, ports: Ports, calls: u32) -> io::Result<Told>
+fn ask_all<R>(rt: &R, alloc: Global, ports: Ports, calls: u32) -> io::Result<Response>
 where
     R: Net<Stream = TcpStream> + Clock,
 {
@@ -157,7 +157,7 @@ where
 }
 
 // Each place is taken and answered, and one more is closed. How many were answered.
-fn fill<R>(rt: &R, alloc: Global, ports: Ports) -> io::Result<Told>
+fn fill<R>(rt: &R, alloc: Global, ports: Ports) -> io::Result<Response>
 where
     R: Net<Stream = TcpStream> + Clock,
 {
@@ -167,7 +167,7 @@ where
     let is_turned_away = is_closed(&dial(rt, ports.rpc)?)?;
     let is_stopped = stop(rt, ports.local)?;
     let goes = is_turned_away && is_stopped;
-    Ok(Told::of(if goes { count } else { 0 }))
+    Ok(Response::of(if goes { count } else { 0 }))
 }
 
 // Sends so many calls in one write.
@@ -180,7 +180,7 @@ fn write_calls(connection: &TcpStream, alloc: Global, calls: u32) -> io::Result<
 }
 
 // One connection asks as often as this in one write. How many are answered.
-fn ask_at_once<R>(rt: &R, alloc: Global, ports: Ports, calls: u32) -> io::Result<Told>
+fn ask_at_once<R>(rt: &R, alloc: Global, ports: Ports, calls: u32) -> io::Result<Response>
 where
     R: Net<Stream = TcpStream> + Clock,
 {
@@ -190,7 +190,12 @@ where
 }
 
 // Reads so many replies, and has the server stop. How many came.
-fn count_replies<R>(rt: &R, ports: Ports, connection: &TcpStream, calls: u32) -> io::Result<Told>
+fn count_replies<R>(
+    rt: &R,
+    ports: Ports,
+    connection: &TcpStream,
+    calls: u32,
+) -> io::Result<Response>
 where
     R: Net<Stream = TcpStream> + Clock,
 {
@@ -200,7 +205,7 @@ where
         count = count.wrapping_add(1);
     }
     let is_stopped = stop(rt, ports.local)?;
-    Ok(Told::of(if is_stopped { count } else { 0 }))
+    Ok(Response::of(if is_stopped { count } else { 0 }))
 }
 
 // Sends the call: the status that ends its reply.
@@ -260,7 +265,7 @@ fn deny<R: Clock>(
 }
 
 // The second owner is granted, and its peer may deny it.
-fn grant<R>(rt: &R, alloc: Global, ports: Ports, is_denied: bool) -> io::Result<Told>
+fn grant<R>(rt: &R, alloc: Global, ports: Ports, is_denied: bool) -> io::Result<Response>
 where
     R: Net<Listener = TcpListener, Stream = TcpStream> + Clock,
 {
@@ -276,7 +281,7 @@ where
         0
     };
     let _ = stop(rt, ports.local)?;
-    Ok(Told {
+    Ok(Response {
         answered: 3,
         statuses: [held, waits, freed, again],
         procedure: call[27],
@@ -290,7 +295,7 @@ impl Talk {
         alloc: Global,
         ports: Ports,
         hall: &Hall<'_, R>,
-    ) -> io::Result<Told>
+    ) -> io::Result<Response>
     where
         R: Net<Listener = TcpListener, Stream = TcpStream> + Clock,
     {

@@ -1,8 +1,8 @@
 //! The lines of a local program, and the sender's turns behind them.
-use super::bells::Bells;
 use super::parts::Kept;
 use super::rounds::{Crew, Turn, audited};
 use super::sending::{NOTHING, Sent};
+use super::stop_signals::StopSignals;
 use callback_sender::Due;
 use line_loop::{Ending, serve_lines};
 use std::alloc::{AllocError, Global};
@@ -40,7 +40,7 @@ impl Talk<'_> {
         alloc: Global,
         shared: &Mutex<Kept<L>>,
     ) -> bool {
-        let bells = Bells::new();
+        let stop_signals = StopSignals::new();
         let mut input = Source::new(self.lines, self.pace);
         let mut output = Sink {
             held: Vec::new(alloc),
@@ -50,7 +50,7 @@ impl Talk<'_> {
             alloc,
             rt,
             shared,
-            &bells,
+            &stop_signals,
             7,
             &mut input,
             &mut output,
@@ -59,8 +59,8 @@ impl Talk<'_> {
         let ending = served.ending;
         ending == self.ending
             && output.held.as_slice() == self.answers.as_bytes()
-            && bells.is_stopping.load(Ordering::SeqCst) == (ending == Ending::Stopped)
-            && bells.due.load(Ordering::SeqCst) == self.due
+            && stop_signals.is_stopping.load(Ordering::SeqCst) == (ending == Ending::Stopped)
+            && stop_signals.due.load(Ordering::SeqCst) == self.due
             && self.sent.is_handed(rt, alloc, shared)
     }
 }

@@ -2,7 +2,7 @@
 ghost use Rattle.std.specs.Prelude.{◌≡◌, []};
 
 use book::{Dest, Reply};
-use callback_sender::{Courier, SentCall};
+use callback_sender::{CallSink, SentCall};
 use ghost_list::History;
 use reply_outbox::{Outbox, SentReply};
 use std::alloc::Global;
@@ -56,18 +56,18 @@ impl Outbox for MemoryOutbox {
     fn flush(&mut self) {}
 }
 
-/// A courier that keeps calls, as many as it finds memory for, and tells of all that it was handed.
+/// A call sink that keeps calls, as many as it finds memory for, and tells of all that it was handed.
 #[derive(Drop)]
-pub(crate) struct MemoryCourier {
+pub(crate) struct MemoryCallSink {
     kept: Vec<SentCall>,
     all: History<SentCall>,
 }
 
-impl MemoryCourier {
-    pub(crate) fn new(alloc: Global) -> MemoryCourier
+impl MemoryCallSink {
+    pub(crate) fn new(alloc: Global) -> MemoryCallSink
         ensures { result.all.items ≡ [] }
     {
-        MemoryCourier {
+        MemoryCallSink {
             kept: Vec::new(alloc),
             all: History::new(),
         }
@@ -79,7 +79,7 @@ impl MemoryCourier {
     }
 }
 
-impl Courier for MemoryCourier {
+impl CallSink for MemoryCallSink {
     ghost use Rattle.callback_sender.specs.SentCalls.{view_of_sent};
 
     ghost handed = { λ c. view_of_sent c.all.items };

@@ -3,11 +3,11 @@
 ghost use Rattle.std.specs.Prelude.{◌≡◌, IfSome};
 ghost use Rattle.workers.specs.Holds.{IsNew};
 
-use super::bells::Bells;
 use super::parts::{Kept, begun_over};
 use super::rounds::{enters, opens};
+use super::stop_signals::StopSignals;
 use book::{Book, BookEvent};
-use callback_sender::{Locals, Sender, Settings};
+use callback_sender::{CallSettings, Locals, Sender};
 use hosts_db::{HostStore, MemHosts};
 use line_loop::{Signals, serve_lines};
 use peers::Peers;
@@ -56,9 +56,9 @@ impl<'a, L: Ledger, R: Wait> Locals for Restarter<'a, L, R> {
 }
 
 // No peer is called, so that the ports say nothing, and no time is up.
-fn settings() -> Settings {
+fn settings() -> CallSettings {
     let long = Duration::from_secs(1_000);
-    Settings {
+    CallSettings {
         nlm_port: 1,
         nsm_port: 1,
         watch_port: 1,
@@ -85,12 +85,12 @@ fn answers<L: Ledger, R: Wait>(
         held: Vec::new(alloc),
         room: usize::MAX,
     };
-    let bells = Bells::new();
+    let stop_signals = StopSignals::new();
     let served = serve_lines(
         alloc,
         rt,
         shared,
-        &bells,
+        &stop_signals,
         7,
         &mut input,
         &mut output,

@@ -13,14 +13,14 @@ use book::{Book, BookEvent};
 use hosts_db::MemHosts;
 use job_queue::{Channel, Keeper, Opened, Place};
 use range_arena::ArenaTable;
-use server::staff::{Cutter, Gatherer};
+use server::worker_pool::{PoolBuilder, PoolShutdown};
 use std::alloc::Global;
 use std::marker::Brand;
 use std::sync::ledger::{Blank, Ledger};
 use std::sync::{Mutex, Wait};
 use std::thread::Threads;
 use std::time::Clock;
-use workers::{Shared, Transcript, Worker};
+use workers::{GhostTrace, Shared, Worker};
 
 /// How many workers there are, and whether what they do is kept for the audit.
 #[derive(Clone, Copy)]
@@ -41,15 +41,15 @@ pub(crate) enum Turn<'a> {
 // All are taken in, and what they did is audited.
 fn ended<P: Place, L: Ledger>(
     channel: &Channel<P>,
-    mut gatherer: Gatherer<P, L>,
+    mut pool_shutdown: PoolShutdown<P, L>,
     workers: Vec<Worker<P, L>>,
     shared: Kept<L>,
     crew: Crew,
 ) -> Option<u64>
     requires { crew.count ≡ L.parts }
 {
-    let are_in = gatherer.take_all(channel, workers).is_ok();
-    let audited = gatherer.settle(channel, shared, u64::from(crew.count));
+    let are_in = pool_shutdown.take_all(channel, workers).is_ok();
+    let audited = pool_shutdown.settle(channel, shared, u64::from(crew.count));
     if are_in { audited.ok() } else { None }
 }
 
@@ -57,10 +57,10 @@ fn ended<P: Place, L: Ledger>(
 pub(crate) fn enters<L: Ledger>(shared: &mut Kept<L>, event: BookEvent) -> bool
     requires { is_take (view_of_event event) ≡ false }
 {
-    let mut transcript = Transcript::new();
-    match shared.apply(event, &mut transcript) {
-        Ok(upshot) => {
-            drop(upshot);
+    let mut ghost_trace = GhostTrace::new();
+    match shared.apply(event, &mut ghost_trace) {
+        Ok(step_result) => {
+            drop(step_result);
             true
         }
         Err(event) => {
@@ -96,7 +96,7 @@ fn work<P: Place + Send + Sync, L: Ledger + Send + Sync, R: Threads + Wait + Clo
     rt: &R,
     alloc: Global,
     channel: &Channel<P>,
-    mut cutter: Cutter<P, L>,
+    mut pool_builder: PoolBuilder<P, L>,
     shared: Kept<L>,
     crew: Crew,
     turn: Turn<'_>,
@@ -104,16 +104,16 @@ fn work<P: Place + Send + Sync, L: Ledger + Send + Sync, R: Threads + Wait + Clo
     requires { crew.count ≡ L.parts }
 {
     let shared = Mutex::new(shared);
-    let mut workers = cutter
+    let mut workers = pool_builder
         .cut_all(channel, crew.count)
         .unwrap_or(Vec::new(alloc));
     let goes = goes(rt, alloc, channel, &shared, &mut workers, turn);
-    let gatherer = cutter.into_gatherer();
-    let audited = ended(channel, gatherer, workers, shared.into_inner(), crew);
+    let pool_shutdown = pool_builder.into_pool_shutdown();
+    let audited = ended(channel, pool_shutdown, workers, shared.into_inner(), crew);
     if goes { audited } else { None }
 }
 
-fn staff<P: Place + Send + Sync, L: Ledger + Send + Sync, R: Threads + Wait + Clock + Sync>(
+fn worker_pool<P: Place + Send + Sync, L: Ledger + Send + Sync, R: Threads + Wait + Clock + Sync>(
     rt: &R,
     alloc: Global,
     channel: &Channel<P>,
@@ -128,11 +128,17 @@ fn staff<P: Place + Send + Sync, L: Ledger + Send + Sync, R: Threads + Wait + Cl
     requires new { IsNew book.journal }
 {
     let (total, share) = blank.open::<L>();
-    let cutter = Cutter::new(alloc, keeper, share, u64::from(crew.count), crew.is_audited);
+    let pool_builder = PoolBuilder::new(
+        alloc,
+        keeper,
+        share,
+        u64::from(crew.count),
+        crew.is_audited,
+    );
     match Shared::new(alloc, book, total, crew.is_audited) {
-        Ok(shared) => open(rt, alloc, channel, cutter, shared, crew, turn),
+        Ok(shared) => open(rt, alloc, channel, pool_builder, shared, crew, turn),
         Err(_) => {
-            drop(cutter);
+            drop(pool_builder);
             None
         }
     }
@@ -143,7 +149,7 @@ fn open<P: Place + Send + Sync, L: Ledger + Send + Sync, R: Threads + Wait + Clo
     rt: &R,
     alloc: Global,
     channel: &Channel<P>,
-    cutter: Cutter<P, L>,
+    pool_builder: PoolBuilder<P, L>,
     mut shared: Kept<L>,
     crew: Crew,
     turn: Turn<'_>,
@@ -151,7 +157,7 @@ fn open<P: Place + Send + Sync, L: Ledger + Send + Sync, R: Threads + Wait + Clo
     requires { crew.count ≡ L.parts }
 {
     let is_open = opens(&mut shared);
-    let audited = work(rt, alloc, channel, cutter, shared, crew, turn);
+    let audited = work(rt, alloc, channel, pool_builder, shared, crew, turn);
     if is_open { audited } else { None }
 }
 
@@ -171,7 +177,7 @@ fn play<P: Place + Send + Sync, L: Ledger + Send + Sync, R: Threads + Wait + Clo
     requires new { IsNew book.journal }
 {
     let (channel, keeper) = opened.named::<P>();
-    staff::<P, L, R>(rt, alloc, &channel, keeper, blank, book, crew, turn)
+    worker_pool::<P, L, R>(rt, alloc, &channel, keeper, blank, book, crew, turn)
 }
 
 /// How many calls the audit finds behind a round: 0 where nothing was kept for it. None where the turn or the audit went wrong.

@@ -1,5 +1,5 @@
 //! The turns of the sender: calls that are due are handed over.
-use super::memory::MemoryCourier;
+use super::memory::MemoryCallSink;
 use super::parts::Kept;
 use crate::words::are;
 use book::Dest;
@@ -7,7 +7,7 @@ use callback_sender::{Due, SentCall, send_due};
 use std::alloc::{AllocError, Global};
 use std::sync::ledger::Ledger;
 use std::sync::{Mutex, Wait};
-use workers::Transcript;
+use workers::GhostTrace;
 
 /// What a turn leaves, and how many calls and lines it hands over.
 type Turn = (Due, usize);
@@ -58,10 +58,10 @@ fn is_turn<L: Ledger, R: Wait>(
     log: &mut Vec<u8>,
     turn: Turn,
 ) -> bool {
-    let mut courier = MemoryCourier::new(alloc);
-    let mut transcript = Transcript::new();
-    let due = send_due(rt, shared, &mut courier, &mut transcript);
-    due == turn.0 && put_all(log, courier.kept()) == Some(turn.1)
+    let mut call_sink = MemoryCallSink::new(alloc);
+    let mut ghost_trace = GhostTrace::new();
+    let due = send_due(rt, shared, &mut call_sink, &mut ghost_trace);
+    due == turn.0 && put_all(log, call_sink.kept()) == Some(turn.1)
 }
 
 impl Sent<'_> {

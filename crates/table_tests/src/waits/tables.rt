@@ -4,7 +4,7 @@ ghost use Rattle.std.specs.Prelude.{None};
 use crate::owner::{intern, number};
 use crate::row::{Case, Row, Span};
 use blocked_list::{NoSlots, NotWaiting, Quotas, Slots, Waiter};
-use callbacks::{Destination, Letter, Message, ShortBytes};
+use callbacks::{Callback, Destination, Message, ShortBytes};
 use held_locks::RunsOfHosts;
 use owner_ids::{OwnerId, Owners};
 use range_table::{FileId, FlatTable, Mode, RangeTable, Run, Wanted};
@@ -46,9 +46,9 @@ impl RunsOfHosts for Unlimited {
     }
 }
 
-/// A letter that only its number tells apart.
-fn letter(alloc: Global, number: i32) -> Result<Letter, AllocError> {
-    Ok(Letter::new(
+/// A callback that only its number tells apart.
+fn callback(alloc: Global, number: i32) -> Result<Callback, AllocError> {
+    Ok(Callback::new(
         Destination::Connection(1),
         Message::Notify {
             name: ShortBytes::copy_of(alloc, b"x")?,
@@ -58,7 +58,7 @@ fn letter(alloc: Global, number: i32) -> Result<Letter, AllocError> {
 }
 
 fn number_of(waiter: &Waiter) -> u64 {
-    match waiter.letter().message() {
+    match waiter.callback().message() {
         Message::Notify { state, .. } => u64::from(state.unsigned_abs()),
         _ => u64::MAX,
     }
@@ -66,7 +66,7 @@ fn number_of(waiter: &Waiter) -> u64 {
 
 // Whether it waits then. None where there is no memory.
 fn block(alloc: Global, slots: &mut Slots, wanted: Wanted, number: i32) -> Option<bool> {
-    let waiter = Waiter::new(wanted, letter(alloc, number).ok()?);
+    let waiter = Waiter::new(wanted, callback(alloc, number).ok()?);
     Some(slots.block(waiter).is_ok())
 }
 

@@ -1,10 +1,10 @@
 use Rattle.std.proofs.Common.{◌≡◌, ◌≤◌, length, take, vec_len, vec_capacity}
 use Rattle.book.proofs.kept.copies_of.Given as goal
 
-abbrev pub invariant-loop-letter : goal.invariant-loop-letter
-invariant-loop-letter l = record {
-  letters : l.copies.items ≡ take l.letter-index l.letters;
-  within : l.letter-index ≤ length l.letters;
-  len : vec_len l.copies ≡ l.letter-index;
-  room : length l.letters ≤ vec_capacity l.copies;
+abbrev pub invariant-loop-callback : goal.invariant-loop-callback
+invariant-loop-callback l = record {
+  callbacks : l.copies.items ≡ take l.callback-index l.callbacks;
+  within : l.callback-index ≤ length l.callbacks;
+  len : vec_len l.copies ≡ l.callback-index;
+  room : length l.callbacks ≤ vec_capacity l.copies;
 }

@@ -1,4 +1,4 @@
-use Rattle.book.proofs.Told.{message_refusal_is_told}
+use Rattle.book.proofs.Response.{message_refusal_is_told}
 use Rattle.book.proofs.law.early_message_refusal_is_given.Goals as goal
 
 pub returns : goal.returns

@@ -1,4 +1,4 @@
-use Rattle.daemon_core.proofs.Told.{message_refusal_is_told}
+use Rattle.daemon_core.proofs.Response.{message_refusal_is_told}
 use Rattle.daemon_core.proofs.law.early_message_refusal_is_told.Goals as goal
 
 pub returns : goal.returns

@@ -1,4 +1,4 @@
-use Rattle.daemon_core.proofs.Told.{refusal_is_told}
+use Rattle.daemon_core.proofs.Response.{refusal_is_told}
 use Rattle.daemon_core.proofs.law.early_refusal_is_told.Goals as goal
 
 pub returns : goal.returns

@@ -1,4 +1,4 @@
-use Rattle.daemon_core.proofs.Told.{kept_is_given_again}
+use Rattle.daemon_core.proofs.Response.{kept_is_given_again}
 use Rattle.daemon_core.proofs.law.kept_reply_is_given_again.Goals as goal
 
 pub returns : goal.returns

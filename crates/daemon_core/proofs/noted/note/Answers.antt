@@ -12,4 +12,4 @@ returns-in_default-clause-counts g c = rw (c.make_room.ensures.refusals, c.starv
 pub returns-clause-room : goal.returns-clause-room
 returns-clause-room g c =
     let some : 0 < room_of c.make_room.new.book.journal = c.in-Ok.ensures.room in
-    rw c.from.ensures (noted_as-room _ _ _ (enters-room c.args.book.now c.make_room.new.book _ _ _ c.make_room.ensures.begins some c.apply-upshot.ensures.enters))
+    rw c.from.ensures (noted_as-room _ _ _ (enters-room c.args.book.now c.make_room.new.book _ _ _ c.make_room.ensures.begins some c.apply-step_result.ensures.enters))

@@ -3,7 +3,7 @@ use Rattle.definitions.specs.Settings.{Request}
 use Rattle.definitions.specs.Waits.{is_waiting, closes_cycle}
 use Rattle.definitions.specs.LockRules.{row_asked, after_row}
 use Rattle.definitions.specs.Nlm.{BLOCKED}
-use Rattle.definitions.specs.Outgoing.{Letter}
+use Rattle.definitions.specs.Outgoing.{Callback}
 use Rattle.definitions.specs.World.{the_limits, slots_free, with_waiter}
 use Rattle.call_plans.specs.declared.plans.Change.TheVariants.{Wait}
 use Rattle.call_plans.specs.Planned.{view_of_wanted}
@@ -40,7 +40,7 @@ returns-clause-verdict g c =
     let waits_not = ap (λ (q : Request). is_waiting q w.waiters) (sym c.request.ensures) ∙ sym c.is_waiting.ensures ∙ c.if-is_waiting.false in
     let no_cycle = ap (λ (q : Request). closes_cycle w.settings w.waiters q) (sym c.request-2.ensures) ∙ sym c.closes_cycle.ensures ∙ c.if-closes_cycle.false in
     let some = some_slot c.free_slots.result free reserved c.free_slots.ensures c.if-free_slots-ask.false in
-    let letter = c.in-Ok.letter in
-    made_so c.behind_row-2.result w (Wait c.args.ask.wanted letter) reserved _ _ (waits_now w a waits_not no_cycle some ∙ ap (λ (l : Letter). after_row w (row_asked w a.row) BLOCKED (λ v. with_waiter v (record { request = a.request; letter = l }))) (sym c.in-Ok.ensures))
-    (λ room. room_behind w (record { request = view_of_wanted c.args.ask.wanted; letter = letter }) c.free_slots.result reserved c.free_slots.ensures c.if-free_slots-ask.false)
-    (λ hosts room. room_behind w (record { request = view_of_wanted c.args.ask.wanted; letter = letter }) c.free_slots.result reserved c.free_slots.ensures c.if-free_slots-ask.false) c.behind_row-2.ensures.verdict
+    let callback = c.in-Ok.callback in
+    made_so c.behind_row-2.result w (Wait c.args.ask.wanted callback) reserved _ _ (waits_now w a waits_not no_cycle some ∙ ap (λ (l : Callback). after_row w (row_asked w a.row) BLOCKED (λ v. with_waiter v (record { request = a.request; callback = l }))) (sym c.in-Ok.ensures))
+    (λ room. room_behind w (record { request = view_of_wanted c.args.ask.wanted; callback = callback }) c.free_slots.result reserved c.free_slots.ensures c.if-free_slots-ask.false)
+    (λ hosts room. room_behind w (record { request = view_of_wanted c.args.ask.wanted; callback = callback }) c.free_slots.result reserved c.free_slots.ensures c.if-free_slots-ask.false) c.behind_row-2.ensures.verdict

@@ -1,7 +1,7 @@
 use Rattle.std.proofs.Common.{◌≡◌, ◌++◌, ◌∷◌, [], length, ℕ, subst, arith}
 use Rattle.std.proofs.lemmas.List.{length-append}
 use Rattle.std.proofs.lemmas.Result.{err_from_is_err_and}
-use Rattle.daemon_core.specs.Hub.{Waits, place_of}
+use Rattle.daemon_core.specs.DaemonState.{Waits, place_of}
 use Rattle.pipe_loops.specs.Answered.{in_order}
 use Rattle.pipe_loops.proofs.AnsweredLemmas.{Each-more, each-bytes}
 use Rattle.pipe_loops.proofs.PipeLemmas.{Breaks-after}

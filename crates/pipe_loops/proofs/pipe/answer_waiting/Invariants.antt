@@ -1,7 +1,7 @@
 use Rattle.std.proofs.Common.{◌≡◌, List, length}
 use Rattle.std.specs.Io.KnownBytes.{Appends}
 use Rattle.daemon_core.specs.declared.outputs.Outputs.{Outputs}
-use Rattle.daemon_core.specs.Hub.{all_bytes_sent}
+use Rattle.daemon_core.specs.DaemonState.{all_bytes_sent}
 use Rattle.pipe_loops.specs.Answered.{AnswersEach, in_order}
 use Rattle.pipe_loops.proofs.pipe.answer_waiting.Given as goal
 

@@ -1,7 +1,7 @@
 use Rattle.std.proofs.Common.{inl}
 use Rattle.std.proofs.lemmas.Result.{err_from_is_err_and}
 use Rattle.std.proofs.KnownBytes.{Keeps-refl}
-use Rattle.daemon_core.specs.Hub.{opening}
+use Rattle.daemon_core.specs.DaemonState.{opening}
 use Rattle.pipe_loops.proofs.pipe.pipe_loop.Goals as goal
 
 pub returns-in_err-daemon : goal.returns-in_err-daemon

@@ -8,4 +8,4 @@ use Rattle.pipe_loops.proofs.pipe.send_next.Goals as goal
 pub returns-in_err-write-in-Sent : goal.returns-in_err-write-in-Sent
 returns-in_err-write-in-Sent g c =
     let p = err_from_is_err_and c.from_residual.result c.from_residual.ensures.1 in
-    rw (p.1, p.2) (send-broken _ _ _ (told_posted Sent c.send.new.posting) c.in-Sent.ensures _ refl c.in_err-write-in-Sent.ensures)
+    rw (p.1, p.2) (send-broken _ _ _ (told_posted Sent c.send.new.send_buffer) c.in-Sent.ensures _ refl c.in_err-write-in-Sent.ensures)

@@ -12,7 +12,7 @@ kept g c =
     let more = c.change_noted.ensures.2 in
     rw more.newest
     (kept_grows i.entries.newest i.base.value.state i.shared.state c.change_noted.new.changing.state i.entries.list c.change_noted.new.noting.list _ (view_of_event c.args.event) c.change_noted.result c.self.invariant
-    (room_left i.entries.newest i.base.value.state i.shared.state i.entries.list r) more.list more.room (λ k. record { number = i.entries.newest + 1; event = did.tells k; upshot = did.noted k }) did.step)
+    (room_left i.entries.newest i.base.value.state i.shared.state i.entries.list r) more.list more.room (λ k. record { number = i.entries.newest + 1; event = did.tells k; step_result = did.noted k }) did.step)
 
 pub change_noted-requires : goal.change_noted-requires
 change_noted-requires g c =
@@ -24,7 +24,7 @@ returns-clause-enters g c =
     let i = c.self.inside in
     let did = c.change_noted.ensures.1 in
     let more = c.change_noted.ensures.2 in
-    let journal = noted_as i.entries.newest i.base.value.state i.shared.state c.change_noted.new.changing.state i.entries.list c.change_noted.new.noting.list _ (view_of_event c.args.event) c.change_noted.result c.self.invariant more.list (λ k. record { number = i.entries.newest + 1; event = did.tells k; upshot = did.noted k }) in
+    let journal = noted_as i.entries.newest i.base.value.state i.shared.state c.change_noted.new.changing.state i.entries.list c.change_noted.new.noting.list _ (view_of_event c.args.event) c.change_noted.result c.self.invariant more.list (λ k. record { number = i.entries.newest + 1; event = did.tells k; step_result = did.noted k }) in
     rw (← c.self.view_is, more.newest) (record { steps = did.step; journal = journal; refusals = did.counts; fed = did.fed })
 
 pub invariant_of-self : goal.invariant_of-self

@@ -1,7 +1,7 @@
 use Rattle.std.proofs.Common.{refl}
 use Rattle.book.specs.Notes.{AsksLine}
 use Rattle.daemon_core.specs.Outputs.{told_line}
-use Rattle.daemon_core.proofs.HubLemmas.{Happens-noted}
+use Rattle.daemon_core.proofs.DaemonLemmas.{Happens-noted}
 use Rattle.daemon_core.proofs.daemon.Daemon.local.Goals as goal
 
 pub returns : goal.returns

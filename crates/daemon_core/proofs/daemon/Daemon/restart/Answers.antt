@@ -1,7 +1,7 @@
 use Rattle.std.proofs.Common.{refl, sym}
 use Rattle.book.specs.Notes.{BeginsAnew}
 use Rattle.daemon_core.specs.Outputs.{told}
-use Rattle.daemon_core.proofs.HubLemmas.{links_after-kept, Happens-noted}
+use Rattle.daemon_core.proofs.DaemonLemmas.{links_after-kept, Happens-noted}
 use Rattle.daemon_core.proofs.daemon.Daemon.restart.Goals as goal
 
 pub returns-in-Yes : goal.returns-in-Yes

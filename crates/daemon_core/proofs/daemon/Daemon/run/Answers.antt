@@ -1,6 +1,6 @@
 use Rattle.std.proofs.Common.{◌++◌, ◌∷◌, [], arith, sym, ap, ◌∙◌, append_assoc}
 use Rattle.std.proofs.lemmas.Grind.{common_steps}
-use Rattle.daemon_core.proofs.HubLemmas.{Run-more}
+use Rattle.daemon_core.proofs.DaemonLemmas.{Run-more}
 use Rattle.daemon_core.proofs.daemon.Daemon.run.Goals as goal
 
 pub loop-event-preserved : goal.loop-event-preserved

@@ -1,6 +1,6 @@
 use Rattle.std.proofs.Common.{◌≡◌, ◌++◌, ◌≤◌, length, vec_len, vec_capacity}
 use Rattle.std.specs.Vec.Iter.{into_iter_items}
-use Rattle.daemon_core.specs.Hub.{Run}
+use Rattle.daemon_core.specs.DaemonState.{Run}
 use Rattle.daemon_core.proofs.daemon.Daemon.run.Given as goal
 
 abbrev pub invariant-loop-event : goal.invariant-loop-event

@@ -1,6 +1,6 @@
 use Rattle.std.proofs.Common.{◌≡◌, Some, sym, ◌∙◌}
-use Rattle.daemon_core.specs.Hub.{place_of}
-use Rattle.daemon_core.proofs.HubLemmas.{place_of-below, get-there}
+use Rattle.daemon_core.specs.DaemonState.{place_of}
+use Rattle.daemon_core.proofs.DaemonLemmas.{place_of-below, get-there}
 use Rattle.daemon_core.proofs.daemon.Daemon.waiting.Goals as goal
 
 pub returns-in-Some : goal.returns-in-Some

@@ -16,12 +16,12 @@ returns g c =
     let free = c.free_slots.ensures in
     let room : length (watches_of w.hosts name) ≤ slots_free the_limits w = omega arith in
     let call = view_of_asked c.in-Ok-seen.asked in
-    let letters = c.in_ok-due.due.items in
+    let callbacks = c.in_ok-due.due.items in
     let dropped = c.in_ok-gone.gone.items in
     let asked = rw (to_z-of_z w32 state c.ranges.state) at c.in-Ok-seen.ensures.asked in
     let told = rw (to_z-of_z w32 state c.ranges.state) at c.in_ok-due.ensures in
     record {
-      ruled = same w name state call (view_of_outcome c.in_ok-outcome.outcome.told.value) letters dropped (told_in c.in-Ok.refused w) asked (ap view_of_outcome c.in_ok-outcome.ensures) told c.in_ok-gone.ensures.items (c.in-Ok.ensures.told w) ∙ sym (with_room w name state room);
-      fits = ((tt, fits w name state call letters dropped told room), c.in-Ok.ensures.fits w);
+      ruled = same w name state call (view_of_outcome c.in_ok-outcome.outcome.told.value) callbacks dropped (told_in c.in-Ok.refused w) asked (ap view_of_outcome c.in_ok-outcome.ensures) told c.in_ok-gone.ensures.items (c.in-Ok.ensures.told w) ∙ sym (with_room w name state room);
+      fits = ((tt, fits w name state call callbacks dropped told room), c.in-Ok.ensures.fits w);
       asks = c.in-Ok-seen.ensures.asks w;
     }

@@ -80,7 +80,7 @@ invariant_of-self-2 g c =
     let left = c.grant-waiter.ensures.named (named names) c.self.invariant.in_use in
     let ordered = subst (λ r. r.first ≤ r.last) c.wanted-wanted.ensures.wanted c.wanted-wanted.ensures.ordered in
     let inside = subst (λ r. r.last < 2 ^ 63) c.wanted-wanted.ensures.wanted c.wanted-wanted.ensures.inside in
-    rw (settings_are g c, c.set_run.ensures.names, c.make_due.ensures, c.into_letter.ensures, c.after_grant-self-inside.ensures)
+    rw (settings_are g c, c.set_run.ensures.names, c.make_due.ensures, c.into_callback.ensures, c.after_grant-self-inside.ensures)
     (whole_granted names settings c.self.inside.slots c.grant-waiter.new.self c.self.inside.calls c.grant-waiter.result (quotas_of (g.S.HostStore.rows c.self.inside.store)) c.self.inside.unsettled c.self.invariant there left.1 c.self.inside.next c.is_limited-was_held.result (held g c) gone left.0 c.grant-waiter.ensures.calls ordered inside c.setting_frees_own_file.ensures)
 
 abbrev world : (g : Over) → goal.After-self-3-1 g → World
@@ -102,7 +102,7 @@ returns-clause-same g c =
     let there = c.grant-waiter.ensures.there (named names) test (first g c) in
     let gone = c.grant-waiter.ensures.gone (named names) test (first g c) in
     rw (← c.self.view_is)
-    (rw (settings_are g c, c.set_run.ensures.names, gone, c.make_due.ensures, c.into_letter.ensures) (settled_grant (world g c) (waiter_by (named names) c.grant-waiter.result) there))
+    (rw (settings_are g c, c.set_run.ensures.names, gone, c.make_due.ensures, c.into_callback.ensures) (settled_grant (world g c) (waiter_by (named names) c.grant-waiter.result) there))
 
 pub returns-clause-fewer : goal.returns-clause-fewer
 returns-clause-fewer g c = λ e.
@@ -120,4 +120,4 @@ returns-clause-idle g c = λ x.
     let gone = c.grant-waiter.ensures.gone (named names) test (first g c) in
     let ordered = subst (λ r. r.first ≤ r.last) c.wanted-wanted.ensures.wanted c.wanted-wanted.ensures.ordered in
     rw (← c.self.view_is)
-    (rw (settings_are g c, c.set_run.ensures.names, gone, c.make_due.ensures, c.into_letter.ensures) (idle_granted (world g c) (waiter_by (named names) c.grant-waiter.result) there ordered x))
+    (rw (settings_are g c, c.set_run.ensures.names, gone, c.make_due.ensures, c.into_callback.ensures) (idle_granted (world g c) (waiter_by (named names) c.grant-waiter.result) there ordered x))

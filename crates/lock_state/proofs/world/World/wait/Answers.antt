@@ -20,14 +20,14 @@ free g c =
 found : (g : Over) (c : goal.After-block g) → named c.self.inside.locks.names c.in-Some.number ≡ Some (view_of_owner c.args.wanted.now.owner.now)
 found g c = subst (λ ns. named ns c.in-Some.number ≡ Some (view_of_owner c.args.wanted.now.owner.now)) c.parts.ensures.names c.in-Some.ensures.found
 
-by : (g : Over) (c : goal.After-block g) → waiters_by (named c.self.inside.locks.names) c.block.new.self.waiters ≡ waiters_by (named c.self.inside.locks.names) c.self.inside.slots.waiters ++ record { request = view_of_request c.args.wanted.now; letter = c.args.letter } ∷ []
+by : (g : Over) (c : goal.After-block g) → waiters_by (named c.self.inside.locks.names) c.block.new.self.waiters ≡ waiters_by (named c.self.inside.locks.names) c.self.inside.slots.waiters ++ record { request = view_of_request c.args.wanted.now; callback = c.args.callback } ∷ []
 by g c =
     let names = named c.self.inside.locks.names in
     let ws = waiters_by names c.self.inside.slots.waiters in
     let is = request_is names c.in-Some.number c.args.wanted.now c.by_number.result c.by_number.ensures (found g c) in
     on_ok c.block.result (free g c) c.block.ensures.by names
     ∙ ap (λ w. ws ++ waiter_by names w ∷ []) c.new-waiter.ensures
-    ∙ ap (λ (q : Request). ws ++ record { request = q; letter = c.args.letter } ∷ []) is
+    ∙ ap (λ (q : Request). ws ++ record { request = q; callback = c.args.callback } ∷ []) is
 
 pub invariant_of-self : goal.invariant_of-self
 invariant_of-self g c =
@@ -37,7 +37,7 @@ invariant_of-self g c =
     let calls = ap (λ (t : Taken). t.calls) (on_ok c.block.result (free g c) c.block.ensures.ok) in
     rw c.with_file-self-inside.ensures
     (whole_waiting c.block.result c.self.inside.locks.names c.self.inside.locks.settings c.self.inside.slots c.block.new.self c.self.inside.calls (quotas_of (g.S.HostStore.rows c.self.inside.store)) c.self.inside.unsettled c.self.invariant
-    (record { request = view_of_request c.args.wanted.now; letter = c.args.letter }) (by g c) there calls c.requires.shown c.args.wanted.now.ordered)
+    (record { request = view_of_request c.args.wanted.now; callback = c.args.callback }) (by g c) there calls c.requires.shown c.args.wanted.now.ordered)
 
 pub returns : goal.returns
 returns g c = rw (← c.self.view_is) (rw (by g c) refl)

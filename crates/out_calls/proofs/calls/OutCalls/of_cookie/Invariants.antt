@@ -5,4 +5,4 @@ use Rattle.out_calls.specs.Found.{found}
 use Rattle.out_calls.proofs.calls.OutCalls.of_cookie.Given as goal
 
 abbrev pub invariant-loop-call : goal.invariant-loop-call
-invariant-loop-call l = found l.oldest ≡ oldest_that (λ (d : Outgoing). is_granted_msg d.letter.message && (same_bytes (eight_bytes d.number) l.cookie && was_sent d)) (take l.call-index l.calls)
+invariant-loop-call l = found l.oldest ≡ oldest_that (λ (d : Outgoing). is_granted_msg d.callback.message && (same_bytes (eight_bytes d.number) l.cookie && was_sent d)) (take l.call-index l.calls)

@@ -4,4 +4,4 @@ use Rattle.workers.proofs.shared.Shared.new.Goals as goal
 pub invariant_of-result : goal.invariant_of-result
 invariant_of-result g c =
     let why = c.in-None.ensures in
-    begins_in_step _ _ c.args.book c.apply-upshot.new.self c.apply-upshot.result c.requires.new c.apply-upshot.ensures.enters why.0 why.1 c.new.ensures.all c.requires.total c.apply-upshot.ensures.legal
+    begins_in_step _ _ c.args.book c.apply-step_result.new.self c.apply-step_result.result c.requires.new c.apply-step_result.ensures.enters why.0 why.1 c.new.ensures.all c.requires.total c.apply-step_result.ensures.legal

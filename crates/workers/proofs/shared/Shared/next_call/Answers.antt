@@ -17,7 +17,7 @@ returns g c = elim c.match-next_call.branch [
       let sends = w.in-Some.ensures.sends in
       let newest = w.newest_entered.ensures _ _ _ _ sends.3 in
       let held = c.self-2.inside in
-      rw (w.result-is, w.transcript-is) (
+      rw (w.result-is, w.ghost_trace-is) (
         record {
           before = record { closed = held.archive.all.items; book = held.book; keeps = is_some held.archive.kept };
           rests = rw c.self-2.view_is c.make_room.ensures.rests;
@@ -27,12 +27,12 @@ returns g c = elim c.match-next_call.branch [
         },
         (
           _,
-          record { letter = sends.0; event = refl; upshot = refl; is_for = sends.1; spells = sends.2 },
+          record { callback = sends.0; event = refl; step_result = refl; is_for = sends.1; spells = sends.2 },
           record {
             is_newest = newest;
-            added = w.add.ensures ∙ ap (λ entry. c.args.transcript.now ++ option_to_list entry) newest;
+            added = w.add.ensures ∙ ap (λ entry. c.args.ghost_trace.now ++ option_to_list entry) newest;
           },
         ),
       )
-  | in-None w ↦ rw (w.result-is, w.transcript-is) (search rules)
+  | in-None w ↦ rw (w.result-is, w.ghost_trace-is) (search rules)
 ]

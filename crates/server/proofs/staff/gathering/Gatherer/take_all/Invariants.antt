@@ -1,6 +1,0 @@
-use Rattle.std.proofs.Common.{◌≡◌, ◌++◌}
-use Rattle.server.specs.Gathered.{left_by_all}
-use Rattle.server.proofs.staff.gathering.Gatherer.take_all.Given as goal
-
-abbrev pub invariant-loop-worker : goal.invariant-loop-worker
-invariant-loop-worker g l = l.self ≡ l.fn.self ++ left_by_all l.yielded
