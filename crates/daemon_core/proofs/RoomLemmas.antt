@@ -31,12 +31,6 @@ stands old mid (inr fresh) some =
     let room : room_of mid.journal ≡ min 1024 (2 ^ 64 - next_of old.journal) = ap (λ (b : Book). room_of b.journal) fresh.1 ∙ omega arith in
     room ∙ sym (left_for-none (room_of old.journal) (next_of old.journal) fresh.0)
 
--- or there is none in either
-pub no-room : (old mid : Book) → BeginsWhereFull old mid → room_of old.journal ≡ 0 → room_of mid.journal ≡ 0 → room_of_journal mid.journal ≡ room_of_journal old.journal
-no-room old mid begins full none =
-    let left : room_of mid.journal ≡ room_of old.journal = none ∙ sym full in
-    let next = same-next old mid begins in λ i. record { left = left i; next = next i }
-
 -- one entry more
 grows : (old new : Journal) (n : Note) (end : State) → new ≡ noted old n end → 0 < room_of old → (room_of new + 1 ≡ room_of old) × (next_of new ≡ next_of old + 1)
 grows old new n end is some =

@@ -7,10 +7,10 @@ pub enum Ending {
     Over,
     /// The line `stop` was answered `ok`, or the server stops for another cause.
     Stopped,
-    /// There was no memory for its lines. Nothing was read.
+    /// There was no memory for the buffer of its lines. Nothing was read.
     Starved,
     /// A read failed.
     ReadFault,
-    /// A write failed. A front of the line's answer was written.
+    /// A write failed. A prefix of the line's answer was written.
     WriteFault,
 }

@@ -233,9 +233,10 @@ fn serve<A: Answers, I: Read, O: Write>(
 
 /// Answers the lines of a local program on the connection of this number, each in a hold of its own, in order, and writes what
 /// each is answered, whole, and nothing else. The trace has the lines' entries: one for each that had room, and no others.
-/// It ends with the stream, where the server stops, where there is no memory for a line, where a read or a write fails, and
-/// behind so many reads, each of `MOST_READ_BYTES` at most, which is told as a read that failed. A line past 512 bytes is answered `bad`, and its first 513 stand in
-/// the journal. What the connection's lines locked stays.
+///
+/// It ends with the stream, where the server stops, where there is no memory for the buffer of its lines, where a read or a
+/// write fails, and after a fixed number of reads, each of `MOST_READ_BYTES` at most, which counts as a read that failed. A line
+/// past 512 bytes is answered `bad`, and its first 513 bytes stand in the journal. What the connection's lines locked stays.
 pub fn serve_lines<R, S, L, G, I, O, W>(
     alloc: Global,
     rt: &W,

@@ -18,6 +18,6 @@ pub(crate) fn local<R: Log>(rt: &R, from: SocketAddr, ending: line_loop::Ending)
         line_loop::Ending::Over | line_loop::Ending::Stopped => {}
         line_loop::Ending::ReadFault => info!(rt; "local program {from} failed: closed"),
         line_loop::Ending::WriteFault => warn!(rt; "local program {from} takes no bytes: closed"),
-        line_loop::Ending::Starved => error!(rt; "no memory for a line of {from}: closed"),
+        line_loop::Ending::Starved => error!(rt; "no memory for the connection of {from}: closed"),
     }
 }

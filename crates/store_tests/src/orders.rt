@@ -1,5 +1,5 @@
 //! Files whose tables stand in any order, with and without tables of SQLite's own; and why others are refused.
-use crate::pairs::{Story, wrong};
+use crate::pairs::{PAST, ROWS, Story, wrong};
 use crate::tables::SECOND;
 use crate::visits::{Came, Trials, Work, fresh, visit_files};
 use hosts_db::{HostStore, StoreError};
@@ -48,21 +48,9 @@ fn push_tables(to: &mut String, order: &str) -> Result<(), AllocError> {
     Ok(())
 }
 
-/// The own state 3, two hosts, and a watch of one of them, in schema 1 and in schema 2.
-const FIRST_ROWS: &str =
-    "INSERT INTO own VALUES (1, 1, 3); INSERT INTO hosts VALUES (x'62', 3, 0), (x'61', 1, 3); INSERT INTO watches VALUES (x'62', x'6d', 4, 2, -3, x'07070707070707070707070707070707')";
-
+/// What schema 1 has in `ROWS`, in schema 2.
 const SECOND_ROWS: &str =
     "INSERT INTO own VALUES (1, 2, 3); INSERT INTO hosts2 VALUES (x'62', 3, 0, 65536), (x'61', 1, 3, 65536); INSERT INTO watches VALUES (x'62', x'6d', 4, 2, -3, x'07070707070707070707070707070707')";
-
-/// The calls after which a store in memory holds the same.
-const PAST: &str = "\
-start
-monitor a 3
-start
-monitor b 0
-watch b m 7
-";
 
 /// Each call that writes, behind a start.
 const SCRIPT: &str = "\
@@ -128,7 +116,7 @@ fn is_taken(alloc: Global, order: &str, rows: &str) -> bool {
 #[test]
 fn any_order_is_taken(rt: HostRuntime) -> Result<(), &'static str> {
     for order in FIRST_ORDERS {
-        if !is_taken(rt.alloc(), order, FIRST_ROWS) {
+        if !is_taken(rt.alloc(), order, ROWS) {
             return Err(*order);
         }
     }

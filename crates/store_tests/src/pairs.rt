@@ -152,10 +152,11 @@ start
 const NO_OWN: &str = "DELETE FROM own";
 
 /// The own state 3, two hosts, and a watch of one of them.
-const ROWS: &str =
+pub(crate) const ROWS: &str =
     "INSERT INTO own VALUES (1, 1, 3); INSERT INTO hosts VALUES (x'62', 3, 0), (x'61', 1, 3); INSERT INTO watches VALUES (x'62', x'6d', 4, 2, -3, x'07070707070707070707070707070707')";
 
-const PAST: &str = "\
+/// The calls after which a store in memory holds the same.
+pub(crate) const PAST: &str = "\
 start
 monitor a 3
 start
