@@ -6,7 +6,6 @@ mod connection;
 mod connection_table;
 mod law;
 mod listener;
-mod reply_buffer;
 mod threads;
 mod writer;
 
@@ -14,7 +13,6 @@ pub use connection::{Connection, Lost};
 pub use connection_table::{ConnectionTable, PLACES};
 pub use law::{left_place_is_free, place_is_kept};
 pub use listener::{Listener, ShutdownHandle};
-pub use reply_buffer::ReplyBuffer;
 pub use threads::{Accepted, MainLoop, NoThread, Service, Side, WorkerPool, run};
 pub use writer::Writer;
 

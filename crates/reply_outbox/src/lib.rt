@@ -1,12 +1,18 @@
 //! Where replies go, and what stands before a hold of the book's lock: a trait of each, and what of a reply is handed over.
 #![tactic(auto)]
 
-ghost use Rattle.std.specs.Prelude.{◌≡◌, List, [], ◌∷◌, ◌++◌};
+ghost use Rattle.std.specs.Prelude.{◌≡◌, ℕ, Bool, false, List, [], ◌∷◌, ◌++◌};
 ghost use Rattle.book.specs.Given.{view_of_reply, record_of};
+ghost use Rattle.reply_outbox.specs.Effects.{Effect, writes};
 ghost use Rattle.reply_outbox.specs.Posted.{Sent, posted};
 
+mod buffer;
+mod sockets;
+
 use book::Reply;
+pub use buffer::ReplyBuffer;
 use job_queue::Job;
+pub use sockets::{ReplySockets, SocketEffects};
 use xdr_core::Frame;
 
 /// Runs before a worker takes the book's lock.
@@ -19,22 +25,30 @@ pub trait Gate {
     fn before(&self, job: &Job);
 }
 
-/// Takes replies to their connections. Contracts see all that it was handed. Whether a record reaches anybody is not said: where
-/// a connection is broken the record is lost, and the worker goes on.
+/// Takes replies to their connections. Contracts see all that it was handed, and what it did to connections. `ReplyBuffer` says how
+/// the two stand to each other.
 pub trait Outbox {
     ghost handed: { Self → List Sent };
 
+    ghost effects: { Self → List Effect };
+
+    /// Whether replies are written before, or with, the next one for the connection of this number.
+    ghost writes_before: { Self → ℕ → Bool };
+
     /// A reply that has a record.
     fn hand(&mut self, connection: u64, reply: &Reply)
-        ensures { handed self.new ≡ handed self.old ++ record { connection = connection; reply = record_of (view_of_reply reply.now) } ∷ [] };
+        ensures handed { handed self.new ≡ handed self.old ++ record { connection = connection; reply = record_of (view_of_reply reply.now) } ∷ [] }
+        ensures quiet { writes_before self.old connection ≡ false → writes (effects self.new) ≡ writes (effects self.old) };
 
     /// The next replies are for this connection. Replies that are joined for another are written now, since what comes next may
     /// hold the worker for long.
     fn turn_to(&mut self, connection: u64)
-        ensures { handed self.new ≡ handed self.old };
+        ensures handed { handed self.new ≡ handed self.old }
+        ensures quiet { writes_before self.old connection ≡ false → writes (effects self.new) ≡ writes (effects self.old) };
 
     /// Whether replies are written before, or with, the next one for this connection. A write may hold the worker for long.
-    fn will_write(&self, connection: u64) -> bool;
+    fn will_write(&self, connection: u64) -> bool
+        ensures { result ≡ writes_before self.now connection };
 
     /// One job of this connection is done: it has its reply, or none. `is_due`: a call of the server's own is due then.
     fn done(&mut self, connection: u64, is_due: bool)

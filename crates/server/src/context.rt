@@ -1,9 +1,9 @@
 //! What every thread knows, and what it does.
 use crate::incoming::Incoming;
 use crate::notes;
-use crate::outbox::SocketOutbox;
 use crate::peer::peer_at;
 use crate::signals::StopSignals;
+use crate::sockets::CallerSockets;
 use byte_io::MOST_READS;
 use connections::{Accepted, ConnectionTable, Service, ShutdownHandle, Side, Writer};
 use hosts_db::HostStore;
@@ -11,7 +11,7 @@ use job_queue::{Channel, Place};
 use line_loop::{Signals, serve_lines};
 use log::Log;
 use range_table::RangeTable;
-use reply_outbox::Gate;
+use reply_outbox::{Gate, ReplyBuffer};
 use std::alloc::Global;
 use std::net::{SocketAddr, TcpStream};
 use std::sync::ledger::Ledger;
@@ -58,13 +58,13 @@ impl<'a, P: Place, L: Ledger, T: RangeTable + Drop, S: HostStore + Drop, G: Gate
     fn read<R: Wait + Log>(&self, rt: &R, accepted: &Accepted, worker: &mut Worker<P, L>) {
         let number = accepted.connection.number();
         let home = Some(&accepted.connection);
-        let mut outbox = SocketOutbox::new(
-            self.alloc,
+        let sockets = CallerSockets::new(
             rt,
             &self.connection_tables.callers,
             home,
             self.stop_signals,
         );
+        let mut outbox = ReplyBuffer::new(self.alloc, sockets);
         let origin = Origin {
             connection: number,
             peer: peer_at(accepted.from),
@@ -163,13 +163,13 @@ impl<
 
     fn work(&self, rt: &R, worker: Worker<P, L>) -> Worker<P, L> {
         let mut worker = worker;
-        let mut outbox = SocketOutbox::new(
-            self.alloc,
+        let sockets = CallerSockets::new(
             rt,
             &self.connection_tables.callers,
             None,
             self.stop_signals,
         );
+        let mut outbox = ReplyBuffer::new(self.alloc, sockets);
         worker.work(rt, self.channel, self.shared, self.gate, &mut outbox);
         worker
     }

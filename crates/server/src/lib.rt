@@ -7,13 +7,13 @@ mod incoming;
 mod lines;
 mod main_loop;
 mod notes;
-mod outbox;
 mod peer;
 mod runtime;
 mod seats;
 mod serving;
 mod settings;
 mod signals;
+mod sockets;
 pub mod worker_pool;
 
 pub use callback_sender::CallSettings;

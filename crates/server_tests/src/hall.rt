@@ -47,10 +47,6 @@ impl<'a, R: Clock> Hall<'a, R> {
 }
 
 impl<'a, R: Clock> Gate for Hall<'a, R> {
-    fn may_hold(&self) -> bool {
-        self.wanted > 0
-    }
-
     fn before(&self, _job: &Job) {
         self.inside.fetch_add(1, Ordering::SeqCst);
         if !self.waits(self.wanted) {

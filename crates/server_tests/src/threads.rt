@@ -1,5 +1,7 @@
 //! The threads over one book: the channel of jobs, workers and the audit, and the loops of a server's other threads, over memory.
 mod answering;
+mod helping;
+mod joining;
 mod local;
 mod memory;
 mod overlapping;

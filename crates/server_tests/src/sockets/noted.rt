@@ -89,7 +89,7 @@ enum Misdeed {
     // A caller sends nothing.
     Idle,
     // A local program asks often, and goes before it has all answers.
-    Closed,
+    TakesNothing,
     // A local program goes before it has read its answer whole, and after it came.
     Gone,
 }
@@ -103,7 +103,7 @@ const MISDEEDS: &[(Misdeed, &str, &str)] = &[
         " was idle, or its connection failed: closed",
     ),
     (
-        Misdeed::Closed,
+        Misdeed::TakesNothing,
         "] local program ",
         " takes no bytes: closed",
     ),
@@ -157,7 +157,7 @@ where
     let connection = match misdeed {
         Misdeed::TooLong => call(rt, ports, TOO_LONG)?,
         Misdeed::Idle => call(rt, ports, b"")?,
-        Misdeed::Closed => ask_often(rt, alloc, ports)?,
+        Misdeed::TakesNothing => ask_often(rt, alloc, ports)?,
         Misdeed::Gone => ask(rt, ports)?,
     };
     connection.local_addr()

@@ -32,9 +32,14 @@ impl MemoryOutbox {
 }
 
 impl Outbox for MemoryOutbox {
+    ghost use Rattle.std.specs.Prelude.{[], false};
     ghost use Rattle.reply_outbox.specs.SentReplies.{view_of_sent};
 
     ghost handed = { λ o. view_of_sent o.all.items };
+
+    ghost effects = { λ _. [] };
+
+    ghost writes_before = { λ _ _. false };
 
     fn hand(&mut self, connection: u64, reply: &Reply) {
         let mut record = Frame::new();

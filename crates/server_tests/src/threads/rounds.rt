@@ -5,6 +5,7 @@ ghost use Rattle.book.specs.Notes.{is_take, view_of_event};
 ghost use Rattle.workers.specs.Holds.{IsNew};
 
 use super::answering::Waiting;
+use super::helping;
 use super::local::Talk;
 use super::overlapping::Plan;
 use super::parts::{Kept, begun};
@@ -33,6 +34,7 @@ pub(crate) struct Crew {
 #[derive(Clone, Copy)]
 pub(crate) enum Turn<'a> {
     Answers(&'a Waiting<'a>),
+    Helps,
     Overlaps(&'a Plan),
     Reads(&'a Reading<'a>),
     Talks(&'a Talk<'a>),
@@ -85,6 +87,7 @@ fn goes<P: Place + Send + Sync, L: Ledger + Send + Sync, R: Threads + Wait + Clo
 ) -> bool {
     match turn {
         Turn::Answers(waiting) => waiting.goes(rt, alloc, channel, shared, workers),
+        Turn::Helps => helping::goes(rt, alloc, channel, shared, workers),
         Turn::Overlaps(plan) => plan.goes(rt, alloc, channel, shared, workers),
         Turn::Reads(reading) => reading.goes(rt, alloc, channel, shared, workers),
         Turn::Talks(talk) => talk.goes(rt, alloc, shared),

@@ -1,0 +1,81 @@
+//! Replies are written to the connections that their calls came on.
+ghost use Rattle.std.specs.Prelude.{◌≡◌, []};
+
+use connections::{Connection, ConnectionTable, Lost};
+use line_loop::Signals;
+use reply_outbox::{ReplySockets, SocketEffects};
+use std::alloc::Global;
+use std::sync::{Arc, Mutex, Wait};
+
+/// The connections of callers, as an outbox writes to them.
+#[derive(Drop)]
+pub(crate) struct CallerSockets<'a, 'h, K, Q, R> {
+    rt: &'a R,
+    callers: &'a Mutex<ConnectionTable<K>>,
+    // The connection of whoever answers, if it has one.
+    home: Option<&'h Arc<Connection, Global>>,
+    signals: &'a Q,
+    effects: SocketEffects,
+}
+
+impl<'a, 'h, K: Drop, Q: Signals, R: Wait> CallerSockets<'a, 'h, K, Q, R> {
+    /// Nothing was written yet. `home` is the connection of whoever answers, if it has one; all others are found in the connection
+    /// table.
+    pub(crate) fn new(
+        rt: &'a R,
+        callers: &'a Mutex<ConnectionTable<K>>,
+        home: Option<&'h Arc<Connection, Global>>,
+        signals: &'a Q,
+    ) -> CallerSockets<'a, 'h, K, Q, R>
+        ensures { result.effects ≡ [] }
+    {
+        CallerSockets {
+            rt,
+            callers,
+            home,
+            signals,
+            effects: SocketEffects::new(),
+        }
+    }
+
+    // The connection table's lock is everybody's: who answers its own connection's calls needs no look at it.
+    fn find(&self, number: u64) -> Option<Arc<Connection, Global>> {
+        match self.home {
+            Some(home) if home.number() == number => Arc::try_clone(home).ok(),
+            _ => self.callers.lock(self.rt).find(number),
+        }
+    }
+}
+
+impl<'a, 'h, K: Drop, Q: Signals, R: Wait> ReplySockets for CallerSockets<'a, 'h, K, Q, R> {
+    ghost effects = { λ s. s.effects };
+
+    fn write(&mut self, connection: u64, bytes: &[u8], jobs: u64) {
+        let Some(to) = self.find(connection) else {
+            self.effects.add_break(connection);
+            return;
+        };
+        match to.send(self.rt, bytes) {
+            Ok(()) => self.effects.add_write(connection, bytes),
+            Err(Lost) => self.effects.add_break(connection),
+        }
+        to.count_done(jobs);
+    }
+
+    fn shut(&mut self, connection: u64) {
+        if let Some(to) = self.find(connection) {
+            to.shut();
+        }
+        self.effects.add_shut(connection);
+    }
+
+    fn are_done(&mut self, connection: u64, jobs: u64) {
+        if let Some(to) = self.find(connection) {
+            to.count_done(jobs);
+        }
+    }
+
+    fn call_is_due(&mut self) {
+        self.signals.call_is_due();
+    }
+}
