@@ -28,10 +28,35 @@ const STEPS: &[(Step, &str)] = &[
     (Step::Takes(1, 0), "1 80000018 1 1 0 0 0 0"),
     (Step::Takes(1, 0), ""),
     (Step::Takes(3, 0), ""),
+    // What is answered goes by the order of the takes, not of the records: the lock of `b`, brought second, is the one that holds.
+    (Step::GraceOver, ""),
+    (Step::Brings(1, LOCKS), ""),
+    (Step::Brings(2, UNLOCK_AND_LOCK), ""),
+    (Step::Takes(1, 1), "1 80000024 5 1 0 0 0 0 4 5 0"),
+    (Step::Takes(2, 1), "2 80000024 8 1 0 0 0 0 4 8 1"),
+    // That was the third.
+    (
+        Step::Takes(1, 1),
+        "1 80000044 6 1 0 0 0 0 4 6 1 1 8 1 42000000 0 0 0 a",
+    ),
+    (Step::Takes(2, 1), ""),
+    (Step::Takes(2, 0), "2 80000024 7 1 0 0 0 0 4 7 0"),
+    (Step::Takes(1, 0), "1 80000024 4 1 0 0 0 0 4 4 0"),
+    (Step::Takes(1, 0), ""),
+    (Step::Takes(2, 0), ""),
 ];
+
+/// LOCKs of the bytes 0 to 9 by `a` and by `b`, and a TEST of the whole file by `d`.
+const LOCKS: &str =
+    "8000006c 4 0 2 186b5 4 2 0 0 0 0 4 4 0 1 1 61000000 4 1020304 1 41000000 7 0 0 0 a 0 3 8000006c 5 0 2 186b5 4 2 0 0 0 0 4 5 0 1 1 62000000 4 1020304 1 42000000 8 0 0 0 a 0 3 80000060 6 0 2 186b5 4 1 0 0 0 0 4 6 1 1 64000000 4 1020304 1 44000000 a 0 0 0 0";
+
+/// An UNLOCK of those bytes by `b`, and a LOCK of them by `d`.
+const UNLOCK_AND_LOCK: &str =
+    "8000005c 7 0 2 186b5 4 4 0 0 0 0 4 7 1 62000000 4 1020304 1 42000000 8 0 0 0 a 8000006c 8 0 2 186b5 4 2 0 0 0 0 4 8 0 1 1 64000000 4 1020304 1 44000000 a 0 0 0 a 0 3";
 
 #[derive(Clone, Copy)]
 enum Step {
+    GraceOver,
     Connects(u64),
     /// These words come on the connection.
     Brings(u64, &'static str),
@@ -41,6 +66,7 @@ enum Step {
 
 fn event_of(alloc: Global, step: Step) -> Option<Event> {
     match step {
+        Step::GraceOver => Some(Event::GraceOver),
         Step::Connects(connection) => Some(Event::Connect {
             connection,
             peer: Peer::PIPE,

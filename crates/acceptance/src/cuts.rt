@@ -1,13 +1,12 @@
-//! A LOCK whose bytes are cut (RFC 5531, section 11; RFC 1813, appendix II): its stream and its record, at the ends of their parts.
+//! A LOCK whose bytes are cut (RFC 5531, section 11; RFC 1813, appendix II): its stream and its record, behind each of their bytes.
 use daemon_core::Daemon;
-use daemon_scripts::{Page, happens, memory, opened, streams};
+use daemon_scripts::{DaemonTask, Page, happens, memory, streams, with_daemon};
 use hosts_db::HostStore;
-use range_arena::ArenaTable;
 use range_table::RangeTable;
 use std::alloc::Global;
 use std::mem;
 use std::test::*;
-use test_kit::{Lent, put_plain};
+use test_kit::put_plain;
 
 /// The record of an exclusive LOCK of the bytes 0 to 9, 108 bytes.
 const LOCK: &str = "2 0 2 186b5 4 2 0 0 0 0 4 2 0 1 1 61000000 4 1020304 1 41000000 7 0 0 0 a 0 3";
@@ -27,24 +26,28 @@ fn is_sent<T: RangeTable, S: HostStore>(
     streams(daemon, page)
 }
 
-// All that a server sends for a stream that comes whole, and is refused nothing.
-fn sent_for(alloc: Global, stream: &[u8]) -> Option<Vec<u8>> {
-    let mut store = memory(alloc, 0, Vec::new(alloc))?;
-    let mut writes = 0;
-    let table = ArenaTable::new(alloc).ok()?;
-    let mut daemon = opened(alloc, table, Lent::new(&mut store, &mut writes))?;
+// All that a server that begins anew sends for a stream that comes whole, and is refused nothing.
+fn sent_for<T: RangeTable, S: HostStore>(
+    daemon: &mut Daemon<T, S>,
+    alloc: Global,
+    stream: &[u8],
+) -> Option<Vec<u8>> {
     let mut page = Page::new(alloc, 8_192);
-    let is_sent = is_sent(&mut daemon, &mut page, stream);
-    drop(daemon);
+    let is_sent = is_sent(daemon, &mut page, stream);
     let sent = mem::replace(&mut page.sent, Vec::new(alloc));
     drop(page);
     (is_sent == Some(true)).then_some(sent)
 }
 
 // Whether that is these words.
-fn gets(alloc: Global, stream: &[u8], words: &str) -> bool {
+fn gets<T: RangeTable, S: HostStore>(
+    daemon: &mut Daemon<T, S>,
+    alloc: Global,
+    stream: &[u8],
+    words: &str,
+) -> bool {
     let mut wanted = Vec::new(alloc);
-    match sent_for(alloc, stream) {
+    match sent_for(daemon, alloc, stream) {
         Some(sent) => put_plain(&mut wanted, words) && sent.as_slice() == wanted.as_slice(),
         None => false,
     }
@@ -72,45 +75,83 @@ fn answer_to(len: usize) -> &'static str {
     }
 }
 
-fn is_answered(alloc: Global, len: usize) -> bool {
-    match record_of(alloc, len) {
-        Some(stream) => gets(alloc, &stream, answer_to(len)),
-        None => false,
+/// What is cut.
+#[derive(Clone, Copy)]
+enum Part {
+    /// The record, whose mark counts the bytes that are left.
+    Record,
+    /// The stream, within its record.
+    Stream,
+}
+
+// The stream of so many bytes, and what it is answered.
+fn cut(alloc: Global, part: Part, len: usize) -> Option<(Vec<u8>, &'static str)> {
+    if let Part::Record = part {
+        let record = record_of(alloc, len)?;
+        return Some((record, answer_to(len)));
+    }
+    let mut stream = record_of(alloc, 108)?;
+    stream.truncate(len);
+    Some((stream, ""))
+}
+
+/// Of what is cut, and the first of its lengths that is answered otherwise than it should.
+#[derive(Drop)]
+struct Cuts {
+    alloc: Global,
+    part: Part,
+    most: usize,
+    wrong: Option<usize>,
+}
+
+impl Cuts {
+    fn is_answered<T: RangeTable, S: HostStore>(
+        &self,
+        daemon: &mut Daemon<T, S>,
+        len: usize,
+    ) -> bool {
+        match cut(self.alloc, self.part, len) {
+            Some((stream, words)) => gets(daemon, self.alloc, &stream, words),
+            None => false,
+        }
     }
 }
 
-/// Around the end of the smallest record that is looked at, of the header and of the arguments.
-const RECORDS: &[usize] = &[0, 11, 12, 39, 40, 43, 107, 108];
+impl DaemonTask for Cuts {
+    fn act<T: RangeTable, S: HostStore>(&mut self, daemon: &mut Daemon<T, S>) {
+        for len in 0..=self.most {
+            if !self.is_answered(daemon, len) {
+                self.wrong = Some(len);
+                return;
+            }
+        }
+        self.wrong = None;
+    }
+}
 
-// The length is the error.
+// By one server, which begins anew for each length up to this one. The first that goes otherwise is the error.
+fn are_answered(alloc: Global, part: Part, most: usize) -> Result<(), usize> {
+    let mut cuts = Cuts {
+        alloc,
+        part,
+        most,
+        wrong: Some(usize::MAX),
+    };
+    if let Some(mut store) = memory(alloc, 0, Vec::new(alloc)) {
+        with_daemon(alloc, &mut store, &mut cuts);
+    }
+    match cuts.wrong {
+        None => Ok(()),
+        Some(len) => Err(len),
+    }
+}
+
 #[test]
 fn record_cut_short(rt: HostRuntime) -> Result<(), usize> {
-    for len in RECORDS {
-        if !is_answered(rt.alloc(), *len) {
-            return Err(*len);
-        }
-    }
-    Ok(())
+    are_answered(rt.alloc(), Part::Record, 108)
 }
 
-fn is_silent(alloc: Global, stream: &[u8], len: usize) -> bool {
-    match stream.get(..len) {
-        Some(front) => gets(alloc, front, ""),
-        None => false,
-    }
-}
-
-/// Within the mark, behind it, within the header and the arguments, and before the last byte.
-const STREAMS: &[usize] = &[0, 1, 3, 4, 5, 43, 44, 111];
-
-// The length is the error: a stream that ends within its record gets nothing.
 #[test]
 fn stream_cut_short(rt: HostRuntime) -> Result<(), usize> {
-    let stream = record_of(rt.alloc(), 108).unwrap_or(Vec::new(rt.alloc()));
-    for len in STREAMS {
-        if !is_silent(rt.alloc(), &stream, *len) {
-            return Err(*len);
-        }
-    }
-    Ok(())
+    are_answered(rt.alloc(), Part::Stream, 111)
 }

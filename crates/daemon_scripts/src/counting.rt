@@ -9,7 +9,7 @@ pub(crate) struct Counting {
     pub(crate) from: u32,
     /// The last of them is the one before.
     pub(crate) to: u32,
-    // What goes with the first: an xid, or the number of a call.
+    // The xid of the first.
     first: u32,
 }
 
@@ -36,11 +36,11 @@ impl Counting {
 /// The text, with the number for each `%`.
 pub(crate) fn filled(alloc: Global, text: &str, number: u32) -> Result<String, AllocError> {
     let mut whole = String::new(alloc);
-    for callback in text.chars() {
-        if callback == '%' {
+    for character in text.chars() {
+        if character == '%' {
             write!(whole, "{number}")?;
         } else {
-            whole.push(callback)?;
+            whole.push(character)?;
         }
     }
     Ok(whole)

@@ -1,5 +1,4 @@
 //! The lines of a script that are events, and what is to be sent for each.
-use crate::counting::{Counting, filled};
 use crate::page::{CONNECTION, LOCAL, Page, read_xid};
 use daemon_core::{Event, Peer, SendBuffer};
 use test_kit::{put_message, read_number};
@@ -55,11 +54,6 @@ impl<'a> Page<'a> {
 
     // The server begins anew, with its grace period over or in it, and the pipe's connection begins; or one event.
     fn put_events(&mut self, events: &mut Vec<Event>, verb: &str, rest: &'a str) -> Option<()> {
-        match verb {
-            "counts-sends" => return self.put_sends(events, rest),
-            "counts-silent" => return put_silences(events, rest),
-            _ => {}
-        }
         let (begins, is_over) = (verb == "begins" || verb == "restarts", verb == "begins");
         if begins {
             events.push(Event::Restart).ok()?;
@@ -133,19 +127,6 @@ impl<'a> Page<'a> {
         self.send()
     }
 
-    // The numbers, the xid of the first call, to whom, and the call.
-    fn put_sends(&mut self, events: &mut Vec<Event>, rest: &'a str) -> Option<()> {
-        let (counting, behind) = Counting::read(rest)?;
-        let (whom, call) = behind.split_once(" ")?;
-        self.whom = whom;
-        for number in counting.from..counting.to {
-            let call = filled(self.alloc, call, number).ok()?;
-            put_message(&mut self.told, counting.beside(number), call.as_str())?;
-            events.push(self.send()?).ok()?;
-        }
-        Some(())
-    }
-
     fn send(&self) -> Option<Event> {
         let send_buffer = Box::new(self.alloc, SendBuffer::new()).ok()?;
         Some(Event::Send { send_buffer })
@@ -181,23 +162,8 @@ fn connect(name: &str) -> Option<Event> {
 // The own state, and the number of the call under it.
 fn silent(rest: &str) -> Option<Event> {
     let (own, number) = rest.split_once(" ")?;
-    Some(silence(read_xid(own)?, read_number(number)?))
-}
-
-fn silence(own: u32, number: u64) -> Event {
-    let first = own as u64 * 0x1_0000_0000;
-    Event::Silent {
-        number: first.wrapping_add(number),
-    }
-}
-
-// The numbers, the number of the first call, and the own state.
-fn put_silences(events: &mut Vec<Event>, rest: &str) -> Option<()> {
-    let (counting, own) = Counting::read(rest)?;
-    let own = read_xid(own)?;
-    for number in counting.from..counting.to {
-        let call = counting.beside(number);
-        events.push(silence(own, u64::from(call))).ok()?;
-    }
-    Some(())
+    let first = read_xid(own)? as u64 * 0x1_0000_0000;
+    Some(Event::Silent {
+        number: first.wrapping_add(read_number(number)?),
+    })
 }

@@ -3,9 +3,7 @@
 //! - `2 lock a 0 10 = granted`: this call comes under the xid 2, and gets this reply (`messages`).
 //! - `in 80000028 ..`, `out 80000018 ..`: these bytes come, or are sent. `too-long`: the stream's last piece is refused.
 //! - `times 9 2 null = done`: nine calls, under the xids from 2 on. `counts 1 9 2 block b 0 % = blocked`: a call for each number from
-//!   1 to before 9, which stands for the `%`, under the xids from 2 on. `counts-sends 1 9 2 b grant b 1 0 %`: so many Sends, each of
-//!   which gives `b` such a call under its xid. `counts-silent 1 9 1 3`: nobody answers eight calls in the own state 3, from the
-//!   first on.
+//!   1 to before 9, which stands for the `%`, under the xids from 2 on.
 //! - `locks FH 2 64`: each second byte of a file is locked, from
 //!   the second such byte to the 64th. `watches 9`: nine watchers watch the host `w`.
 //! - `begins`, `restarts`: the server begins anew, with its grace period over, or in it; and the pipe's connection begins.

@@ -175,8 +175,8 @@ fn hosts_of(alloc: Global, names: &[u8]) -> Option<Vec<HostRow>> {
 }
 
 fn put_hosts(alloc: Global, hosts: &mut Vec<HostRow>, names: &[u8]) -> Option<()> {
-    for callback in names {
-        let name = Vec::from_slice(alloc, [*callback].as_slice()).ok()?;
+    for letter in names {
+        let name = Vec::from_slice(alloc, [*letter].as_slice()).ok()?;
         hosts.push(HostRow::new(name, 1, 3, FULL_QUOTA)).ok()?;
     }
     Some(())

@@ -31,7 +31,6 @@ const LOCK_CALLS: &[&str] = &[
     "nm-block: 8000006c xid 0 2 186b5 4 16 0 0 0 0 4 xid 1 1 1 name 4 1020304 1 handle svid ##0 ##1 0 3",
     "lock-by: 8000006c xid 0 2 186b5 4 2 0 0 0 0 4 xid 0 0 4 #0 4 1020304 1 handle svid ##1 ##2 0 3",
     "nm-lock-by: 8000006c xid 0 2 186b5 4 16 0 0 0 0 4 xid 0 0 4 #0 4 1020304 1 handle svid ##1 ##2 0 3",
-    "share-by: 80000054 xid 0 2 186b5 4 14 0 0 0 0 4 xid 4 #0 4 1020304 1 handle #1 #2 0",
     "free-all: 80000034 xid 0 2 186b5 4 17 0 0 0 0 1 name 5",
 ];
 
@@ -91,7 +90,6 @@ const REPLIES: &[&str] = &[
     "held-by-nobody: 80000038 xid 1 0 0 0 0 4 xid 1 0 0 0 0 0",
     "shared: 80000028 xid 1 0 0 0 0 4 xid 0 0",
     "not-shared: 80000028 xid 1 0 0 0 0 4 xid 1 0",
-    "no-shares: 80000028 xid 1 0 0 0 0 4 xid 2 0",
     "monitored: 80000020 xid 1 0 0 0 0 0 #0",
     "not-monitored: 80000020 xid 1 0 0 0 0 1 #0",
     "state: 8000001c xid 1 0 0 0 0 #0",

@@ -19,7 +19,7 @@ impl Terms {
         }
     }
 
-    /// The owner's callback and the numbers of a text, in order.
+    /// The owner's letter and the numbers of a text, in order.
     pub fn read(xid: u32, text: &str) -> Terms {
         let mut terms = Terms::new(xid, b'a');
         let mut place = 0;
@@ -27,8 +27,8 @@ impl Terms {
             if let Some(number) = read_number(word) {
                 terms.set(place, number);
                 place = place.wrapping_add(1);
-            } else if let Some(callback) = word.bytes().next() {
-                terms.who = callback;
+            } else if let Some(letter) = word.bytes().next() {
+                terms.who = letter;
             }
         }
         terms
@@ -98,12 +98,12 @@ fn put_number(bytes: &mut Vec<u8>, word: &str, terms: &Terms) -> Option<()> {
 }
 
 fn put_term(bytes: &mut Vec<u8>, word: &str, terms: &Terms) -> Option<()> {
-    let callback = terms.who as u32;
+    let letter = terms.who as u32;
     match word {
         "xid" => put_word(bytes, terms.xid),
-        "name" => put_word(bytes, callback << 24),
-        "handle" => put_word(bytes, (callback & 0xdf) << 24),
-        "svid" => put_word(bytes, callback % 32 + 6),
+        "name" => put_word(bytes, letter << 24),
+        "handle" => put_word(bytes, (letter & 0xdf) << 24),
+        "svid" => put_word(bytes, letter % 32 + 6),
         _ => put_number(bytes, word, terms),
     }
 }

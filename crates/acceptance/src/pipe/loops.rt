@@ -62,8 +62,8 @@ pub(crate) struct Stream {
 const MOST_READS: u64 = 1_000;
 
 fn put_hosts(alloc: Global, hosts: &mut Vec<HostRow>) -> Option<()> {
-    for callback in [b'b', b'a'] {
-        let name = Vec::from_slice(alloc, [callback].as_slice()).ok()?;
+    for letter in [b'b', b'a'] {
+        let name = Vec::from_slice(alloc, [letter].as_slice()).ok()?;
         hosts.push(HostRow::new(name, 1, 3, FULL_QUOTA)).ok()?;
     }
     Some(())

@@ -302,23 +302,55 @@ fn stream_cut_short(rt: HostRuntime) -> Result<(), usize> {
     Ok(())
 }
 
-const UNREAD: &Stream = &Stream {
-    ended: Err(StreamFault::ReadFault),
-    ..TWO_NULLS
-};
+// The bytes that are written behind so many reads.
+fn written_behind(reads: usize, records: &[(usize, usize)]) -> usize {
+    let mut written = 0;
+    for (end, bytes) in records {
+        if *end <= reads {
+            written = *bytes;
+        }
+    }
+    written
+}
 
-// The reads give 11 bytes each: the fourth ends the first record, the eighth the second.
-#[test]
-fn failing_reads(rt: HostRuntime) -> Result<(), usize> {
-    for reads in 0..9 {
+// The first number of reads, of so many bytes each, behind which they fail and something else is written, or the loop goes on.
+fn unread(
+    alloc: Global,
+    stream: &Stream,
+    most: usize,
+    records: &[(usize, usize)],
+) -> Option<usize> {
+    let unread = Stream {
+        ended: Err(StreamFault::ReadFault),
+        ..*stream
+    };
+    let (last, _) = records.last().copied().unwrap_or((0, 0));
+    for reads in 0..=last {
         let ends = Ends {
-            most: 11,
+            most,
             reads,
-            told: 28 * (reads / 4),
+            told: written_behind(reads, records),
             ..AMPLE
         };
-        if !is_served(rt.alloc(), UNREAD, ends) {
-            return Err(reads);
+        if !is_served(alloc, &unread, ends) {
+            return Some(reads);
+        }
+    }
+    None
+}
+
+/// Streams, the bytes of a read, and of each record which read ends it, and how many bytes are written then. The read that ends
+/// the LOCK brings the first bytes of the TEST.
+const READ: &[(Stream, usize, &[(usize, usize)])] = &[
+    (TWO_NULLS, 11, &[(4, 28), (8, 56)]),
+    (LOCK_AND_TEST, 5, &[(23, 40), (43, 112)]),
+];
+
+#[test]
+fn failing_reads(rt: HostRuntime) -> Result<(), (&'static str, usize)> {
+    for (stream, most, records) in READ {
+        if let Some(reads) = unread(rt.alloc(), stream, *most, records) {
+            return Err((stream.name, reads));
         }
     }
     Ok(())
