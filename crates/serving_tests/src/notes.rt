@@ -24,13 +24,9 @@ fn put_files(to: &mut String) -> Result<(), AllocError> {
     write!(to, "{unread}\n{bad_line}\n")
 }
 
-fn put_databases(to: &mut String) -> Result<(), AllocError> {
-    let path = "hosts.db";
-    let unopened = AdoptError::Unopened(sqlite::Error::SqliteFailure(ErrorCode::CannotOpen));
-    let no_hosts = Note::NoHosts {
-        path,
-        why: &unopened,
-    };
+// What is said of a database, by its path.
+fn put_databases(to: &mut String, path: &str, why: &AdoptError) -> Result<(), AllocError> {
+    let no_hosts = Note::NoHosts { path, why };
     let refused = Note::NotBegun { path };
     write!(to, "{no_hosts}\n{refused}\n")
 }
@@ -54,8 +50,9 @@ a thread can't be started
 #[test]
 fn texts(rt: HostRuntime) {
     let mut to = String::new(rt.alloc());
+    let unopened = AdoptError::Unopened(sqlite::Error::SqliteFailure(ErrorCode::CannotOpen));
     let are_put = put_files(&mut to).is_ok()
-        && put_databases(&mut to).is_ok()
+        && put_databases(&mut to, "hosts.db", &unopened).is_ok()
         && put_others(&mut to).is_ok();
     assert!(rt; are_put && to.as_str() == TEXTS);
 }

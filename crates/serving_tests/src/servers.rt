@@ -6,8 +6,8 @@ use std::alloc::{AllocError, Global};
 use std::io::{self, ErrorKind, Read, Write};
 use std::net::{Ipv4Addr, Net, SocketAddr, SocketAddrV4, TcpListener, TcpStream};
 use std::process::ExitCode;
-use std::thread;
 use std::time::{Clock, Duration};
+use std::{fs, thread};
 
 /// How often a connection is tried for, a hundredth of a second apart.
 const TRIES: u32 = 1_000;
@@ -16,6 +16,9 @@ const TRIES: u32 = 1_000;
 const NULL: [u32; 11] = [0x8000_0028, 1, 0, 2, 100_021, 4, 0, 0, 0, 0, 0];
 
 const NULL_REPLY: [u32; 7] = [0x8000_0018, 1, 1, 0, 0, 0, 0];
+
+/// A file of peers that names none.
+const NO_PEERS: &str = "/dev/null";
 
 fn loopback(port: u16) -> SocketAddr {
     SocketAddr::V4(SocketAddrV4::new(Ipv4Addr::LOCALHOST, port))
@@ -81,16 +84,25 @@ where
     Ok(is_told_to_stop(&local)? && is_answered)
 }
 
-// Words of a server on these ports, without peers.
-fn words_of(
-    alloc: Global,
-    path: &str,
+// What a server stands on: two files, and its ports.
+#[derive(Clone, Copy)]
+struct Ground<'a> {
+    hosts: &'a str,
+    peers: &'a str,
     rpc: u16,
     local: u16,
-    more: &str,
-) -> Result<String, AllocError> {
+}
+
+// Words of a server on these, and these words more.
+fn words_of(alloc: Global, ground: Ground<'_>, more: &str) -> Result<String, AllocError> {
+    let Ground {
+        hosts,
+        peers,
+        rpc,
+        local,
+    } = ground;
     format!(in alloc;
-        "serve --db {path} --port {rpc} --local-port {local} --bind 127.0.0.1 --peers /dev/null --peer-nlm-port 1 --peer-nsm-port 1 --watch-port 1 {more}"
+        "serve --db {hosts} --port {rpc} --local-port {local} --bind 127.0.0.1 --peers {peers} --peer-nlm-port 1 --peer-nsm-port 1 --watch-port 1 {more}"
     )
 }
 
@@ -115,37 +127,65 @@ pub(crate) fn serves<R: Runtime>(host: &HostRuntime, rt: &R, more: &str) -> Opti
     let rpc = free_port(rt).ok()?;
     let local = free_port(rt).ok()?;
     let scratch = Scratch::new(host.alloc(), rpc).ok()?;
-    let asked = words_of(host.alloc(), scratch.path.as_str(), rpc, local, more).ok()?;
+    let ground = Ground {
+        hosts: scratch.path.as_str(),
+        peers: NO_PEERS,
+        rpc,
+        local,
+    };
+    let asked = words_of(host.alloc(), ground, more).ok()?;
     let (status, is_answered) = served(host, rt, asked.as_str(), rpc, local);
     scratch.remove(host);
     Some(is_answered && status == Some(ExitCode::SUCCESS))
 }
 
-// The status of a server on these ports, over this file.
-fn status_on<R: Runtime>(
-    host: &HostRuntime,
-    rt: &R,
-    path: &str,
-    rpc: u16,
-    local: u16,
-) -> Option<ExitCode> {
-    let asked = words_of(host.alloc(), path, rpc, local, "").ok()?;
+// The status of a server on these.
+fn status_on<R: Runtime>(host: &HostRuntime, rt: &R, ground: Ground<'_>) -> Option<ExitCode> {
+    let asked = words_of(host.alloc(), ground, "").ok()?;
     status(host, rt, asked.as_str(), &[], &mut Vec::new(host.alloc()))
 }
 
-/// Whether a server over this file ends with status 1.
-pub(crate) fn is_unstarted<R: Runtime>(host: &HostRuntime, rt: &R, path: &str) -> Option<bool> {
-    let rpc = free_port(rt).ok()?;
-    let local = free_port(rt).ok()?;
-    let status = status_on(host, rt, path, rpc, local)?;
+/// Whether a server over this file of hosts ends with status 1.
+pub(crate) fn is_unstarted<R: Runtime>(host: &HostRuntime, rt: &R, hosts: &str) -> Option<bool> {
+    let ground = Ground {
+        hosts,
+        peers: NO_PEERS,
+        rpc: free_port(rt).ok()?,
+        local: free_port(rt).ok()?,
+    };
+    let status = status_on(host, rt, ground)?;
     Some(status == ExitCode::FAILURE)
+}
+
+/// Whether a server whose file of peers has just this text ends with status 1.
+pub(crate) fn misnames_a_peer<R: Runtime>(host: &HostRuntime, rt: &R, text: &str) -> Option<bool> {
+    let rpc = free_port(rt).ok()?;
+    let scratch = Scratch::new(host.alloc(), rpc).ok()?;
+    let peers = Scratch::new(host.alloc(), free_port(rt).ok()?).ok()?;
+    let is_written = fs::write(host, peers.path.as_str(), text).is_ok();
+    let ground = Ground {
+        hosts: scratch.path.as_str(),
+        peers: peers.path.as_str(),
+        rpc,
+        local: free_port(rt).ok()?,
+    };
+    let status = status_on(host, rt, ground);
+    scratch.remove(host);
+    peers.remove(host);
+    Some(is_written && status == Some(ExitCode::FAILURE))
 }
 
 /// Whether a server ends with status 1 whose listeners are both to have one port.
 pub(crate) fn shares_a_port<R: Runtime>(host: &HostRuntime, rt: &R) -> Option<bool> {
     let port = free_port(rt).ok()?;
     let scratch = Scratch::new(host.alloc(), port).ok()?;
-    let status = status_on(host, rt, scratch.path.as_str(), port, port);
+    let ground = Ground {
+        hosts: scratch.path.as_str(),
+        peers: NO_PEERS,
+        rpc: port,
+        local: port,
+    };
+    let status = status_on(host, rt, ground);
     scratch.remove(host);
     Some(status == Some(ExitCode::FAILURE))
 }

@@ -1,6 +1,6 @@
 //! What is tried, each by a test of its own.
 use crate::files::begins_anew;
-use crate::servers::{is_unstarted, serves, shares_a_port};
+use crate::servers::{is_unstarted, misnames_a_peer, serves, shares_a_port};
 use crate::streams::unserved;
 use log::Log;
 use std::io::Print;
@@ -22,6 +22,8 @@ enum Trial {
     OnePort,
     // `lockd serve` over a file in no folder.
     NoFolder,
+    // `lockd serve` with a file of peers that has this text.
+    Peers(&'static str),
 }
 
 const BAD: Result<(), &str> = Err("it goes otherwise");
@@ -43,6 +45,7 @@ where
         Trial::Serves(more) => serves(host, rt, more),
         Trial::OnePort => shares_a_port(host, rt),
         Trial::NoFolder => is_unstarted(host, rt, "/dev/null/hosts.db"),
+        Trial::Peers(text) => misnames_a_peer(host, rt, text),
     };
     if goes == Some(true) { Ok(()) } else { BAD }
 }
@@ -70,6 +73,11 @@ fn serves_with_an_audit(rt: HostRuntime) -> Result<(), &'static str> {
 #[test]
 fn port_in_use(rt: HostRuntime) -> Result<(), &'static str> {
     tried(&rt, &rt, Trial::OnePort)
+}
+
+#[test]
+fn bad_line_of_peers(rt: HostRuntime) -> Result<(), &'static str> {
+    tried(&rt, &rt, Trial::Peers("a 192.0.2.1\nb\n"))
 }
 
 #[test]
