@@ -136,6 +136,19 @@ class StandIn:
                 return
 
 
+class LineStandIn(StandIn):
+    """One that takes lines in place of records."""
+
+    def serve_records(self, connection):
+        with connection.makefile("rb") as lines:
+            for line in lines:
+                self.records.append(line)
+                answer = self.answer(line)
+                send(connection, answer)
+                if isinstance(answer, Cut):
+                    return
+
+
 class Mapper:
     """A port mapper (RFC 1833, section 3). What is `locked` belongs to somebody else."""
 
