@@ -8,7 +8,11 @@ from tried import CONTRIB, cases, equal, run, test
 COMMANDS = CONTRIB.parent / "crates/config/specs/Lockd.antt"
 
 
-@cases(register=("lockd-register", "default: all three"), relay=("lockd-notify-relay", "sees the relay's address"))
+@cases(
+    lockctl=("lockctl", "hex:6162 for its bytes"),
+    register=("lockd-register", "default: all three"),
+    relay=("lockd-notify-relay", "sees the relay's address"),
+)
 def helps(program, told):
     status, text, _ = run(program, "--help")
     equal(status, 0)
@@ -29,6 +33,13 @@ def units_agree():
     relay = command("lockd-notify-relay.service", "ExecStart")
     equal(relay, {"--listen": "0.0.0.0:" + register_set["--notify-port"], "--daemon": "127.0.0.1:" + serve["--port"]})
     equal(register_set["--port"], serve["--port"])
+
+
+@test
+def lockctl_asks_at_the_ports_of_the_unit():
+    serve, (_, text, _) = command("lockd.service", "ExecStart"), run("lockctl", "--help")
+    for option, told in (("--port", "the port for calls"), ("--local-port", "the port for lines")):
+        assert f"{option} N {told} (default: {serve[option]})" in " ".join(text.split()), text
 
 
 @test

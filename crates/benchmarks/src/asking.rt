@@ -87,9 +87,9 @@ impl Asker {
     }
 }
 
-/// What all connections heard.
+/// What all connections received.
 #[derive(Drop)]
-pub(crate) struct Heard {
+pub(crate) struct Totals {
     /// How many calls were answered.
     pub(crate) answered: AtomicU64,
     /// How long a call, or the oldest of those that were out at once, was waited for at most, in microseconds.
@@ -102,27 +102,27 @@ fn ask_next<R: Wait + Clock>(
     plan: &Plan,
     asker: &mut Asker,
     call: u32,
-    heard: &Heard,
+    totals: &Totals,
 ) -> io::Result<()> {
     let begun = Instant::now(rt)?;
     asker.ask(call)?;
     asker.wait(rt, plan.depth)?;
     let micros = u64::try_from(begun.elapsed(rt)?.as_micros()).unwrap_or(u64::MAX);
-    heard.longest.fetch_max(micros, Ordering::SeqCst);
+    totals.longest.fetch_max(micros, Ordering::SeqCst);
     Ok(())
 }
 
 // All calls of a connection.
-fn ask_one<R: Wait + Clock>(rt: &R, plan: &Plan, asker: Asker, heard: &Heard) -> io::Result<()> {
+fn ask_one<R: Wait + Clock>(rt: &R, plan: &Plan, asker: Asker, totals: &Totals) -> io::Result<()> {
     let mut asker = asker;
     for call in 0..plan.calls {
-        ask_next(rt, plan, &mut asker, call, heard)?;
+        ask_next(rt, plan, &mut asker, call, totals)?;
     }
     asker.wait(rt, 1)
 }
 
 /// Connects, and asks on all connections at once.
-pub(crate) fn ask_all<R>(rt: &R, alloc: Global, plan: &Plan) -> io::Result<Heard>
+pub(crate) fn ask_all<R>(rt: &R, alloc: Global, plan: &Plan) -> io::Result<Totals>
 where
     R: Net<Stream = TcpStream> + Threads + Wait + Clock + Sync,
 {
@@ -130,24 +130,24 @@ where
     for number in 0..plan.connections {
         askers.push(Asker::new(rt, alloc, plan, number)?)?;
     }
-    let heard = Heard {
+    let totals = Totals {
         answered: AtomicU64::new(0),
         longest: AtomicU64::new(0),
     };
-    ask_beside(rt, plan, askers, &heard);
-    Ok(heard)
+    ask_beside(rt, plan, askers, &totals);
+    Ok(totals)
 }
 
 // A thread for each connection.
-fn ask_beside<R>(rt: &R, plan: &Plan, askers: Vec<Asker>, heard: &Heard)
+fn ask_beside<R>(rt: &R, plan: &Plan, askers: Vec<Asker>, totals: &Totals)
 where
     R: Threads + Wait + Clock + Sync,
 {
     thread::scope(thread::scope_env(), rt, |scope| {
         for asker in askers {
             let _ = scope.spawn(move || {
-                if ask_one(rt, plan, asker, heard).is_ok() {
-                    heard
+                if ask_one(rt, plan, asker, totals).is_ok() {
+                    totals
                         .answered
                         .fetch_add(u64::from(plan.calls), Ordering::SeqCst);
                 }

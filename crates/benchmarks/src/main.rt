@@ -31,10 +31,10 @@ where
 {
     let plan = plan(words)?;
     let begun = Instant::now(rt)?;
-    let heard = ask_all(rt, alloc, &plan)?;
+    let totals = ask_all(rt, alloc, &plan)?;
     let micros = begun.elapsed(rt)?.as_micros();
-    let answered = heard.answered.load(Ordering::SeqCst);
-    let longest = heard.longest.load(Ordering::SeqCst);
+    let answered = totals.answered.load(Ordering::SeqCst);
+    let longest = totals.longest.load(Ordering::SeqCst);
     println!(rt; "{answered} answered in {micros} us, the longest wait {longest} us")?;
     Ok(())
 }

@@ -175,23 +175,23 @@ has_first schema h = has schema (first_at schema) h.1.0
 
 -- ---- their names differ
 
-first_callback : (a b : List ℕ) → a ≡ b → get_or a 0 0 ≡ get_or b 0 0
-first_callback a b e = ap (λ (name : List ℕ). get_or name 0 0) e
+first_byte : (a b : List ℕ) → a ≡ b → get_or a 0 0 ≡ get_or b 0 0
+first_byte a b e = ap (λ (name : List ℕ). get_or name 0 0) e
 
 pub own_not_hosts : own_name ≢ hosts_name
-own_not_hosts e = let f = first_callback own_name hosts_name e in omega (arith, f)
+own_not_hosts e = let f = first_byte own_name hosts_name e in omega (arith, f)
 
 pub own_not_watches : own_name ≢ watches_name
-own_not_watches e = let f = first_callback own_name watches_name e in omega (arith, f)
+own_not_watches e = let f = first_byte own_name watches_name e in omega (arith, f)
 
 pub own_not_first : own_name ≢ first_hosts_name
-own_not_first e = let f = first_callback own_name first_hosts_name e in omega (arith, f)
+own_not_first e = let f = first_byte own_name first_hosts_name e in omega (arith, f)
 
 pub hosts_not_watches : hosts_name ≢ watches_name
-hosts_not_watches e = let f = first_callback hosts_name watches_name e in omega (arith, f)
+hosts_not_watches e = let f = first_byte hosts_name watches_name e in omega (arith, f)
 
 pub first_not_watches : first_hosts_name ≢ watches_name
-first_not_watches e = let f = first_callback first_hosts_name watches_name e in omega (arith, f)
+first_not_watches e = let f = first_byte first_hosts_name watches_name e in omega (arith, f)
 
 pub hosts_not_first : hosts_name ≢ first_hosts_name
 hosts_not_first e = let f : length hosts_name ≡ length first_hosts_name = ap length e in omega (arith, f)
