@@ -224,17 +224,11 @@ def lockctl_top_once():
     equal(asked(Daemon(()), "top --once"), (0, "0 locks, 0 files, 0 hosts with locks\nLOCKS  READ  WRITE  OWNERS  FILE\n", ""))
 
 
-def heeds_interrupts():
-    """A shell that runs the tests in the background has them ignore SIGINT, which a child would inherit."""
-    signal.signal(signal.SIGINT, signal.SIG_DFL)
-
-
 @test
 def lockctl_top_until_it_is_interrupted():
     with ports(Daemon().line, mute) as options:
         words = [CONTRIB / "lockctl", *options, "top", "--seconds", "0.1"]
-        pipes = {"stdout": subprocess.PIPE, "stderr": subprocess.PIPE}
-        with subprocess.Popen(words, **pipes, text=True, preexec_fn=heeds_interrupts) as top:
+        with subprocess.Popen(words, stdout=subprocess.PIPE, stderr=subprocess.PIPE, text=True) as top:
             lines = [top.stdout.readline() for _ in range(8)]
             top.send_signal(signal.SIGINT)
             _, fault = top.communicate(timeout=10)
