@@ -3,7 +3,7 @@ use Rattle.std.proofs.Common.{◌≡◌, ◌<◌, Bool, true, false, cond, not, 
 use Rattle.std.proofs.lemmas.Bool.{false≢true}
 use Rattle.std.specs.List.{filter, remove}
 use Rattle.std.specs.Prelude.{IsSome, unwrap_or}
-use Rattle.definitions.specs.Bytes.{Bytes, same_bytes, is_any, without, without_first}
+use Rattle.definitions.specs.Bytes.{Bytes, same_bytes, is_any, list_without, without_first}
 use Rattle.definitions.specs.Owners.{Owner, Process, same_owner, is_of_host}
 use Rattle.definitions.specs.Waits.{Waiter, modes_are_same, same_request}
 use Rattle.owner_ids.specs.Names.{Names, AreDistinct, is_owned_by, is_some_of_host}
@@ -35,11 +35,11 @@ module _ {A B : Type 0} (f : A → B) (p : A → Bool) (q : B → Bool) where
   any_agrees [] h = refl
   any_agrees (x ∷ xs) h = rw (h.0, any_agrees xs h.1) refl
 
-  pub without_agrees : (xs : List A) → Agree f p q xs → map f (filter (λ x. not (p x)) xs) ≡ without q (map f xs)
+  pub without_agrees : (xs : List A) → Agree f p q xs → map f (filter (λ x. not (p x)) xs) ≡ list_without q (map f xs)
   without_agrees [] h = refl
   without_agrees (x ∷ xs) h = rw h.0 (go (p x) (without_agrees xs h.1))
     where
-      go : (b : Bool) → map f (filter (λ y. not (p y)) xs) ≡ without q (map f xs) → map f (cond (not b) (x ∷ filter (λ y. not (p y)) xs) (filter (λ y. not (p y)) xs)) ≡ cond b (without q (map f xs)) (f x ∷ without q (map f xs))
+      go : (b : Bool) → map f (filter (λ y. not (p y)) xs) ≡ list_without q (map f xs) → map f (cond (not b) (x ∷ filter (λ y. not (p y)) xs) (filter (λ y. not (p y)) xs)) ≡ cond b (list_without q (map f xs)) (f x ∷ list_without q (map f xs))
       go true e = e
       go false e = ap (λ l. f x ∷ l) e
 

@@ -2,7 +2,7 @@
 ghost use Rattle.std.specs.Prelude.{◌≡◌, ◌<◌, ◌≤◌, ◌+◌, ◌-◌, ◌||◌, ℕ, not, true, false, Some, IsSome, IfSome, IfNone, length, slice_get, slice_index_or};
 ghost use Rattle.definitions.specs.Owners.{is_description};
 ghost use Rattle.definitions.specs.Waits.{Waiter as OwnerWaiter, closes_cycle};
-ghost use Rattle.owner_ids.specs.Names.{named};
+ghost use Rattle.owner_ids.specs.Names.{names_of_owners};
 ghost use Rattle.blocked_list.specs.Reach.{leads, MarksLed};
 ghost use Rattle.blocked_list.specs.Waiting.{owner_at};
 ghost use Rattle.blocked_list.specs.Standing.{WhereWants};
@@ -15,7 +15,7 @@ impl Slots {
     /// Whether one who waited for this lock would wait, directly or through others, for itself (POSIX fcntl, EDEADLK).
     /// Open file descriptions are neither askers nor steps of a cycle.
     pub fn closes_cycle<T: RangeTable>(&self, table: &T, owners: &Owners, wanted: &Wanted) -> bool
-        ensures { WhereWants (named owners.now) (T.settings table.now) self.now.waiters wanted.now (λ settings waiters r. result ≡ closes_cycle settings waiters r) }
+        ensures { WhereWants (names_of_owners owners.now) (T.settings table.now) self.now.waiters wanted.now (λ settings waiters r. result ≡ closes_cycle settings waiters r) }
     {
         if !is_step(owners, wanted.run().owner) {
             return false;
@@ -37,7 +37,7 @@ impl Slots {
     ) -> bool
         requires nobody { (k : ℕ) → slice_index_or reached.old k false ≡ false }
         requires nowhere { (k : ℕ) → slice_index_or followed.old k false ≡ false }
-        ensures { WhereWants (named owners.now) (T.settings table.now) self.now.waiters wanted.now (λ settings waiters r. is_description (owner_at (named owners.now) wanted.now.owner) ≡ false → result ≡ closes_cycle settings waiters r) }
+        ensures { WhereWants (names_of_owners owners.now) (T.settings table.now) self.now.waiters wanted.now (λ settings waiters r. is_description (owner_at (names_of_owners owners.now) wanted.now.owner) ≡ false → result ≡ closes_cycle settings waiters r) }
     {
         self.reach(table, owners, wanted, reached);
         while let Some(place) = pending(reached, followed, self.waiters.len()) {
@@ -59,7 +59,7 @@ impl Slots {
         wanted: &Wanted,
         reached: &mut [bool; 8192],
     )
-        ensures { WhereWants (named owners.now) (T.settings table.now) self.now.waiters wanted.now (λ settings waiters r. MarksLed reached.old reached.new settings waiters r) }
+        ensures { WhereWants (names_of_owners owners.now) (T.settings table.now) self.now.waiters wanted.now (λ settings waiters r. MarksLed reached.old reached.new settings waiters r) }
     {
         for place in 0..self.waiters.len() {
             reached[place] = self.is_reached(table, owners, wanted, place, reached[place]);
@@ -76,7 +76,7 @@ impl Slots {
         before: bool,
     ) -> bool
         requires there { place < length self.now.waiters }
-        ensures { WhereWants (named owners.now) (T.settings table.now) self.now.waiters wanted.now (λ settings waiters r. (x : OwnerWaiter) → slice_get waiters place ≡ Some x → result ≡ (before || leads settings r x)) }
+        ensures { WhereWants (names_of_owners owners.now) (T.settings table.now) self.now.waiters wanted.now (λ settings waiters r. (x : OwnerWaiter) → slice_get waiters place ≡ Some x → result ≡ (before || leads settings r x)) }
     {
         before || self.leads_to(table, owners, wanted, place)
     }
@@ -90,7 +90,7 @@ impl Slots {
         place: usize,
     ) -> bool
         requires there { place < length self.now.waiters }
-        ensures { WhereWants (named owners.now) (T.settings table.now) self.now.waiters wanted.now (λ settings waiters r. (x : OwnerWaiter) → slice_get waiters place ≡ Some x → result ≡ leads settings r x) }
+        ensures { WhereWants (names_of_owners owners.now) (T.settings table.now) self.now.waiters wanted.now (λ settings waiters r. (x : OwnerWaiter) → slice_get waiters place ≡ Some x → result ≡ leads settings r x) }
     {
         let owner = self.waiters[place].wanted().owner;
         is_step(owners, owner) && held_locks::conflicts_with(table, owners, wanted, owner)
@@ -99,7 +99,7 @@ impl Slots {
 
 // Whether the owner can be a step of a cycle: an open file description can't.
 fn is_step(owners: &Owners, owner: OwnerId) -> bool
-    ensures { IsSome (named owners.now owner) → result ≡ not (is_description (owner_at (named owners.now) owner)) }
+    ensures { IsSome (names_of_owners owners.now owner) → result ≡ not (is_description (owner_at (names_of_owners owners.now) owner)) }
 {
     match owners.find(owner) {
         Some(found) => !found.is_description(),

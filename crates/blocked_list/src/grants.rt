@@ -1,6 +1,6 @@
 //! Who is granted next.
 ghost use Rattle.std.specs.Prelude.{◌<◌, length, IfSome};
-ghost use Rattle.owner_ids.specs.Names.{named};
+ghost use Rattle.owner_ids.specs.Names.{names_of_owners};
 ghost use Rattle.definitions.specs.First.{IsFirstPlace};
 ghost use Rattle.blocked_list.specs.Standing.{WhereCounted};
 ghost use Rattle.blocked_list.specs.Ready.{IsFirstReady, IsFirstReadyOn, is_ready_on};
@@ -22,7 +22,7 @@ impl Slots {
         quotas: &Q,
     ) -> Option<usize>
         ensures bound { IfSome result (λ place. place < length self.now.waiters) }
-        ensures first { WhereCounted (named owners.now) (T.settings table.now) self.now.waiters (H.runs hosts.now) (λ settings waiters. IsFirstReady (Q.by_host quotas.now) settings waiters result) }
+        ensures first { WhereCounted (names_of_owners owners.now) (T.settings table.now) self.now.waiters (H.runs hosts.now) (λ settings waiters. IsFirstReady (Q.by_host quotas.now) settings waiters result) }
     {
         if held_locks::is_short(table, owners) {
             return None;
@@ -47,7 +47,7 @@ impl Slots {
         file: &FileId,
     ) -> Option<usize>
         ensures bound { IfSome result (λ place. place < length self.now.waiters) }
-        ensures first { WhereCounted (named owners.now) (T.settings table.now) self.now.waiters (H.runs hosts.now) (λ settings waiters. IsFirstReadyOn file.now (Q.by_host quotas.now) settings waiters result) }
+        ensures first { WhereCounted (names_of_owners owners.now) (T.settings table.now) self.now.waiters (H.runs hosts.now) (λ settings waiters. IsFirstReadyOn file.now (Q.by_host quotas.now) settings waiters result) }
     {
         self.first_on(table, owners, hosts, quotas, file)
     }
@@ -62,7 +62,7 @@ impl Slots {
         file: &FileId,
     ) -> Option<usize>
         ensures bound { IfSome result (λ place. place < length self.now.waiters) }
-        ensures first { WhereCounted (named owners.now) (T.settings table.now) self.now.waiters (H.runs hosts.now) (λ settings waiters. IsFirstPlace (is_ready_on file.now (Q.by_host quotas.now) settings) waiters result) }
+        ensures first { WhereCounted (names_of_owners owners.now) (T.settings table.now) self.now.waiters (H.runs hosts.now) (λ settings waiters. IsFirstPlace (is_ready_on file.now (Q.by_host quotas.now) settings) waiters result) }
     {
         if held_locks::is_short(table, owners) {
             return None;

@@ -3,7 +3,7 @@ ghost use Rattle.std.specs.Prelude.{◌≡◌, ◌↔◌, ◌≤◌, ◌<◌, �
 ghost use Rattle.definitions.specs.Bytes.{same_bytes, first_that, without_first};
 ghost use Rattle.definitions.specs.Owners.{Owner};
 ghost use Rattle.definitions.specs.Waits.{Waiter as OwnerWaiter, is_waiting, without_waiter, without_host_waiters, without_waiters_on};
-ghost use Rattle.owner_ids.specs.Names.{Names, named};
+ghost use Rattle.owner_ids.specs.Names.{Names, names_of_owners};
 ghost use Rattle.std.specs.List.{list_any, remove};
 ghost use Rattle.definitions.specs.First.{IsFirstAt, IsFirstPlace};
 ghost use Rattle.blocked_list.specs.Waiting.{Waiting, AreKnown, AreNamed, free_places, owner_at, request_by, waiter_by, waiters_by, same_wanted};
@@ -174,7 +174,7 @@ impl Slots {
 
     /// Takes out the waiters of a host (XNFS, NLM_FREE_ALL and SM_NOTIFY).
     pub fn drop_host(&mut self, owners: &Owners, name: &[u8])
-        ensures by { AreNamed (named owners.now) self.old.waiters → waiters_by (named owners.now) self.new.waiters ≡ without_host_waiters name.now (waiters_by (named owners.now) self.old.waiters) }
+        ensures by { AreNamed (names_of_owners owners.now) self.old.waiters → waiters_by (names_of_owners owners.now) self.new.waiters ≡ without_host_waiters name.now (waiters_by (names_of_owners owners.now) self.old.waiters) }
         ensures calls { self.new.calls ≡ self.old.calls }
         ensures named { (names : Names) → AreNamed names self.old.waiters → AreNamed names self.new.waiters }
     {

@@ -4,7 +4,7 @@ ghost use Rattle.definitions.specs.Bytes.{same_bytes};
 ghost use Rattle.definitions.specs.Settings.{setting_of};
 ghost use Rattle.definitions.specs.Quotas.{exceeds};
 ghost use Rattle.definitions.specs.World.{is_ready, the_limits};
-ghost use Rattle.owner_ids.specs.Names.{named};
+ghost use Rattle.owner_ids.specs.Names.{names_of_owners};
 ghost use Rattle.blocked_list.specs.Waiting.{same_wanted, setting_wanted};
 ghost use Rattle.blocked_list.specs.Standing.{WhereFree, AreRunsOf};
 
@@ -96,7 +96,7 @@ impl Waiter {
         hosts: &H,
         quotas: &Q,
     ) -> bool
-        ensures { WhereFree (named owners.now) (T.settings table.now) self.now (λ settings waiter. AreRunsOf (H.runs hosts.now) settings → result ≡ is_ready the_limits (Q.by_host quotas.now) settings waiter) }
+        ensures { WhereFree (names_of_owners owners.now) (T.settings table.now) self.now (λ settings waiter. AreRunsOf (H.runs hosts.now) settings → result ≡ is_ready the_limits (Q.by_host quotas.now) settings waiter) }
     {
         !held_locks::conflicts(table, owners, &self.wanted)
             && !self.is_held_back(table, owners, hosts, quotas)
@@ -110,7 +110,7 @@ impl Waiter {
         hosts: &H,
         quotas: &Q,
     ) -> bool
-        ensures { WhereFree (named owners.now) (T.settings table.now) self.now (λ settings waiter. AreRunsOf (H.runs hosts.now) settings → result ≡ exceeds (Q.by_host quotas.now) settings (setting_of waiter.request)) }
+        ensures { WhereFree (names_of_owners owners.now) (T.settings table.now) self.now (λ settings waiter. AreRunsOf (H.runs hosts.now) settings → result ≡ exceeds (Q.by_host quotas.now) settings (setting_of waiter.request)) }
     {
         let Some(owner) = owners.find(self.wanted.run().owner) else {
             return false;

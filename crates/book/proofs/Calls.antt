@@ -4,8 +4,8 @@ use Rattle.definitions.specs.Bytes.{Bytes}
 use Rattle.definitions.specs.Nlm.{Locks, LockMsg}
 use Rattle.definitions.specs.Hosts.{StoreCall, StoreAnswer, NotAsked, Yes, Refused, after_store}
 use Rattle.definitions.specs.Replies.{Call, Nlm, Nsm, Asks, SystemErr}
-use Rattle.definitions.specs.World.{the_limits, settled, with_hosts}
-use Rattle.definitions.specs.Rulings.{Ruling, ruled}
+use Rattle.definitions.specs.World.{the_limits, settled_world, with_hosts}
+use Rattle.definitions.specs.Rulings.{Ruling, ruled_answer}
 use Rattle.definitions.specs.Answer.{Answered, ruling}
 use Rattle.definitions.specs.Step.{Peer, KeptPair, State, Take, Applied, Starved, Replies, with_world, look, store_call, asked_unless_kept, with_row_stored, is_kept_kind, is_restart, kept_after}
 use Rattle.definitions.specs.Replay.{fits, may_leave_row}
@@ -13,7 +13,7 @@ use Rattle.definition_laws.proofs.AskingLaws.{not_asked, refused_is_no_yes, star
 use Rattle.call_plans.specs.declared.plans.Plan.{Plan}
 use Rattle.call_plans.specs.declared.plans.Plan.TheVariants as plan
 use Rattle.lock_service.specs.MayAsk.{may_ask}
-use Rattle.call_plans.specs.Planned.{planned, stored, view_of_asked, IsPlan, IsAnswerTo, IsWithin, AsksOnlyIf}
+use Rattle.call_plans.specs.Planned.{ruling_of_plan, world_after_store, view_of_asked, IsPlan, IsAnswerTo, IsWithin, AsksOnlyIf}
 use Rattle.book.specs.Given.{comes_to}
 use Rattle.book.specs.Notes.{IsStep}
 
@@ -41,13 +41,13 @@ kept_asks (Nlm version call) asks kept = asks
 kept_asks (Nsm call) asks kept = absurd (true≢false (sym kept))
 
 module _ (s : State) (peer : Peer) (bytes : Bytes) (xid : ℕ) (call : Call) (none : look s peer bytes ≡ None) where
-  asks_as : (p : Plan) → IsPlan (ruling the_limits s.world peer.local call) s.world p → store_call the_limits s (Take peer bytes (Asks xid call)) ≡ (planned p s.world).asks
+  asks_as : (p : Plan) → IsPlan (ruling the_limits s.world peer.local call) s.world p → store_call the_limits s (Take peer bytes (Asks xid call)) ≡ (ruling_of_plan p s.world).asks
   asks_as p is = ap (λ (o : Option KeptPair). asked_unless_kept the_limits s peer call o) none ∙ ap (λ (r : Ruling Answered). r.asks) (sym is.ruled)
 
   -- the store had answered, and then memory was wanting to keep the reply
   pub starved_late : (p : Plan) (store : StoreAnswer) (allowed : Bool) → IsPlan (ruling the_limits s.world peer.local call) s.world p → AsksOnlyIf allowed p
       → (allowed ≡ true → is_kept_kind call ≡ true → may_leave_row call ≡ true) → is_kept_kind call ≡ true → IsAnswerTo p store → IsWithin p store s.world
-      → IsStep s (Take peer bytes (Asks xid call)) (comes_to Starved store (Replies xid SystemErr)) (with_world s (stored p store s.world))
+      → IsStep s (Take peer bytes (Asks xid call)) (comes_to Starved store (Replies xid SystemErr)) (with_world s (world_after_store p store s.world))
   starved_late (plan.Decided a) store allowed is only row kept answer within = rw answer (starved_early s peer bytes xid call)
   starved_late (plan.AfterStore q agreed refused) NotAsked allowed is only row kept answer within = absurd (answer refl)
   starved_late (plan.AfterStore q agreed refused) Refused allowed is only row kept answer within = record {
@@ -68,7 +68,7 @@ module _ (s : State) (peer : Peer) (bytes : Bytes) (xid : ℕ) (call : Call) (no
   answer_fits (plan.AfterStore q agreed refused) Refused is answer within = rw (asks_as (plan.AfterStore q agreed refused) is) refl
 
   -- it was done
-  pub done : (p : Plan) (store : StoreAnswer) (a : Answered) → IsPlan (ruling the_limits s.world peer.local call) s.world p → a ≡ ruled store (planned p s.world) → IsAnswerTo p store → IsWithin p store s.world → IsStep s (Take peer bytes (Asks xid call)) (comes_to Applied store (Replies xid a.outcome)) (record { world = settled the_limits a.world; kept = cond (is_restart peer call store) [] (kept_after the_limits peer bytes xid call a s.kept) })
+  pub done : (p : Plan) (store : StoreAnswer) (a : Answered) → IsPlan (ruling the_limits s.world peer.local call) s.world p → a ≡ ruled_answer store (ruling_of_plan p s.world) → IsAnswerTo p store → IsWithin p store s.world → IsStep s (Take peer bytes (Asks xid call)) (comes_to Applied store (Replies xid a.outcome)) (record { world = settled_world the_limits a.world; kept = cond (is_restart peer call store) [] (kept_after the_limits peer bytes xid call a s.kept) })
   done p store a is ruling answer within = record {
     gives = rw (none, ← is.ruled, ← ruling) refl;
     leaves = rw (none, ← is.ruled, ← ruling) refl;

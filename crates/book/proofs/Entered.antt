@@ -11,7 +11,7 @@ use Rattle.book.specs.declared.entries.Entries.{Entries}
 use Rattle.book.specs.NewEntries.{HasPlace}
 use Rattle.book.specs.Given.{StepResult}
 use Rattle.book.specs.Notes.{JournalEvent, Note, view_of_entry, Steps}
-use Rattle.book.specs.Journal.{IsLegal, next_of, noted, room_of}
+use Rattle.book.specs.Journal.{IsLegal, next_of, noted_journal, room_of}
 use Rattle.book.specs.Kept.{journal_of, IsKept}
 use Rattle.book.proofs.Journals.{legal_grows, same_journal}
 
@@ -41,7 +41,7 @@ module _ {Z : Type 0} (newest : ℕ) (base s new : State) (entries more : Vec En
   abbrev note : Note
   note = record { number = newest + 1; event = event; step_result = step_result }
 
-  pub noted_as : IsKept newest base entries s → more.items ≡ entries.items ++ e ∷ [] → view_of_entry e ≡ note → journal_of (newest + 1) base more new ≡ noted (journal_of newest base entries s) (record note { number = next_of (journal_of newest base entries s) }) new
+  pub noted_as : IsKept newest base entries s → more.items ≡ entries.items ++ e ∷ [] → view_of_entry e ≡ note → journal_of (newest + 1) base more new ≡ noted_journal (journal_of newest base entries s) (record note { number = next_of (journal_of newest base entries s) }) new
   noted_as kept items is =
       let before = journal_of newest base entries s in
       let k = kept.numbers in

@@ -8,7 +8,7 @@ use Rattle.definitions.specs.Phases.{Grace}
 use Rattle.definitions.specs.Shares.{Share}
 use Rattle.definitions.specs.World.{the_limits}
 use Rattle.definitions.specs.Step.{State, Given, opening_state}
-use Rattle.definitions.specs.Replay.{Done, Entry, after, state_after, given_by, done_of, numbers_of, counted, told_of, fits, all_fit, IsLegal as IsLegalFrom}
+use Rattle.definitions.specs.Replay.{Done, Entry, after, state_after, given_by, done_of, numbers_of, numbers_from, told_of, fits, all_fit, IsLegal as IsLegalFrom}
 use Rattle.definitions.specs.Moves.{IsSound, IsReclaim, TableMove}
 use Rattle.definition_laws.specs.Standing.{IsShareReclaim, IsGrantless}
 use Rattle.definition_laws.proofs.RunLaws.{run_is_sound}
@@ -18,7 +18,7 @@ use Rattle.definition_laws.proofs.StandingLaws.{grace_shares_law}
 use Rattle.book.specs.Given.{StepResult}
 use Rattle.book.specs.Notes.{Note, JournalEvent, Steps}
 use Rattle.book.specs.Journal.{Journal, IsEntryOf, AreEntriesOf, IsLegal, next_of}
-use Rattle.book.specs.Histories.{notes_of, Join, AreLegal, joined, IsHistory, SegmentsAreLegal}
+use Rattle.book.specs.Histories.{notes_of, Join, AreLegal, joined_journal, IsHistory, SegmentsAreLegal}
 use Rattle.book.specs.Laws.{GrantsReclaimsOnly, HistoriesAreSound, HistoriesGrantReclaimsOnly, HistoriesTellOfNoGrant}
 use Rattle.book.proofs.Journals.{as_many}
 
@@ -43,17 +43,17 @@ fit_behind s (d ∷ xs) ys h k = go (fits the_limits s d) h (λ i. fit_behind (a
     go true i more = more i
     go false i more = absurd (true≢false (sym i))
 
-counted_behind : (first : ℕ) (xs ys : List Entry) → counted first (xs ++ ys) ≡ counted first xs ++ counted (first + length xs) ys
-counted_behind first [] ys = ap (λ (n : ℕ). counted n ys) (omega arith)
+counted_behind : (first : ℕ) (xs ys : List Entry) → numbers_from first (xs ++ ys) ≡ numbers_from first xs ++ numbers_from (first + length xs) ys
+counted_behind first [] ys = ap (λ (n : ℕ). numbers_from n ys) (omega arith)
 counted_behind first (x ∷ xs) ys =
     let same : (first + 1) + length xs ≡ first + length (x ∷ xs) = omega arith in
-    ap (λ (ns : List ℕ). first ∷ ns) (counted_behind (first + 1) xs ys ∙ ap (λ (n : ℕ). counted (first + 1) xs ++ counted n ys) same)
+    ap (λ (ns : List ℕ). first ∷ ns) (counted_behind (first + 1) xs ys ∙ ap (λ (n : ℕ). numbers_from (first + 1) xs ++ numbers_from n ys) same)
 
 legal_behind : (first : ℕ) (base mid end : State) (xs ys : List Entry) → IsLegalFrom the_limits first base xs mid → IsLegalFrom the_limits (first + length xs) mid ys end → IsLegalFrom the_limits first base (xs ++ ys) end
 legal_behind first base mid end xs ys a b =
     let done : done_of (xs ++ ys) ≡ done_of xs ++ done_of ys = map-append (λ (e : Entry). e.done) xs ys in
     record {
-      numbers = map-append (λ (e : Entry). e.number) xs ys ∙ ap (λ (ns : List ℕ). ns ++ numbers_of ys) a.numbers ∙ ap (λ (ns : List ℕ). counted first xs ++ ns) b.numbers ∙ sym (counted_behind first xs ys);
+      numbers = map-append (λ (e : Entry). e.number) xs ys ∙ ap (λ (ns : List ℕ). ns ++ numbers_of ys) a.numbers ∙ ap (λ (ns : List ℕ). numbers_from first xs ++ ns) b.numbers ∙ sym (counted_behind first xs ys);
       given = ap (given_by the_limits base) done ∙ given_behind base (done_of xs) (done_of ys)
           ∙ ap (λ (s : State). given_by the_limits base (done_of xs) ++ given_by the_limits s (done_of ys)) a.ends
           ∙ ap (λ (gs : List Given). gs ++ given_by the_limits mid (done_of ys)) a.given
@@ -71,7 +71,7 @@ entries_behind (n ∷ ns) ms (x ∷ xs) ys a b = (a.0, entries_behind ns ms xs y
 -- ---- segments
 
 -- the first journal, and behind it what the others are as one
-behind_first : (base : State) (first : ℕ) (j : Journal) (closed : List Journal) (last : Journal) → j.base ≡ base → j.first ≡ first → IsLegal j → IsLegal (joined j.end (next_of j) closed last) → IsLegal (joined base first (j ∷ closed) last)
+behind_first : (base : State) (first : ℕ) (j : Journal) (closed : List Journal) (last : Journal) → j.base ≡ base → j.first ≡ first → IsLegal j → IsLegal (joined_journal j.end (next_of j) closed last) → IsLegal (joined_journal base first (j ∷ closed) last)
 behind_first base first j closed last at from legal rest =
     let many : length legal.entries ≡ length j.notes = as_many j.notes legal.entries legal.are in
     let from_here : IsLegalFrom the_limits (j.first + length legal.entries) j.end rest.entries last.end = subst (λ (n : ℕ). IsLegalFrom the_limits (j.first + n) j.end rest.entries last.end) (sym many) rest.legal in

@@ -6,9 +6,9 @@ use Rattle.definitions.specs.Replay.{Done, Entry, after, IsLegal as IsLegalFrom}
 use Rattle.definition_laws.proofs.HistoryLaws.{history_grows}
 use Rattle.book.specs.Given.{StepResult}
 use Rattle.book.specs.Notes.{Note, JournalEvent, Steps}
-use Rattle.book.specs.Journal.{Journal, IsEntryOf, AreEntriesOf, IsLegal, begun, next_of, noted}
+use Rattle.book.specs.Journal.{Journal, IsEntryOf, AreEntriesOf, IsLegal, empty_journal, next_of, noted_journal}
 
-pub begun_is_legal : (first : ℕ) (s : State) → IsLegal (begun first s)
+pub begun_is_legal : (first : ℕ) (s : State) → IsLegal (empty_journal first s)
 begun_is_legal first s = record { entries = []; are = refl; legal = record { numbers = refl; given = refl; ends = refl; store = refl } }
 
 pub more_entries : (notes : List Note) (entries : List Entry) (n : Note) (e : Entry) → AreEntriesOf notes entries → IsEntryOf n e → AreEntriesOf (notes ++ n ∷ []) (entries ++ e ∷ [])
@@ -21,7 +21,7 @@ as_many [] entries are = ap (λ (es : List Entry). length es) are
 as_many (n ∷ notes) [] are = elim are [ ]
 as_many (n ∷ notes) (e ∷ entries) are = let rest = as_many notes entries are.1 in omega arith
 
-pub legal_grows : (j : Journal) (event : JournalEvent) (step_result : StepResult) (new : State) → IsLegal j → Steps j.end event step_result new → IsLegal (noted j (record { number = next_of j; event = event; step_result = step_result }) new)
+pub legal_grows : (j : Journal) (event : JournalEvent) (step_result : StepResult) (new : State) → IsLegal j → Steps j.end event step_result new → IsLegal (noted_journal j (record { number = next_of j; event = event; step_result = step_result }) new)
 legal_grows j event step_result new legal steps =
     let d : Done = record { event = steps.said; completion = step_result.completion; store = step_result.store } in
     let e : Entry = record { number = j.first + length legal.entries; done = d; given = (after the_limits j.end d).given } in

@@ -4,12 +4,12 @@ use Rattle.std.specs.Prelude.{Result, Ok, Err, IfOk, OnErr}
 use Rattle.definitions.specs.Bytes.{Bytes}
 use Rattle.definitions.specs.Hosts.{StoreAnswer, NotAsked}
 use Rattle.definitions.specs.Replay.{fits}
-use Rattle.definitions.specs.Rulings.{ruled, stays}
+use Rattle.definitions.specs.Rulings.{ruled_answer, stays}
 use Rattle.call_plans.specs.Planned.{view_of_stored}
 use Rattle.step_order.specs.declared.store.StoreAnswer.{StoreAnswer as CodedAnswer}
 use Rattle.definitions.specs.Replies.{Line, LineReply, LineStarved}
 use Rattle.definitions.specs.Lines.{line_answer}
-use Rattle.definitions.specs.World.{World, the_limits, settled}
+use Rattle.definitions.specs.World.{World, the_limits, settled_world}
 use Rattle.definitions.specs.Step.{State, Local, Applied, Starved, Says, with_world}
 use Rattle.lock_service.specs.declared.local.SetLine as line
 use Rattle.lock_service.specs.Lined.{set_line_if, view_of_set_line}
@@ -20,7 +20,7 @@ use Rattle.book.specs.Given.{StepResult, comes_to}
 use Rattle.book.specs.Notes.{AsksLine, IsStep, Steps}
 
 module _ (s : State) (line : Line) (store : StoreAnswer) where
-  pub done : (answer : LineReply) (w : World) → ((l : ℕ) → answer ≡ (ruled store (line_answer the_limits s.world l line)).says) → ((l : ℕ) → w ≡ settled the_limits (ruled store (line_answer the_limits s.world l line)).world)
+  pub done : (answer : LineReply) (w : World) → ((l : ℕ) → answer ≡ (ruled_answer store (line_answer the_limits s.world l line)).says) → ((l : ℕ) → w ≡ settled_world the_limits (ruled_answer store (line_answer the_limits s.world l line)).world)
       → (l : ℕ) → fits the_limits s (record { event = Local l line; completion = Applied; store = store }) ≡ true → IsStep s (Local l line) (comes_to Applied store (Says answer)) (with_world s w)
   done answer w says leaves l fit = record {
     gives = ap (λ (r : LineReply). Says r) (sym (says l));
@@ -29,13 +29,13 @@ module _ (s : State) (line : Line) (store : StoreAnswer) where
   }
 
 -- a line that changes nothing by itself
-pub settled_so : (s : State) (l : ℕ) (line : Line) (reply said : LineReply) (w : World) → line_answer the_limits s.world l line ≡ stays s.world reply → fits the_limits s (record { event = Local l line; completion = Applied; store = NotAsked }) ≡ true → said ≡ reply → w ≡ settled the_limits s.world
+pub settled_so : (s : State) (l : ℕ) (line : Line) (reply said : LineReply) (w : World) → line_answer the_limits s.world l line ≡ stays s.world reply → fits the_limits s (record { event = Local l line; completion = Applied; store = NotAsked }) ≡ true → said ≡ reply → w ≡ settled_world the_limits s.world
     → IsStep s (Local l line) (comes_to Applied NotAsked (Says said)) (with_world s w)
 settled_so s l line reply said w is fit says leaves = rw (says, leaves) (record { gives = rw is refl; leaves = rw is refl; fits = fit })
 
 -- a line that sets
-pub set_so : (s : State) (x : line.SetLine) (said : LineReply) (w : World) → said ≡ (ruled NotAsked (line_answer the_limits s.world x.connection (view_of_set_line x))).says
-    → w ≡ settled the_limits (ruled NotAsked (line_answer the_limits s.world x.connection (view_of_set_line x))).world → IsStep s (Local x.connection (view_of_set_line x)) (comes_to Applied NotAsked (Says said)) (with_world s w)
+pub set_so : (s : State) (x : line.SetLine) (said : LineReply) (w : World) → said ≡ (ruled_answer NotAsked (line_answer the_limits s.world x.connection (view_of_set_line x))).says
+    → w ≡ settled_world the_limits (ruled_answer NotAsked (line_answer the_limits s.world x.connection (view_of_set_line x))).world → IsStep s (Local x.connection (view_of_set_line x)) (comes_to Applied NotAsked (Says said)) (with_world s w)
 set_so s x said w says leaves = record {
   gives = ap (λ (r : LineReply). Says r) (sym says);
   leaves = ap (with_world s) (sym leaves);

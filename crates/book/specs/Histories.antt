@@ -5,7 +5,7 @@ use Rattle.definitions.specs.Hosts.{Hosts, Yes}
 use Rattle.definitions.specs.Step.{State, Applied, Nothing, opening_state}
 use Rattle.book.specs.Given.{StepResult, comes_to}
 use Rattle.book.specs.Notes.{Note, JournalEvent, BeginsAnew, Steps}
-use Rattle.book.specs.Journal.{Journal, IsLegal, begun, next_of, noted}
+use Rattle.book.specs.Journal.{Journal, IsLegal, empty_journal, next_of, noted_journal}
 
 abbrev pub notes_of : List Journal → List Note
 notes_of [] = []
@@ -21,8 +21,8 @@ AreLegal [] = Unit {0}
 AreLegal (j ∷ journals) = IsLegal j × AreLegal journals
 
 -- closed segments and the last one, as one journal
-abbrev pub joined : State → ℕ → List Journal → Journal → Journal
-joined base first closed last = record { first = first; base = base; notes = notes_of closed ++ last.notes; end = last.end }
+abbrev pub joined_journal : State → ℕ → List Journal → Journal → Journal
+joined_journal base first closed last = record { first = first; base = base; notes = notes_of closed ++ last.notes; end = last.end }
 
 -- a legal history from the opening state of a name and the store's rows, whose numbers begin with 1
 pub record IsHistory (name : Bytes) (hosts : Hosts) (j : Journal) : Type 0 where
@@ -47,14 +47,14 @@ BeginsWithRestart (n ∷ notes) = (n.event ≡ BeginsAnew) × (n.step_result ≡
 abbrev pub SegmentsAreLegal : Type 0
 SegmentsAreLegal =
     (base : State) (first : ℕ) (closed : List Journal) (last : Journal) → Join base first (closed ++ last ∷ []) → AreLegal (closed ++ last ∷ [])
-    → IsLegal (joined base first closed last)
+    → IsLegal (joined_journal base first closed last)
 
 -- an empty journal is legal
 abbrev pub LegalBegins : Type 0
-LegalBegins = (first : ℕ) (s : State) → IsLegal (begun first s)
+LegalBegins = (first : ℕ) (s : State) → IsLegal (empty_journal first s)
 
 -- and a legal one goes on by each step
 abbrev pub LegalGrows : Type 0
 LegalGrows =
     (j : Journal) (event : JournalEvent) (step_result : StepResult) (new : State) → IsLegal j → Steps j.end event step_result new
-    → IsLegal (noted j (record { number = next_of j; event = event; step_result = step_result }) new)
+    → IsLegal (noted_journal j (record { number = next_of j; event = event; step_result = step_result }) new)

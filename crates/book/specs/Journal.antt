@@ -6,7 +6,7 @@ use Rattle.definitions.specs.Hosts.{NotAsked}
 use Rattle.definitions.specs.World.{the_limits}
 use Rattle.definitions.specs.Step.{State, Applied, Starved, Sends}
 use Rattle.definitions.specs.Replay.{Entry, IsLegal as IsLegalFrom}
-use Rattle.call_plans.specs.Planned.{counted}
+use Rattle.call_plans.specs.Planned.{refusal_count}
 use Rattle.call_codec.specs.declared.records.dest.Dest.{Dest}
 use Rattle.call_codec.specs.Dests.{view_of_dest}
 use Rattle.book.specs.Given.{StepResult, comes_to, record_of}
@@ -43,8 +43,8 @@ pub record IsLegal (j : Journal) : Type 0 where
   pub legal : IsLegalFrom the_limits j.first j.base entries j.end
 
 -- an empty journal
-abbrev pub begun : ℕ → State → Journal
-begun first s = record { first = first; base = s; notes = []; end = s }
+abbrev pub empty_journal : ℕ → State → Journal
+empty_journal first s = record { first = first; base = s; notes = []; end = s }
 
 -- the number of the next entry
 abbrev pub next_of : Journal → ℕ
@@ -59,16 +59,16 @@ abbrev pub RoomLaw : Type 0
 RoomLaw = (j : Journal) → length j.notes < 1024 → next_of j < 2 ^ 64 → 0 < room_of j
 
 -- the segment ends, and the next one begins where it ends
-abbrev pub rotated : Book → Book
-rotated b = record b { journal = begun (next_of b.journal) b.journal.end }
+abbrev pub rotated_book : Book → Book
+rotated_book b = record b { journal = empty_journal (next_of b.journal) b.journal.end }
 
 -- there is room as it stands; or the segment is full, and is closed, and the next one begins
 abbrev pub MakesRoom : Book → Option Journal → Book → Type 0
 MakesRoom old None new = new ≡ old
-MakesRoom old (Some closed) new = (room_of old.journal ≡ 0) × (closed ≡ old.journal) × (new ≡ rotated old)
+MakesRoom old (Some closed) new = (room_of old.journal ≡ 0) × (closed ≡ old.journal) × (new ≡ rotated_book old)
 
-abbrev pub noted : Journal → Note → State → Journal
-noted j n end = record j { notes = j.notes ++ n ∷ []; end = end }
+abbrev pub noted_journal : Journal → Note → State → Journal
+noted_journal j n end = record j { notes = j.notes ++ n ∷ []; end = end }
 
 -- only a record, a line and a restart take memory
 abbrev pub TakesMemory : JournalEvent → Type 0
@@ -83,8 +83,8 @@ TakesMemory GraceEnds = ⊥
 -- one event is one entry, and one step of the definitions
 pub record Enters (old : Book) (event : JournalEvent) (step_result : StepResult) (new : Book) : Type 0 where
   pub steps : Steps old.journal.end event step_result new.journal.end
-  pub journal : new.journal ≡ noted old.journal (record { number = next_of old.journal; event = event; step_result = step_result }) new.journal.end
-  pub refusals : new.refusals ≡ counted step_result.store old.refusals
+  pub journal : new.journal ≡ noted_journal old.journal (record { number = next_of old.journal; event = event; step_result = step_result }) new.journal.end
+  pub refusals : new.refusals ≡ refusal_count step_result.store old.refusals
   pub fed : step_result.completion ≡ Starved → TakesMemory event
 
 -- the call that is due first is sent, with its number, to whom it is for, and its record; or none is due, and nothing happens

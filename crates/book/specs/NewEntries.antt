@@ -1,10 +1,10 @@
 -- An event is done, and an entry made of it.
 use Rattle.std.specs.Prelude.{◌≡◌, ◌+◌, ◌-◌, ◌^◌, ◌<◌, [], ◌∷◌, ◌++◌, vec_len, vec_capacity}
 use Rattle.definitions.specs.Step.{Starved}
-use Rattle.call_plans.specs.Planned.{counted, view_of_stored}
+use Rattle.call_plans.specs.Planned.{refusal_count}
 use Rattle.book.specs.declared.entries.NewEntry.{NewEntry}
 use Rattle.book.specs.declared.entries.Entries.{Entries}
-use Rattle.book.specs.Given.{StepResult, comes_to, view_of_completion}
+use Rattle.book.specs.Given.{StepResult, result_under}
 use Rattle.book.specs.Journal.{TakesMemory}
 use Rattle.book.specs.Notes.{JournalEvent, Steps, given_in, view_of_operation}
 use Rattle.book.specs.BookState.{BookState}
@@ -13,8 +13,8 @@ use Rattle.book.specs.BookState.{BookState}
 pub record IsDone (old : BookState) (event : JournalEvent) (step_result : StepResult) (new_entry : NewEntry) (new : BookState) : Type 0 where
   pub step : Steps old.state event step_result new.state
   pub tells : view_of_operation new_entry.operation ≡ event
-  pub noted : comes_to (view_of_completion new_entry.completion) (view_of_stored new_entry.store) (given_in new_entry.operation) ≡ step_result
-  pub counts : new.refusals ≡ counted step_result.store old.refusals
+  pub noted : result_under new_entry.status (given_in new_entry.operation) ≡ step_result
+  pub counts : new.refusals ≡ refusal_count step_result.store old.refusals
   pub fed : step_result.completion ≡ Starved → TakesMemory event
 
 -- there is a place and a number for one entry more
@@ -24,6 +24,6 @@ pub record HasPlace (e : Entries) : Type 0 where
 
 -- one entry more, under the next number
 pub record HasMore (old : Entries) (new_entry : NewEntry) (new : Entries) : Type 0 where
-  pub list : new.list.items ≡ old.list.items ++ record { number = old.newest + 1; operation = new_entry.operation; completion = new_entry.completion; store = new_entry.store } ∷ []
+  pub list : new.list.items ≡ old.list.items ++ record { number = old.newest + 1; operation = new_entry.operation; status = new_entry.status } ∷ []
   pub room : vec_capacity new.list ≡ vec_capacity old.list
   pub newest : new.newest ≡ old.newest + 1

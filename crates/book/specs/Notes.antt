@@ -7,14 +7,13 @@ use Rattle.definitions.specs.World.{the_limits}
 use Rattle.definitions.specs.Step.{Peer, Event, Take, Send, Answer, Local, Silent, GraceOver, Restart, Completion, Given, Says, Sends, State}
 use Rattle.definitions.specs.Replay.{after, fits}
 use Rattle.kept_replies.specs.Pairs.{view_of_peer}
-use Rattle.call_plans.specs.Planned.{view_of_stored}
 use Rattle.book.specs.declared.event.BookEvent.{BookEvent}
 use Rattle.book.specs.declared.event.BookEvent.TheVariants as event
 use Rattle.book.specs.declared.entry.Operation.{Operation}
 use Rattle.book.specs.declared.entry.Operation.TheVariants as operation
 use Rattle.book.specs.declared.entry.Entry.{Entry}
 use Rattle.local_ops.specs.Answers.{view_of_local_answer}
-use Rattle.book.specs.Given.{StepResult, comes_to, view_of_completion, view_of_reply}
+use Rattle.book.specs.Given.{StepResult, comes_to, result_under, view_of_reply}
 use Rattle.call_codec.specs.Answers.{IsAnswerReading}
 use Rattle.call_codec.specs.Readings.{IsReading}
 use Rattle.local_ops.specs.Grammar.{Reads as LineReads}
@@ -62,7 +61,7 @@ given_in (operation.Line l line answer) = Says (view_of_local_answer answer.valu
 given_in (operation.Sent number callback) = Sends number callback.value
 
 abbrev pub view_of_entry : Entry → Note
-view_of_entry e = record { number = e.number; event = view_of_operation e.operation; step_result = comes_to (view_of_completion e.completion) (view_of_stored e.store) (given_in e.operation) }
+view_of_entry e = record { number = e.number; event = view_of_operation e.operation; step_result = result_under e.status (given_in e.operation) }
 
 -- the event of the definitions, whose record, answer or line has its reading
 abbrev pub Reads : JournalEvent → Event → Type 0

@@ -15,17 +15,17 @@ pub record Receipt : Type 0 where
 abbrev pub receipt_of : Note → Receipt
 receipt_of n = record { number = n.number; event = n.event; reply = record_of n.step_result.given }
 
-abbrev pub newest : List Note → Option Note
-newest notes = slice_get notes (length notes - 1)
+abbrev pub newest_note : List Note → Option Note
+newest_note notes = slice_get notes (length notes - 1)
 
 abbrev pub newest_event : List Note → Option JournalEvent
-newest_event notes = option_map (λ (n : Note). n.event) (newest notes)
+newest_event notes = option_map (λ (n : Note). n.event) (newest_note notes)
 
 abbrev pub newest_given : List Note → Option Given
-newest_given notes = option_map (λ (n : Note). n.step_result.given) (newest notes)
+newest_given notes = option_map (λ (n : Note). n.step_result.given) (newest_note notes)
 
 abbrev pub newest_receipt : List Note → Option Receipt
-newest_receipt notes = option_map receipt_of (newest notes)
+newest_receipt notes = option_map receipt_of (newest_note notes)
 
 abbrev pub same_peer : Peer → Peer → Bool
 same_peer a b = same_bytes a.address b.address && cond a.local b.local (not b.local)
@@ -51,4 +51,4 @@ is_noted r notes = is_any (λ (n : Note). same_receipt (receipt_of n) r) notes
 abbrev pub NewestLaw : Type 0
 NewestLaw =
     (old new : Book) (event : JournalEvent) (step_result : StepResult) → Enters old event step_result new
-    → newest new.journal.notes ≡ Some (record { number = next_of old.journal; event = event; step_result = step_result })
+    → newest_note new.journal.notes ≡ Some (record { number = next_of old.journal; event = event; step_result = step_result })

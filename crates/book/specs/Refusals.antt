@@ -8,7 +8,7 @@ use Rattle.definitions.specs.Nlm.{Version, Stat, NlmCall, Test, Locks, Cancel, U
 use Rattle.definitions.specs.Ranges.{range_refusal, file_refusal}
 use Rattle.definitions.specs.Replies.{Nlm, Outcome, Success, NoResult, ResResult, TestResResult, ShareResult, Asks}
 use Rattle.definitions.specs.Shown.{shown_stat, free_test}
-use Rattle.definitions.specs.World.{World, the_limits, slots_free, with_due, settled}
+use Rattle.definitions.specs.World.{World, the_limits, slots_free, with_due, settled_world}
 use Rattle.definitions.specs.Step.{Peer, State, Take, Applied, Given, Replies, look}
 use Rattle.book.specs.Given.{StepResult}
 use Rattle.book.specs.Notes.{JournalEvent, Steps}
@@ -67,7 +67,7 @@ pub record CallsBack (xid : ℕ) (version : Version) (call : NlmCall) (stat : St
   pub gives : given ≡ Replies xid (Success NoResult)
   pub callback : Callback
   pub tells : refusal_callback version call stat ≡ Some callback
-  pub world : new.world ≡ settled the_limits (with_due old.world callback)
+  pub world : new.world ≡ settled_world the_limits (with_due old.world callback)
 
 -- a message form that is done anew while a place is free, and has an early refusal, is answered by a call of the server's own
 abbrev pub MessageRefusalIsAnswered : Type 0

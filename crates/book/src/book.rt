@@ -1,27 +1,27 @@
 //! The shared state and the segment of the journal that leads to it.
-ghost use Rattle.std.specs.Prelude.{◌≡◌, ◌⊎◌, ◌<◌, ◌^◌, [], Some, IfOk, IfErr, IsErr, is_some};
+ghost use Rattle.std.specs.Prelude.{◌≡◌, ◌⊎◌, ◌<◌, ◌+◌, ◌^◌, [], length, Some, IfOk, IfErr, IsErr, is_some};
 ghost use Rattle.kept_replies.specs.Pairs.{view_of_peer};
 ghost use Rattle.definitions.specs.Outgoing.{next_due};
 ghost use Rattle.definitions.specs.Step.{opening_state};
 ghost use Rattle.book.specs.Notes.{view_of_event, Takes};
 ghost use Rattle.book.specs.Given.{view_of_reply};
 ghost use Rattle.book.specs.Receipts.{newest_event, newest_given, newest_receipt, is_noted};
-ghost use Rattle.book.specs.Journal.{begun, next_of, room_of, rotated, Enters, IsLegal, IsNext, MakesRoom};
+ghost use Rattle.book.specs.Journal.{empty_journal, next_of, room_of, rotated_book, Enters, IsLegal, IsNext, MakesRoom};
 
 use crate::entries::{Entries, NewEntry};
 use crate::entry::{Operation, SEGMENT};
 use crate::event::BookEvent;
 use crate::receipt::{Receipt, Taken};
 use crate::reply::Reply;
-use crate::segment::{Closed, NoRoom, Segment};
+use crate::segment::{ClosedSegment, NoRoom, Segment};
 use crate::snapshot::Snapshot;
 use crate::state::BookState;
-use crate::step_result::{Completion, StepResult};
+use crate::step_result::{Completion, EventStatus, StepResult};
 use call_codec::Dest;
 use callbacks::ShortBytes;
 use held_locks::Locks;
 use hosts_db::HostStore;
-use lock_service::StoreAnswer;
+use lock_service::{StoreAnswer, World};
 use owner_ids::Starved;
 use range_table::RangeTable;
 use std::alloc::Global;
@@ -70,7 +70,7 @@ impl<R: RangeTable + Drop, S: HostStore + Drop> Book<R, S> {
         own_name: ShortBytes,
     ) -> Result<Book<R, S>, Starved>
         requires { R.settings table ≡ [] }
-        ensures begins { IfOk result (λ book. book ≡ record { journal = begun 1 (opening_state own_name (S.rows store)); refusals = S.refusals store }) }
+        ensures begins { IfOk result (λ book. book ≡ record { journal = empty_journal 1 (opening_state own_name (S.rows store)); refusals = S.refusals store }) }
     {
         let segment = Segment::new(alloc)?;
         let shared = BookState::new(alloc, table, store, own_name)?;
@@ -86,7 +86,7 @@ impl<R: RangeTable + Drop, S: HostStore + Drop> Book<R, S> {
     }
 
     /// Closes the last segment.
-    pub fn close(self) -> Closed<R, S>
+    pub fn close(self) -> ClosedSegment<R, S>
         ensures closed { result ≡ self.journal }
         ensures legal { IsLegal result }
     {
@@ -96,7 +96,7 @@ impl<R: RangeTable + Drop, S: HostStore + Drop> Book<R, S> {
             entries,
         } = self;
         let end = Snapshot::of(&shared);
-        Closed {
+        ClosedSegment {
             newest: entries.newest,
             base,
             entries: entries.list,
@@ -122,6 +122,27 @@ impl<R: RangeTable, S: HostStore> Book<R, S> {
         ensures refusals { S.refusals result.now ≡ self.now.refusals }
     {
         self.shared.world.store()
+    }
+
+    /// The state without its kept replies, to be read.
+    pub fn world(&self) -> &World<R, S>
+        ensures { result.now.world ≡ self.now.journal.end.world }
+    {
+        &self.shared.world
+    }
+
+    /// How many replies are kept.
+    pub fn kept_replies(&self) -> usize
+        ensures { result ≡ length self.now.journal.end.kept }
+    {
+        self.shared.kept.len()
+    }
+
+    /// How many entries all segments have, this one with those before it: the number of the newest entry.
+    pub fn entries(&self) -> u64
+        ensures { result + 1 ≡ next_of self.now.journal }
+    {
+        self.entries.newest
     }
 
     /// The locks of all owners, to be read: they are those of the state.
@@ -157,14 +178,15 @@ impl<R: RangeTable, S: HostStore> Book<R, S> {
         ensures legal { IsLegal self.new.journal }
     {
         let sending = self.shared.send()?;
-        let operation = Operation::Sent {
-            number: sending.number,
-            callback: sending.callback,
-        };
         self.entries.note(NewEntry {
-            operation,
-            completion: Completion::Applied,
-            store: StoreAnswer::NotAsked,
+            operation: Operation::Sent {
+                number: sending.number,
+                callback: sending.callback,
+            },
+            status: EventStatus {
+                completion: Completion::Applied,
+                store: StoreAnswer::NotAsked,
+            },
         });
         Some((sending.number, sending.to, sending.frame))
     }
@@ -172,7 +194,7 @@ impl<R: RangeTable, S: HostStore> Book<R, S> {
     /// Makes room for an entry where there is none: the segment, which is full, is closed, and a fresh one begins where it ends. It
     /// is got here, once in `SEGMENT` entries, and none is kept in reserve. `NoRoom`: nothing has changed. It comes only where the
     /// segment is full, and then where there is no memory for a fresh one, or no number for another entry.
-    pub fn make_room(&mut self, alloc: Global) -> Result<Option<Closed<R, S>>, NoRoom>
+    pub fn make_room(&mut self, alloc: Global) -> Result<Option<ClosedSegment<R, S>>, NoRoom>
         ensures room { IfOk result (λ _. 0 < room_of self.new.journal) }
         ensures made { IfOk result (λ closed. MakesRoom self.old closed self.new) }
         ensures legal { IfOk result (λ _. IsLegal self.new.journal) }
@@ -187,10 +209,10 @@ impl<R: RangeTable, S: HostStore> Book<R, S> {
     }
 
     // The segment, which is full, is closed, and the fresh one begins, where there is one and a number is left.
-    fn go_on_in(&mut self, fresh: Result<Segment, Starved>) -> Result<Closed<R, S>, NoRoom>
+    fn go_on_in(&mut self, fresh: Result<Segment, Starved>) -> Result<ClosedSegment<R, S>, NoRoom>
         requires { room_of self.old.journal ≡ 0 }
         ensures closed { IfOk result (λ closed. closed ≡ self.old.journal) }
-        ensures next { IfOk result (λ _. self.new ≡ rotated self.old) }
+        ensures next { IfOk result (λ _. self.new ≡ rotated_book self.old) }
         ensures room { IfOk result (λ _. 0 < room_of self.new.journal) }
         ensures legal { IfOk result (λ _. IsLegal self.new.journal) }
         ensures none { IfErr result (λ _. IsErr fresh ⊎ (next_of self.old.journal ≡ 2 ^ 64)) }
@@ -207,16 +229,16 @@ impl<R: RangeTable, S: HostStore> Book<R, S> {
     }
 
     /// Closes the segment, and begins the next one where it ends.
-    pub fn rotate(&mut self, fresh: Segment) -> Closed<R, S>
+    pub fn rotate(&mut self, fresh: Segment) -> ClosedSegment<R, S>
         ensures closed { result ≡ self.old.journal }
         ensures legal { IsLegal result }
-        ensures next { self.new ≡ rotated self.old }
+        ensures next { self.new ≡ rotated_book self.old }
         ensures begun { IsLegal self.new.journal }
     {
         let end = Snapshot::of(&self.shared);
         let base = mem::replace(&mut self.base, Snapshot::of(&self.shared));
         let entries = mem::replace(&mut self.entries.list, fresh.entries);
-        Closed {
+        ClosedSegment {
             newest: self.entries.newest,
             base,
             entries,

@@ -2,9 +2,8 @@
 use crate::entry::{Entry, Operation};
 use crate::event::BookEvent;
 use crate::state::BookState;
-use crate::step_result::{Completion, StepResult};
+use crate::step_result::{EventStatus, StepResult};
 use hosts_db::HostStore;
-use lock_service::StoreAnswer;
 use range_table::RangeTable;
 use step_order::{Changing, Noting};
 
@@ -12,8 +11,7 @@ use step_order::{Changing, Noting};
 #[derive(Drop)]
 pub(crate) struct NewEntry {
     pub(crate) operation: Operation,
-    pub(crate) completion: Completion,
-    pub(crate) store: StoreAnswer,
+    pub(crate) status: EventStatus,
 }
 
 /// The entries of a segment, the oldest first, and the number of the newest, over all segments.
@@ -35,8 +33,7 @@ impl Noting<NewEntry> for Entries {
         self.list.push_reserved(Entry {
             number: self.newest,
             operation: new_entry.operation,
-            completion: new_entry.completion,
-            store: new_entry.store,
+            status: new_entry.status,
         });
     }
 }
@@ -48,13 +45,6 @@ impl<R: RangeTable, S: HostStore> Changing<BookEvent, StepResult, NewEntry> for 
     ghost Changes = { λ old event step_result new_entry new. IsDone old (view_of_event event) step_result new_entry new };
 
     fn change(&mut self, event: BookEvent) -> (StepResult, NewEntry) {
-        let (step_result, operation) = self.apply(event);
-        let (completion, store) = (step_result.completion, step_result.store);
-        let new_entry = NewEntry {
-            operation,
-            completion,
-            store,
-        };
-        (step_result, new_entry)
+        self.apply(event)
     }
 }

@@ -2,10 +2,9 @@
 use crate::event::BookEvent;
 use crate::reply::Reply;
 use crate::snapshot::Snapshot;
-use crate::step_result::Completion;
+use crate::step_result::EventStatus;
 use callbacks::Callback;
 use local_ops::LocalAnswer;
-use lock_service::StoreAnswer;
 
 /// The most entries of a segment.
 pub const SEGMENT: usize = 1_024;
@@ -32,12 +31,10 @@ pub enum Operation {
     },
 }
 
-/// One entry of the journal: its number over all segments, from 1 on, what it notes, what became of it, and what the store
-/// answered.
+/// One entry of the journal: its number over all segments, from 1 on, what it notes, and what became of that.
 #[derive(Drop)]
 pub struct Entry {
     pub number: u64,
     pub operation: Operation,
-    pub completion: Completion,
-    pub store: StoreAnswer,
+    pub status: EventStatus,
 }

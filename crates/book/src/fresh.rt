@@ -4,20 +4,18 @@ ghost use Rattle.definitions.specs.World.{World as SaidWorld, the_limits};
 ghost use Rattle.definitions.specs.Replies.{Asks};
 ghost use Rattle.definitions.specs.Step.{Take, is_kept_kind, is_restart as restarts, kept_after};
 ghost use Rattle.kept_replies.specs.Pairs.{view_of_peer, at_key};
-ghost use Rattle.call_plans.specs.Planned.{view_of_stored, counted, told_in, IsForgotten};
+ghost use Rattle.call_plans.specs.Planned.{view_of_stored, refusal_count, told_in, IsForgotten};
 ghost use Rattle.call_codec.specs.CallValues.{view_of_call};
-ghost use Rattle.book.specs.Given.{view_of_reply};
 ghost use Rattle.book.specs.Notes.{IsStep};
 
 use crate::kept::KeptReply;
-use crate::reply::Reply;
 use crate::state::BookState;
-use crate::step_result::{StepResult, answers, starved};
+use crate::step_result::Answered;
 use call_codec::is_kept;
 use call_plans::Response;
 use hosts_db::HostStore;
 use kept_replies::{KeptReplies, Key, Peer};
-use lock_service::{Call, Plan, StoreAnswer, World, abandon, agreed, commit};
+use lock_service::{Call, Plan, StoreAnswer, World, abandon, commit, plan_and_ask};
 use nsm_types::NsmCall;
 use owner_ids::Starved;
 use range_table::RangeTable;
@@ -26,15 +24,14 @@ use std::alloc::Global;
 impl<R: RangeTable, S: HostStore> BookState<R, S> {
     /// The call is planned, all memory is got, the store is asked, the reply is kept, the plan is done, and what waited for
     /// it is granted.
-    pub(crate) fn fresh(&mut self, key: Key, xid: u32, call: &Call<'_>) -> (StepResult, Reply)
+    pub(crate) fn fresh(&mut self, key: Key, xid: u32, call: &Call<'_>) -> Answered
         requires { at_key key self.old.state.kept ≡ None }
-        ensures step { IsStep self.old.state (Take (view_of_peer key.peer) key.record (Asks xid (view_of_call call.now))) result.0 self.new.state }
-        ensures noted { view_of_reply result.1 ≡ result.0.given }
-        ensures counts { self.new.refusals ≡ counted result.0.store self.old.refusals }
+        ensures step { IsStep self.old.state (Take (view_of_peer key.peer) key.record (Asks xid (view_of_call call.now))) result.step_result self.new.state }
+        ensures counts { self.new.refusals ≡ refusal_count result.step_result.store self.old.refusals }
     {
         let peer = key.peer;
-        let Ok((plan, store)) = agreed(&mut self.world, peer.is_local, call) else {
-            return starved(StoreAnswer::NotAsked, xid);
+        let Ok((plan, store)) = plan_and_ask(&mut self.world, peer.is_local, call) else {
+            return Answered::starved(StoreAnswer::NotAsked, xid);
         };
         let told = plan.told(store);
         match keep_or_abandon(&mut self.world, &mut self.kept, key, xid, call, &plan, told) {
@@ -42,11 +39,11 @@ impl<R: RangeTable, S: HostStore> BookState<R, S> {
                 let outcome = commit(&mut self.world, plan, store);
                 self.world.settle();
                 clear_at_restart(&mut self.kept, peer, call, store);
-                answers(store, xid, outcome.told, outcome.noted)
+                Answered::answers(store, xid, outcome.told, outcome.noted)
             }
             Err(Starved) => {
                 plan.let_go();
-                starved(store, xid)
+                Answered::starved(store, xid)
             }
         }
     }

@@ -3,10 +3,9 @@ ghost use Rattle.std.specs.Prelude.{◌≡◌, IfOk};
 ghost use Rattle.definitions.specs.Hosts.{NotAsked};
 ghost use Rattle.definitions.specs.Step.{Applied, Replies};
 ghost use Rattle.call_codec.specs.OutcomeValues.{view_of_outcome};
-ghost use Rattle.book.specs.Given.{comes_to, view_of_reply};
+ghost use Rattle.book.specs.Given.{comes_to};
 
-use crate::reply::Reply;
-use crate::step_result::{StepResult, answers};
+use crate::step_result::Answered;
 use call_codec::Outcome;
 use call_plans::Response;
 use callbacks::Callback;
@@ -51,18 +50,14 @@ impl KeptReply {
     }
 
     // The reply to the call that came again, and copies of the calls that went with it.
-    pub(crate) fn again(
-        &self,
-        alloc: Global,
-    ) -> Result<((StepResult, Reply), Vec<Callback>), Starved>
-        ensures step_result { IfOk result (λ made. made.0.0 ≡ comes_to Applied NotAsked (Replies self.now.xid (view_of_outcome self.now.outcome.value))) }
-        ensures noted { IfOk result (λ made. view_of_reply made.0.1 ≡ Replies self.now.xid (view_of_outcome self.now.outcome.value)) }
+    pub(crate) fn again(&self, alloc: Global) -> Result<(Answered, Vec<Callback>), Starved>
+        ensures step_result { IfOk result (λ made. made.0.step_result ≡ comes_to Applied NotAsked (Replies self.now.xid (view_of_outcome self.now.outcome.value))) }
         ensures callbacks { IfOk result (λ made. made.1.items ≡ self.now.callbacks.items) }
     {
         let outcome = Arc::try_clone(&self.outcome)?;
         let noted = Arc::try_clone(&self.outcome)?;
         let callbacks = copies_of(alloc, &self.callbacks)?;
-        let said = answers(StoreAnswer::NotAsked, self.xid, outcome, noted);
+        let said = Answered::answers(StoreAnswer::NotAsked, self.xid, outcome, noted);
         Ok((said, callbacks))
     }
 }

@@ -3,7 +3,7 @@ ghost use Rattle.std.specs.Prelude.{◌≡◌, ℕ, IfOk, OnErr};
 ghost use Rattle.definitions.specs.Hosts.{NotAsked};
 ghost use Rattle.definitions.specs.Replies.{Line, LineReply, LineStarved};
 ghost use Rattle.definitions.specs.Step.{Local, Applied, Starved as IsStarved, Says};
-ghost use Rattle.call_plans.specs.Planned.{view_of_stored, counted};
+ghost use Rattle.call_plans.specs.Planned.{view_of_stored, refusal_count};
 ghost use Rattle.local_ops.specs.Answers.{view_of_local_answer};
 ghost use Rattle.local_ops.specs.Calls.{view_of_local_call};
 ghost use Rattle.lock_service.specs.Lined.{view_of_set_line};
@@ -30,7 +30,7 @@ impl<R: RangeTable, S: HostStore> BookState<R, S> {
     ) -> Result<(LocalAnswer, StoreAnswer), Starved>
         ensures ok { IfOk result (λ told. Steps self.old.state (AsksLine connection bytes.now) (comes_to Applied (view_of_stored told.1) (Says (view_of_local_answer told.0))) self.new.state) }
         ensures err { OnErr result (Steps self.old.state (AsksLine connection bytes.now) (comes_to IsStarved NotAsked (Says LineStarved)) self.new.state) }
-        ensures counts { IfOk result (λ told. self.new.refusals ≡ counted (view_of_stored told.1) self.old.refusals) }
+        ensures counts { IfOk result (λ told. self.new.refusals ≡ refusal_count (view_of_stored told.1) self.old.refusals) }
         ensures refusals { OnErr result (self.new.refusals ≡ self.old.refusals) }
     {
         match LocalCall::read(bytes) {
@@ -46,7 +46,7 @@ impl<R: RangeTable, S: HostStore> BookState<R, S> {
     ) -> Result<(LocalAnswer, StoreAnswer), Starved>
         ensures ok { IfOk result (λ told. IsStep self.old.state (Local connection (view_of_local_call call.now)) (comes_to Applied (view_of_stored told.1) (Says (view_of_local_answer told.0))) self.new.state) }
         ensures err { OnErr result (IsStep self.old.state (Local connection (view_of_local_call call.now)) (comes_to IsStarved NotAsked (Says LineStarved)) self.new.state) }
-        ensures counts { IfOk result (λ told. self.new.refusals ≡ counted (view_of_stored told.1) self.old.refusals) }
+        ensures counts { IfOk result (λ told. self.new.refusals ≡ refusal_count (view_of_stored told.1) self.old.refusals) }
         ensures refusals { OnErr result (self.new.refusals ≡ self.old.refusals) }
     {
         match call {
@@ -87,7 +87,7 @@ impl<R: RangeTable, S: HostStore> BookState<R, S> {
     fn set(&mut self, line: &SetLine<'_>) -> Result<(LocalAnswer, StoreAnswer), Starved>
         ensures ok { IfOk result (λ told. IsStep self.old.state (Local line.now.connection (view_of_set_line line.now)) (comes_to Applied (view_of_stored told.1) (Says (view_of_local_answer told.0))) self.new.state) }
         ensures err { OnErr result (IsStep self.old.state (Local line.now.connection (view_of_set_line line.now)) (comes_to IsStarved NotAsked (Says LineStarved)) self.new.state) }
-        ensures counts { IfOk result (λ told. self.new.refusals ≡ counted (view_of_stored told.1) self.old.refusals) }
+        ensures counts { IfOk result (λ told. self.new.refusals ≡ refusal_count (view_of_stored told.1) self.old.refusals) }
         ensures refusals { OnErr result (self.new.refusals ≡ self.old.refusals) }
     {
         let answer = set_lock(&mut self.world, line)?;
@@ -101,7 +101,7 @@ impl<R: RangeTable, S: HostStore> BookState<R, S> {
     ) -> Result<(LocalAnswer, StoreAnswer), Starved>
         ensures ok { (l : ℕ) (line : Line) (reply : LineReply) → IsAnsweredOnly self.old.state l line reply → IfOk told (λ answer. view_of_local_answer answer ≡ reply) → IfOk result (IsDone self.old.state l line self.new.state) }
         ensures err { (l : ℕ) (line : Line) → OnErr result (IsStep self.old.state (Local l line) (comes_to IsStarved NotAsked (Says LineStarved)) self.new.state) }
-        ensures counts { IfOk result (λ made. self.new.refusals ≡ counted (view_of_stored made.1) self.old.refusals) }
+        ensures counts { IfOk result (λ made. self.new.refusals ≡ refusal_count (view_of_stored made.1) self.old.refusals) }
         ensures refusals { OnErr result (self.new.refusals ≡ self.old.refusals) }
     {
         let answer = told?;

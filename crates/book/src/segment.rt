@@ -43,14 +43,14 @@ impl From<Starved> for NoRoom {
 }
 
 /// A segment that is over. Contracts see the states before and after it, too.
-pub struct Closed<R: RangeTable, S: HostStore> {
+pub struct ClosedSegment<R: RangeTable, S: HostStore> {
     pub(crate) newest: u64,
     pub(crate) base: Snapshot<BookState<R, S>>,
     pub(crate) entries: Vec<Entry>,
     pub(crate) end: Snapshot<BookState<R, S>>,
 }
 
-impl<R: RangeTable, S: HostStore> Model for Closed<R, S> {
+impl<R: RangeTable, S: HostStore> Model for ClosedSegment<R, S> {
     ghost use Rattle.std.specs.Prelude.{◌≤◌, vec_len};
     ghost use Rattle.book.specs.Journal.{Journal, IsLegal};
     ghost use Rattle.book.specs.Kept.{journal_of};
@@ -63,9 +63,9 @@ impl<R: RangeTable, S: HostStore> Model for Closed<R, S> {
 }
 
 // It is written out, as that of a book is.
-impl<R: RangeTable, S: HostStore> Drop for Closed<R, S> {
+impl<R: RangeTable, S: HostStore> Drop for ClosedSegment<R, S> {
     fn drop(self) {
-        let Closed {
+        let ClosedSegment {
             newest: _,
             base: _,
             entries: _,
@@ -74,7 +74,7 @@ impl<R: RangeTable, S: HostStore> Drop for Closed<R, S> {
     }
 }
 
-impl<R: RangeTable, S: HostStore> Closed<R, S> {
+impl<R: RangeTable, S: HostStore> ClosedSegment<R, S> {
     /// The number of the first entry, if there is one.
     pub fn first(&self) -> Option<u64>
         ensures some { IfSome result (λ first. first ≡ self.now.first) }

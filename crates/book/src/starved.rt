@@ -9,8 +9,8 @@ ghost use Rattle.book.specs.Notes.{view_of_event, Steps, Takes};
 
 use crate::event::BookEvent;
 use crate::receipt::Taken;
-use crate::reply::Reply;
-use crate::step_result::{Completion, StepResult};
+use crate::reply::{RecordReply, Reply, Unanswered};
+use crate::step_result::{EventStatus, StepResult};
 use bytes::Bytes;
 use call_codec::{AnswerReading, Reading};
 use kept_replies::Peer;
@@ -25,8 +25,7 @@ impl BookEvent {
         ensures stays { (s : State) → Steps s (view_of_event self.now) result s }
     {
         StepResult {
-            completion: Completion::Starved,
-            store: StoreAnswer::NotAsked,
+            status: EventStatus::starved(StoreAnswer::NotAsked),
             reply: self.starved_reply(),
         }
     }
@@ -39,13 +38,15 @@ impl BookEvent {
             BookEvent::Answer { bytes } => {
                 // Whatever its reading is, it changes nothing.
                 let _reading = AnswerReading::read(bytes);
-                Reply::Starved
+                Reply::Nobody(Unanswered::Starved)
             }
             BookEvent::Local { line, .. } => {
                 let _reading = LocalCall::read(line);
-                Reply::Says(LocalAnswer::Starved)
+                Reply::Line(LocalAnswer::Starved)
             }
-            BookEvent::Silent { .. } | BookEvent::GraceOver | BookEvent::Restart => Reply::Starved,
+            BookEvent::Silent { .. } | BookEvent::GraceOver | BookEvent::Restart => {
+                Reply::Nobody(Unanswered::Starved)
+            }
         }
     }
 }
@@ -70,7 +71,9 @@ fn starved_by(reading: &Reading<'_>) -> Reply
     ensures { view_of_reply result ≡ starved_reading (view_of_reading reading.now) }
 {
     match reading {
-        Reading::Ignored => Reply::Starved,
-        Reading::Turned { xid, .. } | Reading::Asks { xid, .. } => Reply::SystemErr { xid: *xid },
+        Reading::Ignored => Reply::Nobody(Unanswered::Starved),
+        Reading::Turned { xid, .. } | Reading::Asks { xid, .. } => {
+            Reply::Record(RecordReply::SystemErr { xid: *xid })
+        }
     }
 }

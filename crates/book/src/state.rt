@@ -1,17 +1,18 @@
 //! The shared state: the world and the kept replies.
 ghost use Rattle.std.specs.Prelude.{◌≡◌, [], IfOk};
 ghost use Rattle.definitions.specs.Step.{opening_state, Silent, GraceOver, Restart, Applied, Starved as HasStarved};
-ghost use Rattle.call_plans.specs.Planned.{view_of_stored, counted};
-ghost use Rattle.book.specs.Given.{comes_to, view_of_completion, view_of_reply, unbegun};
+ghost use Rattle.call_plans.specs.Planned.{refusal_count};
+ghost use Rattle.book.specs.Given.{result_under, unbegun, view_of_completion};
 ghost use Rattle.book.specs.Journal.{TakesMemory};
 ghost use Rattle.book.specs.Notes.{given_in, view_of_operation, view_of_event, AsksLine, HearsAnswer, IsStep, Steps};
 
+use crate::entries::NewEntry;
 use crate::entry::Operation;
 use crate::event::BookEvent;
 use crate::kept::KeptReply;
-use crate::reply::Reply;
+use crate::reply::{Reply, Unanswered};
 use crate::snapshot::Snapshot;
-use crate::step_result::{Completion, StepResult, nothing};
+use crate::step_result::{Answered, Completion, EventStatus, StepResult};
 use call_codec::AnswerReading;
 use callbacks::ShortBytes;
 use hosts_db::{HostStore, StoreError};
@@ -64,14 +65,14 @@ impl<R: RangeTable + Drop, S: HostStore + Drop> BookState<R, S> {
 
 impl<R: RangeTable, S: HostStore> BookState<R, S> {
     /// One event: what it comes to, and what the journal notes of it.
-    pub(crate) fn apply(&mut self, event: BookEvent) -> (StepResult, Operation)
+    pub(crate) fn apply(&mut self, event: BookEvent) -> (StepResult, NewEntry)
         ensures step { Steps self.old.state (view_of_event event) result.0 self.new.state }
-        ensures event { view_of_operation result.1 ≡ view_of_event event }
-        ensures noted { given_in result.1 ≡ result.0.given }
-        ensures counts { self.new.refusals ≡ counted result.0.store self.old.refusals }
+        ensures event { view_of_operation result.1.operation ≡ view_of_event event }
+        ensures noted { result_under result.1.status (given_in result.1.operation) ≡ result.0 }
+        ensures counts { self.new.refusals ≡ refusal_count result.0.store self.old.refusals }
         ensures fed { result.0.completion ≡ HasStarved → TakesMemory (view_of_event event) }
     {
-        let ((step_result, reply), event) = match event {
+        let (answered, event) = match event {
             BookEvent::Local { connection, line } => return self.local(connection, line),
             BookEvent::Take { peer, record } => {
                 (self.take(peer, &record), BookEvent::Take { peer, record })
@@ -81,21 +82,28 @@ impl<R: RangeTable, S: HostStore> BookState<R, S> {
             BookEvent::GraceOver => (self.grace_over(), BookEvent::GraceOver),
             BookEvent::Restart => (self.restart(), BookEvent::Restart),
         };
-        (step_result, Operation::Event { event, reply })
+        let Answered { step_result, noted } = answered;
+        let new_entry = NewEntry {
+            operation: Operation::Event {
+                event,
+                reply: noted,
+            },
+            status: step_result.status,
+        };
+        (step_result, new_entry)
     }
 
-    fn local(&mut self, connection: u64, line: Vec<u8>) -> (StepResult, Operation)
+    fn local(&mut self, connection: u64, line: Vec<u8>) -> (StepResult, NewEntry)
         ensures step { Steps self.old.state (AsksLine connection line.items) result.0 self.new.state }
-        ensures event { view_of_operation result.1 ≡ AsksLine connection line.items }
-        ensures noted { given_in result.1 ≡ result.0.given }
-        ensures counts { self.new.refusals ≡ counted result.0.store self.old.refusals }
+        ensures event { view_of_operation result.1.operation ≡ AsksLine connection line.items }
+        ensures noted { result_under result.1.status (given_in result.1.operation) ≡ result.0 }
+        ensures counts { self.new.refusals ≡ refusal_count result.0.store self.old.refusals }
     {
-        let (completion, answer, store) = match self.line(connection, &line) {
-            Ok((answer, store)) => (Completion::Applied, answer, store),
+        let (status, answer) = match self.line(connection, &line) {
+            Ok((answer, store)) => (EventStatus::applied(store), answer),
             Err(Starved) => (
-                Completion::Starved,
+                EventStatus::starved(StoreAnswer::NotAsked),
                 LocalAnswer::Starved,
-                StoreAnswer::NotAsked,
             ),
         };
         let operation = Operation::Line {
@@ -104,75 +112,64 @@ impl<R: RangeTable, S: HostStore> BookState<R, S> {
             answer: Snapshot::of(&answer),
         };
         let step_result = StepResult {
-            completion,
-            store,
-            reply: Reply::Says(answer),
+            status,
+            reply: Reply::Line(answer),
         };
-        (step_result, operation)
+        (step_result, NewEntry { operation, status })
     }
 
-    fn answer(&mut self, bytes: &[u8]) -> (StepResult, Reply)
-        ensures step { Steps self.old.state (HearsAnswer bytes.now) result.0 self.new.state }
-        ensures noted { view_of_reply result.1 ≡ result.0.given }
-        ensures counts { self.new.refusals ≡ counted result.0.store self.old.refusals }
-        ensures fed { result.0.completion ≡ Applied }
+    fn answer(&mut self, bytes: &[u8]) -> Answered
+        ensures step { Steps self.old.state (HearsAnswer bytes.now) result.step_result self.new.state }
+        ensures counts { self.new.refusals ≡ refusal_count result.step_result.store self.old.refusals }
+        ensures fed { result.step_result.completion ≡ Applied }
     {
         let reading = AnswerReading::read(bytes);
-        nothing(answered(&mut self.world, &reading))
+        Answered::nothing(answered(&mut self.world, &reading))
     }
 
-    fn silent(&mut self, number: u64) -> (StepResult, Reply)
-        ensures step { IsStep self.old.state (Silent number) result.0 self.new.state }
-        ensures noted { view_of_reply result.1 ≡ result.0.given }
-        ensures counts { self.new.refusals ≡ counted result.0.store self.old.refusals }
-        ensures fed { result.0.completion ≡ Applied }
+    fn silent(&mut self, number: u64) -> Answered
+        ensures step { IsStep self.old.state (Silent number) result.step_result self.new.state }
+        ensures counts { self.new.refusals ≡ refusal_count result.step_result.store self.old.refusals }
+        ensures fed { result.step_result.completion ≡ Applied }
     {
         self.world.silent(number);
-        nothing(StoreAnswer::NotAsked)
+        Answered::nothing(StoreAnswer::NotAsked)
     }
 
-    fn grace_over(&mut self) -> (StepResult, Reply)
-        ensures step { IsStep self.old.state GraceOver result.0 self.new.state }
-        ensures noted { view_of_reply result.1 ≡ result.0.given }
-        ensures counts { self.new.refusals ≡ counted result.0.store self.old.refusals }
-        ensures fed { result.0.completion ≡ Applied }
+    fn grace_over(&mut self) -> Answered
+        ensures step { IsStep self.old.state GraceOver result.step_result self.new.state }
+        ensures counts { self.new.refusals ≡ refusal_count result.step_result.store self.old.refusals }
+        ensures fed { result.step_result.completion ≡ Applied }
     {
         self.world.grace_over();
-        nothing(StoreAnswer::NotAsked)
+        Answered::nothing(StoreAnswer::NotAsked)
     }
 
-    fn restart(&mut self) -> (StepResult, Reply)
-        ensures step { IsStep self.old.state Restart result.0 self.new.state }
-        ensures noted { view_of_reply result.1 ≡ result.0.given }
-        ensures counts { self.new.refusals ≡ counted result.0.store self.old.refusals }
+    fn restart(&mut self) -> Answered
+        ensures step { IsStep self.old.state Restart result.step_result self.new.state }
+        ensures counts { self.new.refusals ≡ refusal_count result.step_result.store self.old.refusals }
     {
         let Ok(notices) = self.world.notices() else {
-            return unstarted(Completion::Starved, StoreAnswer::NotAsked);
+            return unstarted(EventStatus::starved(StoreAnswer::NotAsked));
         };
         match self.world.restart(notices) {
             Ok(()) => {
                 self.kept.clear();
-                nothing(StoreAnswer::Yes)
+                Answered::nothing(StoreAnswer::Yes)
             }
-            Err(StoreError::StoreRefused) => unstarted(Completion::Applied, StoreAnswer::Refused),
-            Err(StoreError::Starved) => unstarted(Completion::Starved, StoreAnswer::NotAsked),
+            Err(StoreError::StoreRefused) => unstarted(EventStatus::applied(StoreAnswer::Refused)),
+            Err(StoreError::Starved) => unstarted(EventStatus::starved(StoreAnswer::NotAsked)),
         }
     }
 }
 
 // The server did not begin anew, and there is nobody to answer.
-fn unstarted(completion: Completion, store: StoreAnswer) -> (StepResult, Reply)
-    ensures step_result { result.0 ≡ comes_to (view_of_completion completion) (view_of_stored store) (unbegun (view_of_completion completion)) }
-    ensures noted { view_of_reply result.1 ≡ unbegun (view_of_completion completion) }
+fn unstarted(status: EventStatus) -> Answered
+    ensures step_result { result.step_result ≡ result_under status (unbegun (view_of_completion status.completion)) }
 {
-    let (reply, noted) = match completion {
-        Completion::Applied => (Reply::StoreRefused, Reply::StoreRefused),
-        Completion::Starved => (Reply::Starved, Reply::Starved),
+    let reason = match status.completion {
+        Completion::Applied => Unanswered::StoreRefused,
+        Completion::Starved => Unanswered::Starved,
     };
-    let step_result = StepResult {
-        completion,
-        store,
-        reply,
-    };
-    (step_result, noted)
+    Answered::nobody(status, reason)
 }

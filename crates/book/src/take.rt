@@ -4,13 +4,11 @@ ghost use Rattle.definitions.specs.Replies.{Asks};
 ghost use Rattle.definitions.specs.Step.{Take};
 ghost use Rattle.kept_replies.specs.Pairs.{view_of_peer};
 ghost use Rattle.call_codec.specs.CallValues.{view_of_call};
-ghost use Rattle.call_plans.specs.Planned.{counted};
-ghost use Rattle.book.specs.Given.{view_of_reply};
+ghost use Rattle.call_plans.specs.Planned.{refusal_count};
 ghost use Rattle.book.specs.Notes.{IsStep, Steps, Takes};
 
-use crate::reply::Reply;
 use crate::state::BookState;
-use crate::step_result::{StepResult, nothing, refuses, starved};
+use crate::step_result::Answered;
 use bytes::Bytes;
 use call_codec::Reading;
 use hosts_db::HostStore;
@@ -21,31 +19,23 @@ use range_table::RangeTable;
 
 impl<R: RangeTable, S: HostStore> BookState<R, S> {
     /// A record of a peer: it is ignored, turned away, or given to its procedure, unless its reply is kept.
-    pub(crate) fn take(&mut self, peer: Peer, bytes: &Bytes) -> (StepResult, Reply)
-        ensures step { Steps self.old.state (Takes (view_of_peer peer) bytes.now) result.0 self.new.state }
-        ensures noted { view_of_reply result.1 ≡ result.0.given }
-        ensures counts { self.new.refusals ≡ counted result.0.store self.old.refusals }
+    pub(crate) fn take(&mut self, peer: Peer, bytes: &Bytes) -> Answered
+        ensures step { Steps self.old.state (Takes (view_of_peer peer) bytes.now) result.step_result self.new.state }
+        ensures counts { self.new.refusals ≡ refusal_count result.step_result.store self.old.refusals }
     {
         match Reading::read(bytes) {
-            Reading::Ignored => nothing(StoreAnswer::NotAsked),
-            Reading::Turned { xid, refusal } => refuses(xid, refusal),
+            Reading::Ignored => Answered::nothing(StoreAnswer::NotAsked),
+            Reading::Turned { xid, refusal } => Answered::refuses(xid, refusal),
             Reading::Asks { xid, call } => self.called(peer, bytes, xid, &call),
         }
     }
 
-    fn called(
-        &mut self,
-        peer: Peer,
-        bytes: &Bytes,
-        xid: u32,
-        call: &Call<'_>,
-    ) -> (StepResult, Reply)
-        ensures step { IsStep self.old.state (Take (view_of_peer peer) bytes.now (Asks xid (view_of_call call.now))) result.0 self.new.state }
-        ensures noted { view_of_reply result.1 ≡ result.0.given }
-        ensures counts { self.new.refusals ≡ counted result.0.store self.old.refusals }
+    fn called(&mut self, peer: Peer, bytes: &Bytes, xid: u32, call: &Call<'_>) -> Answered
+        ensures step { IsStep self.old.state (Take (view_of_peer peer) bytes.now (Asks xid (view_of_call call.now))) result.step_result self.new.state }
+        ensures counts { self.new.refusals ≡ refusal_count result.step_result.store self.old.refusals }
     {
         let Ok(record) = bytes.clone() else {
-            return starved(StoreAnswer::NotAsked, xid);
+            return Answered::starved(StoreAnswer::NotAsked, xid);
         };
         let key = Key { peer, record };
         answer_once(self, key, &Asking { xid, call })
@@ -59,8 +49,7 @@ struct Asking<'a, 'c> {
     call: &'a Call<'c>,
 }
 
-impl<'a, 'c, R: RangeTable, S: HostStore> Answering<Asking<'a, 'c>, (StepResult, Reply)>
-    for BookState<R, S> {
+impl<'a, 'c, R: RangeTable, S: HostStore> Answering<Asking<'a, 'c>, Answered> for BookState<R, S> {
     ghost use Rattle.std.specs.Prelude.{◌≡◌, None};
     ghost use Rattle.definitions.specs.Replies.{Asks};
     ghost use Rattle.definitions.specs.Step.{Take};
@@ -76,15 +65,15 @@ impl<'a, 'c, R: RangeTable, S: HostStore> Answering<Asking<'a, 'c>, (StepResult,
         &mut self,
         key: &Key,
         _asked: &Asking<'a, 'c>,
-    ) -> Result<Option<(StepResult, Reply)>, Starved> {
+    ) -> Result<Option<Answered>, Starved> {
         self.repeat(key)
     }
 
-    fn answer_anew(&mut self, key: Key, asked: &Asking<'a, 'c>) -> (StepResult, Reply) {
+    fn answer_anew(&mut self, key: Key, asked: &Asking<'a, 'c>) -> Answered {
         self.fresh(key, asked.xid, asked.call)
     }
 
-    fn answer_starved(&self, asked: &Asking<'a, 'c>) -> (StepResult, Reply) {
-        starved(StoreAnswer::NotAsked, asked.xid)
+    fn answer_starved(&self, asked: &Asking<'a, 'c>) -> Answered {
+        Answered::starved(StoreAnswer::NotAsked, asked.xid)
     }
 }

@@ -6,13 +6,13 @@ use Rattle.nlm4_types.specs.Stat.{view_of_stat}
 use Rattle.nlm4_types.specs.Version.{view_of_version}
 use Rattle.nsm_types.specs.Results.{view_of_monitor_res}
 use Rattle.call_codec.specs.CallValues.{view_of_refusal}
-use Rattle.call_codec.specs.declared.outcome.result.ShareRes as share_declared
+use Rattle.call_codec.specs.declared.outcome.result.OwnedShareRes as share_declared
 use Rattle.call_codec.specs.declared.outcome.result.CallResult.{CallResult}
 use Rattle.call_codec.specs.declared.outcome.result.CallResult.TheVariants as told
 use Rattle.call_codec.specs.declared.outcome.Outcome.{Outcome}
 use Rattle.call_codec.specs.declared.outcome.Outcome.TheVariants as outcome
 
-abbrev pub view_of_told_share_res : share_declared.ShareRes → nlm.ShareRes
+abbrev pub view_of_told_share_res : share_declared.OwnedShareRes → nlm.ShareRes
 view_of_told_share_res r = record { cookie = r.cookie; stat = view_of_stat r.stat; sequence = r.sequence }
 
 abbrev pub view_of_result : CallResult → def.Result

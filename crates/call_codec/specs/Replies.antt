@@ -7,8 +7,8 @@ use Rattle.nlm4_types.specs.Messages.{testres_bytes}
 use Rattle.nsm_types.specs.Results.{sm_stat_res, sm_stat}
 use Rattle.rpc_msg.specs.declared.reply.AcceptError.TheVariants as accept
 use Rattle.rpc_msg.specs.declared.reply.Denial.TheVariants as denial
-use Rattle.rpc_msg.specs.declared.reply.Reply.{Reply}
-use Rattle.rpc_msg.specs.declared.reply.Reply.TheVariants as reply
+use Rattle.rpc_msg.specs.declared.reply.ReplyStatus.{ReplyStatus}
+use Rattle.rpc_msg.specs.declared.reply.ReplyStatus.TheVariants as reply
 use Rattle.rpc_msg.specs.Reply.{written_reply}
 
 -- a result as its grammar spells it. A status is a word of the call's version already, and only a holder is spelled by version
@@ -21,7 +21,7 @@ result_bytes (MonitorResult r state) = sm_stat_res.written (record { res = r; st
 result_bytes (StateResult state) = sm_stat.written (record { state = state })
 
 -- the reply to a call that is not given to its procedure: RPC version 2 is the only one, and a credential that is not served is AUTH_BADCRED
-abbrev pub reply_of_refusal : ℕ → Refusal → Reply
+abbrev pub reply_of_refusal : ℕ → Refusal → ReplyStatus
 reply_of_refusal xid RpcMismatch = reply.Denied xid (denial.RpcMismatch 2 2)
 reply_of_refusal xid BadCredential = reply.Denied xid denial.BadCred
 reply_of_refusal xid ProgUnavail = reply.AcceptFailure xid accept.ProgUnavail

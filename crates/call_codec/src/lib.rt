@@ -6,6 +6,6 @@ mod outcome;
 mod reading;
 mod records;
 
-pub use outcome::{CallResult, Outcome, ShareRes, is_kept};
+pub use outcome::{CallResult, Outcome, OwnedShareRes, is_kept};
 pub use reading::{AnswerReading, Call, Reading, Refusal, one_answer_reading, one_reading};
 pub use records::{Dest, HostName, put_record};

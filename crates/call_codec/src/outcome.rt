@@ -1,7 +1,7 @@
 //! What comes of a call: its procedure's result, or why it has none, as a value that owns its bytes, and the reply that
 //! tells it (RFC 5531, section 9).
 ghost use Rattle.std.specs.Prelude.{◌≡◌, ◌+◌, ◌≤◌, ◌++◌, ◌↔◌, length, IsOk, OnOk, OnErr};
-ghost use Rattle.rpc_msg.specs.declared.reply.Reply.TheVariants.{AcceptFailure};
+ghost use Rattle.rpc_msg.specs.declared.reply.ReplyStatus.TheVariants.{AcceptFailure};
 ghost use Rattle.call_codec.specs.CallValues.{view_of_refusal};
 ghost use Rattle.call_codec.specs.OutcomeValues.{view_of_outcome, view_of_result};
 ghost use Rattle.call_codec.specs.Replies.{reply_of_refusal, reply_bytes, success_bytes};
@@ -11,8 +11,8 @@ mod result;
 
 use crate::reading::Refusal;
 pub use kinds::is_kept;
-pub use result::{CallResult, ShareRes};
-use rpc_msg::{AcceptError, Denial, RPC_VERSION, Reply, reply_success};
+pub use result::{CallResult, OwnedShareRes};
+use rpc_msg::{AcceptError, Denial, RPC_VERSION, ReplyStatus, reply_success};
 use xdr_core::{Frame, FrameFull};
 
 /// What comes of a call.
@@ -68,30 +68,30 @@ fn put_success(done: &CallResult, xid: u32, f: &mut Frame) -> Result<(), FrameFu
     Ok(())
 }
 
-fn reply_to_refused(xid: u32, refusal: Refusal) -> Reply
+fn reply_to_refused(xid: u32, refusal: Refusal) -> ReplyStatus
     ensures { result ≡ reply_of_refusal xid (view_of_refusal refusal) }
 {
     match refusal {
-        Refusal::RpcMismatch => Reply::Denied {
+        Refusal::RpcMismatch => ReplyStatus::Denied {
             xid,
             denial: Denial::RpcMismatch {
                 low: RPC_VERSION,
                 high: RPC_VERSION,
             },
         },
-        Refusal::BadCredential => Reply::Denied {
+        Refusal::BadCredential => ReplyStatus::Denied {
             xid,
             denial: Denial::BadCred,
         },
         Refusal::ProgUnavail => not_done(xid, AcceptError::ProgUnavail),
-        Refusal::ProgMismatch { low, high } => Reply::Mismatch { xid, low, high },
+        Refusal::ProgMismatch { low, high } => ReplyStatus::Mismatch { xid, low, high },
         Refusal::ProcUnavail => not_done(xid, AcceptError::ProcUnavail),
         Refusal::GarbageArgs => not_done(xid, AcceptError::GarbageArgs),
     }
 }
 
-fn not_done(xid: u32, error: AcceptError) -> Reply
+fn not_done(xid: u32, error: AcceptError) -> ReplyStatus
     ensures { result ≡ AcceptFailure xid error }
 {
-    Reply::AcceptFailure { xid, error }
+    ReplyStatus::AcceptFailure { xid, error }
 }

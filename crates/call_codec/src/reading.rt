@@ -13,7 +13,7 @@ pub use call::{Call, Refusal};
 pub use law::{one_answer_reading, one_reading};
 use nlm4_types::{NlmCall, PROGRAM as NLM_PROGRAM, Version};
 use nsm_types::{NsmCall, PROGRAM as NSM_PROGRAM, VERSION as NSM_VERSION};
-use rpc_msg::{Call as RpcCall, Header, HeaderError};
+use rpc_msg::{Header, HeaderError, ProcedureCall as RpcCall};
 use xdr_core::{CallError, Cursor};
 
 /// The lowest and the highest version of the lock manager that is served; 2 is not.

@@ -7,7 +7,7 @@ use Rattle.definitions.specs.Ranges.{owner_of}
 use Rattle.definitions.specs.Settings.{Setting, mode_at}
 use Rattle.definitions.specs.Waits.{Waiter}
 use Rattle.definitions.specs.World.{World, with_all_due}
-use Rattle.owner_ids.specs.Names.{named}
+use Rattle.owner_ids.specs.Names.{names_of_owners}
 use Rattle.owner_ids.specs.Views.{view_of_owner}
 use Rattle.lock_state.specs.Seen.{Seen, Knows, IsIdle}
 use Rattle.definitions.proofs.WorldLaws.{due_keeps}
@@ -25,7 +25,7 @@ idle_before w callbacks x idle = record {
 
 module _ (callbacks : List Callback) (s v : Seen) (world : v.world ≡ with_all_due s.world callbacks) (names : v.names ≡ s.names) where
   known_before : (x : Owner) → Knows v x → Knows s x
-  known_before x knows = (knows.0, subst (λ ns. named ns knows.0 ≡ Some x) names knows.1)
+  known_before x knows = (knows.0, subst (λ ns. names_of_owners ns knows.0 ≡ Some x) names knows.1)
 
   one_still : (x : Owner) → IsForgottenIfIdle x s.world s → IsForgottenIfIdle x v.world v
   one_still x h idle knows = h (idle_before s.world callbacks x (subst (λ w. IsIdle w x) world idle)) (known_before x knows)

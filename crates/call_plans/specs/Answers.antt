@@ -6,7 +6,7 @@ use Rattle.definitions.specs.Nlm.{Stat, Lock}
 use Rattle.definitions.specs.Outgoing.{Outgoing, Message, Notify, Granted, is_grant, is_numbered, call_of_xid}
 use Rattle.definitions.specs.Ranges.{owner_of}
 use Rattle.definitions.specs.World.{World, the_limits}
-use Rattle.definitions.specs.Rulings.{Response, Ruling, ruled}
+use Rattle.definitions.specs.Rulings.{Response, Ruling, ruled_answer}
 use Rattle.definitions.specs.Grants.{TableChange, TableStays, TableChanges, became, grant_answered}
 use Rattle.definitions.specs.Step.{settled_after}
 use Rattle.hosts_db.specs.declared.error.StoreError.{StoreError}
@@ -16,7 +16,7 @@ use Rattle.call_codec.specs.declared.reading.answer.AnswerReading.{AnswerReading
 use Rattle.call_codec.specs.declared.reading.answer.AnswerReading.TheVariants as reading
 use Rattle.lock_state.specs.Answered.{lock_at}
 use Rattle.lock_state.specs.Seen.{Seen}
-use Rattle.call_plans.specs.Planned.{counted, IsForgottenIfIdle}
+use Rattle.call_plans.specs.Planned.{refusal_count, IsForgottenIfIdle}
 
 -- the store is asked exactly where the rules ask it, which is for an epoch
 abbrev pub IsAsked : Option StoreCall → StoreAnswer → Type 0
@@ -26,9 +26,9 @@ IsAsked (Some _) store = ⊥
 
 -- the world is that of the rules under the store's answer, and a refusal is counted
 pub record IsDone (ruling : Ruling (Response TableChange)) (store : StoreAnswer) (old new : Seen) : Type 0 where
-  pub world : new.world ≡ settled_after the_limits (ruled store ruling)
+  pub world : new.world ≡ settled_after the_limits (ruled_answer store ruling)
   pub asked : IsAsked ruling.asks store
-  pub refusals : new.refusals ≡ counted store old.refusals
+  pub refusals : new.refusals ≡ refusal_count store old.refusals
 
 -- the call that was found is a grant of this number, or a notice
 abbrev pub IsGrant : ℕ → Option Outgoing → Type 0

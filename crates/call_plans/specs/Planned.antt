@@ -11,7 +11,7 @@ use Rattle.definitions.specs.Waits.{is_waiting, without_waiter}
 use Rattle.definitions.specs.World.{World, the_limits, slots_free, with_setting, with_waiter, with_hosts, with_all_due, without_host_of, opening}
 use Rattle.definitions.specs.Grants.{granted_res_rules}
 use Rattle.definitions.specs.Replies.{Outcome}
-use Rattle.definitions.specs.Rulings.{Ruling, decided, ruled}
+use Rattle.definitions.specs.Rulings.{Ruling, decided_ruling, ruled_answer}
 use Rattle.definitions.specs.Answer.{Answered}
 use Rattle.callbacks.specs.Meanings.{view_of_told_my_id}
 use Rattle.nlm4_types.specs.Stat.{view_of_stat}
@@ -20,41 +20,41 @@ use Rattle.range_table.specs.Modes.{view_of_mode, view_of_held_mode}
 use Rattle.call_codec.specs.OutcomeValues.{view_of_outcome}
 use Rattle.lock_state.specs.Seen.{Seen, Knows, KeepsKnown, IsIdle}
 use Rattle.call_plans.specs.declared.plans.Range as range
-use Rattle.call_plans.specs.declared.plans.Wanted as wanted
+use Rattle.call_plans.specs.declared.plans.WantedLock as wanted
 use Rattle.call_plans.specs.declared.plans.Asked.{Asked}
 use Rattle.call_plans.specs.declared.plans.Asked.TheVariants as asks
 use Rattle.call_plans.specs.declared.plans.Response as told
 use Rattle.call_plans.specs.declared.plans.Change.{Change}
 use Rattle.call_plans.specs.declared.plans.Change.TheVariants as change
-use Rattle.call_plans.specs.declared.plans.Answer as answer
+use Rattle.call_plans.specs.declared.plans.PlannedAnswer as answer
 use Rattle.call_plans.specs.declared.plans.Plan.{Plan}
 use Rattle.call_plans.specs.declared.plans.Plan.TheVariants as plan
 use Rattle.step_order.specs.declared.store.StoreAnswer.{StoreAnswer as CodedAnswer}
 use Rattle.step_order.specs.declared.store.StoreAnswer.TheVariants as store
 
 abbrev pub view_of_range : range.Range → Setting
-view_of_range r = record { file = r.file; owner = view_of_owner r.owner; first = r.first; last = r.last; mode = view_of_held_mode r.mode }
+view_of_range r = record { file = r.file; owner = view_of_owner r.owner; first = r.range.first; last = r.range.last; mode = view_of_held_mode r.mode }
 
-abbrev pub view_of_wanted : wanted.Wanted → Request
-view_of_wanted x = record { file = x.file; owner = view_of_owner x.owner; first = x.first; last = x.last; mode = view_of_mode x.mode }
+abbrev pub view_of_wanted : wanted.WantedLock → Request
+view_of_wanted x = record { file = x.file; owner = view_of_owner x.owner; first = x.range.first; last = x.range.last; mode = view_of_mode x.mode }
 
-abbrev pub changed : Change → World → World
-changed change.Nothing w = w
-changed (change.Set r) w = with_setting w (view_of_range r)
-changed (change.Wait x callback) w = with_waiter w (record { request = view_of_wanted x; callback = callback })
-changed (change.Cancel x) w = record w { waiters = without_waiter (view_of_wanted x) w.waiters }
-changed (change.Share s) w = record w { shares = with_share s w.shares }
-changed (change.Unshare s) w = record w { shares = without_share s w.shares }
-changed (change.DropHost name) w = without_host_of w name.items
-changed (change.GrantAnswered cookie stat) w = (granted_res_rules the_limits w cookie (view_of_stat stat)).world
-changed (change.Restart notices) w = with_all_due (opening w.own_name w.hosts) notices.items
+abbrev pub changed_world : Change → World → World
+changed_world change.Nothing w = w
+changed_world (change.Set r) w = with_setting w (view_of_range r)
+changed_world (change.Wait x callback) w = with_waiter w (record { request = view_of_wanted x; callback = callback })
+changed_world (change.Cancel x) w = record w { waiters = without_waiter (view_of_wanted x) w.waiters }
+changed_world (change.Share s) w = record w { shares = with_share s w.shares }
+changed_world (change.Unshare s) w = record w { shares = without_share s w.shares }
+changed_world (change.DropHost name) w = without_host_of w name.items
+changed_world (change.GrantAnswered cookie stat) w = (granted_res_rules the_limits w cookie (view_of_stat stat)).world
+changed_world (change.Restart notices) w = with_all_due (opening w.own_name w.hosts) notices.items
 
 -- what is told in a world: its calls are due in it
 abbrev pub told_in : told.Response → World → Answered
 told_in t w = record { outcome = view_of_outcome t.outcome.told.value; due = t.due.items; world = with_all_due w t.due.items }
 
-abbrev pub answered : answer.Answer → World → Answered
-answered a w = told_in a.told (changed a.change w)
+abbrev pub answer_in : answer.PlannedAnswer → World → Answered
+answer_in a w = told_in a.told (changed_world a.change w)
 
 abbrev pub view_of_asked : Asked → StoreCall
 view_of_asked (asks.Monitor name state) = hosts.Monitor name state
@@ -73,11 +73,11 @@ abbrev pub after_asked : Asked → World → World
 after_asked call w = with_hosts w (after_store w.hosts (view_of_asked call))
 
 -- what the plan comes to in a world
-abbrev pub planned : Plan → World → Ruling Answered
-planned (plan.Decided a) w = decided (answered a w)
-planned (plan.AfterStore call agreed refused) w = record {
+abbrev pub ruling_of_plan : Plan → World → Ruling Answered
+ruling_of_plan (plan.Decided a) w = decided_ruling (answer_in a w)
+ruling_of_plan (plan.AfterStore call agreed refused) w = record {
   asks = Some (view_of_asked call);
-  agreed = answered agreed (after_asked call w);
+  agreed = answer_in agreed (after_asked call w);
   refused = told_in refused w;
 }
 
@@ -89,11 +89,11 @@ due_under Yes (plan.AfterStore call agreed refused) = agreed.told.due.items
 due_under Refused (plan.AfterStore call agreed refused) = refused.due.items
 
 -- the world once the store has answered
-abbrev pub stored : Plan → StoreAnswer → World → World
-stored (plan.Decided a) store w = w
-stored (plan.AfterStore call agreed refused) NotAsked w = w
-stored (plan.AfterStore call agreed refused) Yes w = after_asked call w
-stored (plan.AfterStore call agreed refused) Refused w = w
+abbrev pub world_after_store : Plan → StoreAnswer → World → World
+world_after_store (plan.Decided a) store w = w
+world_after_store (plan.AfterStore call agreed refused) NotAsked w = w
+world_after_store (plan.AfterStore call agreed refused) Yes w = after_asked call w
+world_after_store (plan.AfterStore call agreed refused) Refused w = w
 
 -- the store is asked exactly where the plan asks it
 abbrev pub IsAnswerTo : Plan → StoreAnswer → Type 0
@@ -108,17 +108,17 @@ IsWithin (plan.AfterStore call agreed refused) store w = store ≡ Yes → is_pa
 -- a plan that was done under this answer gave, with this outcome, what it comes to in each world that the answer leads from
 abbrev pub IsCommitted : StoreAnswer → Plan → Outcome → World → World → Type 0
 IsCommitted store p outcome old new =
-    (w : World) → old ≡ stored p store w → ◌≡◌ {A = Answered} (record { outcome = outcome; due = due_under store p; world = new }) (ruled store (planned p w))
+    (w : World) → old ≡ world_after_store p store w → ◌≡◌ {A = Answered} (record { outcome = outcome; due = due_under store p; world = new }) (ruled_answer store (ruling_of_plan p w))
 
 -- the store is asked only where that is allowed
 abbrev pub AsksOnlyIf : Bool → Plan → Type 0
 AsksOnlyIf allowed (plan.Decided a) = Unit {0}
 AsksOnlyIf allowed (plan.AfterStore call agreed refused) = allowed ≡ true
 
-abbrev pub counted : StoreAnswer → ℕ → ℕ
-counted NotAsked refusals = refusals
-counted Yes refusals = refusals
-counted Refused refusals = refusals + 1
+abbrev pub refusal_count : StoreAnswer → ℕ → ℕ
+refusal_count NotAsked refusals = refusals
+refusal_count Yes refusals = refusals
+refusal_count Refused refusals = refusals + 1
 
 -- ---- when a plan can be done
 
@@ -138,8 +138,8 @@ FitsChange (change.Restart notices) w = length notices.items ≤ 8192
 abbrev pub FitsDue : told.Response → World → Type 0
 FitsDue t w = length t.due.items ≤ slots_free the_limits w
 
-abbrev pub FitsAnswer : answer.Answer → World → Type 0
-FitsAnswer a w = FitsChange a.change w × FitsDue a.told (changed a.change w)
+abbrev pub FitsAnswer : answer.PlannedAnswer → World → Type 0
+FitsAnswer a w = FitsChange a.change w × FitsDue a.told (changed_world a.change w)
 
 -- the plan can be done in the world in which the store is asked, whatever that answers
 abbrev pub Fits : Plan → World → Type 0
@@ -226,6 +226,6 @@ KeepsOthers (plan.AfterStore call agreed refused) before after = KeepsOthersFor 
 
 -- the plan is what the rules say of a call in this world
 pub record IsPlan (ruling : Ruling Answered) (w : World) (p : Plan) : Type 0 where
-  pub ruled : planned p w ≡ ruling
+  pub ruled : ruling_of_plan p w ≡ ruling
   pub fits : Fits p w
   pub asks : CanAsk p w

@@ -6,14 +6,14 @@ ghost use Rattle.definitions.specs.Hosts.{NotAsked};
 ghost use Rattle.definitions.specs.Outgoing.{call_of_cookie, call_of_xid, is_granted_msg};
 ghost use Rattle.definitions.specs.World.{the_limits};
 ghost use Rattle.definitions.specs.Ranges.{owner_of};
-ghost use Rattle.definitions.specs.Rulings.{ruled};
+ghost use Rattle.definitions.specs.Rulings.{ruled_answer};
 ghost use Rattle.definitions.specs.Grants.{answer_rules, answered_success, answered_otherwise, granted_res_rules};
 ghost use Rattle.definitions.specs.Step.{KeptPair, Answer, Applied, settled_after};
 ghost use Rattle.definitions.specs.Replay.{fits};
 ghost use Rattle.nlm4_types.specs.Stat.{view_of_stat};
 ghost use Rattle.out_calls.specs.Found.{found};
 ghost use Rattle.call_codec.specs.Answers.{view_of_answer};
-ghost use Rattle.call_plans.specs.Planned.{view_of_stored, counted};
+ghost use Rattle.call_plans.specs.Planned.{view_of_stored, refusal_count};
 ghost use Rattle.lock_state.specs.Answered.{call_at, lock_at};
 ghost use Rattle.lock_state.specs.Seen.{IsIdle, Knows};
 ghost use Rattle.call_plans.specs.Answers.{IsDone, IsFoundForgotten, IsGrant, IsGrantForgotten, IsNotice, IsTurnedForgotten, is_granted, grant_told, change_by, view_of_store_result};
@@ -34,9 +34,9 @@ pub fn answered<R: RangeTable, S: HostStore>(
     world: &mut World<R, S>,
     reading: &AnswerReading,
 ) -> StoreAnswer
-    ensures world { world.new.world ≡ settled_after the_limits (ruled (view_of_stored result) (answer_rules the_limits world.old.world (view_of_answer reading.now))) }
+    ensures world { world.new.world ≡ settled_after the_limits (ruled_answer (view_of_stored result) (answer_rules the_limits world.old.world (view_of_answer reading.now))) }
     ensures fits { (kept : List KeptPair) → fits the_limits (record { world = world.old.world; kept = kept }) (record { event = Answer (view_of_answer reading.now); completion = Applied; store = view_of_stored result }) ≡ true }
-    ensures refusals { world.new.refusals ≡ counted (view_of_stored result) world.old.refusals }
+    ensures refusals { world.new.refusals ≡ refusal_count (view_of_stored result) world.old.refusals }
     ensures forgotten { IsTurnedForgotten reading.now world.old.world world.new }
 {
     match reading {

@@ -11,6 +11,6 @@ mod told;
 pub use answers::{answered, granted_res};
 pub use lock_state::World;
 pub use owner_ids::Starved;
-pub use plans::{Answer, Asked, Change, Plan, Range, Response, SharedOutcome, Wanted};
+pub use plans::{Asked, Change, Plan, PlannedAnswer, Range, Response, SharedOutcome, WantedLock};
 pub use step_order::StoreAnswer;
-pub use steps::{abandon, agree, ask, commit, make_change, prepare, prepare_change};
+pub use steps::{abandon, ask, commit, make_change, reserve, reserve_and_ask, reserve_for_change};

@@ -1,41 +1,35 @@
 //! What is to be done for a call.
-ghost use Rattle.std.specs.Prelude.{◌≡◌, ◌≤◌, ◌<◌, ◌^◌};
+ghost use Rattle.std.specs.Prelude.{◌≡◌};
 ghost use Rattle.call_codec.specs.OutcomeValues.{view_of_outcome};
 ghost use Rattle.owner_ids.specs.Views.{view_of_owner};
 ghost use Rattle.lock_state.specs.Whole.{IsShown};
 ghost use Rattle.lock_state.proofs.OneProof.{shown_prop};
 
 use call_codec::Outcome;
-use callbacks::{Callback, MyId, ShortBytes};
+use callbacks::{Callback, OwnedMyId, ShortBytes};
 use nlm4_types::Stat;
 use owner_ids::Owner;
-use range_table::{FileId, Mode};
+use range_table::{ByteRange, FileId, Mode};
 use std::alloc::Global;
 use std::sync::Arc;
 
-/// What an owner is to hold from the first to the last byte: a mode, or nothing.
+/// What an owner is to hold of a range: a mode, or nothing.
 #[derive(Drop)]
 pub struct Range {
     pub file: FileId,
     pub owner: Owner,
-    pub first: u64,
-    pub last: u64,
+    pub range: ByteRange,
     pub mode: Option<Mode>,
-    pub ghost ordered: { first ≤ last },
-    pub ghost inside: { last < 2 ^ 63 },
     pub ghost shown: { IsShown (view_of_owner owner) } by { shown_prop (view_of_owner owner) },
 }
 
-/// A lock that an owner wants, from the first to the last byte.
+/// A lock that an owner wants.
 #[derive(Drop)]
-pub struct Wanted {
+pub struct WantedLock {
     pub file: FileId,
     pub owner: Owner,
-    pub first: u64,
-    pub last: u64,
+    pub range: ByteRange,
     pub mode: Mode,
-    pub ghost ordered: { first ≤ last },
-    pub ghost inside: { last < 2 ^ 63 },
     pub ghost shown: { IsShown (view_of_owner owner) } by { shown_prop (view_of_owner owner) },
 }
 
@@ -55,13 +49,13 @@ pub enum Asked {
     /// A watch, and the row of its host where that has none.
     Watched {
         mon_name: ShortBytes,
-        my_id: MyId,
+        my_id: OwnedMyId,
         private_bytes: [u8; 16],
     },
     /// No watch of a watcher any more: of one host, or of all.
     Unwatched {
         mon_name: Option<ShortBytes>,
-        my_id: MyId,
+        my_id: OwnedMyId,
     },
     /// The next own state.
     Begin,
@@ -73,9 +67,9 @@ pub enum Change {
     Nothing,
     Set(Range),
     /// The owner waits for the lock, behind all who wait, and the callback tells of the grant.
-    Wait(Wanted, Callback),
+    Wait(WantedLock, Callback),
     /// The owner, which waits for the lock, waits for it no longer.
-    Cancel(Wanted),
+    Cancel(WantedLock),
     Share(dos_shares::Share),
     /// The share of that file and owner goes, whatever it denies and does.
     Unshare(dos_shares::Share),
@@ -104,7 +98,7 @@ pub struct Response {
 
 /// What is told, and what changes before it.
 #[derive(Drop)]
-pub struct Answer {
+pub struct PlannedAnswer {
     pub told: Response,
     pub change: Change,
 }
@@ -113,11 +107,11 @@ pub struct Answer {
 #[derive(Drop)]
 pub enum Plan {
     /// The store isn't asked.
-    Decided(Answer),
+    Decided(PlannedAnswer),
     /// The store is asked first. Where it refuses, nothing changes but that calls become due.
     AfterStore {
         asked: Asked,
-        agreed: Answer,
+        agreed: PlannedAnswer,
         refused: Response,
     },
 }

@@ -9,14 +9,14 @@ ghost use Rattle.callbacks.specs.Meanings.{view_of_told_my_id};
 ghost use Rattle.std.specs.Option.{option_copied};
 ghost use Rattle.owner_ids.specs.Views.{view_of_owner};
 ghost use Rattle.lock_state.specs.Seen.{AdmitsNobody, KeepsKnown};
-ghost use Rattle.call_plans.specs.Planned.{view_of_stored, answered, view_of_asked, told_in, stored, counted};
+ghost use Rattle.call_plans.specs.Planned.{view_of_stored, answer_in, view_of_asked, told_in, world_after_store, refusal_count};
 ghost use Rattle.call_plans.specs.Planned.{IsAnswerTo, IsCommitted, IsWithin, Fits, FitsChange, FitsAnswer, FitsDue, FitsUnder, CanAsk, CanAskFor, IsReady, IsReadyFor, MayHold};
 ghost use Rattle.call_plans.specs.Forgotten.{IsForgottenBy, IsForgottenUnder};
-ghost use Rattle.call_plans.specs.Planned.{IsForgotten, IsForgottenFor, KeepsOthers, KeepsOthersFor, IsForgottenIfIdle, changed, view_of_range};
+ghost use Rattle.call_plans.specs.Planned.{IsForgotten, IsForgottenFor, KeepsOthers, KeepsOthersFor, IsForgottenIfIdle, changed_world, view_of_range};
 
 use crate::answers::granted_res;
-use crate::plans::{Answer, Asked, Change, Plan, Range, Response, SharedOutcome};
-use callbacks::{MyId, ShortBytes};
+use crate::plans::{Asked, Change, Plan, PlannedAnswer, Range, Response, SharedOutcome};
+use callbacks::{OwnedMyId, ShortBytes};
 use hosts_db::{HostStore, StoreError};
 use lock_state::World;
 use owner_ids::Starved;
@@ -25,7 +25,7 @@ use step_order::{Pending, StoreAnswer, rule};
 
 /// Gets all memory that doing the plan takes. The world stays, and who was known is known. Starved: the plan can't be
 /// done, and nobody has become known.
-pub fn prepare<R: RangeTable, S: HostStore>(
+pub fn reserve<R: RangeTable, S: HostStore>(
     world: &mut World<R, S>,
     plan: &Plan,
 ) -> Result<(), Starved>
@@ -36,13 +36,13 @@ pub fn prepare<R: RangeTable, S: HostStore>(
     ensures err { OnErr result (AdmitsNobody world.old world.new) }
 {
     match plan {
-        Plan::Decided(answer) => prepare_change(world, &answer.change),
-        Plan::AfterStore { agreed, .. } => prepare_change(world, &agreed.change),
+        Plan::Decided(answer) => reserve_for_change(world, &answer.change),
+        Plan::AfterStore { agreed, .. } => reserve_for_change(world, &agreed.change),
     }
 }
 
 /// Gets all memory that the change takes. The world stays, and who was known is known. Starved: nobody has become known.
-pub fn prepare_change<R: RangeTable, S: HostStore>(
+pub fn reserve_for_change<R: RangeTable, S: HostStore>(
     world: &mut World<R, S>,
     change: &Change,
 ) -> Result<(), Starved>
@@ -53,14 +53,14 @@ pub fn prepare_change<R: RangeTable, S: HostStore>(
     ensures err { OnErr result (AdmitsNobody world.old world.new) }
 {
     match change {
-        Change::Set(range) => prepare_range(world, range),
+        Change::Set(range) => reserve_for_range(world, range),
         Change::Wait(wanted, _) => world.admit(&wanted.owner),
         // All else takes none.
         _ => Ok(()),
     }
 }
 
-fn prepare_range<R: RangeTable, S: HostStore>(
+fn reserve_for_range<R: RangeTable, S: HostStore>(
     world: &mut World<R, S>,
     range: &Range,
 ) -> Result<(), Starved>
@@ -112,9 +112,9 @@ pub fn ask<R: RangeTable, S: HostStore>(
 ) -> Result<StoreAnswer, Starved>
     requires { CanAsk plan.now world.old.world }
     ensures answer { IfOk result (λ answer. IsAnswerTo plan.now (view_of_stored answer)) }
-    ensures world { IfOk result (λ answer. world.new.world ≡ stored plan.now (view_of_stored answer) world.old.world) }
+    ensures world { IfOk result (λ answer. world.new.world ≡ world_after_store plan.now (view_of_stored answer) world.old.world) }
     ensures limit { IfOk result (λ answer. IsWithin plan.now (view_of_stored answer) world.old.world) }
-    ensures refusals { IfOk result (λ answer. world.new.refusals ≡ counted (view_of_stored answer) world.old.refusals) }
+    ensures refusals { IfOk result (λ answer. world.new.refusals ≡ refusal_count (view_of_stored answer) world.old.refusals) }
     ensures starved { OnErr result (world.new ≡ world.old) }
     ensures fits { IfOk result (λ answer. Fits plan.now world.old.world → FitsUnder (view_of_stored answer) plan.now world.new.world) }
     ensures ready { IsReady plan.now world.old → IsReady plan.now world.new }
@@ -154,10 +154,10 @@ fn ask_for<R: RangeTable, S: HostStore>(
 }
 
 // A watcher as the store takes it.
-fn lent(my_id: &MyId) -> hosts_db::MyId<'_>
+fn lent(my_id: &OwnedMyId) -> hosts_db::MyIdRef<'_>
     ensures { result ≡ view_of_told_my_id my_id.now }
 {
-    hosts_db::MyId::new(my_id.my_name.as_slice(), my_id.prog, my_id.vers, my_id.proc)
+    hosts_db::MyIdRef::new(my_id.my_name.as_slice(), my_id.prog, my_id.vers, my_id.proc)
 }
 
 fn lent_name(name: &Option<ShortBytes>) -> Option<&[u8]>
@@ -199,7 +199,7 @@ pub fn commit<R: RangeTable, S: HostStore>(
 // What is agreed on, and what is told where the store refuses.
 #[derive(Drop)]
 struct Deferred {
-    agreed: Answer,
+    agreed: PlannedAnswer,
     refused: Response,
 }
 
@@ -230,7 +230,7 @@ impl<R: RangeTable, S: HostStore> Pending<World<R, S>, SharedOutcome> for Deferr
 // The change isn't made, and this is told.
 fn refuse<R: RangeTable, S: HostStore>(
     world: &mut World<R, S>,
-    agreed: Answer,
+    agreed: PlannedAnswer,
     refused: Response,
 ) -> SharedOutcome
     requires { FitsDue refused world.old.world }
@@ -244,14 +244,17 @@ fn refuse<R: RangeTable, S: HostStore>(
 }
 
 // The change, and then the calls that become due.
-fn do_answer<R: RangeTable, S: HostStore>(world: &mut World<R, S>, answer: Answer) -> SharedOutcome
+fn do_answer<R: RangeTable, S: HostStore>(
+    world: &mut World<R, S>,
+    answer: PlannedAnswer,
+) -> SharedOutcome
     requires fits { FitsAnswer answer world.old.world }
     requires ready { IsReadyFor answer.change world.old }
-    ensures told { record { outcome = view_of_outcome result.told.value; due = answer.told.due.items; world = world.new.world } ≡ answered answer world.old.world }
+    ensures told { record { outcome = view_of_outcome result.told.value; due = answer.told.due.items; world = world.new.world } ≡ answer_in answer world.old.world }
     ensures refusals { world.new.refusals ≡ world.old.refusals }
     ensures forgotten { IsForgottenBy answer.change world.old.world.calls world.new }
 {
-    let Answer {
+    let PlannedAnswer {
         told,
         change: wanted,
     } = answer;
@@ -289,7 +292,7 @@ fn set<R: RangeTable, S: HostStore>(world: &mut World<R, S>, range: &Range) -> R
 pub fn make_change<R: RangeTable, S: HostStore>(world: &mut World<R, S>, change: Change)
     requires fits { FitsChange change world.old.world }
     requires ready { IsReadyFor change world.old }
-    ensures world { world.new.world ≡ changed change world.old.world }
+    ensures world { world.new.world ≡ changed_world change world.old.world }
     ensures refusals { world.new.refusals ≡ world.old.refusals }
     ensures forgotten { IsForgottenBy change world.old.world.calls world.new }
 {
@@ -326,7 +329,7 @@ pub fn make_change<R: RangeTable, S: HostStore>(world: &mut World<R, S>, change:
 }
 
 /// Gets all memory that the plan takes, and asks the store. Starved: the plan is given up, and the world stays.
-pub fn agree<R: RangeTable, S: HostStore>(
+pub fn reserve_and_ask<R: RangeTable, S: HostStore>(
     world: &mut World<R, S>,
     plan: &Plan,
 ) -> Result<StoreAnswer, Starved>
@@ -334,14 +337,14 @@ pub fn agree<R: RangeTable, S: HostStore>(
     requires asks { CanAsk plan.now world.old.world }
     ensures answer { IfOk result (λ answer. IsAnswerTo plan.now (view_of_stored answer)) }
     ensures limit { IfOk result (λ answer. IsWithin plan.now (view_of_stored answer) world.old.world) }
-    ensures world { IfOk result (λ answer. world.new.world ≡ stored plan.now (view_of_stored answer) world.old.world) }
-    ensures counts { IfOk result (λ answer. world.new.refusals ≡ counted (view_of_stored answer) world.old.refusals) }
+    ensures world { IfOk result (λ answer. world.new.world ≡ world_after_store plan.now (view_of_stored answer) world.old.world) }
+    ensures counts { IfOk result (λ answer. world.new.refusals ≡ refusal_count (view_of_stored answer) world.old.refusals) }
     ensures fits { IfOk result (λ answer. FitsUnder (view_of_stored answer) plan.now world.new.world) }
     ensures ready { OnOk result (IsReady plan.now world.new) }
     ensures err { OnErr result ((world.new.world ≡ world.old.world) × (world.new.refusals ≡ world.old.refusals)) }
     ensures forgotten { OnErr result (IsForgotten plan.now world.new.world world.new) }
 {
-    let agreed = match prepare(world, plan) {
+    let agreed = match reserve(world, plan) {
         Ok(()) => ask(world, plan),
         Err(starved) => Err(starved),
     };

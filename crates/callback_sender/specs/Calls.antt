@@ -3,7 +3,7 @@ use Rattle.std.specs.Prelude.{◌≡◌, ◌≤◌, ℕ, List, [], ◌∷◌, �
 use Rattle.definitions.specs.Bytes.{Bytes}
 use Rattle.call_codec.specs.declared.records.dest.Dest.{Dest}
 use Rattle.book.specs.Notes.{Note}
-use Rattle.book.specs.Receipts.{newest}
+use Rattle.book.specs.Receipts.{newest_note}
 use Rattle.workers.specs.Holds.{Held}
 use Rattle.workers.specs.Sending.{Sends, IsSending}
 
@@ -18,7 +18,7 @@ pub record IsSent (entry : Note) (call : Call) : Type 0 where
   pub before : Held
   pub after : Held
   pub sends : Sends before (Some (call.number, call.to, call.bytes)) after
-  pub is_newest : newest after.book.journal.notes ≡ Some entry
+  pub is_newest : newest_note after.book.journal.notes ≡ Some entry
   pub sent : IsSending entry call.number call.to call.bytes
 
 -- each entry sent its call, in order

@@ -14,7 +14,7 @@ pub(crate) const TIMES: usize = 16;
 
 /// How far a turn came.
 #[derive(Clone, Copy, PartialEq, Eq)]
-pub(crate) enum Progress {
+pub(crate) enum TurnProgress {
     /// The socket says when it goes on.
     Waits,
     /// It may go on now.
@@ -25,7 +25,7 @@ pub(crate) enum Progress {
 
 /// A peer: where it is, its connection, what is to be written to it, and what was read from it.
 #[derive(Drop)]
-pub(crate) struct Peer {
+pub(crate) struct PeerLink {
     alloc: Global,
     pub(crate) at: SocketAddr,
     stream: Option<TcpStream>,
@@ -35,36 +35,36 @@ pub(crate) struct Peer {
     incoming: Assembler,
 }
 
-fn written(stream: &TcpStream, bytes: &[u8]) -> Result<usize, Progress> {
+fn written(stream: &TcpStream, bytes: &[u8]) -> Result<usize, TurnProgress> {
     let mut to = stream;
     match to.write(bytes) {
         Ok(count) => Ok(count),
         Err(error) => match error.kind() {
-            ErrorKind::Interrupted => Err(Progress::GoesOn),
+            ErrorKind::Interrupted => Err(TurnProgress::GoesOn),
             // It is still being connected.
-            ErrorKind::WouldBlock | ErrorKind::NotConnected => Err(Progress::Waits),
-            _ => Err(Progress::Lost),
+            ErrorKind::WouldBlock | ErrorKind::NotConnected => Err(TurnProgress::Waits),
+            _ => Err(TurnProgress::Lost),
         },
     }
 }
 
-fn read(stream: &TcpStream, room: &mut [u8]) -> Result<usize, Progress> {
+fn read(stream: &TcpStream, room: &mut [u8]) -> Result<usize, TurnProgress> {
     let mut from = stream;
     match from.read(room) {
-        Ok(0) => Err(Progress::Lost),
+        Ok(0) => Err(TurnProgress::Lost),
         Ok(count) => Ok(count),
         Err(error) => match error.kind() {
-            ErrorKind::Interrupted => Err(Progress::GoesOn),
-            ErrorKind::WouldBlock | ErrorKind::NotConnected => Err(Progress::Waits),
-            _ => Err(Progress::Lost),
+            ErrorKind::Interrupted => Err(TurnProgress::GoesOn),
+            ErrorKind::WouldBlock | ErrorKind::NotConnected => Err(TurnProgress::Waits),
+            _ => Err(TurnProgress::Lost),
         },
     }
 }
 
-impl Peer {
+impl PeerLink {
     /// Without a connection.
-    pub(crate) fn new(alloc: Global, at: SocketAddr, now: Instant) -> Peer {
-        Peer {
+    pub(crate) fn new(alloc: Global, at: SocketAddr, now: Instant) -> PeerLink {
+        PeerLink {
             alloc,
             at,
             stream: None,
@@ -117,48 +117,48 @@ impl Peer {
     }
 
     // Writes once.
-    fn write_some(&mut self) -> Progress {
+    fn write_some(&mut self) -> TurnProgress {
         let Some(stream) = &self.stream else {
-            return Progress::Waits;
+            return TurnProgress::Waits;
         };
         if self.outgoing.is_empty() {
-            return Progress::Waits;
+            return TurnProgress::Waits;
         }
         match written(stream, self.outgoing.as_slice()) {
             Ok(count) => {
                 let count = count.min(self.outgoing.len());
                 self.outgoing.drain(..count);
-                Progress::GoesOn
+                TurnProgress::GoesOn
             }
             Err(progress) => progress,
         }
     }
 
     /// Writes what the socket takes.
-    pub(crate) fn write_on(&mut self) -> Progress {
+    pub(crate) fn write_on(&mut self) -> TurnProgress {
         for _ in 0..TIMES {
             let progress = self.write_some();
-            if progress != Progress::GoesOn {
+            if progress != TurnProgress::GoesOn {
                 return progress;
             }
         }
-        Progress::GoesOn
+        TurnProgress::GoesOn
     }
 
     /// Reads once, and gives the records that end in it.
-    pub(crate) fn read_some(&mut self) -> Result<Records, Progress> {
+    pub(crate) fn read_some(&mut self) -> Result<Records, TurnProgress> {
         let Some(stream) = &self.stream else {
-            return Err(Progress::Waits);
+            return Err(TurnProgress::Waits);
         };
         let mut room = [0u8; PIECE];
         let count = read(stream, &mut room)?;
         let Some(piece) = room.get(..count) else {
-            return Err(Progress::Lost);
+            return Err(TurnProgress::Lost);
         };
         match self.incoming.feed(piece) {
             Ok(records) => Ok(records),
-            Err(MarkError::Starved) => Err(Progress::Lost),
-            Err(MarkError::RecordTooLong(_)) => Err(Progress::Lost),
+            Err(MarkError::Starved) => Err(TurnProgress::Lost),
+            Err(MarkError::RecordTooLong(_)) => Err(TurnProgress::Lost),
         }
     }
 }

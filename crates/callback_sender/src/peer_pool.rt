@@ -1,5 +1,5 @@
 //! All peers.
-use crate::peer::{Peer, Progress, TIMES};
+use crate::peer::{PeerLink, TIMES, TurnProgress};
 use crate::pending_calls::PendingCalls;
 use bytes::Bytes;
 use mio::net::TcpStream;
@@ -27,7 +27,7 @@ pub(crate) struct PeerPool {
     alloc: Global,
     poll: Poll,
     events: Events<Global>,
-    peers: Vec<Peer>,
+    peers: Vec<PeerLink>,
     // The places where something may go on.
     ready: Vec<usize>,
     // The places that have a connection, the one that was used last at the end.
@@ -59,7 +59,7 @@ impl PeerPool {
             return Some(place);
         }
         let place = self.peers.len();
-        self.peers.push(Peer::new(self.alloc, at, now)).ok()?;
+        self.peers.push(PeerLink::new(self.alloc, at, now)).ok()?;
         Some(place)
     }
 
@@ -153,18 +153,18 @@ impl PeerPool {
     }
 
     // Reads what there is, and keeps the answers.
-    fn read(&mut self, place: usize, pending_calls: &mut PendingCalls) -> Progress {
+    fn read(&mut self, place: usize, pending_calls: &mut PendingCalls) -> TurnProgress {
         let Some(peer) = self.peers.get_mut(place) else {
-            return Progress::Waits;
+            return TurnProgress::Waits;
         };
         for _ in 0..TIMES {
             match peer.read_some() {
                 Ok(records) => keep(pending_calls, place, &records),
-                Err(Progress::GoesOn) => {}
+                Err(TurnProgress::GoesOn) => {}
                 Err(progress) => return progress,
             }
         }
-        Progress::GoesOn
+        TurnProgress::GoesOn
     }
 
     // Writes and reads what goes at this place. Whether it may go on.
@@ -174,11 +174,11 @@ impl PeerPool {
         };
         let written = peer.write_on();
         let read = self.read(place, pending_calls);
-        if written == Progress::Lost || read == Progress::Lost {
+        if written == TurnProgress::Lost || read == TurnProgress::Lost {
             self.close(place);
             return false;
         }
-        written == Progress::GoesOn || read == Progress::GoesOn
+        written == TurnProgress::GoesOn || read == TurnProgress::GoesOn
     }
 
     /// Writes and reads what goes.

@@ -7,7 +7,7 @@ ghost use Rattle.callback_sender.specs.Waits.{is_under};
 use crate::locals::Locals;
 use crate::pending_calls::{PendingCall, ReceivedAnswer, is_under};
 use crate::run::Sender;
-use crate::watch::Watch;
+use crate::watch::GraceWatch;
 use crate::{Due, MOST_CALLS, send_due};
 use book::BookEvent;
 use hosts_db::HostStore;
@@ -188,7 +188,7 @@ impl<'a, R: Net + Clock + Wait, D: Locals> Sender<'a, R, D> {
     fn tell_time<T: RangeTable, S: HostStore, L: Ledger>(
         &mut self,
         shared: &Mutex<Shared<T, S, L>>,
-        watch: &mut Watch,
+        watch: &mut GraceWatch,
     ) -> bool
         ensures { self.new ≡ self.old }
     {
@@ -238,7 +238,7 @@ impl<'a, R: Net + Clock + Wait, D: Locals> Sender<'a, R, D> {
     }
 
     // How long nothing happens by itself.
-    fn rest(&self, due: Due, watch: &Watch) -> Duration {
+    fn rest(&self, due: Due, watch: &GraceWatch) -> Duration {
         if due == Due::NoRoom {
             return Duration::from_millis(PAUSE_MILLIS);
         }
@@ -258,7 +258,7 @@ impl<'a, R: Net + Clock + Wait, D: Locals> Sender<'a, R, D> {
     fn tell_all<T: RangeTable, S: HostStore, L: Ledger>(
         &mut self,
         shared: &Mutex<Shared<T, S, L>>,
-        watch: &mut Watch,
+        watch: &mut GraceWatch,
     ) -> bool
         ensures { self.new ≡ self.old }
     {
@@ -267,7 +267,7 @@ impl<'a, R: Net + Clock + Wait, D: Locals> Sender<'a, R, D> {
     }
 
     // Writes and reads what goes, and waits until something may go on.
-    fn exchange(&mut self, due: Due, watch: &Watch)
+    fn exchange(&mut self, due: Due, watch: &GraceWatch)
         ensures { self.new ≡ self.old }
     {
         self.peer_pool.serve(&mut self.pending_calls);
@@ -280,7 +280,7 @@ impl<'a, R: Net + Clock + Wait, D: Locals> Sender<'a, R, D> {
     fn turn<T: RangeTable, S: HostStore, L: Ledger>(
         &mut self,
         shared: &Mutex<Shared<T, S, L>>,
-        watch: &mut Watch,
+        watch: &mut GraceWatch,
         ghost_trace: &mut GhostTrace,
     )
         ensures { HandsOn self.old self.new ghost_trace.old ghost_trace.new }
@@ -302,7 +302,7 @@ impl<'a, R: Net + Clock + Wait, D: Locals> Sender<'a, R, D> {
         let mut ghost_trace = GhostTrace::new();
         self.tick();
         let own_state = shared.lock(self.rt).own_state();
-        let mut watch = Watch::new(self.settings.grace, own_state, self.now);
+        let mut watch = GraceWatch::new(self.settings.grace, own_state, self.now);
         for _ in self.rt.forever() {
             if signals.is_stopping() {
                 break;

@@ -3,17 +3,17 @@ use std::time::{Duration, Instant};
 
 /// Watches the grace period of the server's own state.
 #[derive(Clone, Copy, Drop)]
-pub(crate) struct Watch {
+pub(crate) struct GraceWatch {
     grace: Duration,
     own_state: u32,
     // When it is over. None where that was told.
     until: Option<Instant>,
 }
 
-impl Watch {
+impl GraceWatch {
     /// It begins now.
-    pub(crate) fn new(grace: Duration, own_state: u32, now: Instant) -> Watch {
-        Watch {
+    pub(crate) fn new(grace: Duration, own_state: u32, now: Instant) -> GraceWatch {
+        GraceWatch {
             grace,
             own_state,
             until: now.checked_add(grace),
@@ -29,7 +29,7 @@ impl Watch {
         if self.own_state == own_state {
             return false;
         }
-        *self = Watch::new(self.grace, own_state, now);
+        *self = GraceWatch::new(self.grace, own_state, now);
         true
     }
 

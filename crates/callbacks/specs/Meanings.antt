@@ -9,18 +9,18 @@ use Rattle.nlm4_types.specs.Stat.{view_of_stat}
 use Rattle.nlm4_types.specs.Version.{view_of_version}
 use Rattle.owner_ids.specs.Views.{view_of_owner}
 use Rattle.range_table.specs.Modes.{view_of_mode}
-use Rattle.callbacks.specs.declared.lock.Lock as lock_declared
+use Rattle.callbacks.specs.declared.lock.OwnedLock as lock_declared
 use Rattle.callbacks.specs.declared.lock.LocalLock as local_declared
-use Rattle.callbacks.specs.declared.results.Res as res_declared
-use Rattle.callbacks.specs.declared.results.Holder as holder_declared
-use Rattle.callbacks.specs.declared.results.TestRes as test_declared
-use Rattle.callbacks.specs.declared.message.MyId as my_id_declared
+use Rattle.callbacks.specs.declared.results.OwnedRes as res_declared
+use Rattle.callbacks.specs.declared.results.OwnedHolder as holder_declared
+use Rattle.callbacks.specs.declared.results.OwnedTestRes as test_declared
+use Rattle.callbacks.specs.declared.message.OwnedMyId as my_id_declared
 use Rattle.callbacks.specs.declared.message.Message.{Message}
 use Rattle.callbacks.specs.declared.message.Message.TheVariants as message
 use Rattle.callbacks.specs.declared.callback.Destination.{Destination}
 use Rattle.callbacks.specs.declared.callback.Destination.TheVariants as destination
 
-abbrev pub view_of_told_lock : lock_declared.Lock → nlm.Lock
+abbrev pub view_of_told_lock : lock_declared.OwnedLock → nlm.Lock
 view_of_told_lock l = record {
   caller_name = l.caller.name;
   fh = l.fh;
@@ -30,23 +30,23 @@ view_of_told_lock l = record {
   l_len = l.l_len;
 }
 
-abbrev pub view_of_found_lock : Option (Bor lock_declared.Lock) → Option nlm.Lock
+abbrev pub view_of_found_lock : Option (Bor lock_declared.OwnedLock) → Option nlm.Lock
 view_of_found_lock None = None
 view_of_found_lock (Some l) = Some (view_of_told_lock l.now)
 
 abbrev pub view_of_local_lock : local_declared.LocalLock → outgoing.LocalLock
 view_of_local_lock l = record { owner = view_of_owner l.owner; file = l.file; offset = l.offset; len = l.len }
 
-abbrev pub view_of_told_res : res_declared.Res → nlm.Res
+abbrev pub view_of_told_res : res_declared.OwnedRes → nlm.Res
 view_of_told_res r = record { cookie = r.cookie; stat = view_of_stat r.stat }
 
-abbrev pub view_of_told_holder : holder_declared.Holder → nlm.Holder
+abbrev pub view_of_told_holder : holder_declared.OwnedHolder → nlm.Holder
 view_of_told_holder h = record { exclusive = h.exclusive; svid = h.svid; oh = h.oh; l_offset = h.l_offset; l_len = h.l_len }
 
-abbrev pub view_of_told_test_res : test_declared.TestRes → nlm.TestRes
+abbrev pub view_of_told_test_res : test_declared.OwnedTestRes → nlm.TestRes
 view_of_told_test_res r = record { cookie = r.cookie; stat = view_of_stat r.stat; holder = option_map view_of_told_holder r.holder }
 
-abbrev pub view_of_told_my_id : my_id_declared.MyId → nsm.MyId
+abbrev pub view_of_told_my_id : my_id_declared.OwnedMyId → nsm.MyId
 view_of_told_my_id m = record { my_name = m.my_name; prog = m.prog; vers = m.vers; proc = m.proc }
 
 abbrev pub view_of_message : Message → outgoing.Message

@@ -4,9 +4,9 @@ ghost use Rattle.callbacks.specs.Meanings.{view_of_told_lock, view_of_local_lock
 
 use crate::callback::{Callback, Destination};
 use crate::caller::Caller;
-use crate::lock::{LocalLock, Lock};
-use crate::message::{Message, MyId};
-use crate::results::{Holder, Res, TestRes};
+use crate::lock::{LocalLock, OwnedLock};
+use crate::message::{Message, OwnedMyId};
+use crate::results::{OwnedHolder, OwnedRes, OwnedTestRes};
 use crate::short::ShortBytes;
 use std::alloc::{AllocError, Global};
 
@@ -94,11 +94,11 @@ impl Message {
     }
 }
 
-impl Lock {
-    fn copy(&self, alloc: Global) -> Result<Lock, AllocError>
+impl OwnedLock {
+    fn copy(&self, alloc: Global) -> Result<OwnedLock, AllocError>
         ensures { IfOk result (λ copy. view_of_told_lock copy ≡ view_of_told_lock self.now) }
     {
-        Ok(Lock {
+        Ok(OwnedLock {
             caller: self.caller.copy(alloc)?,
             fh: self.fh.copy(alloc)?,
             l_offset: self.l_offset,
@@ -128,11 +128,11 @@ impl LocalLock {
     }
 }
 
-impl MyId {
-    fn copy(&self, alloc: Global) -> Result<MyId, AllocError>
+impl OwnedMyId {
+    fn copy(&self, alloc: Global) -> Result<OwnedMyId, AllocError>
         ensures { IfOk result (λ copy. view_of_told_my_id copy ≡ view_of_told_my_id self.now) }
     {
-        Ok(MyId {
+        Ok(OwnedMyId {
             my_name: self.my_name.copy(alloc)?,
             prog: self.prog,
             vers: self.vers,
@@ -141,19 +141,19 @@ impl MyId {
     }
 }
 
-impl Res {
-    fn copy(&self, alloc: Global) -> Result<Res, AllocError>
+impl OwnedRes {
+    fn copy(&self, alloc: Global) -> Result<OwnedRes, AllocError>
         ensures { IfOk result (λ copy. view_of_told_res copy ≡ view_of_told_res self.now) }
     {
-        Ok(Res {
+        Ok(OwnedRes {
             cookie: self.cookie.copy(alloc)?,
             stat: self.stat,
         })
     }
 }
 
-impl TestRes {
-    fn copy(&self, alloc: Global) -> Result<TestRes, AllocError>
+impl OwnedTestRes {
+    fn copy(&self, alloc: Global) -> Result<OwnedTestRes, AllocError>
         ensures { IfOk result (λ copy. view_of_told_test_res copy ≡ view_of_told_test_res self.now) }
     {
         let cookie = self.cookie.copy(alloc)?;
@@ -161,7 +161,7 @@ impl TestRes {
             Some(holder) => Some(holder.copy(alloc)?),
             None => None,
         };
-        Ok(TestRes {
+        Ok(OwnedTestRes {
             cookie,
             stat: self.stat,
             holder,
@@ -169,11 +169,11 @@ impl TestRes {
     }
 }
 
-impl Holder {
-    fn copy(&self, alloc: Global) -> Result<Holder, AllocError>
+impl OwnedHolder {
+    fn copy(&self, alloc: Global) -> Result<OwnedHolder, AllocError>
         ensures { IfOk result (λ copy. view_of_told_holder copy ≡ view_of_told_holder self.now) }
     {
-        Ok(Holder {
+        Ok(OwnedHolder {
             exclusive: self.exclusive,
             svid: self.svid,
             oh: self.oh.copy(alloc)?,

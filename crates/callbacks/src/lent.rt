@@ -4,8 +4,8 @@ ghost use Rattle.nlm4_types.specs.Lock.{view_of_lock};
 ghost use Rattle.nlm4_types.specs.Results.{view_of_res, view_of_holder, view_of_testres};
 ghost use Rattle.callbacks.specs.Meanings.{view_of_told_lock, view_of_told_res, view_of_told_holder, view_of_told_test_res};
 
-use crate::lock::Lock;
-use crate::results::{Holder, Res, TestRes};
+use crate::lock::OwnedLock;
+use crate::results::{OwnedHolder, OwnedRes, OwnedTestRes};
 use crate::short::ShortBytes;
 use nlm4_types::WIDE;
 use xdr_core::Opaque;
@@ -20,7 +20,7 @@ impl ShortBytes {
     }
 }
 
-impl Lock {
+impl OwnedLock {
     pub fn lent(&self) -> nlm4_types::Lock<'_, WIDE>
         ensures { view_of_lock result ≡ view_of_told_lock self.now }
     {
@@ -39,7 +39,7 @@ impl Lock {
     }
 }
 
-impl Res {
+impl OwnedRes {
     pub fn lent(&self) -> nlm4_types::Res<'_>
         ensures { view_of_res result ≡ view_of_told_res self.now }
     {
@@ -50,7 +50,7 @@ impl Res {
     }
 }
 
-impl Holder {
+impl OwnedHolder {
     pub fn lent(&self) -> nlm4_types::Holder<'_, WIDE>
         ensures { view_of_holder result ≡ view_of_told_holder self.now }
     {
@@ -64,7 +64,7 @@ impl Holder {
     }
 }
 
-impl TestRes {
+impl OwnedTestRes {
     pub fn lent(&self) -> nlm4_types::TestRes<'_, WIDE>
         ensures { view_of_testres result ≡ view_of_told_test_res self.now }
     {

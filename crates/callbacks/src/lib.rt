@@ -13,9 +13,9 @@ mod short;
 
 pub use callback::{Callback, Destination};
 pub use caller::Caller;
-pub use lock::{LocalLock, Lock};
-pub use message::{Message, MyId};
-pub use results::{Holder, Res, TestRes};
+pub use lock::{LocalLock, OwnedLock};
+pub use message::{Message, OwnedMyId};
+pub use results::{OwnedHolder, OwnedRes, OwnedTestRes};
 pub use short::ShortBytes;
 
 /// How many waiters and calls of the server's own there are at most, together.

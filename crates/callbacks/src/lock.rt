@@ -8,12 +8,12 @@ use crate::caller::Caller;
 use crate::short::ShortBytes;
 use nlm4_types::TOP;
 use owner_ids::Owner;
-use range_table::FileId;
+use range_table::{ByteRange, FileId};
 
 /// A lock that a call asked for and that can be set (RFC 1813, appendix II, nlm4_lock; XNFS, nlm_lock): its file handle
 /// has 1 to 64 bytes, and its range ends at the last byte of a file at most, which is 2^63 - 1. The length 0 is to there.
 #[derive(Drop)]
-pub struct Lock {
+pub struct OwnedLock {
     pub caller: Caller,
     pub fh: ShortBytes,
     pub l_offset: u64,
@@ -22,7 +22,7 @@ pub struct Lock {
     pub ghost inside: { is_too_far l_offset l_len ≡ false },
 }
 
-impl Lock {
+impl OwnedLock {
     /// The file of its handle.
     #[tactic(auto, using(crate::proofs::Ranges::handle_some, crate::proofs::Ranges::handle_few))]
     pub fn file(&self) -> FileId
@@ -31,17 +31,21 @@ impl Lock {
         FileId::new(self.fh.as_slice())
     }
 
-    /// The last byte of its range.
+    /// Its bytes.
     #[tactic(auto, using(crate::proofs::Ranges::begins_inside, crate::proofs::Ranges::ends_inside))]
-    pub fn last(&self) -> u64
-        ensures last { result ≡ last_of self.now.l_offset self.now.l_len }
-        ensures ordered { self.now.l_offset ≤ result }
-        ensures inside { result < 2 ^ 63 }
+    pub fn range(&self) -> ByteRange
+        ensures first { result.first ≡ self.now.l_offset }
+        ensures last { result.last ≡ last_of self.now.l_offset self.now.l_len }
     {
-        if self.l_len == 0 {
-            return TOP;
+        let last = if self.l_len == 0 {
+            TOP
+        } else {
+            self.l_offset + (self.l_len - 1)
+        };
+        ByteRange {
+            first: self.l_offset,
+            last,
         }
-        self.l_offset + (self.l_len - 1)
     }
 }
 

@@ -4,15 +4,15 @@ ghost use Rattle.definitions.specs.Outgoing.{ends_when_sent, is_grant, is_grante
 ghost use Rattle.callbacks.specs.Grants.{granted_lock};
 ghost use Rattle.callbacks.specs.Meanings.{view_of_message, view_of_found_lock};
 
-use crate::lock::{LocalLock, Lock};
-use crate::results::{Res, TestRes};
+use crate::lock::{LocalLock, OwnedLock};
+use crate::results::{OwnedRes, OwnedTestRes};
 use crate::short::ShortBytes;
 use nlm4_types::Version;
 use range_table::Mode;
 
 /// Whom to call when a monitored host has restarted (XNFS, my_id).
 #[derive(Drop)]
-pub struct MyId {
+pub struct OwnedMyId {
     pub my_name: ShortBytes,
     pub prog: i32,
     pub vers: i32,
@@ -27,13 +27,13 @@ pub enum Message {
     Granted {
         version: Version,
         exclusive: bool,
-        lock: Lock,
+        lock: OwnedLock,
     },
     /// GRANTED_MSG, to a waiter that came by LOCK_MSG.
     GrantedMsg {
         version: Version,
         exclusive: bool,
-        lock: Lock,
+        lock: OwnedLock,
     },
     /// The line `granted`, to a local waiter.
     GrantedLine {
@@ -43,26 +43,26 @@ pub enum Message {
     /// TEST_RES.
     TestResult {
         version: Version,
-        res: TestRes,
+        res: OwnedTestRes,
     },
     /// LOCK_RES.
     LockResult {
         version: Version,
-        res: Res,
+        res: OwnedRes,
     },
     /// CANCEL_RES.
     CancelResult {
         version: Version,
-        res: Res,
+        res: OwnedRes,
     },
     /// UNLOCK_RES.
     UnlockResult {
         version: Version,
-        res: Res,
+        res: OwnedRes,
     },
     /// The call of a watcher, at its own program, version and procedure (XNFS, status).
     Status {
-        my_id: MyId,
+        my_id: OwnedMyId,
         mon_name: ShortBytes,
         state: i32,
         private_bytes: [u8; 16],
@@ -126,7 +126,7 @@ impl Message {
     }
 
     /// The lock that it grants: of GRANTED or GRANTED_MSG.
-    pub fn granted_lock(&self) -> Option<&Lock>
+    pub fn granted_lock(&self) -> Option<&OwnedLock>
         ensures { view_of_found_lock result ≡ granted_lock (view_of_message self.now) }
     {
         match self {

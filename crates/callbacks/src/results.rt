@@ -8,14 +8,14 @@ use nlm4_types::Stat;
 
 /// The result of LOCK, CANCEL and UNLOCK (RFC 1813, appendix II, nlm4_res).
 #[derive(Drop)]
-pub struct Res {
+pub struct OwnedRes {
     pub cookie: ShortBytes,
     pub stat: Stat,
 }
 
 /// Who holds a lock that is in the way (nlm4_holder). The length 0 is to the last byte.
 #[derive(Drop)]
-pub struct Holder {
+pub struct OwnedHolder {
     pub exclusive: bool,
     pub svid: i32,
     pub oh: ShortBytes,
@@ -25,9 +25,9 @@ pub struct Holder {
 
 /// The result of TEST (nlm4_testres): a holder exactly where the status is that the lock is denied.
 #[derive(Drop)]
-pub struct TestRes {
+pub struct OwnedTestRes {
     pub cookie: ShortBytes,
     pub stat: Stat,
-    pub holder: Option<Holder>,
+    pub holder: Option<OwnedHolder>,
     pub ghost held: { is_some holder ≡ is_denial (view_of_stat stat) },
 }

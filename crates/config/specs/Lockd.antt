@@ -3,8 +3,8 @@ use Rattle.std.specs.Prelude.{true, List, [], ◌∷◌, Some, codes}
 use Rattle.clap.specs.Words.{App, Rule, Text, new_app, new_rule, with_rule}
 use Rattle.clap.specs.declared.builder.action.ArgAction.TheVariants.{Set, SetTrue}
 use Rattle.config.specs.declared.command.Choice.{Choice}
-use Rattle.config.specs.declared.command.Takes.{Takes}
-use Rattle.config.specs.declared.command.Takes.TheVariants as takes
+use Rattle.config.specs.declared.command.OptionValue.{OptionValue}
+use Rattle.config.specs.declared.command.OptionValue.TheVariants as takes
 
 -- an option without value
 abbrev pub flag_rule : Text → Rule
@@ -53,7 +53,7 @@ serve_app = with_rules (bare_app (codes "lockd serve")) serve_rules
 
 -- ---- the code's options as rules
 
-abbrev pub view_of_takes : Text → Takes → Rule
+abbrev pub view_of_takes : Text → OptionValue → Rule
 view_of_takes id takes.Nothing = flag_rule id
 view_of_takes id (takes.Value shown) = value_rule id
 view_of_takes id (takes.Needed shown) = needed_rule id

@@ -39,7 +39,7 @@ pub(crate) enum Verb {
 
 /// What stands behind an option, by what the help calls it.
 #[derive(Clone, Copy)]
-enum Takes<'a> {
+enum OptionValue<'a> {
     Nothing,
     /// A value, if the option is given.
     Value(&'a str),
@@ -53,7 +53,7 @@ enum Takes<'a> {
 #[derive(Clone, Copy)]
 struct Choice<'a> {
     name: &'a str,
-    takes: Takes<'a>,
+    takes: OptionValue<'a>,
     help: &'a str,
 }
 
@@ -61,17 +61,17 @@ struct Choice<'a> {
 const STREAM_CHOICES: &[Choice<'static>] = &[
     Choice {
         name: "grace",
-        takes: Takes::Nothing,
+        takes: OptionValue::Nothing,
         help: "Begin in the grace period, and stay in it",
     },
     Choice {
         name: "name",
-        takes: Takes::Default("NAME", "server"),
+        takes: OptionValue::Default("NAME", "server"),
         help: "The server's own name, 1 to 1,024 bytes",
     },
     Choice {
         name: "db",
-        takes: Takes::Value("FILE"),
+        takes: OptionValue::Value("FILE"),
         help: "The file of stored hosts; without it they are in memory",
     },
 ];
@@ -80,72 +80,72 @@ const STREAM_CHOICES: &[Choice<'static>] = &[
 const SERVE_CHOICES: &[Choice<'static>] = &[
     Choice {
         name: "port",
-        takes: Takes::Needed("N"),
+        takes: OptionValue::Needed("N"),
         help: "The port for calls by record",
     },
     Choice {
         name: "local-port",
-        takes: Takes::Needed("N"),
+        takes: OptionValue::Needed("N"),
         help: "The port for local programs, on loopback alone",
     },
     Choice {
         name: "peer-nlm-port",
-        takes: Takes::Needed("N"),
+        takes: OptionValue::Needed("N"),
         help: "The peers' port for program 100021",
     },
     Choice {
         name: "peer-nsm-port",
-        takes: Takes::Needed("N"),
+        takes: OptionValue::Needed("N"),
         help: "The peers' port for program 100024",
     },
     Choice {
         name: "watch-port",
-        takes: Takes::Needed("N"),
+        takes: OptionValue::Needed("N"),
         help: "The peers' port for other programs",
     },
     Choice {
         name: "db",
-        takes: Takes::Needed("FILE"),
+        takes: OptionValue::Needed("FILE"),
         help: "The file of stored hosts",
     },
     Choice {
         name: "peers",
-        takes: Takes::Needed("FILE"),
+        takes: OptionValue::Needed("FILE"),
         help: "The file of peers: lines of a name, a space and an IP address",
     },
     Choice {
         name: "name",
-        takes: Takes::Default("NAME", "server"),
+        takes: OptionValue::Default("NAME", "server"),
         help: "The server's own name, 1 to 1,024 bytes",
     },
     Choice {
         name: "bind",
-        takes: Takes::Default("ADDRESS", "0.0.0.0"),
+        takes: OptionValue::Default("ADDRESS", "0.0.0.0"),
         help: "The IP address at which calls by record come in",
     },
     Choice {
         name: "grace-seconds",
-        takes: Takes::Default("N", "45"),
+        takes: OptionValue::Default("N", "45"),
         help: "How long clients may reclaim after a start, 1 to 86400",
     },
     Choice {
         name: "silence-seconds",
-        takes: Takes::Default("N", "5"),
+        takes: OptionValue::Default("N", "5"),
         help: "How long an answer is waited for, 1 to 86400",
     },
     Choice {
         name: "idle-seconds",
-        takes: Takes::Default("N", "600"),
+        takes: OptionValue::Default("N", "600"),
         help: "How long a connection may be silent, 1 to 86400",
     },
     Choice {
         name: "workers",
-        takes: Takes::Default("N", "4"),
+        takes: OptionValue::Default("N", "4"),
         help: "How many workers serve, 1 to 16",
     },
     Choice {
         name: "audit",
-        takes: Takes::Nothing,
+        takes: OptionValue::Nothing,
         help: "Check the journal at the end",
     },
 ];
@@ -158,10 +158,10 @@ fn arg_of<'a>(alloc: Global, choice: Choice<'a>) -> Arg<'a>
         .long(choice.name)
         .help(choice.help);
     match choice.takes {
-        Takes::Nothing => arg.action(ArgAction::SetTrue),
-        Takes::Value(shown) => arg.value_name(shown).action(ArgAction::Set),
-        Takes::Needed(shown) => arg.value_name(shown).action(ArgAction::Set).required(true),
-        Takes::Default(shown, default) => arg
+        OptionValue::Nothing => arg.action(ArgAction::SetTrue),
+        OptionValue::Value(shown) => arg.value_name(shown).action(ArgAction::Set),
+        OptionValue::Needed(shown) => arg.value_name(shown).action(ArgAction::Set).required(true),
+        OptionValue::Default(shown, default) => arg
             .value_name(shown)
             .action(ArgAction::Set)
             .default_value(default),

@@ -11,5 +11,5 @@ mod values;
 pub use asked::config;
 pub use fault::ConfigFault;
 pub use settings::{Config, Ports, ServeConfig, StreamConfig, Times};
-pub use texts::{FilePath, Name};
+pub use texts::{FilePath, OwnName};
 pub use values::{Port, Seconds, Workers};

@@ -5,7 +5,7 @@ ghost use Rattle.clap.specs.Words.{first_of, found_of, rows_of};
 ghost use Rattle.config.specs.Settings.{setting, flag_in, port_in, seconds_in, workers_in, name_in};
 ghost use Rattle.config.specs.Reads.{IsWrong, Reads, ReadsAddress, ReadsServe, stream_in, ports_in, times_in};
 
-use crate::texts::{FilePath, Name, is_name};
+use crate::texts::{FilePath, OwnName, is_name};
 use crate::values::{Port, Seconds, Workers};
 use clap::ArgMatches;
 use std::alloc::{AllocError, Global};
@@ -16,7 +16,7 @@ use std::net::IpAddr;
 pub struct StreamConfig {
     /// Whether the grace period goes on until the input ends.
     pub grace: bool,
-    pub name: Name,
+    pub name: OwnName,
     /// Where the hosts are stored; None: in memory.
     pub db: Option<FilePath>,
 }
@@ -53,7 +53,7 @@ pub struct ServeConfig {
     pub ports: Ports,
     pub times: Times,
     pub workers: Workers,
-    pub name: Name,
+    pub name: OwnName,
     /// Where the hosts are stored.
     pub db: FilePath,
     /// The file of peers.
@@ -155,12 +155,12 @@ fn read_name<'a>(
     alloc: Global,
     matches: &ArgMatches<'a>,
     option: &'a str,
-) -> Result<Name, Unread<'a>>
+) -> Result<OwnName, Unread<'a>>
     ensures { Reads (λ name. name) result (setting name_in option.now (rows_of (found_of matches.now))) }
 {
     let value = read_text(matches, option)?;
     if is_name(value) {
-        Ok(Name::copy_of(alloc, value)?)
+        Ok(OwnName::copy_of(alloc, value)?)
     } else {
         Err(refuse(value, option, "a name has 1 to 1024 bytes"))
     }

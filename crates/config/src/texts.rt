@@ -15,11 +15,11 @@ pub(crate) fn is_name(text: &str) -> bool
 
 /// The server's own name, 1 to 1,024 bytes.
 #[derive(Debug, Drop)]
-pub struct Name {
+pub struct OwnName {
     text: String,
 }
 
-impl Model for Name {
+impl Model for OwnName {
     ghost use Rattle.std.specs.Prelude.{List, ℕ, string_bytes, ◌≤◌, length};
 
     ghost Value = { List ℕ };
@@ -29,13 +29,13 @@ impl Model for Name {
     ghost invariant = { λ n. (1 ≤ length (string_bytes n.text)) × (length (string_bytes n.text) ≤ 1024) };
 }
 
-impl Name {
-    pub(crate) fn copy_of(alloc: Global, text: &str) -> Result<Name, AllocError>
+impl OwnName {
+    pub(crate) fn copy_of(alloc: Global, text: &str) -> Result<OwnName, AllocError>
         requires least { 1 ≤ length text.now }
         requires most { length text.now ≤ 1024 }
         ensures { IfOk result (λ name. name ≡ text.now) }
     {
-        Ok(Name {
+        Ok(OwnName {
             text: String::from_str(alloc, text)?,
         })
     }

@@ -14,12 +14,12 @@ pub const PLACES: usize = 256;
 
 // A place, and what is lent to whoever serves its connection.
 #[derive(Drop)]
-struct Place<K> {
+struct ConnectionPlace<K> {
     connection: Option<Arc<Connection, Global>>,
     lent: Option<K>,
 }
 
-impl<K> Model for Place<K> {
+impl<K> Model for ConnectionPlace<K> {
     ghost use Rattle.std.specs.Prelude.{option_map};
     ghost use Rattle.connections.specs.Seats.{Seat};
 
@@ -28,7 +28,7 @@ impl<K> Model for Place<K> {
     ghost view = { λ p. record { number = option_map (λ c. c.value) p.connection; lent = p.lent } };
 }
 
-impl<K> Place<K> {
+impl<K> ConnectionPlace<K> {
     // Whether no connection has it.
     fn is_free(&self) -> bool
         ensures { result ≡ is_free self.now }
@@ -62,7 +62,7 @@ impl<K> Place<K> {
 #[derive(Drop)]
 pub struct ConnectionTable<K> {
     alloc: Global,
-    places: Vec<Place<K>>,
+    places: Vec<ConnectionPlace<K>>,
     // A multiple of how many places there are. A connection's number is that and the index of its place.
     next: u64,
     is_closed: bool,
@@ -79,14 +79,14 @@ impl<K> Model for ConnectionTable<K> {
 }
 
 // The index of the first place that is free.
-fn first_free<K>(places: &[Place<K>]) -> Option<usize>
+fn first_free<K>(places: &[ConnectionPlace<K>]) -> Option<usize>
     ensures { result ≡ position is_free places.now }
 {
     places.iter().position(|place| place.is_free())
 }
 
 // What the place of this index lends. It lends nothing then.
-fn take_at<K>(places: &mut [Place<K>], index: usize) -> Option<K>
+fn take_at<K>(places: &mut [ConnectionPlace<K>], index: usize) -> Option<K>
     ensures lent { result ≡ lent_at index places.old }
     ensures places { places.new ≡ with_place (with_lent None) index places.old }
 {
@@ -98,7 +98,7 @@ fn take_at<K>(places: &mut [Place<K>], index: usize) -> Option<K>
 }
 
 // The place of this index lends this.
-fn put_at<K: Drop>(places: &mut [Place<K>], index: usize, lent: K)
+fn put_at<K: Drop>(places: &mut [ConnectionPlace<K>], index: usize, lent: K)
     ensures { places.new ≡ with_place (with_lent (Some lent)) index places.old }
 {
     if index < places.len() {
@@ -108,7 +108,7 @@ fn put_at<K: Drop>(places: &mut [Place<K>], index: usize, lent: K)
 }
 
 // The connection of this number has ended, if it is the one at the place of this index.
-fn leave_at<K>(places: &mut [Place<K>], index: usize, number: u64)
+fn leave_at<K>(places: &mut [ConnectionPlace<K>], index: usize, number: u64)
     ensures { places.new ≡ with_place (left_by number) index places.old }
 {
     if index < places.len() {
@@ -118,7 +118,7 @@ fn leave_at<K>(places: &mut [Place<K>], index: usize, number: u64)
 }
 
 // The place of this index is the connection's.
-fn seat_at<K>(places: &mut [Place<K>], index: usize, connection: Arc<Connection, Global>)
+fn seat_at<K>(places: &mut [ConnectionPlace<K>], index: usize, connection: Arc<Connection, Global>)
     ensures { places.new ≡ with_place (taken_by connection.value) index places.old }
 {
     if index < places.len() {
@@ -154,7 +154,7 @@ impl<K: Drop> ConnectionTable<K> {
     {
         let mut places = Vec::new(alloc);
         for lent in lent {
-            places.push(Place {
+            places.push(ConnectionPlace {
                 connection: None,
                 lent: Some(lent),
             })?;

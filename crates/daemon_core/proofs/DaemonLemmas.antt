@@ -6,7 +6,7 @@ use Rattle.definitions.specs.Step.{Given, State}
 use Rattle.kept_replies.specs.Pairs.{view_of_peer}
 use Rattle.step_order.specs.declared.store.StoreAnswer.{StoreAnswer as Response}
 use Rattle.step_order.specs.declared.store.StoreAnswer.TheVariants as told
-use Rattle.call_plans.specs.Planned.{view_of_stored, counted}
+use Rattle.call_plans.specs.Planned.{view_of_stored, refusal_count}
 use Rattle.book.specs.Given.{StepResult}
 use Rattle.book.specs.Journal.{TakesMemory}
 use Rattle.book.specs.Notes.{JournalEvent, Takes, BeginsAnew, Steps}
@@ -16,7 +16,7 @@ use Rattle.daemon_core.specs.Outcomes.{view_of_event_outcome, needs_entry}
 use Rattle.daemon_core.specs.declared.outputs.Outputs.{Outputs}
 use Rattle.daemon_core.specs.Outputs.{quiet, step_result_of, told_to}
 use Rattle.daemon_core.specs.Rooms.{Room, RoomAfter}
-use Rattle.record_mark.specs.Untaken.{AreRecords, untaken}
+use Rattle.record_mark.specs.Untaken.{AreRecords, untaken_records}
 use Rattle.daemon_core.specs.Link.{Link, with_taken}
 use Rattle.daemon_core.specs.declared.event.Event.{Event}
 use Rattle.daemon_core.specs.DaemonState.{DaemonState, with_links, place_of, IsUnnoted, TakesAt, links_after, Happens, DaemonStep, Run}
@@ -38,7 +38,7 @@ daemon_state-is : (old : DaemonState) (links : List Link) → links ≡ old.link
 daemon_state-is old links e = ap (with_links old) e
 
 pub TakesAt-none : (old : DaemonState) (out : Outputs) (place i : ℕ) (link link' : Link) → slice_get old.links place ≡ Some link
-    → (link' ≡ link) × ((records : List (List ℕ)) × AreRecords link.received records × (length (untaken records link.taken) ≤ i))
+    → (link' ≡ link) × ((records : List (List ℕ)) × AreRecords link.received records × (length (untaken_records records link.taken) ≤ i))
     → out ≡ quiet → TakesAt (Some place) i old out (with_links old (slice_set old.links place link'))
 TakesAt-none old out place i link link' there none is =
     inr (record {
@@ -51,8 +51,8 @@ TakesAt-none old out place i link link' there none is =
     })
 
 pub TakesAt-some : (old : DaemonState) (state : State) (refusals : ℕ) (room : Room) (out : Outputs) (place i : ℕ) (link link' : Link) (bytes : List ℕ) (given : Given) → slice_get old.links place ≡ Some link
-    → (records : List (List ℕ)) × AreRecords link.received records × (slice_get (untaken records link.taken) i ≡ Some bytes) × (link' ≡ with_taken link i)
-    → Steps old.state (Takes (view_of_peer link.peer) bytes) (step_result_of out given) state → refusals ≡ counted (view_of_stored out.store) old.refusals
+    → (records : List (List ℕ)) × AreRecords link.received records × (slice_get (untaken_records records link.taken) i ≡ Some bytes) × (link' ≡ with_taken link i)
+    → Steps old.state (Takes (view_of_peer link.peer) bytes) (step_result_of out given) state → refusals ≡ refusal_count (view_of_stored out.store) old.refusals
     → (out.outcome ≡ NoSegment → IsUnnoted (Takes (view_of_peer link.peer) bytes) old.state out state) → RoomAfter out.outcome true old.room room → out ≡ told_to link.number out.outcome out.store given
     → TakesAt (Some place) i old out (record { state = state; refusals = refusals; room = room; links = slice_set old.links place link' })
 TakesAt-some old state refusals room out place i link link' bytes given there some step counts unnoted takes outputs =
@@ -97,7 +97,7 @@ module _ (out : Outputs) (outcome : EventOutcome) (step_result : StepResult) (is
     pub unnoted : out.outcome ≡ NoSegment → IsUnnoted event old out new
     unnoted none = let same = sym is ∙ none in record { needed = needed; unasked = not_asked out.store (store ∙ unasked same); unchanged = unchanged same }
 
-    pub Happens-noted : (tell : EventOutcome → Response → Given → Outputs) (refusals counts : ℕ) (room after : Room) (links more : List Link) → Steps old event step_result new → counts ≡ counted step_result.store refusals → (outcome ≡ Starved → TakesMemory event)
+    pub Happens-noted : (tell : EventOutcome → Response → Given → Outputs) (refusals counts : ℕ) (room after : Room) (links more : List Link) → Steps old event step_result new → counts ≡ refusal_count step_result.store refusals → (outcome ≡ Starved → TakesMemory event)
         → RoomAfter outcome (needs_entry event old) room after
         → more ≡ links_after event out.store links → out ≡ tell out.outcome out.store step_result.given
         → Happens tell event (record { state = old; refusals = refusals; room = room; links = links }) out (record { state = new; refusals = counts; room = after; links = more })

@@ -7,7 +7,7 @@ use Rattle.definitions.specs.Step.{State, opening_state}
 use Rattle.definitions.specs.Moves.{IsSound}
 use Rattle.book.specs.Given.{StepResult}
 use Rattle.book.specs.Notes.{JournalEvent, Steps}
-use Rattle.book.specs.Journal.{begun, next_of, noted}
+use Rattle.book.specs.Journal.{empty_journal, next_of, noted_journal}
 use Rattle.book.specs.Histories.{IsHistory, Leads, LegalBegins, LegalGrows}
 use Rattle.book.specs.Laws.{HistoriesAreSound, GrantReclaimsOnly, HistoriesGrantReclaimsOnly, TellsOfNoGrant, HistoriesTellOfNoGrant}
 use Rattle.kept_replies.specs.declared.key.Peer.{Peer}
@@ -61,7 +61,7 @@ module _ (grows : LegalGrows) (s : State) where
   goes_on old new (IsStep event step_result step) r =
       let steps : Steps r.history.end event step_result new = subst (λ (t : State). Steps t event step_result new) (sym r.ends) step in
       record {
-        history = noted r.history (record { number = next_of r.history; event = event; step_result = step_result }) new;
+        history = noted_journal r.history (record { number = next_of r.history; event = event; step_result = step_result }) new;
         first = r.first;
         base = r.base;
         ends = refl;
@@ -76,7 +76,7 @@ module _ (grows : LegalGrows) (s : State) where
 
 pub runs_are_histories : LegalBegins → LegalGrows → RunsAreHistories
 runs_are_histories begins grows old new events outs run =
-    reached grows old.state old new events outs run (record { history = begun 1 old.state; first = refl; base = refl; ends = refl; legal = begins 1 old.state })
+    reached grows old.state old new events outs run (record { history = empty_journal 1 old.state; first = refl; base = refl; ends = refl; legal = begins 1 old.state })
 
 -- what stands over histories
 module _ (are : RunsAreHistories) (name : Bytes) (hosts : Hosts) (refusals : ℕ) (events : List Event) (outs : List Outputs) (daemon_state : DaemonState) (run : Run (opening name hosts refusals) events outs daemon_state) where

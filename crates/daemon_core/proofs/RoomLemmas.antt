@@ -5,7 +5,7 @@ use Rattle.book.specs.declared.step_result.Completion.{Completion as Became}
 use Rattle.book.specs.declared.step_result.Completion.TheVariants as completion
 use Rattle.book.specs.Given.{StepResult}
 use Rattle.book.specs.Notes.{JournalEvent, Note}
-use Rattle.book.specs.Journal.{Journal, Book, next_of, room_of, noted, Enters}
+use Rattle.book.specs.Journal.{Journal, Book, next_of, room_of, noted_journal, Enters}
 use Rattle.daemon_core.specs.Outcomes.{noted_as}
 use Rattle.daemon_core.specs.Rooms.{Room, room_of_journal, BeginsWhereFull, left_for, TakesRoom, TakesIfNeeded, RoomAfter}
 
@@ -32,7 +32,7 @@ stands old mid (inr fresh) some =
     room ∙ sym (left_for-none (room_of old.journal) (next_of old.journal) fresh.0)
 
 -- one entry more
-grows : (old new : Journal) (n : Note) (end : State) → new ≡ noted old n end → 0 < room_of old → (room_of new + 1 ≡ room_of old) × (next_of new ≡ next_of old + 1)
+grows : (old new : Journal) (n : Note) (end : State) → new ≡ noted_journal old n end → 0 < room_of old → (room_of new + 1 ≡ room_of old) × (next_of new ≡ next_of old + 1)
 grows old new n end is some =
     let first : new.first ≡ old.first = ap (λ (j : Journal). j.first) is in
     let longer : length new.notes ≡ length old.notes + 1 = ap (λ (j : Journal). length j.notes) is ∙ length-append old.notes (n ∷ []) in

@@ -5,7 +5,7 @@ use Rattle.definitions.specs.Step.{Given, State}
 use Rattle.kept_replies.specs.declared.key.Peer.{Peer}
 use Rattle.kept_replies.specs.Pairs.{view_of_peer}
 use Rattle.step_order.specs.declared.store.StoreAnswer.{StoreAnswer}
-use Rattle.call_plans.specs.Planned.{view_of_stored, counted}
+use Rattle.call_plans.specs.Planned.{view_of_stored, refusal_count}
 use Rattle.book.specs.Given.{comes_to}
 use Rattle.book.specs.Notes.{JournalEvent, Takes, SendsNext, HearsAnswer, AsksLine, FallsSilent, GraceEnds, BeginsAnew, Steps, OneStep}
 use Rattle.daemon_core.specs.declared.event.Event.{Event}
@@ -14,9 +14,9 @@ use Rattle.daemon_core.specs.declared.event_outcome.EventOutcome.{EventOutcome}
 use Rattle.daemon_core.specs.declared.event_outcome.EventOutcome.TheVariants.{Applied, Starved, NoSegment}
 use Rattle.daemon_core.specs.declared.outputs.Outputs.{Outputs}
 use Rattle.daemon_core.specs.Outcomes.{view_of_event_outcome, needs_entry}
-use Rattle.daemon_core.specs.Outputs.{marked_by, told, told_call, told_line, told_to}
+use Rattle.daemon_core.specs.Outputs.{marked_by, outputs_of, told_call, told_line, told_to}
 use Rattle.daemon_core.specs.Rooms.{Room, TakesIfNeeded, RoomAfter}
-use Rattle.record_mark.specs.Untaken.{AreRecords, untaken}
+use Rattle.record_mark.specs.Untaken.{AreRecords, untaken_records}
 use Rattle.daemon_core.specs.Link.{Link, Hears, Receives, with_taken}
 use Rattle.daemon_core.specs.DaemonState.{DaemonState, with_links, place_of, IsQuiet, Connects, Disconnects, Pieces, Answers, HasNone, TakesAt, links_after, Happens, DaemonStep, Run, HasOneRun}
 
@@ -113,32 +113,32 @@ Answers-same one step place i old new new' out out' e f h h' =
     let link : h'.link ≡ h.link = some-same old.links place h'.link h.link h'.there h.there in
     let P : Link → Type 0 = λ l. AreRecords l.received h'.records in
     let records : h'.records ≡ h.records = records-same one h.link.received h'.records h.records (subst P link h'.are) h.are in
-    let get : Link → List (List ℕ) → Option (List ℕ) = λ l rs. slice_get (untaken rs l.taken) i in
-    let is' : slice_get (untaken h.records h.link.taken) i ≡ Some h'.bytes = ap (λ (rs : List (List ℕ)). get h.link rs) (sym records) ∙ (ap (λ (l : Link). get l h'.records) (sym link) ∙ h'.is) in
-    let bytes : h'.bytes ≡ h.bytes = bytes-same (slice_get (untaken h.records h.link.taken) i) h'.bytes h.bytes is' h.is in
+    let get : Link → List (List ℕ) → Option (List ℕ) = λ l rs. slice_get (untaken_records rs l.taken) i in
+    let is' : slice_get (untaken_records h.records h.link.taken) i ≡ Some h'.bytes = ap (λ (rs : List (List ℕ)). get h.link rs) (sym records) ∙ (ap (λ (l : Link). get l h'.records) (sym link) ∙ h'.is) in
+    let bytes : h'.bytes ≡ h.bytes = bytes-same (slice_get (untaken_records h.records h.link.taken) i) h'.bytes h.bytes is' h.is in
     let Q : Link → List ℕ → Type 0 = λ l b. Steps old.state (Takes (view_of_peer l.peer) b) (comes_to (view_of_event_outcome out'.outcome) (view_of_stored out'.store) h'.given) new'.state in
     let step' = subst (λ (b : List ℕ). Q h.link b) bytes (subst (λ (l : Link). Q l h'.bytes) link h'.step) in
     let same = same-step step old.state new.state new'.state (Takes (view_of_peer h.link.peer) h.bytes) out.outcome out'.outcome out.store out'.store h.given h'.given e f h.step step' in
     let links : new.links ≡ new'.links = h.links ∙ (ap (λ (l : Link). slice_set old.links place (with_taken l i)) (sym link) ∙ sym h'.links) in (
       h.outputs ∙ ap (λ (o : EventOutcome). told_to h.link.number o out.store h.given) e ∙ ap (λ (a : StoreAnswer). told_to h.link.number out'.outcome a h.given) f ∙ ap (λ (x : Given). told_to h.link.number out'.outcome out'.store x) same.0 ∙ ap (λ (l : Link). told_to l.number out'.outcome out'.store h'.given) (sym link) ∙ sym h'.outputs,
-      same-daemon_state new new' same.1 (h.refusals ∙ ap (λ (a : StoreAnswer). counted (view_of_stored a) old.refusals) f ∙ sym h'.refusals) (room-same out.outcome out'.outcome true old.room new.room new'.room e h.room h'.room) links,
+      same-daemon_state new new' same.1 (h.refusals ∙ ap (λ (a : StoreAnswer). refusal_count (view_of_stored a) old.refusals) f ∙ sym h'.refusals) (room-same out.outcome out'.outcome true old.room new.room new'.room e h.room h'.room) links,
     )
 
 Happens-same : OneStep → (tell : EventOutcome → StoreAnswer → Given → Outputs) (event : JournalEvent) (old new new' : DaemonState) (out out' : Outputs) → out.outcome ≡ out'.outcome → out.store ≡ out'.store → Happens tell event old out new → Happens tell event old out' new' → Same out out' new new'
 Happens-same step tell event old new new' out out' e f h h' =
     let same = same-step step old.state new.state new'.state event out.outcome out'.outcome out.store out'.store h.given h'.given e f h.step h'.step in (
       h.outputs ∙ ap (λ (o : EventOutcome). tell o out.store h.given) e ∙ ap (λ (a : StoreAnswer). tell out'.outcome a h.given) f ∙ ap (λ (x : Given). tell out'.outcome out'.store x) same.0 ∙ sym h'.outputs,
-      same-daemon_state new new' same.1 (h.refusals ∙ ap (λ (a : StoreAnswer). counted (view_of_stored a) old.refusals) f ∙ sym h'.refusals) (room-same out.outcome out'.outcome (needs_entry event old.state) old.room new.room new'.room e h.room h'.room) (h.links ∙ ap (λ (a : StoreAnswer). links_after event a old.links) f ∙ sym h'.links),
+      same-daemon_state new new' same.1 (h.refusals ∙ ap (λ (a : StoreAnswer). refusal_count (view_of_stored a) old.refusals) f ∙ sym h'.refusals) (room-same out.outcome out'.outcome (needs_entry event old.state) old.room new.room new'.room e h.room h'.room) (h.links ∙ ap (λ (a : StoreAnswer). links_after event a old.links) f ∙ sym h'.links),
     )
 
 none-not : HasOneReading → (place i : ℕ) (old new new' : DaemonState) (out out' : Outputs) → Answers place i old out new → HasNone place i old out' new' → ⊥
 none-not one place i old new new' out out' h h' =
     let link : h'.link ≡ h.link = some-same old.links place h'.link h.link h'.there h.there in
-    let P : Link → Type 0 = λ l. AreRecords l.received h'.records × (length (untaken h'.records l.taken) ≤ i) in
+    let P : Link → Type 0 = λ l. AreRecords l.received h'.records × (length (untaken_records h'.records l.taken) ≤ i) in
     let moved = subst P link (h'.are, h'.few) in
     let records : h'.records ≡ h.records = records-same one h.link.received h'.records h.records moved.0 h.are in
-    let Q : List (List ℕ) → Type 0 = λ rs. length (untaken rs h.link.taken) ≤ i in
-    get-none (untaken h.records h.link.taken) i h.bytes h.is (subst Q records moved.1)
+    let Q : List (List ℕ) → Type 0 = λ rs. length (untaken_records rs h.link.taken) ≤ i in
+    get-none (untaken_records h.records h.link.taken) i h.bytes h.is (subst Q records moved.1)
 
 TakesAt-same : HasOneReading → OneStep → (place : Option ℕ) (i : ℕ) (old new new' : DaemonState) (out out' : Outputs) → out.outcome ≡ out'.outcome → out.store ≡ out'.store → TakesAt place i old out new → TakesAt place i old out' new' → Same out out' new new'
 TakesAt-same one step None i old new new' out out' e f h h' = quiet-same old new new' out out' h h'
@@ -153,11 +153,11 @@ DaemonStep-same one step old new new' (Piece number bytes) out out' h h' e f = P
 DaemonStep-same one step old new new' (Disconnect number) out out' h h' e f = Disconnects-same (place_of number old.links) old new new' out out' h h'
 DaemonStep-same one step old new new' (Take number i) out out' h h' e f = TakesAt-same one step (place_of number old.links) i old new new' out out' e f h h'
 DaemonStep-same one step old new new' (Send send_buffer) out out' h h' e f = Happens-same step told_call SendsNext old new new' out out' e f h h'
-DaemonStep-same one step old new new' (Answer bytes) out out' h h' e f = Happens-same step told (HearsAnswer bytes.items) old new new' out out' e f h h'
+DaemonStep-same one step old new new' (Answer bytes) out out' h h' e f = Happens-same step outputs_of (HearsAnswer bytes.items) old new new' out out' e f h h'
 DaemonStep-same one step old new new' (Local l line) out out' h h' e f = Happens-same step (told_line l) (AsksLine l line.items) old new new' out out' e f h h'
-DaemonStep-same one step old new new' (Silent number) out out' h h' e f = Happens-same step told (FallsSilent number) old new new' out out' e f h h'
-DaemonStep-same one step old new new' GraceOver out out' h h' e f = Happens-same step told GraceEnds old new new' out out' e f h h'
-DaemonStep-same one step old new new' Restart out out' h h' e f = Happens-same step told BeginsAnew old new new' out out' e f h h'
+DaemonStep-same one step old new new' (Silent number) out out' h h' e f = Happens-same step outputs_of (FallsSilent number) old new new' out out' e f h h'
+DaemonStep-same one step old new new' GraceOver out out' h h' e f = Happens-same step outputs_of GraceEnds old new new' out out' e f h h'
+DaemonStep-same one step old new new' Restart out out' h h' e f = Happens-same step outputs_of BeginsAnew old new new' out out' e f h h'
 
 pub Run-same : HasOneReading → OneStep → HasOneRun
 Run-same one step old new new' [] [] [] h h' alike = (refl, h ∙ sym h')

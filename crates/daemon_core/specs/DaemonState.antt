@@ -8,7 +8,7 @@ use Rattle.kept_replies.specs.declared.key.Peer.{Peer}
 use Rattle.kept_replies.specs.Pairs.{view_of_peer}
 use Rattle.step_order.specs.declared.store.StoreAnswer.{StoreAnswer}
 use Rattle.step_order.specs.declared.store.StoreAnswer.TheVariants.{NotAsked, Yes, Refused}
-use Rattle.call_plans.specs.Planned.{view_of_stored, counted}
+use Rattle.call_plans.specs.Planned.{view_of_stored, refusal_count}
 use Rattle.book.specs.Journal.{Book, TakesMemory}
 use Rattle.book.specs.Notes.{JournalEvent, Takes, SendsNext, HearsAnswer, AsksLine, FallsSilent, GraceEnds, BeginsAnew, Steps}
 use Rattle.daemon_core.specs.declared.event_outcome.EventOutcome.{EventOutcome}
@@ -17,9 +17,9 @@ use Rattle.daemon_core.specs.declared.event.Event.{Event}
 use Rattle.daemon_core.specs.declared.event.Event.TheVariants.{Connect, Piece, Disconnect, Take, Send, Answer, Local, Silent, GraceOver, Restart}
 use Rattle.daemon_core.specs.declared.outputs.Outputs.{Outputs}
 use Rattle.daemon_core.specs.Outcomes.{needs_entry}
-use Rattle.daemon_core.specs.Outputs.{quiet, starved, step_result_of, told, told_call, told_line, told_to, bytes_sent}
+use Rattle.daemon_core.specs.Outputs.{quiet, starved_outputs, step_result_of, outputs_of, told_call, told_line, told_to, bytes_sent}
 use Rattle.daemon_core.specs.Rooms.{Room, room_of_journal, RoomAfter}
-use Rattle.record_mark.specs.Untaken.{AreRecords, untaken}
+use Rattle.record_mark.specs.Untaken.{AreRecords, untaken_records}
 use Rattle.daemon_core.specs.Link.{Link, fresh, with_taken, Receives}
 
 -- the shared state, how often the store has refused, the room of the journal, and the connections, each with all that came on it
@@ -50,7 +50,7 @@ IsQuiet old out new = (new ≡ old) × (out ≡ quiet)
 abbrev pub Connects : Option ℕ → EventOutcome → ℕ → Peer → DaemonState → Outputs → DaemonState → Type 0
 Connects (Some place) outcome number peer old out new = IsQuiet old out new
 Connects None Applied number peer old out new = (new ≡ with_links old (old.links ++ fresh number peer ∷ [])) × (out ≡ quiet)
-Connects None Starved number peer old out new = (new ≡ old) × (out ≡ starved)
+Connects None Starved number peer old out new = (new ≡ old) × (out ≡ starved_outputs)
 Connects None NoSegment number peer old out new = ⊥
 
 abbrev pub Disconnects : Option ℕ → DaemonState → Outputs → DaemonState → Type 0
@@ -82,10 +82,10 @@ pub record Answers (place i : ℕ) (old : DaemonState) (out : Outputs) (new : Da
   pub records : List (List ℕ)
   pub are : AreRecords link.received records
   pub bytes : List ℕ
-  pub is : slice_get (untaken records link.taken) i ≡ Some bytes
+  pub is : slice_get (untaken_records records link.taken) i ≡ Some bytes
   pub given : Given
   pub step : Steps old.state (Takes (view_of_peer link.peer) bytes) (step_result_of out given) new.state
-  pub refusals : new.refusals ≡ counted (view_of_stored out.store) old.refusals
+  pub refusals : new.refusals ≡ refusal_count (view_of_stored out.store) old.refusals
   pub unnoted : out.outcome ≡ NoSegment → IsUnnoted (Takes (view_of_peer link.peer) bytes) old.state out new.state
   pub room : RoomAfter out.outcome true old.room new.room
   pub links : new.links ≡ slice_set old.links place (with_taken link i)
@@ -97,7 +97,7 @@ pub record HasNone (place i : ℕ) (old : DaemonState) (out : Outputs) (new : Da
   pub there : slice_get old.links place ≡ Some link
   pub records : List (List ℕ)
   pub are : AreRecords link.received records
-  pub few : length (untaken records link.taken) ≤ i
+  pub few : length (untaken_records records link.taken) ≤ i
   pub quiet : IsQuiet old out new
 
 abbrev pub TakesAt : Option ℕ → ℕ → DaemonState → Outputs → DaemonState → Type 0
@@ -110,7 +110,7 @@ pub record HasWaiting (place : ℕ) (daemon_state : DaemonState) (count : ℕ) :
   pub there : slice_get daemon_state.links place ≡ Some link
   pub records : List (List ℕ)
   pub are : AreRecords link.received records
-  pub counted : count ≡ length (untaken records link.taken)
+  pub counted : count ≡ length (untaken_records records link.taken)
 
 abbrev pub Waits : Option ℕ → DaemonState → ℕ → Type 0
 Waits None daemon_state count = count ≡ 0
@@ -133,7 +133,7 @@ links_after GraceEnds store links = links
 pub record Happens (tell : EventOutcome → StoreAnswer → Given → Outputs) (event : JournalEvent) (old : DaemonState) (out : Outputs) (new : DaemonState) : Type 0 where
   pub given : Given
   pub step : Steps old.state event (step_result_of out given) new.state
-  pub refusals : new.refusals ≡ counted (view_of_stored out.store) old.refusals
+  pub refusals : new.refusals ≡ refusal_count (view_of_stored out.store) old.refusals
   pub fed : out.outcome ≡ Starved → TakesMemory event
   pub unnoted : out.outcome ≡ NoSegment → IsUnnoted event old.state out new.state
   pub room : RoomAfter out.outcome (needs_entry event old.state) old.room new.room
@@ -151,11 +151,11 @@ DaemonStep old (Piece number bytes) out new = Pieces (place_of number old.links)
 DaemonStep old (Disconnect number) out new = Disconnects (place_of number old.links) old out new
 DaemonStep old (Take number i) out new = TakesAt (place_of number old.links) i old out new
 DaemonStep old (Send send_buffer) out new = SendStep old out new
-DaemonStep old (Answer bytes) out new = Happens told (HearsAnswer bytes.items) old out new
+DaemonStep old (Answer bytes) out new = Happens outputs_of (HearsAnswer bytes.items) old out new
 DaemonStep old (Local l line) out new = Happens (told_line l) (AsksLine l line.items) old out new
-DaemonStep old (Silent number) out new = Happens told (FallsSilent number) old out new
-DaemonStep old GraceOver out new = Happens told GraceEnds old out new
-DaemonStep old Restart out new = Happens told BeginsAnew old out new
+DaemonStep old (Silent number) out new = Happens outputs_of (FallsSilent number) old out new
+DaemonStep old GraceOver out new = Happens outputs_of GraceEnds old out new
+DaemonStep old Restart out new = Happens outputs_of BeginsAnew old out new
 
 -- all events, one after another
 abbrev pub Run : DaemonState → List Event → List Outputs → DaemonState → Type 0

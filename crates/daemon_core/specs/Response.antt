@@ -4,7 +4,7 @@ use Rattle.definitions.specs.Outgoing.{Callback}
 use Rattle.definitions.specs.Nlm.{Version, Stat, NlmCall}
 use Rattle.definitions.specs.Replies.{Call, Nlm, Outcome, Success, SystemErr, NoResult, Asks}
 use Rattle.definitions.specs.Shown.{shown_stat}
-use Rattle.definitions.specs.World.{LeavesRest, the_limits, slots_free, with_due, with_all_due, settled}
+use Rattle.definitions.specs.World.{LeavesRest, the_limits, slots_free, with_due, with_all_due, settled_world}
 use Rattle.definitions.specs.Step.{Take, Applied, Starved, KeptPair, Replies, look, moved_to_front}
 use Rattle.kept_replies.specs.Pairs.{view_of_peer}
 use Rattle.book.specs.Refusals.{early_refusal, stat_in, early_message_refusal, refusal_callback}
@@ -41,7 +41,7 @@ pub record CallsBack (link : Link) (xid : ℕ) (version : Version) (call : NlmCa
   pub sent : out.sent ≡ reply_to link.number (Replies xid (Success NoResult))
   pub callback : Callback
   pub tells : refusal_callback version call stat ≡ Some callback
-  pub world : new.state.world ≡ settled the_limits (with_due old.state.world callback)
+  pub world : new.state.world ≡ settled_world the_limits (with_due old.state.world callback)
 
 -- a message form that is done anew while a place is free, and has an early refusal, is answered by a call of the server's own
 abbrev pub MessageRefusalIsAnswered : Type 0

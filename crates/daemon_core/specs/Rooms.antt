@@ -1,6 +1,6 @@
 -- The room of the journal.
 use Rattle.std.specs.Prelude.{◌≡◌, ◌⊎◌, ℕ, zero, suc, ◌+◌, ◌-◌, ◌^◌, min, Bool, true, false}
-use Rattle.book.specs.Journal.{Journal, Book, next_of, room_of, rotated}
+use Rattle.book.specs.Journal.{Journal, Book, next_of, room_of, rotated_book}
 use Rattle.daemon_core.specs.declared.event_outcome.EventOutcome.{EventOutcome}
 use Rattle.daemon_core.specs.declared.event_outcome.EventOutcome.TheVariants.{Applied, Starved, NoSegment}
 
@@ -14,7 +14,7 @@ room_of_journal j = record { left = room_of j; next = next_of j }
 
 -- the segment stands; or it is full, and a fresh one begins
 abbrev pub BeginsWhereFull : Book → Book → Type 0
-BeginsWhereFull old new = (new ≡ old) ⊎ ((room_of old.journal ≡ 0) × (new ≡ rotated old))
+BeginsWhereFull old new = (new ≡ old) ⊎ ((room_of old.journal ≡ 0) × (new ≡ rotated_book old))
 
 -- what the segment that stands has left or, where it is full, a fresh one: 2^64 - 1 entries have a number
 abbrev pub left_for : ℕ → ℕ → ℕ

@@ -2,10 +2,10 @@
 
 ghost use Rattle.std.specs.Prelude.{◌≡◌, [], IfOk, OnErr};
 ghost use Rattle.book.specs.Notes.{HearsAnswer, AsksLine, FallsSilent, GraceEnds, BeginsAnew};
-ghost use Rattle.daemon_core.specs.Outputs.{told, told_line, told_posted};
+ghost use Rattle.daemon_core.specs.Outputs.{outputs_of, told_line, told_posted};
 ghost use Rattle.daemon_core.specs.DaemonState.{DaemonState, opening, place_of, Connects, Disconnects, Pieces, TakesAt, Happens, Waits, SendStep, DaemonStep, Run};
 
-use crate::connection::Connection;
+use crate::connection::StreamConnection;
 use crate::event::Event;
 use crate::noted::{note, send_next};
 use crate::outputs::{Outputs, make_quiet, make_starved, tell, tell_line, tell_posted, tell_to};
@@ -26,7 +26,7 @@ use std::marker::Model;
 pub struct Daemon<R: RangeTable, S: HostStore> {
     alloc: Global,
     book: Book<R, S>,
-    connections: Vec<Connection>,
+    connections: Vec<StreamConnection>,
 }
 
 impl<R: RangeTable, S: HostStore> Model for Daemon<R, S> {
@@ -51,7 +51,7 @@ impl<R: RangeTable + Drop, S: HostStore + Drop> Drop for Daemon<R, S> {
 }
 
 /// Where the connection stands.
-fn find(connections: &[Connection], number: u64) -> Option<usize>
+fn find(connections: &[StreamConnection], number: u64) -> Option<usize>
     ensures { result ≡ place_of number connections.now }
 {
     connections.iter().position(|c| c.number() == number)
@@ -86,7 +86,7 @@ impl<R: RangeTable, S: HostStore> Daemon<R, S> {
         }
         match self
             .connections
-            .push(Connection::new(self.alloc, number, peer))
+            .push(StreamConnection::new(self.alloc, number, peer))
         {
             Ok(()) => make_quiet(),
             Err(refused) => {
@@ -123,7 +123,7 @@ impl<R: RangeTable, S: HostStore> Daemon<R, S> {
     }
 
     fn answer(&mut self, bytes: Vec<u8>) -> Outputs
-        ensures { Happens told (HearsAnswer bytes.items) self.old result self.new }
+        ensures { Happens outputs_of (HearsAnswer bytes.items) self.old result self.new }
     {
         let (outcome, step_result) = note(self.alloc, &mut self.book, BookEvent::Answer { bytes });
         tell(outcome, step_result)
@@ -138,21 +138,21 @@ impl<R: RangeTable, S: HostStore> Daemon<R, S> {
     }
 
     fn silent(&mut self, number: u64) -> Outputs
-        ensures { Happens told (FallsSilent number) self.old result self.new }
+        ensures { Happens outputs_of (FallsSilent number) self.old result self.new }
     {
         let (outcome, step_result) = note(self.alloc, &mut self.book, BookEvent::Silent { number });
         tell(outcome, step_result)
     }
 
     fn grace_over(&mut self) -> Outputs
-        ensures { Happens told GraceEnds self.old result self.new }
+        ensures { Happens outputs_of GraceEnds self.old result self.new }
     {
         let (outcome, step_result) = note(self.alloc, &mut self.book, BookEvent::GraceOver);
         tell(outcome, step_result)
     }
 
     fn restart(&mut self) -> Outputs
-        ensures { Happens told BeginsAnew self.old result self.new }
+        ensures { Happens outputs_of BeginsAnew self.old result self.new }
     {
         let (outcome, step_result) = note(self.alloc, &mut self.book, BookEvent::Restart);
         let outputs = tell(outcome, step_result);

@@ -34,7 +34,7 @@ pub enum Event {
 
 /// The refusal of an event that has nobody to answer.
 #[derive(Clone, Copy, Debug, PartialEq, Eq, Error)]
-pub enum Refusal {
+pub enum EventRefusal {
     /// A growth was refused. A connection doesn't begin; a piece isn't received, and its connection
     /// receives no more; the server doesn't begin anew.
     #[error("1 Starved")]

@@ -12,9 +12,9 @@ mod posted;
 mod send_buffer;
 mod sent;
 
-pub use crate::connection::Connection;
+pub use crate::connection::StreamConnection;
 pub use crate::daemon::Daemon;
-pub use crate::event::{Event, Refusal};
+pub use crate::event::{Event, EventRefusal};
 pub use crate::event_outcome::EventOutcome;
 pub use crate::law::{
     early_message_refusal_is_told, early_refusal_is_told, grace_grants_reclaims_only,

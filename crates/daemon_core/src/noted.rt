@@ -3,7 +3,7 @@
 ghost use Rattle.std.specs.Prelude.{◌≡◌, ◌<◌, List, true, is_some, IfOk, IfErr};
 ghost use Rattle.definitions.specs.Hosts.{NotAsked};
 ghost use Rattle.definitions.specs.Outgoing.{next_due};
-ghost use Rattle.call_plans.specs.Planned.{counted};
+ghost use Rattle.call_plans.specs.Planned.{refusal_count};
 ghost use Rattle.book.specs.Notes.{view_of_event, Steps};
 ghost use Rattle.book.specs.Journal.{room_of, TakesMemory};
 ghost use Rattle.daemon_core.specs.DaemonState.{SendStep, daemon_state_of};
@@ -29,7 +29,7 @@ pub(crate) fn note<R: RangeTable, S: HostStore>(
 ) -> (EventOutcome, StepResult)
     ensures outcome { view_of_event_outcome result.0 ≡ result.1.completion }
     ensures step { Steps book.old.journal.end (view_of_event event) result.1 book.new.journal.end }
-    ensures counts { book.new.refusals ≡ counted result.1.store book.old.refusals }
+    ensures counts { book.new.refusals ≡ refusal_count result.1.store book.old.refusals }
     ensures fed { result.0 ≡ EventOutcome.Starved → TakesMemory (view_of_event event) }
     ensures room { RoomAfter result.0 true (room_of_journal book.old.journal) (room_of_journal book.new.journal) }
 
@@ -41,7 +41,10 @@ pub(crate) fn note<R: RangeTable, S: HostStore>(
         return (EventOutcome::NoSegment, event.starved());
     };
     let step_result = book.apply(event);
-    (EventOutcome::from(step_result.completion), step_result)
+    (
+        EventOutcome::from(step_result.status.completion),
+        step_result,
+    )
 }
 
 /// The call that is due first is sent to this place, which is one entry, or none is due. Where the segment is full and no fresh

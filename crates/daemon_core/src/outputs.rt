@@ -3,14 +3,14 @@
 ghost use Rattle.std.specs.Prelude.{◌≡◌};
 ghost use Rattle.call_plans.specs.Planned.{view_of_stored};
 ghost use Rattle.book.specs.Given.{view_of_reply};
-ghost use Rattle.daemon_core.specs.Outputs.{quiet, starved, unnoted, heard, refusal_of, reply_to, line_to, told, told_line, told_posted, told_to};
+ghost use Rattle.daemon_core.specs.Outputs.{quiet, starved_outputs, unnoted_outputs, heard, refusal_of, reply_to, line_to, outputs_of, told_line, told_posted, told_to};
 
-use crate::event::Refusal;
+use crate::event::EventRefusal;
 use crate::event_outcome::EventOutcome;
 use crate::posted::Posted;
 use crate::send_buffer::SendBuffer;
 use crate::sent::Sent;
-use book::{Reply, StepResult, StoreAnswer};
+use book::{Reply, StepResult, StoreAnswer, Unanswered};
 
 /// What comes of an event: what became of it, what the store answered it, what is sent, and the refusal of an event that
 /// has nobody to answer.
@@ -18,7 +18,7 @@ pub struct Outputs {
     pub outcome: EventOutcome,
     pub store: StoreAnswer,
     pub sent: Option<Sent>,
-    pub refusal: Option<Refusal>,
+    pub refusal: Option<EventRefusal>,
 }
 
 // It is written out, so that no crate above proves again how each part of it is dropped.
@@ -41,7 +41,7 @@ pub(crate) fn make_quiet() -> Outputs
 }
 
 /// Bytes came, and the stream has this fault.
-pub(crate) fn make_heard(refusal: Option<Refusal>) -> Outputs
+pub(crate) fn make_heard(refusal: Option<EventRefusal>) -> Outputs
     ensures { result ≡ heard refusal }
 {
     Outputs {
@@ -54,25 +54,25 @@ pub(crate) fn make_heard(refusal: Option<Refusal>) -> Outputs
 
 /// Memory ran out.
 pub(crate) fn make_starved() -> Outputs
-    ensures { result ≡ starved }
+    ensures { result ≡ starved_outputs }
 {
     Outputs {
         outcome: EventOutcome::Starved,
         store: StoreAnswer::NotAsked,
         sent: None,
-        refusal: Some(Refusal::Starved),
+        refusal: Some(EventRefusal::Starved),
     }
 }
 
 /// There was no segment for its entry.
 pub(crate) fn make_unnoted() -> Outputs
-    ensures { result ≡ unnoted }
+    ensures { result ≡ unnoted_outputs }
 {
     Outputs {
         outcome: EventOutcome::NoSegment,
         store: StoreAnswer::NotAsked,
         sent: None,
-        refusal: Some(Refusal::Starved),
+        refusal: Some(EventRefusal::Starved),
     }
 }
 
@@ -80,11 +80,11 @@ pub(crate) fn make_unnoted() -> Outputs
 pub(crate) fn tell(outcome: EventOutcome, step_result: StepResult) -> Outputs
     ensures outcome { result.outcome ≡ outcome }
     ensures store { view_of_stored result.store ≡ step_result.store }
-    ensures told { result ≡ told result.outcome result.store step_result.given }
+    ensures told { result ≡ outputs_of result.outcome result.store step_result.given }
 {
     Outputs {
         outcome,
-        store: step_result.store,
+        store: step_result.status.store,
         refusal: refusal_in(&step_result.reply),
         sent: None,
     }
@@ -98,7 +98,7 @@ pub(crate) fn tell_to(number: u64, outcome: EventOutcome, step_result: StepResul
 {
     Outputs {
         outcome,
-        store: step_result.store,
+        store: step_result.status.store,
         refusal: refusal_in(&step_result.reply),
         sent: send(number, step_result.reply),
     }
@@ -112,7 +112,7 @@ pub(crate) fn tell_line(connection: u64, outcome: EventOutcome, step_result: Ste
 {
     Outputs {
         outcome,
-        store: step_result.store,
+        store: step_result.status.store,
         refusal: refusal_in(&step_result.reply),
         sent: send_line(connection, step_result.reply),
     }
@@ -134,17 +134,13 @@ pub(crate) fn tell_posted(posted: Posted, send_buffer: Box<SendBuffer>) -> Outpu
     }
 }
 
-fn refusal_in(reply: &Reply) -> Option<Refusal>
+fn refusal_in(reply: &Reply) -> Option<EventRefusal>
     ensures { result ≡ refusal_of (view_of_reply reply.now) }
 {
     match reply {
-        Reply::Starved => Some(Refusal::Starved),
-        Reply::StoreRefused => Some(Refusal::StoreRefused),
-        Reply::Nothing
-        | Reply::Answers { .. }
-        | Reply::Refuses { .. }
-        | Reply::SystemErr { .. }
-        | Reply::Says(_) => None,
+        Reply::Nobody(Unanswered::Starved) => Some(EventRefusal::Starved),
+        Reply::Nobody(Unanswered::StoreRefused) => Some(EventRefusal::StoreRefused),
+        Reply::Nobody(Unanswered::Nothing) | Reply::Record(_) | Reply::Line(_) => None,
     }
 }
 
@@ -152,10 +148,8 @@ fn send(to: u64, reply: Reply) -> Option<Sent>
     ensures { result ≡ reply_to to (view_of_reply reply) }
 {
     match reply {
-        Reply::Answers { .. } | Reply::Refuses { .. } | Reply::SystemErr { .. } => {
-            Some(Sent::reply(to, reply))
-        }
-        Reply::Nothing | Reply::Says(_) | Reply::Starved | Reply::StoreRefused => None,
+        Reply::Record(reply) => Some(Sent::reply(to, reply)),
+        Reply::Line(_) | Reply::Nobody(_) => None,
     }
 }
 
@@ -163,12 +157,7 @@ fn send_line(to: u64, reply: Reply) -> Option<Sent>
     ensures { result ≡ line_to to (view_of_reply reply) }
 {
     match reply {
-        Reply::Says(answer) => Some(Sent::line(to, answer)),
-        Reply::Nothing
-        | Reply::Answers { .. }
-        | Reply::Refuses { .. }
-        | Reply::SystemErr { .. }
-        | Reply::Starved
-        | Reply::StoreRefused => None,
+        Reply::Line(answer) => Some(Sent::line(to, answer)),
+        Reply::Record(_) | Reply::Nobody(_) => None,
     }
 }

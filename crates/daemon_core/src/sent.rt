@@ -1,7 +1,7 @@
 //! What is sent.
 
 ghost use Rattle.std.specs.Prelude.{◌≡◌, Some};
-ghost use Rattle.book.specs.Given.{view_of_reply, record_of};
+ghost use Rattle.book.specs.Given.{view_of_record_reply, record_of};
 ghost use Rattle.daemon_core.specs.Sending.{ToClient, ToLocal};
 ghost use Rattle.daemon_core.specs.Addressed.{view_of_addressee};
 ghost use Rattle.daemon_core.specs.Outputs.{bytes_sent};
@@ -10,7 +10,7 @@ ghost use Rattle.local_ops.specs.Texts.{reply_text};
 ghost use Rattle.byte_io.specs.Written.{Wrote};
 
 use crate::send_buffer::SendBuffer;
-use book::{LocalAnswer, Reply};
+use book::{LocalAnswer, RecordReply};
 use byte_io::WriteFault;
 use record_mark::{Spelled, write_spelled};
 use std::io::Write;
@@ -31,7 +31,7 @@ pub enum Addressee<'a> {
 // A reply or an answer is a value until it is written; a call was written when it was sent.
 #[derive(Drop)]
 enum Content {
-    Reply { to: u64, reply: Reply },
+    Reply { to: u64, reply: RecordReply },
     Line { to: u64, answer: LocalAnswer },
     Call(Box<SendBuffer>),
 }
@@ -39,13 +39,13 @@ enum Content {
 // A reply's record.
 #[derive(Clone, Copy)]
 struct Spoken<'a> {
-    reply: &'a Reply,
+    reply: &'a RecordReply,
 }
 
 impl Spelled for Spoken<'_> {
-    ghost use Rattle.book.specs.Given.{view_of_reply, record_of};
+    ghost use Rattle.book.specs.Given.{view_of_record_reply, record_of};
 
-    ghost spelling = { λ s. record_of (view_of_reply s.reply.now) };
+    ghost spelling = { λ s. record_of (view_of_record_reply s.reply.now) };
 
     fn put(&self, f: &mut Frame) {
         // An empty frame has room for each reply.
@@ -76,8 +76,8 @@ impl Model for Sent {
 
 impl Sent {
     // To this connection.
-    pub(crate) fn reply(to: u64, reply: Reply) -> Sent
-        ensures { result ≡ record { to = ToClient to; bytes = record_of (view_of_reply reply) } }
+    pub(crate) fn reply(to: u64, reply: RecordReply) -> Sent
+        ensures { result ≡ record { to = ToClient to; bytes = record_of (view_of_record_reply reply) } }
     {
         Sent {
             content: Content::Reply { to, reply },

@@ -1,6 +1,6 @@
 //! What comes to a server, what it is to send for that, and what it sends.
 use crate::counting::{Counting, filled};
-use daemon_core::{Addressee, EventOutcome, Frame, Outputs, Refusal, StoreAnswer};
+use daemon_core::{Addressee, EventOutcome, EventRefusal, Frame, Outputs, StoreAnswer};
 use std::alloc::Global;
 use std::mem;
 use test_kit::{Terms, put_message, put_terms, put_words, read_number};
@@ -26,11 +26,11 @@ pub struct Page<'a> {
     told_instead: Vec<u8>,
     has_instead: bool,
     /// The refusal that the stream's last piece is to get.
-    pub(crate) fault: Option<Refusal>,
+    pub(crate) fault: Option<EventRefusal>,
     /// What is sent, whether all of it to whom it should, and the refusal of what came last.
     pub sent: Vec<u8>,
     pub(crate) is_theirs: bool,
-    pub(crate) refusal: Option<Refusal>,
+    pub(crate) refusal: Option<EventRefusal>,
     /// What the store said, if what came asked it.
     pub(crate) store: StoreAnswer,
     /// Whether a growth was refused, and what was sent before the page was cleared.
@@ -104,7 +104,7 @@ impl<'a> Page<'a> {
     pub(crate) fn is_right_by_store(&self) -> bool {
         let is_heard = match self.refusal {
             None => true,
-            Some(Refusal::StoreRefused) => {
+            Some(EventRefusal::StoreRefused) => {
                 self.store == StoreAnswer::Refused && self.sent.is_empty()
             }
             Some(_) => false,
@@ -140,7 +140,7 @@ impl<'a> Page<'a> {
             "in" => put_words(&mut self.come, rest, &Terms::new(0, b'a')),
             "out" => put_words(&mut self.told, rest, &Terms::new(0, b'a')),
             "too-long" => {
-                self.fault = Some(Refusal::RecordTooLong);
+                self.fault = Some(EventRefusal::RecordTooLong);
                 Some(())
             }
             "times" => self.repeat(rest),

@@ -3,7 +3,7 @@ use Rattle.std.proofs.Common.{◌≡◌, ℕ, ◌+◌, ◌-◌, ◌≤◌, Bool,
 use Rattle.std.proofs.lemmas.Bool.{true≢false, ltb-false, eqb-false, or_parts}
 use Rattle.std.specs.Ordering.{int_eq}
 use Rattle.std.proofs.lemmas.Option.{none-some}
-use Rattle.definitions.specs.Bytes.{Bytes, without}
+use Rattle.definitions.specs.Bytes.{Bytes, list_without}
 use Rattle.definitions.specs.Owners.{is_of_host, same_owner}
 use Rattle.definitions.specs.Bytes.{same_bytes}
 use Rattle.definitions.specs.Settings.{Mode, Request}
@@ -17,11 +17,11 @@ use Rattle.definitions.specs.Outgoing.{Outgoing, Callback, Message, Granted, Gra
 use Rattle.definitions.specs.Ranges.{top, last_of, is_too_far, is_stale, range_refusal, file_refusal, request_of, unlock_of, line_unlock}
 use Rattle.definitions.specs.Replies.{Call, Nlm, Nsm, SystemErr, AnswerReading, Unreadable, AcceptedSuccess, OtherAnswer, Line, GetLock, SetLock, SetLockWait, Close, Table, HostList, SetQuota, Stop, BadLine, LineReply, LineAbsent, LineFbig, LineGrace}
 use Rattle.definitions.specs.Waits.{Waiter}
-use Rattle.definitions.specs.World.{World, Limits, with_setting, with_hosts, with_due, with_all_due, without_host_of, restarted, restart_callback, opening, slots_free, closed_by}
-use Rattle.definitions.specs.Rulings.{Response, Ruling, decided, ruled, stays}
+use Rattle.definitions.specs.World.{World, Limits, with_setting, with_hosts, with_due, with_all_due, without_host_of, restarted_world, restart_callback, opening, slots_free, closed_by}
+use Rattle.definitions.specs.Rulings.{Response, Ruling, decided_ruling, ruled_answer, stays}
 use Rattle.definitions.specs.LockRules.{NewHost}
-use Rattle.definitions.specs.Grants.{TableChange, TableStays, TableChanges, ended, became, grant_answered, granted_res_rules, granted_res_at, granted_res_of, notice_answered, succeeded, answered_success, answered_otherwise, answer_rules}
-use Rattle.definitions.specs.Answer.{Answered, gives, lock_ask, caller_row, lock_unless, lock_verdict, lock_msg_answer, cancel_unless, cancel_answer, unlock_unless, unlock_answer, if_slots, by_call, by_message, lock_callback, cancel_callback, unlock_callback, share_unless, share_of, unshare_unless, nlm_answer, stored, notified, notify_rules, status_callback, nsm_answer, ruling}
+use Rattle.definitions.specs.Grants.{TableChange, TableStays, TableChanges, world_without_call, became, grant_answered, granted_res_rules, granted_res_at, granted_res_of, notice_answered, ruling_on_success, answered_success, answered_otherwise, answer_rules}
+use Rattle.definitions.specs.Answer.{Answered, gives, lock_ask, caller_row, lock_unless, lock_verdict, lock_msg_answer, cancel_unless, cancel_answer, unlock_unless, unlock_answer, if_slots, by_call, by_message, lock_callback, cancel_callback, unlock_callback, share_unless, share_of, unshare_unless, nlm_answer, ruling_after_store, notified_answer, notify_rules, status_callback, nsm_answer, ruling}
 use Rattle.definitions.specs.Lines.{line_refusal, line_answer, set_unless, line_sets, line_ask, quota_stored}
 use Rattle.definitions.specs.Moves.{TableMove, Stays, DropsHost, DropsOwner, Unlocks, Empties, AreRanges, Moves, ReclaimedBy, IsReclaimOf}
 use Rattle.definitions.proofs.QuotaLaws.{AreKept, all_kept, store_keeps}
@@ -73,10 +73,10 @@ module _ (Reclaimed : Request → Type 0) where
   drop_moves w name = record {
     table = DropsHost name;
     ranges = ranges_without (λ (x : Waiter). is_of_host name x.request.owner) w.waiters;
-    nobody = λ g h. ap (without (λ (x : Waiter). is_of_host name x.request.owner)) h;
+    nobody = λ g h. ap (list_without (λ (x : Waiter). is_of_host name x.request.owner)) h;
   }
 
-  pub restart_moves : (w v : World) (hosts : Hosts) → Moves Reclaimed w (restarted v hosts)
+  pub restart_moves : (w v : World) (hosts : Hosts) → Moves Reclaimed w (restarted_world v hosts)
   restart_moves w v hosts =
       let kept = due_keeps (opening v.own_name hosts) (map (restart_callback v.own_name hosts.own) hosts.rows) in
       record {
@@ -112,7 +112,7 @@ module _ (Reclaimed : Request → Type 0) where
       go None = unlock_moves Reclaimed limits w (unlock_of a.alock) refl
 
   if_slots_moves : (n : ℕ) (limits : Limits) (w : World) (r : Ruling Answered) → AnswerMoves w r → AnswerMoves w (if_slots n limits w r)
-  if_slots_moves n limits w r m = by_cond (AnswerMoves w) (leb n (slots_free limits w)) r (decided (gives w SystemErr)) (λ _. m) (λ _. (unmoved Reclaimed w, unmoved Reclaimed w))
+  if_slots_moves n limits w r m = by_cond (AnswerMoves w) (leb n (slots_free limits w)) r (decided_ruling (gives w SystemErr)) (λ _. m) (λ _. (unmoved Reclaimed w, unmoved Reclaimed w))
 
   message_moves : (limits : Limits) (w : World) (callback : Stat → Callback) (r : Ruling (Response Stat)) → BothMove Reclaimed w r → AnswerMoves w (by_message limits w callback r)
   message_moves limits w callback r m =
@@ -149,7 +149,7 @@ module _ (Reclaimed : Request → Type 0) where
 
   grant_moves : (limits : Limits) (w : World) (c : Outgoing) (alock : Lock) (stat : Option Stat) → ChangeMoves w (grant_answered limits w c alock stat)
   grant_moves limits w c alock (Some DENIED) =
-      by_cond (ChangeMoves w) (is_refused limits.runs (quotas_of w.hosts) w.settings (unlock_of alock)) (became TableStays (ended w c)) (became TableChanges (with_setting (ended w c) (unlock_of alock))) (λ _. put w) (λ _. record { table = Unlocks (unlock_of alock) refl; ranges = λ h. h; nobody = λ g h. h })
+      by_cond (ChangeMoves w) (is_refused limits.runs (quotas_of w.hosts) w.settings (unlock_of alock)) (became TableStays (world_without_call w c)) (became TableChanges (with_setting (world_without_call w c) (unlock_of alock))) (λ _. put w) (λ _. record { table = Unlocks (unlock_of alock) refl; ranges = λ h. h; nobody = λ g h. h })
   grant_moves limits w c alock (Some DENIED_GRACE_PERIOD) = put w
   grant_moves limits w c alock _ = put w
 
@@ -171,7 +171,7 @@ module _ (Reclaimed : Request → Type 0) where
   notice_moves w c (ToHost name) = ((refl, refl, store_keeps w.hosts (Acked name w.hosts.own) refl), put w)
   notice_moves w c (ToConnection l) = (put w, put w)
 
-  succeeded_moves : (limits : Limits) (w : World) (c : Outgoing) (stat : Option Stat) (m : Message) → BothChange w (succeeded limits w c stat m)
+  succeeded_moves : (limits : Limits) (w : World) (c : Outgoing) (stat : Option Stat) (m : Message) → BothChange w (ruling_on_success limits w c stat m)
   succeeded_moves limits w c stat (Granted version exclusive alock) = (grant_moves limits w c alock stat, grant_moves limits w c alock stat)
   succeeded_moves limits w c stat (GrantedMsg version exclusive alock) = (put w, put w)
   succeeded_moves limits w c stat (Notify name state) = notice_moves w c c.callback.to
@@ -223,14 +223,14 @@ module _ (Reclaimed : Request → Type 0) where
   drop_moves_with w hosts name = record {
     table = DropsHost name;
     ranges = ranges_without (λ (x : Waiter). is_of_host name x.request.owner) w.waiters;
-    nobody = λ g h. ap (without (λ (x : Waiter). is_of_host name x.request.owner)) h;
+    nobody = λ g h. ap (list_without (λ (x : Waiter). is_of_host name x.request.owner)) h;
   }
 
   notify_moves : (limits : Limits) (w : World) (name : Bytes) (state : ℤ) (o : Option HostRow) → AnswerMoves w (notify_rules limits w name state o)
   notify_moves limits w name state None = (unmoved Reclaimed w, unmoved Reclaimed w)
   notify_moves limits w name state (Some row) =
       by_cond (AnswerMoves w) (int_eq row.seen state) _ _ (λ _. (unmoved Reclaimed w, unmoved Reclaimed w))
-      (λ _. if_slots_moves (length (watches_of w.hosts name)) limits w (stored w (Seen name state) (notified name state) (gives w SystemErr)) (due_moves w (without_host_of (with_hosts w (after_store w.hosts (Seen name state))) name) (map (status_callback state) (watches_of (after_store w.hosts (Seen name state)) name)) (drop_moves_with w (after_store w.hosts (Seen name state)) name), unmoved Reclaimed w))
+      (λ _. if_slots_moves (length (watches_of w.hosts name)) limits w (ruling_after_store w (Seen name state) (notified_answer name state) (gives w SystemErr)) (due_moves w (without_host_of (with_hosts w (after_store w.hosts (Seen name state))) name) (map (status_callback state) (watches_of (after_store w.hosts (Seen name state)) name)) (drop_moves_with w (after_store w.hosts (Seen name state)) name), unmoved Reclaimed w))
 
   pub nsm_moves : (limits : Limits) (w : World) (local : Bool) (call : NsmCall) → AnswerMoves w (nsm_answer limits w local call)
   nsm_moves limits w local SmNull = (unmoved Reclaimed w, unmoved Reclaimed w)
@@ -249,7 +249,7 @@ module _ (Reclaimed : Request → Type 0) where
   call_moves limits w local (Nlm version call) mine = nlm_moves limits w version call mine
   call_moves limits w local (Nsm call) mine = nsm_moves limits w local call
 
-  pub ruled_moves : (w : World) (store : StoreAnswer) (r : Ruling Answered) → AnswerMoves w r → Moves Reclaimed w (ruled store r).world
+  pub ruled_moves : (w : World) (store : StoreAnswer) (r : Ruling Answered) → AnswerMoves w r → Moves Reclaimed w (ruled_answer store r).world
   ruled_moves w NotAsked r m = m.1
   ruled_moves w Yes r m = m.0
   ruled_moves w Refused r m = m.1
@@ -293,7 +293,7 @@ module _ (Reclaimed : Request → Type 0) where
       let m : Moves Reclaimed w (closed_by w file owner) = record {
         table = DropsOwner file owner;
         ranges = ranges_without (λ (x : Waiter). same_bytes x.request.file file && same_owner x.request.owner owner) w.waiters;
-        nobody = λ g h. ap (without (λ (x : Waiter). same_bytes x.request.file file && same_owner x.request.owner owner)) h;
+        nobody = λ g h. ap (list_without (λ (x : Waiter). same_bytes x.request.file file && same_owner x.request.owner owner)) h;
       } in
       (m, m)
   both_lines limits w l Table = unmoved_line w
@@ -305,5 +305,5 @@ module _ (Reclaimed : Request → Type 0) where
   both_lines limits w l Stop = unmoved_line w
   both_lines limits w l BadLine = unmoved_line w
 
-  pub line_moves : (limits : Limits) (w : World) (l : ℕ) (line : Line) (store : StoreAnswer) → Moves Reclaimed w (ruled store (line_answer limits w l line)).world
+  pub line_moves : (limits : Limits) (w : World) (l : ℕ) (line : Line) (store : StoreAnswer) → Moves Reclaimed w (ruled_answer store (line_answer limits w l line)).world
   line_moves limits w l line store = by_store (λ (t : Response LineReply). Moves Reclaimed w t.world) store (line_answer limits w l line) (both_lines limits w l line)

@@ -16,10 +16,10 @@ use Rattle.definitions.specs.Ranges.{range_refusal, request_of, unlock_of}
 use Rattle.definitions.specs.Replies.{Call, Nlm, Nsm, SystemErr, Ignored, Turned, Asks, AnswerReading, Unreadable, AcceptedSuccess, OtherAnswer}
 use Rattle.definitions.specs.Waits.{is_waiting, closes_cycle}
 use Rattle.definitions.specs.World.{World, Limits, with_setting, with_waiter, with_hosts, slots_free}
-use Rattle.definitions.specs.Rulings.{Response, Ruling, decided, stays, each}
+use Rattle.definitions.specs.Rulings.{Response, Ruling, decided_ruling, stays, each}
 use Rattle.definitions.specs.LockRules.{LockAsk, row_asked, after_row, free_lock, blocked_lock, lock_rules, unlock_rules, cancel_rules}
-use Rattle.definitions.specs.Grants.{TableChange, notice_answered, succeeded, answered_success, answered_otherwise, answer_rules}
-use Rattle.definitions.specs.Answer.{Answered, gives, lock_ask, caller_row, lock_unless, lock_verdict, cancel_unless, cancel_answer, unlock_unless, unlock_answer, if_slots, by_reply, replied, by_call, by_message, sent_back, test_callback, lock_callback, cancel_callback, unlock_callback, stored, notified, notify_rules, nlm_answer, nsm_answer, ruling}
+use Rattle.definitions.specs.Grants.{TableChange, notice_answered, ruling_on_success, answered_success, answered_otherwise, answer_rules}
+use Rattle.definitions.specs.Answer.{Answered, gives, lock_ask, caller_row, lock_unless, lock_verdict, cancel_unless, cancel_answer, unlock_unless, unlock_answer, if_slots, by_reply, answer_of_response, by_call, by_message, sent_back, test_callback, lock_callback, cancel_callback, unlock_callback, ruling_after_store, notified_answer, notify_rules, nlm_answer, nsm_answer, ruling}
 use Rattle.definitions.specs.Step.{State, Event, Take, Local, Starved, step, with_world, with_row_stored, store_call}
 use Rattle.definition_laws.specs.Asking.{IsUnasked, UnaskedLaw, StarvedLaw}
 use Rattle.definitions.proofs.MoveLaws.{by_cond}
@@ -59,7 +59,7 @@ lock_unasked limits w a =
         (λ _. row_unasked w (row_asked w a.row) BLOCKED (λ v. with_waiter v (record { request = a.request; callback = a.callback })))))
 
 unlock_unasked : (limits : Limits) (w : World) (s : Setting) → Response_unasked (unlock_rules limits w s)
-unlock_unasked limits w s = by_cond Response_unasked (is_refused limits.runs (quotas_of w.hosts) w.settings s) (stays w DENIED_NOLOCKS) (decided (record { says = GRANTED; world = with_setting w s })) (λ _ e. refl) (λ _ e. refl)
+unlock_unasked limits w s = by_cond Response_unasked (is_refused limits.runs (quotas_of w.hosts) w.settings s) (stays w DENIED_NOLOCKS) (decided_ruling (record { says = GRANTED; world = with_setting w s })) (λ _ e. refl) (λ _ e. refl)
 
 cancel_unasked : (w : World) (r : Request) → Response_unasked (cancel_rules w r)
 cancel_unasked w r = by_cond Response_unasked (is_waiting r w.waiters) _ (stays w DENIED) (λ _ e. refl) (λ _ e. refl)
@@ -92,10 +92,10 @@ told_unasked : (f : Response Stat → Answered) (r : Ruling (Response Stat)) →
 told_unasked f r h = λ e. ap f (h e)
 
 slots_unasked : (n : ℕ) (limits : Limits) (w : World) (r : Ruling Answered) → Answer_unasked r → Answer_unasked (if_slots n limits w r)
-slots_unasked n limits w r h = by_cond Answer_unasked (leb n (slots_free limits w)) r (decided (gives w SystemErr)) (λ _. h) (λ _ e. refl)
+slots_unasked n limits w r h = by_cond Answer_unasked (leb n (slots_free limits w)) r (decided_ruling (gives w SystemErr)) (λ _. h) (λ _ e. refl)
 
 reply_unasked : (version : Version) (cookie : Bytes) (r : Ruling (Response Stat)) → Response_unasked r → Answer_unasked (by_reply version cookie r)
-reply_unasked version cookie r h = told_unasked (replied version cookie) r h
+reply_unasked version cookie r h = told_unasked (answer_of_response version cookie) r h
 
 message_unasked : (limits : Limits) (w : World) (callback : Stat → Callback) (r : Ruling (Response Stat)) → Response_unasked r → Answer_unasked (by_message limits w callback r)
 message_unasked limits w callback r h = slots_unasked 1 limits w (by_call callback r) (told_unasked (λ t. sent_back (callback t.says) t.world) r h)
@@ -107,7 +107,7 @@ nlm_unasked limits w version (Locks a) = reply_unasked version a.cookie _ (verdi
 nlm_unasked limits w version (NmLock a) = reply_unasked version a.cookie _ (verdict_unasked limits w a (lock_ask a None (Granted version a.exclusive a.alock) (slots_free limits w)))
 nlm_unasked limits w version (Cancel a) = reply_unasked version a.cookie _ (cancel_answer_unasked w a)
 nlm_unasked limits w version (Unlock a) = reply_unasked version a.cookie _ (unlock_answer_unasked limits w a)
-nlm_unasked limits w version (TestMsg a) = slots_unasked 1 limits w (decided (sent_back (test_callback w version a) w)) (λ e. refl)
+nlm_unasked limits w version (TestMsg a) = slots_unasked 1 limits w (decided_ruling (sent_back (test_callback w version a) w)) (λ e. refl)
 nlm_unasked limits w version (LockMsg a) = message_unasked limits w (lock_callback version a) _ (verdict_unasked limits w a (lock_ask a (caller_row a) (GrantedMsg version a.exclusive a.alock) (slots_free limits w - 1)))
 nlm_unasked limits w version (CancelMsg a) = message_unasked limits w (cancel_callback version a) _ (cancel_answer_unasked w a)
 nlm_unasked limits w version (UnlockMsg a) = message_unasked limits w (unlock_callback version a) _ (unlock_answer_unasked limits w a)
@@ -131,7 +131,7 @@ nsm_unasked limits w local (SmNotify name state) = go (row_of w.hosts name)
   where
     go : (o : Option HostRow) → Answer_unasked (notify_rules limits w name state o)
     go None = λ e. refl
-    go (Some row) = by_cond Answer_unasked (int_eq row.seen state) _ _ (λ _ e. refl) (λ _. slots_unasked (length (watches_of w.hosts name)) limits w (stored w (Seen name state) (notified name state) (gives w SystemErr)) (λ e. absurd (none-some (Seen name state) (sym e))))
+    go (Some row) = by_cond Answer_unasked (int_eq row.seen state) _ _ (λ _ e. refl) (λ _. slots_unasked (length (watches_of w.hosts name)) limits w (ruling_after_store w (Seen name state) (notified_answer name state) (gives w SystemErr)) (λ e. absurd (none-some (Seen name state) (sym e))))
 
 call_unasked : (limits : Limits) (w : World) (local : Bool) (call : Call) → Answer_unasked (ruling limits w local call)
 call_unasked limits w local (Nlm version call) = nlm_unasked limits w version call
@@ -144,7 +144,7 @@ notice_unasked : (w : World) (c : Outgoing) (to : Destination) → Change_unaske
 notice_unasked w c (ToHost name) = λ e. absurd (none-some _ (sym e))
 notice_unasked w c (ToConnection l) = λ e. refl
 
-succeeded_unasked : (limits : Limits) (w : World) (c : Outgoing) (stat : Option Stat) (m : Message) → Change_unasked (succeeded limits w c stat m)
+succeeded_unasked : (limits : Limits) (w : World) (c : Outgoing) (stat : Option Stat) (m : Message) → Change_unasked (ruling_on_success limits w c stat m)
 succeeded_unasked limits w c stat (Granted version exclusive alock) = λ e. refl
 succeeded_unasked limits w c stat (GrantedMsg version exclusive alock) = λ e. refl
 succeeded_unasked limits w c stat (Notify name state) = notice_unasked w c c.callback.to

@@ -1,10 +1,10 @@
 -- Lists of the server's own calls: what is left of them, what is due again, and what comes behind.
 use Rattle.std.proofs.Common.{◌≡◌, ℕ, ◌+◌, ◌%◌, ◌^◌, Bool, true, false, cond, List, [], ◌∷◌, ◌++◌, refl, sym, ap, ◌∙◌, inl, inr}
 use Rattle.std.proofs.lemmas.List.{append-nil, append_assoc}
-use Rattle.definitions.specs.Bytes.{without, without_first}
+use Rattle.definitions.specs.Bytes.{list_without, without_first}
 use Rattle.definitions.specs.Outgoing.{Callback, Outgoing, due_now, ends_when_sent, once_more, after_sending}
 use Rattle.definitions.specs.World.{World, with_due, with_all_due}
-use Rattle.definition_laws.specs.Numbers.{numbered, number_behind, AreLeft, NoneLeft, IsGone, IsLeft, Continues}
+use Rattle.definition_laws.specs.Numbers.{numbered_calls, number_behind, AreLeft, NoneLeft, IsGone, IsLeft, Continues}
 
 -- ---- what is left
 
@@ -12,11 +12,11 @@ pub left_same : (calls : List Outgoing) → AreLeft calls calls
 left_same [] = NoneLeft
 left_same (c ∷ calls) = IsLeft (inl refl) (left_same calls)
 
-pub left_without : (p : Outgoing → Bool) (calls : List Outgoing) → AreLeft calls (without p calls)
+pub left_without : (p : Outgoing → Bool) (calls : List Outgoing) → AreLeft calls (list_without p calls)
 left_without p [] = NoneLeft
 left_without p (c ∷ calls) = go (p c) (left_without p calls)
   where
-    go : (b : Bool) → AreLeft calls (without p calls) → AreLeft (c ∷ calls) (cond b (without p calls) (c ∷ without p calls))
+    go : (b : Bool) → AreLeft calls (list_without p calls) → AreLeft (c ∷ calls) (cond b (list_without p calls) (c ∷ list_without p calls))
     go true h = IsGone h
     go false h = IsLeft (inl refl) h
 
@@ -39,7 +39,7 @@ left_sending (c ∷ calls) = go c.is_due refl (ends_when_sent c.callback.message
 
 -- ---- what comes behind
 
-pub numbered_behind : (first : ℕ) (callbacks : List Callback) (callback : Callback) → numbered first (callbacks ++ callback ∷ []) ≡ numbered first callbacks ++ due_now (number_behind first callbacks) callback ∷ []
+pub numbered_behind : (first : ℕ) (callbacks : List Callback) (callback : Callback) → numbered_calls first (callbacks ++ callback ∷ []) ≡ numbered_calls first callbacks ++ due_now (number_behind first callbacks) callback ∷ []
 numbered_behind first [] callback = refl
 numbered_behind first (l ∷ callbacks) callback = ap (λ cs. due_now first l ∷ cs) (numbered_behind ((first + 1) % 2 ^ 64) callbacks callback)
 
@@ -71,8 +71,8 @@ one_due P before first v callback h k =
       rest = record {
         callbacks = callbacks ++ callback ∷ [];
         calls = ap (λ (cs : List Outgoing). cs ++ due_now v.next callback ∷ []) k.rest.calls
-            ∙ append_assoc before (numbered first callbacks) (due_now v.next callback ∷ [])
-            ∙ ap (λ (n : ℕ). before ++ (numbered first callbacks ++ due_now n callback ∷ [])) k.rest.next
+            ∙ append_assoc before (numbered_calls first callbacks) (due_now v.next callback ∷ [])
+            ∙ ap (λ (n : ℕ). before ++ (numbered_calls first callbacks ++ due_now n callback ∷ [])) k.rest.next
             ∙ ap (λ (cs : List Outgoing). before ++ cs) (sym (numbered_behind first callbacks callback));
         next = ap (λ (n : ℕ). (n + 1) % 2 ^ 64) k.rest.next ∙ sym (number_behind_all first callbacks callback);
       };

@@ -8,19 +8,19 @@ use Rattle.definitions.specs.Outgoing.{LocalLock, Granted, GrantedMsg}
 use Rattle.definitions.specs.Ranges.{is_stale, is_too_far}
 use Rattle.definitions.specs.Replies.{LineFbig, LineGrace}
 use Rattle.definitions.specs.World.{World, Limits, slots_free}
-use Rattle.definitions.specs.Rulings.{stays, ruled}
+use Rattle.definitions.specs.Rulings.{stays, ruled_answer}
 use Rattle.definitions.specs.LockRules.{LockAsk}
 use Rattle.definitions.specs.Answer.{lock_ask, caller_row, lock_unless, lock_verdict, share_unless, share_verdict}
 use Rattle.definitions.specs.Lines.{line_refusal}
 use Rattle.definition_laws.specs.Monitored.{stands}
 use Rattle.definition_laws.specs.Standing.{GraceAnswersLaw}
 
-says_so : (w : World) (stat : Stat) (store : StoreAnswer) → (ruled store (stays w stat)).says ≡ stat
+says_so : (w : World) (stat : Stat) (store : StoreAnswer) → (ruled_answer store (stays w stat)).says ≡ stat
 says_so w stat NotAsked = refl
 says_so w stat Yes = refl
 says_so w stat Refused = refl
 
-refused : (w : World) (stat : Stat) (store : StoreAnswer) → stands stat ≡ false → stands (ruled store (stays w stat)).says ≡ true → ⊥
+refused : (w : World) (stat : Stat) (store : StoreAnswer) → stands stat ≡ false → stands (ruled_answer store (stays w stat)).says ≡ true → ⊥
 refused w stat store e h = true≢false (sym h ∙ ap stands (says_so w stat store) ∙ e)
 
 grace_lock : (phase : Phase) (reclaim : Bool) → phase ≡ Grace → admits phase (Locking reclaim) ≡ true → reclaim ≡ true
@@ -31,10 +31,10 @@ grace_share : (phase : Phase) (reclaim : Bool) → phase ≡ Grace → admits ph
 grace_share Grace reclaim g e = e
 grace_share Normal reclaim g e = absurd (true≢false (ap (λ p. admits p Testing) g))
 
-lock_reclaims : (limits : Limits) (w : World) (a : LockArgs) (ask : LockAsk) (store : StoreAnswer) → w.phase ≡ Grace → stands (ruled store (lock_verdict limits w a ask)).says ≡ true → a.reclaim ≡ true
+lock_reclaims : (limits : Limits) (w : World) (a : LockArgs) (ask : LockAsk) (store : StoreAnswer) → w.phase ≡ Grace → stands (ruled_answer store (lock_verdict limits w a ask)).says ≡ true → a.reclaim ≡ true
 lock_reclaims limits w a ask store g = go (is_stale a.alock.fh) (is_too_far a.alock.l_offset a.alock.l_len) (admits w.phase (Locking a.reclaim)) (grace_lock w.phase a.reclaim g)
   where
-    go : (b c d : Bool) → (d ≡ true → a.reclaim ≡ true) → stands (ruled store (lock_unless limits w ask (cond b (Some STALE_FH) (cond c (Some FBIG) (cond d None (Some DENIED_GRACE_PERIOD)))))).says ≡ true → a.reclaim ≡ true
+    go : (b c d : Bool) → (d ≡ true → a.reclaim ≡ true) → stands (ruled_answer store (lock_unless limits w ask (cond b (Some STALE_FH) (cond c (Some FBIG) (cond d None (Some DENIED_GRACE_PERIOD)))))).says ≡ true → a.reclaim ≡ true
     go true c d k h = absurd (refused w STALE_FH store refl h)
     go false true d k h = absurd (refused w FBIG store refl h)
     go false false true k h = k refl

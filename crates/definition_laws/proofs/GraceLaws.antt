@@ -7,12 +7,12 @@ use Rattle.definitions.specs.Hosts.{StoreCall, Begin, StoreAnswer, NotAsked, Yes
 use Rattle.definitions.specs.Nlm.{Locks, LockMsg}
 use Rattle.definitions.specs.Outgoing.{Outgoing, next_due}
 use Rattle.definitions.specs.Replies.{Call, Nlm, Ignored, Turned, Asks, AnswerReading}
-use Rattle.definitions.specs.World.{World, Limits, settled, with_all_due, slots_free, restarted}
-use Rattle.definitions.specs.Rulings.{Response, ruled}
+use Rattle.definitions.specs.World.{World, Limits, settled_world, with_all_due, slots_free, restarted_world}
+use Rattle.definitions.specs.Rulings.{Response, ruled_answer}
 use Rattle.definitions.specs.Grants.{TableChange, TableStays, TableChanges, answer_rules}
 use Rattle.definitions.specs.Lines.{line_answer}
 use Rattle.definitions.specs.Answer.{ruling}
-use Rattle.definitions.specs.Step.{Peer, KeptPair, State, Event, Take, Send, Answer, Silent, Local, GraceOver, Restart, Applied, Starved, Stepped, applied, starved, taken, look, sent, restart, settled_after, with_row_stored, store_call}
+use Rattle.definitions.specs.Step.{Peer, KeptPair, State, Event, Take, Send, Answer, Silent, Local, GraceOver, Restart, Applied, Starved, Stepped, applied_step, starved_step, taken_step, look, sent_step, restart, settled_after, with_row_stored, store_call}
 use Rattle.definitions.specs.Moves.{TableMove, Stays, Moves, IsReclaim, IsReclaimOf, GraceGrantsLaw}
 use Rattle.definitions.proofs.WorldLaws.{due_keeps}
 use Rattle.definitions.proofs.MoveLaws.{by_cond}
@@ -30,41 +30,41 @@ module _ (limits : Limits) (s : State) (g : s.world.phase ≡ Grace) (none : s.w
   same : (R : Request → Type 0) (v : World) → v.settings ≡ s.world.settings → v.waiters ≡ s.world.waiters → Moved R v
   same R v e k = (subst (TableMove R Grace s.world.settings) (sym e) Stays, k ∙ none)
 
-  at_rest : (R : Request → Type 0) (v : World) → Moved R v → Moved R (settled limits v)
+  at_rest : (R : Request → Type 0) (v : World) → Moved R v → Moved R (settled_world limits v)
   at_rest R v m = subst (Moved R) (sym (settled_nobody limits v m.1)) m
 
-  taken_moved : (peer : Peer) (asked : Bytes) (xid : ℕ) (call : Call) (store : StoreAnswer) (o : Option KeptPair) → Moved (IsReclaimOf call) (taken limits s peer asked xid call store o).state.world
+  taken_moved : (peer : Peer) (asked : Bytes) (xid : ℕ) (call : Call) (store : StoreAnswer) (o : Option KeptPair) → Moved (IsReclaimOf call) (taken_step limits s peer asked xid call store o).state.world
   taken_moved peer asked xid call store (Some k) =
       let kept = due_keeps s.world k.callbacks in
       by_cond (λ (t : Stepped). Moved (IsReclaimOf call) t.state.world) (leb (length k.callbacks) (slots_free limits s.world)) _ _
       (λ _. same (IsReclaimOf call) (with_all_due s.world k.callbacks) kept.settings kept.waiters)
       (λ _. same (IsReclaimOf call) s.world refl refl)
   taken_moved peer asked xid call store None =
-      let v = (ruled store (ruling limits s.world peer.local call)).world in
+      let v = (ruled_answer store (ruling limits s.world peer.local call)).world in
       at_rest (IsReclaimOf call) v (moved (IsReclaimOf call) v (ruled_moves (IsReclaimOf call) s.world store (ruling limits s.world peer.local call) (call_moves (IsReclaimOf call) limits s.world peer.local call (λ r h. h))))
 
-  sent_moved : (R : Request → Type 0) (o : Option Outgoing) → Moved R (sent s o).state.world
+  sent_moved : (R : Request → Type 0) (o : Option Outgoing) → Moved R (sent_step s o).state.world
   sent_moved R None = same R s.world refl refl
   sent_moved R (Some c) = same R s.world refl refl
 
   changed_moved : (R : Request → Type 0) (t : Response TableChange) → ResponseMoves R t.says s.world t.world → Moved R (settled_after limits t)
   changed_moved R t m = go t.says (moved R t.world (told_moves R t.says s.world t.world m))
     where
-      go : (c : TableChange) → Moved R t.world → Moved R (elim c [ TableStays ↦ t.world | TableChanges ↦ settled limits t.world ])
+      go : (c : TableChange) → Moved R t.world → Moved R (elim c [ TableStays ↦ t.world | TableChanges ↦ settled_world limits t.world ])
       go TableStays u = u
       go TableChanges u = at_rest R t.world u
 
-  answer_moved : (R : Request → Type 0) (reading : AnswerReading) (store : StoreAnswer) → Moved R (settled_after limits (ruled store (answer_rules limits s.world reading)))
+  answer_moved : (R : Request → Type 0) (reading : AnswerReading) (store : StoreAnswer) → Moved R (settled_after limits (ruled_answer store (answer_rules limits s.world reading)))
   answer_moved R reading NotAsked = changed_moved R (answer_rules limits s.world reading).refused (answer_moves R limits s.world reading).1
   answer_moved R reading Yes = changed_moved R (answer_rules limits s.world reading).agreed (answer_moves R limits s.world reading).0
   answer_moved R reading Refused = changed_moved R (answer_rules limits s.world reading).refused (answer_moves R limits s.world reading).1
 
   restart_moved : (R : Request → Type 0) (store : StoreAnswer) → Moved R (restart s store).state.world
-  restart_moved R Yes = moved R (restarted s.world (after_store s.world.hosts Begin)) (restart_moves R s.world s.world (after_store s.world.hosts Begin))
+  restart_moved R Yes = moved R (restarted_world s.world (after_store s.world.hosts Begin)) (restart_moves R s.world s.world (after_store s.world.hosts Begin))
   restart_moved R NotAsked = same R s.world refl refl
   restart_moved R Refused = same R s.world refl refl
 
-  applied_moved : (event : Event) (store : StoreAnswer) → Moved (IsReclaim event) (applied limits s event store).state.world
+  applied_moved : (event : Event) (store : StoreAnswer) → Moved (IsReclaim event) (applied_step limits s event store).state.world
   applied_moved (Take peer asked Ignored) store = same _ s.world refl refl
   applied_moved (Take peer asked (Turned xid refusal)) store = same _ s.world refl refl
   applied_moved (Take peer asked (Asks xid call)) store = taken_moved peer asked xid call store (look s peer asked)
@@ -72,7 +72,7 @@ module _ (limits : Limits) (s : State) (g : s.world.phase ≡ Grace) (none : s.w
   applied_moved (Answer reading) store = answer_moved (IsReclaim (Answer reading)) reading store
   applied_moved (Silent number) store = same (IsReclaim (Silent number)) s.world refl refl
   applied_moved (Local l line) store =
-      let v = (ruled store (line_answer limits s.world l line)).world in
+      let v = (ruled_answer store (line_answer limits s.world l line)).world in
       let R = IsReclaim (Local l line) in
       at_rest R v (moved R v (line_moves R limits s.world l line store))
   applied_moved GraceOver store = same (IsReclaim GraceOver) s.world refl refl
@@ -83,7 +83,7 @@ module _ (limits : Limits) (s : State) (g : s.world.phase ≡ Grace) (none : s.w
   row_moved R (Nlm version (LockMsg a)) (Some call) Yes = same R s.world refl refl
   row_moved R _ _ _ = same R s.world refl refl
 
-  starved_moved : (R : Request → Type 0) (event : Event) (store : StoreAnswer) → Moved R (starved limits s event store).state.world
+  starved_moved : (R : Request → Type 0) (event : Event) (store : StoreAnswer) → Moved R (starved_step limits s event store).state.world
   starved_moved R (Take peer asked Ignored) store = same R s.world refl refl
   starved_moved R (Take peer asked (Turned xid refusal)) store = same R s.world refl refl
   starved_moved R (Take peer asked (Asks xid call)) store = row_moved R call (store_call limits s (Take peer asked (Asks xid call))) store

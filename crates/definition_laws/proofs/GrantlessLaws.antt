@@ -9,14 +9,14 @@ use Rattle.definitions.specs.Hosts.{StoreCall, Begin, StoreAnswer, NotAsked, Yes
 use Rattle.definitions.specs.Nlm.{Locks, LockMsg}
 use Rattle.definitions.specs.Outgoing.{Callback, Outgoing, is_grant, is_numbered, next_due, after_sending, after_silence, after_silence_at}
 use Rattle.definitions.specs.Replies.{Call, Nlm, Ignored, Turned, Asks, AnswerReading}
-use Rattle.definitions.specs.World.{World, Limits, settled, with_all_due, with_calls, slots_free, restarted, first_number}
-use Rattle.definitions.specs.Rulings.{Response, ruled}
+use Rattle.definitions.specs.World.{World, Limits, settled_world, with_all_due, with_calls, slots_free, restarted_world, first_number}
+use Rattle.definitions.specs.Rulings.{Response, ruled_answer}
 use Rattle.definitions.specs.Grants.{TableChange, TableStays, TableChanges, answer_rules}
 use Rattle.definitions.specs.Lines.{line_answer}
 use Rattle.definitions.specs.Answer.{Answered, ruling}
-use Rattle.definitions.specs.Step.{Peer, KeptPair, State, Event, Completion, Take, Send, Answer, Silent, Local, GraceOver, Restart, Applied, Starved, Stepped, applied, starved, step, taken, look, sent, restart, settled_after, is_same_key, is_restart, is_kept_kind, is_success, moved_to_front, with_row_stored, store_call, opening_state}
+use Rattle.definitions.specs.Step.{Peer, KeptPair, State, Event, Completion, Take, Send, Answer, Silent, Local, GraceOver, Restart, Applied, Starved, Stepped, applied_step, starved_step, step, taken_step, look, sent_step, restart, settled_after, is_same_key, is_restart, is_kept_kind, is_success, moved_to_front, with_row_stored, store_call, opening_state}
 use Rattle.definitions.specs.Replay.{Done, after, state_after}
-use Rattle.definition_laws.specs.Numbers.{numbered, AreLeft, NoneLeft, IsGone, IsLeft, IsSameCall, AreRenewed}
+use Rattle.definition_laws.specs.Numbers.{numbered_calls, AreLeft, NoneLeft, IsGone, IsLeft, IsSameCall, AreRenewed}
 use Rattle.definition_laws.specs.Standing.{IsGrantless, is_grant_call, GraceCallsLaw}
 use Rattle.definitions.specs.Uses.{new_pair}
 use Rattle.definitions.proofs.Lists.{have_without_first, holds_first}
@@ -54,9 +54,9 @@ plain_middle (x ∷ xs) ys c e =
     let m = plain_middle xs ys c k.1 in
     (m.0, or_from (is_grant_call x) (is_any is_grant_call (xs ++ ys)) k.0 m.1)
 
-plain_numbered : (first : ℕ) (callbacks : List Callback) → AllOf IsPlain callbacks → HasNoGrant (numbered first callbacks)
+plain_numbered : (first : ℕ) (callbacks : List Callback) → AllOf IsPlain callbacks → HasNoGrant (numbered_calls first callbacks)
 plain_numbered first [] h = refl
-plain_numbered first (l ∷ callbacks) h = or_from (is_grant l.message) (is_any is_grant_call (numbered ((first + 1) % 2 ^ 64) callbacks)) h.0 (plain_numbered ((first + 1) % 2 ^ 64) callbacks h.1)
+plain_numbered first (l ∷ callbacks) h = or_from (is_grant l.message) (is_any is_grant_call (numbered_calls ((first + 1) % 2 ^ 64) callbacks)) h.0 (plain_numbered ((first + 1) % 2 ^ 64) callbacks h.1)
 
 plain_both : (xs ys : List Outgoing) → HasNoGrant xs → HasNoGrant ys → HasNoGrant (xs ++ ys)
 plain_both [] ys e h = h
@@ -73,7 +73,7 @@ plain_renewed calls left again (inr d) e =
 plain_on : (w v : World) → GoesPlainlyOn w v → HasNoGrant w.calls → HasNoGrant v.calls
 plain_on w v g h =
     ap (is_any is_grant_call) g.behind.rest.calls
-    ∙ plain_both (g.left ++ g.again) (numbered w.next g.behind.rest.callbacks) (plain_renewed w.calls g.left g.again g.in_order h) (plain_numbered w.next g.behind.rest.callbacks g.behind.each)
+    ∙ plain_both (g.left ++ g.again) (numbered_calls w.next g.behind.rest.callbacks) (plain_renewed w.calls g.left g.again g.in_order h) (plain_numbered w.next g.behind.rest.callbacks g.behind.each)
 
 plain_begin : (v : World) → BeginsPlainly v → HasNoGrant v.calls
 plain_begin v b = ap (is_any is_grant_call) b.behind.rest.calls ∙ plain_numbered (first_number v.hosts.own) b.behind.rest.callbacks b.behind.each
@@ -114,7 +114,7 @@ rules_quiet R begin w v m t q g = elim m.calls [
   | inr k ↦ record { waiters = k.1.waiters; calls = plain_begin v k.1 }
 ]
 
-settled_quiet : (limits : Limits) (v : World) → Quiet v → Quiet (settled limits v)
+settled_quiet : (limits : Limits) (v : World) → Quiet v → Quiet (settled_world limits v)
 settled_quiet limits v q g = let old = q (sym (settle_keeps limits v).phase ∙ g) in subst IsGrantless (sym (settled_nobody limits v old.waiters)) old
 
 -- only calls change, and they go on
@@ -137,7 +137,7 @@ module _ (limits : Limits) (s : State) (quiet : IsQuiet s) where
         kept = (plain, kept_fewer (is_same_key k.peer k.asked) s.kept quiet.kept);
       }
 
-  taken_quiet : (peer : Peer) (asked : Bytes) (xid : ℕ) (call : Call) (store : StoreAnswer) (o : Option KeptPair) → look s peer asked ≡ o → IsQuiet (taken limits s peer asked xid call store o).state
+  taken_quiet : (peer : Peer) (asked : Bytes) (xid : ℕ) (call : Call) (store : StoreAnswer) (o : Option KeptPair) → look s peer asked ≡ o → IsQuiet (taken_step limits s peer asked xid call store o).state
   taken_quiet peer asked xid call store (Some k) e =
       by_cond (λ (t : Stepped). IsQuiet t.state) (leb (length k.callbacks) (slots_free limits s.world)) _ _
       (λ _. repeat_quiet peer asked k e)
@@ -147,15 +147,15 @@ module _ (limits : Limits) (s : State) (quiet : IsQuiet s) where
       let sides = call_sides NoShare limits s.world peer call (λ new h. tt) in
       let moves = ruled_moves Anything s.world store r (call_moves Anything limits s.world peer.local call (λ q h. tt)) in
       record {
-        world = settled_quiet limits (ruled store r).world (rules_quiet NoShare (is_restart peer call store) s.world (ruled store r).world (ruled_sides NoShare s.world peer call store r sides) moves quiet.world);
-        kept = fresh_kept (ruled store r) (ruled_due NoShare (is_restart peer call Yes) s.world store r sides) (is_restart peer call store) (is_kept_kind call);
+        world = settled_quiet limits (ruled_answer store r).world (rules_quiet NoShare (is_restart peer call store) s.world (ruled_answer store r).world (ruled_sides NoShare s.world peer call store r sides) moves quiet.world);
+        kept = fresh_kept (ruled_answer store r) (ruled_due NoShare (is_restart peer call Yes) s.world store r sides) (is_restart peer call store) (is_kept_kind call);
       }
     where
       fresh_kept : (a : Answered) → AllOf IsPlain a.due → (b c : Bool) → AllKept (cond b [] (cond (is_success a.outcome && c) (take limits.kept (new_pair peer asked xid a ∷ s.kept)) s.kept))
       fresh_kept a h true c = tt
       fresh_kept a h false c = by_cond AllKept (is_success a.outcome && c) (take limits.kept (new_pair peer asked xid a ∷ s.kept)) s.kept (λ _. kept_first limits.kept (new_pair peer asked xid a ∷ s.kept) (h, quiet.kept)) (λ _. quiet.kept)
 
-  sent_quiet : (o : Option Outgoing) → IsQuiet (sent s o).state
+  sent_quiet : (o : Option Outgoing) → IsQuiet (sent_step s o).state
   sent_quiet None = quiet
   sent_quiet (Some c) =
       let v = with_calls s.world (after_sending s.world.calls) in
@@ -164,14 +164,14 @@ module _ (limits : Limits) (s : State) (quiet : IsQuiet s) where
   changed_quiet : (t : Response TableChange) → Quiet t.world → Quiet (settled_after limits t)
   changed_quiet t q = go t.says
     where
-      go : (c : TableChange) → Quiet (elim c [ TableStays ↦ t.world | TableChanges ↦ settled limits t.world ])
+      go : (c : TableChange) → Quiet (elim c [ TableStays ↦ t.world | TableChanges ↦ settled_world limits t.world ])
       go TableStays = q
       go TableChanges = settled_quiet limits t.world q
 
   answered_quiet : (t : Response TableChange) → SideMoves NoShare false s.world t.world → Moves Anything s.world t.world → IsQuiet (record s { world = settled_after limits t })
   answered_quiet t m k = record { world = changed_quiet t (rules_quiet NoShare false s.world t.world m k quiet.world); kept = quiet.kept }
 
-  answer_quiet : (reading : AnswerReading) (store : StoreAnswer) → IsQuiet (applied limits s (Answer reading) store).state
+  answer_quiet : (reading : AnswerReading) (store : StoreAnswer) → IsQuiet (applied_step limits s (Answer reading) store).state
   answer_quiet reading Yes = let t = (answer_rules limits s.world reading).agreed in answered_quiet t (answer_sides NoShare limits s.world reading).0 (told_moves Anything t.says s.world t.world (answer_moves Anything limits s.world reading).0)
   answer_quiet reading NotAsked = let t = (answer_rules limits s.world reading).refused in answered_quiet t (answer_sides NoShare limits s.world reading).1 (told_moves Anything t.says s.world t.world (answer_moves Anything limits s.world reading).1)
   answer_quiet reading Refused = let t = (answer_rules limits s.world reading).refused in answered_quiet t (answer_sides NoShare limits s.world reading).1 (told_moves Anything t.says s.world t.world (answer_moves Anything limits s.world reading).1)
@@ -186,11 +186,11 @@ module _ (limits : Limits) (s : State) (quiet : IsQuiet s) where
   begun_quiet : (store : StoreAnswer) → IsQuiet (restart s store).state
   begun_quiet Yes =
       let hosts = after_store s.world.hosts Begin in
-      record { world = rules_quiet NoShare true s.world (restarted s.world hosts) (restart_sides NoShare s.world s.world hosts refl) (restart_moves Anything s.world s.world hosts) quiet.world; kept = tt }
+      record { world = rules_quiet NoShare true s.world (restarted_world s.world hosts) (restart_sides NoShare s.world s.world hosts refl) (restart_moves Anything s.world s.world hosts) quiet.world; kept = tt }
   begun_quiet NotAsked = quiet
   begun_quiet Refused = quiet
 
-  applied_quiet : (event : Event) (store : StoreAnswer) → IsQuiet (applied limits s event store).state
+  applied_quiet : (event : Event) (store : StoreAnswer) → IsQuiet (applied_step limits s event store).state
   applied_quiet (Take peer asked Ignored) store = quiet
   applied_quiet (Take peer asked (Turned xid refusal)) store = quiet
   applied_quiet (Take peer asked (Asks xid call)) store = taken_quiet peer asked xid call store (look s peer asked) refl
@@ -198,7 +198,7 @@ module _ (limits : Limits) (s : State) (quiet : IsQuiet s) where
   applied_quiet (Answer reading) store = answer_quiet reading store
   applied_quiet (Silent number) store = record { world = silent_quiet number; kept = quiet.kept }
   applied_quiet (Local l line) store =
-      let v = (ruled store (line_answer limits s.world l line)).world in
+      let v = (ruled_answer store (line_answer limits s.world l line)).world in
       record { world = settled_quiet limits v (rules_quiet NoShare false s.world v (line_sides NoShare limits s.world l line store) (line_moves Anything limits s.world l line store) quiet.world); kept = quiet.kept }
   applied_quiet GraceOver store = record { world = λ g. absurd (true≢false (ap (λ p. admits p Testing) g)); kept = quiet.kept }
   applied_quiet Restart store = begun_quiet store
@@ -208,7 +208,7 @@ module _ (limits : Limits) (s : State) (quiet : IsQuiet s) where
   row_quiet (Nlm version (LockMsg a)) (Some call) Yes = record { world = same_quiet s.world _ refl refl refl quiet.world; kept = quiet.kept }
   row_quiet _ _ _ = quiet
 
-  starved_quiet : (event : Event) (store : StoreAnswer) → IsQuiet (starved limits s event store).state
+  starved_quiet : (event : Event) (store : StoreAnswer) → IsQuiet (starved_step limits s event store).state
   starved_quiet (Take peer asked Ignored) store = quiet
   starved_quiet (Take peer asked (Turned xid refusal)) store = quiet
   starved_quiet (Take peer asked (Asks xid call)) store = row_quiet call (store_call limits s (Take peer asked (Asks xid call))) store

@@ -3,7 +3,7 @@ use Rattle.std.proofs.Common.{◌≡◌, ℕ, ◌+◌, Bool, true, false, cond, 
 use Rattle.std.proofs.lemmas.Bool.{true≢false}
 use Rattle.definitions.specs.World.{Limits}
 use Rattle.definitions.specs.Step.{State, Given}
-use Rattle.definitions.specs.Replay.{Done, Entry, after, state_after, given_by, numbers_of, done_of, told_of, counted, fits, all_fit, HistoryLaw, HistoryGrows}
+use Rattle.definitions.specs.Replay.{Done, Entry, after, state_after, given_by, numbers_of, done_of, told_of, numbers_from, fits, all_fit, HistoryLaw, HistoryGrows}
 use Rattle.definitions.proofs.WorldLaws.{map-append}
 
 entry_same : (x y : Entry) → x.number ≡ y.number → x.done ≡ y.done → x.given ≡ y.given → x ≡ y
@@ -23,15 +23,15 @@ module _ {X : Type 0} where
   tail_same : (x y : X) (xs ys : List X) → x ∷ xs ≡ y ∷ ys → xs ≡ ys
   tail_same x y xs ys e = cc
 
-entries_same : (first : ℕ) (xs ys : List Entry) → numbers_of xs ≡ counted first xs → numbers_of ys ≡ counted first ys → done_of xs ≡ done_of ys → told_of xs ≡ told_of ys → xs ≡ ys
+entries_same : (first : ℕ) (xs ys : List Entry) → numbers_of xs ≡ numbers_from first xs → numbers_of ys ≡ numbers_from first ys → done_of xs ≡ done_of ys → told_of xs ≡ told_of ys → xs ≡ ys
 entries_same first [] [] a b c d = refl
 entries_same first [] (y ∷ ys) a b c d = absurd (no_end y.done (done_of ys) c)
 entries_same first (x ∷ xs) [] a b c d = absurd (no_end x.done (done_of xs) (sym c))
 entries_same first (x ∷ xs) (y ∷ ys) a b c d =
-    let number : x.number ≡ y.number = head_same x.number first (numbers_of xs) (counted (first + 1) xs) a ∙ sym (head_same y.number first (numbers_of ys) (counted (first + 1) ys) b) in
+    let number : x.number ≡ y.number = head_same x.number first (numbers_of xs) (numbers_from (first + 1) xs) a ∙ sym (head_same y.number first (numbers_of ys) (numbers_from (first + 1) ys) b) in
     let done = head_same x.done y.done (done_of xs) (done_of ys) c in
     let given = head_same x.given y.given (told_of xs) (told_of ys) d in
-    let rest = entries_same (first + 1) xs ys (tail_same x.number first (numbers_of xs) (counted (first + 1) xs) a) (tail_same y.number first (numbers_of ys) (counted (first + 1) ys) b) (tail_same x.done y.done (done_of xs) (done_of ys) c) (tail_same x.given y.given (told_of xs) (told_of ys) d) in
+    let rest = entries_same (first + 1) xs ys (tail_same x.number first (numbers_of xs) (numbers_from (first + 1) xs) a) (tail_same y.number first (numbers_of ys) (numbers_from (first + 1) ys) b) (tail_same x.done y.done (done_of xs) (done_of ys) c) (tail_same x.given y.given (told_of xs) (told_of ys) d) in
     ap (λ z. z ∷ xs) (entry_same x y number done given) ∙ ap (λ zs. y ∷ zs) rest
 
 pub history_law : HistoryLaw
@@ -59,12 +59,12 @@ module _ (limits : Limits) (d : Done) where
       go true i more = more i
       go false i more = absurd (true≢false (sym i))
 
-numbers_more : (first : ℕ) (entries : List Entry) (e : Entry) → e.number ≡ first + length entries → numbers_of entries ≡ counted first entries → numbers_of (entries ++ e ∷ []) ≡ counted first (entries ++ e ∷ [])
+numbers_more : (first : ℕ) (entries : List Entry) (e : Entry) → e.number ≡ first + length entries → numbers_of entries ≡ numbers_from first entries → numbers_of (entries ++ e ∷ []) ≡ numbers_from first (entries ++ e ∷ [])
 numbers_more first [] e h k = let n : e.number ≡ first = omega arith in ap (λ (m : ℕ). m ∷ []) n
 numbers_more first (x ∷ xs) e h k =
     let above : e.number ≡ (first + 1) + length xs = omega arith in
-    let rest = numbers_more (first + 1) xs e above (tail_same x.number first (numbers_of xs) (counted (first + 1) xs) k) in
-    ap (λ (n : ℕ). n ∷ numbers_of (xs ++ e ∷ [])) (head_same x.number first (numbers_of xs) (counted (first + 1) xs) k) ∙ ap (λ (ns : List ℕ). first ∷ ns) rest
+    let rest = numbers_more (first + 1) xs e above (tail_same x.number first (numbers_of xs) (numbers_from (first + 1) xs) k) in
+    ap (λ (n : ℕ). n ∷ numbers_of (xs ++ e ∷ [])) (head_same x.number first (numbers_of xs) (numbers_from (first + 1) xs) k) ∙ ap (λ (ns : List ℕ). first ∷ ns) rest
 
 pub history_grows : HistoryGrows
 history_grows limits first base end entries d h fit =

@@ -3,14 +3,14 @@ use Rattle.std.proofs.Common.{◌≡◌, ℕ, zero, suc, Bool, true, false, cond
 use Rattle.std.proofs.lemmas.Bool.{true≢false, and_parts}
 use Rattle.std.proofs.lemmas.Option.{none-some}
 use Rattle.std.proofs.lemmas.Slice.Eq.{bytes_eq-Decides}
-use Rattle.definitions.specs.Bytes.{Bytes, same_bytes, is_any, first_that, without, without_first}
+use Rattle.definitions.specs.Bytes.{Bytes, same_bytes, is_any, first_that, list_without, without_first}
 use Rattle.definitions.specs.Hosts.{StoreAnswer, NotAsked, Yes, Refused}
 use Rattle.definitions.specs.Replies.{Call, SystemErr, Nlm, Ignored, Turned, Asks}
-use Rattle.definitions.specs.Rulings.{ruled}
+use Rattle.definitions.specs.Rulings.{ruled_answer}
 use Rattle.definitions.specs.World.{Limits, slots_free, with_all_due}
 use Rattle.definitions.specs.Outgoing.{Outgoing, next_due}
 use Rattle.definitions.specs.Answer.{Answered, ruling}
-use Rattle.definitions.specs.Step.{Peer, KeptPair, State, Event, Completion, Replies, Take, Send, Answer, Silent, Local, GraceOver, Restart, Applied, Starved, Stepped, applied, starved, step, taken, look, sent, is_same_key, is_restart, is_kept_kind, is_success, moved_to_front, with_row_stored, store_call, opening_state}
+use Rattle.definitions.specs.Step.{Peer, KeptPair, State, Event, Completion, Replies, Take, Send, Answer, Silent, Local, GraceOver, Restart, Applied, Starved, Stepped, applied_step, starved_step, step, taken_step, look, sent_step, is_same_key, is_restart, is_kept_kind, is_success, moved_to_front, with_row_stored, store_call, opening_state}
 use Rattle.definitions.specs.Hosts.{StoreCall}
 use Rattle.definitions.specs.Nlm.{Locks, LockMsg}
 use Rattle.definitions.specs.Replay.{Done, after, state_after}
@@ -25,31 +25,31 @@ module _ {X : Type 0} (p : X → Bool) where
   PassesOnce [] = Unit {0}
   PassesOnce (x ∷ xs) = (p x ≡ true → is_any p xs ≡ false) × PassesOnce xs
 
-  once_without : (q : X → Bool) (xs : List X) → PassesOnce xs → PassesOnce (without q xs)
+  once_without : (q : X → Bool) (xs : List X) → PassesOnce xs → PassesOnce (list_without q xs)
   once_without q [] h = tt
   once_without q (x ∷ xs) h = go (q x) (once_without q xs h.1)
     where
-      go : (b : Bool) → PassesOnce (without q xs) → PassesOnce (cond b (without q xs) (x ∷ without q xs))
+      go : (b : Bool) → PassesOnce (list_without q xs) → PassesOnce (cond b (list_without q xs) (x ∷ list_without q xs))
       go true k = k
       go false k = (λ e. none_left p q xs (h.0 e), k)
 
   -- one that is among the first goes, and one more comes in
-  taken_out : (m : ℕ) (xs : List X) → PassesOnce xs → is_any p (take (suc m) xs) ≡ true → without_first p (take (suc m) xs) ≡ take m (without p xs)
+  taken_out : (m : ℕ) (xs : List X) → PassesOnce xs → is_any p (take (suc m) xs) ≡ true → without_first p (take (suc m) xs) ≡ take m (list_without p xs)
   taken_out m [] h e = absurd (true≢false (sym e))
   taken_out m (x ∷ xs) h e = go m (p x) refl e (λ j i. taken_out j xs h.1 i)
     where
-      go : (m : ℕ) (b : Bool) → p x ≡ b → (b || is_any p (take m xs)) ≡ true → ((j : ℕ) → is_any p (take (suc j) xs) ≡ true → without_first p (take (suc j) xs) ≡ take j (without p xs)) → cond b (take m xs) (x ∷ without_first p (take m xs)) ≡ take m (cond b (without p xs) (x ∷ without p xs))
+      go : (m : ℕ) (b : Bool) → p x ≡ b → (b || is_any p (take m xs)) ≡ true → ((j : ℕ) → is_any p (take (suc j) xs) ≡ true → without_first p (take (suc j) xs) ≡ take j (list_without p xs)) → cond b (take m xs) (x ∷ without_first p (take m xs)) ≡ take m (cond b (list_without p xs) (x ∷ list_without p xs))
       go m true k i more = ap (take m) (sym (without-none p xs (h.0 k)))
       go zero false k i more = absurd (true≢false (sym i))
       go (suc j) false k i more = ap (λ ys. x ∷ ys) (more j i)
 
   -- one that isn't among the first leaves them as they are
-  not_there : (m : ℕ) (xs : List X) → is_any p (take (suc m) xs) ≡ false → take m (take (suc m) xs) ≡ take m (without p xs)
+  not_there : (m : ℕ) (xs : List X) → is_any p (take (suc m) xs) ≡ false → take m (take (suc m) xs) ≡ take m (list_without p xs)
   not_there zero xs e = refl
   not_there (suc j) [] e = refl
   not_there (suc j) (x ∷ xs) e = go (p x) e (not_there j xs)
     where
-      go : (b : Bool) → (b || is_any p (take (suc j) xs)) ≡ false → (is_any p (take (suc j) xs) ≡ false → take j (take (suc j) xs) ≡ take j (without p xs)) → x ∷ take j (take (suc j) xs) ≡ take (suc j) (cond b (without p xs) (x ∷ without p xs))
+      go : (b : Bool) → (b || is_any p (take (suc j) xs)) ≡ false → (is_any p (take (suc j) xs) ≡ false → take j (take (suc j) xs) ≡ take j (list_without p xs)) → x ∷ take j (take (suc j) xs) ≡ take (suc j) (cond b (list_without p xs) (x ∷ list_without p xs))
       go true i more = absurd (true≢false i)
       go false i more = ap (λ ys. x ∷ ys) (more i)
 
@@ -98,7 +98,7 @@ key_is peer k e = subst (λ (q : Peer). is_same_key q k.asked k ≡ true) e (all
 distinct_once : (peer : Peer) (asked : Bytes) (uses : List KeptPair) → PassesOnce (is_same_key peer asked) (distinct uses)
 distinct_once peer asked [] = tt
 distinct_once peer asked (k ∷ uses) = (
-  λ e. let h = key_same peer asked k e in subst (λ (q : Peer). is_any (is_same_key q asked) (without (is_same_key k.peer k.asked) (distinct uses)) ≡ false) h.0 (subst (λ (bs : Bytes). is_any (is_same_key k.peer bs) (without (is_same_key k.peer k.asked) (distinct uses)) ≡ false) h.1 (none_after (is_same_key k.peer k.asked) (distinct uses))),
+  λ e. let h = key_same peer asked k e in subst (λ (q : Peer). is_any (is_same_key q asked) (list_without (is_same_key k.peer k.asked) (distinct uses)) ≡ false) h.0 (subst (λ (bs : Bytes). is_any (is_same_key k.peer bs) (list_without (is_same_key k.peer k.asked) (distinct uses)) ≡ false) h.1 (none_after (is_same_key k.peer k.asked) (distinct uses))),
   once_without (is_same_key peer asked) (is_same_key k.peer k.asked) (distinct uses) (distinct_once peer asked uses),
 )
 
@@ -129,13 +129,13 @@ module _ (limits : Limits) (s : State) (uses : List KeptPair) (so_far : s.kept �
       let found : first_that (is_same_key k.peer k.asked) s.kept ≡ Some k = ap (λ (q : Peer). first_that (is_same_key q k.asked) s.kept) h.0 ∙ ap (λ (bs : Bytes). first_that (is_same_key peer bs) s.kept) h.1 ∙ e in
       ap (moved_to_front k) so_far ∙ again limits.kept uses k (ap (first_that (is_same_key k.peer k.asked)) (sym so_far) ∙ found)
 
-  taken_kept : (peer : Peer) (asked : Bytes) (xid : ℕ) (call : Call) (store : StoreAnswer) (o : Option KeptPair) → look s peer asked ≡ o → Keeps (taken limits s peer asked xid call store o).state (used_by_call limits s peer asked xid call store o uses)
+  taken_kept : (peer : Peer) (asked : Bytes) (xid : ℕ) (call : Call) (store : StoreAnswer) (o : Option KeptPair) → look s peer asked ≡ o → Keeps (taken_step limits s peer asked xid call store o).state (used_by_call limits s peer asked xid call store o uses)
   taken_kept peer asked xid call store (Some k) e = go (leb (length k.callbacks) (slots_free limits s.world))
     where
       go : (b : Bool) → Keeps (cond {A = Stepped} b (record { given = Replies k.xid k.outcome; state = record { world = with_all_due s.world k.callbacks; kept = moved_to_front k s.kept } }) (record { given = Replies k.xid SystemErr; state = s })).state (cond b (k ∷ uses) uses)
       go true = repeat_kept peer asked k e
       go false = so_far
-  taken_kept peer asked xid call store None e = go (ruled store (ruling limits s.world peer.local call)) (is_restart peer call store) (is_success (ruled store (ruling limits s.world peer.local call)).outcome && is_kept_kind call)
+  taken_kept peer asked xid call store None e = go (ruled_answer store (ruling limits s.world peer.local call)) (is_restart peer call store) (is_success (ruled_answer store (ruling limits s.world peer.local call)).outcome && is_kept_kind call)
     where
       fresh_kept : (k : KeptPair) → k.peer ≡ peer → k.asked ≡ asked → take limits.kept (k ∷ s.kept) ≡ take limits.kept (distinct (k ∷ uses))
       fresh_kept k f g = ap (λ ks. take limits.kept (k ∷ ks)) so_far ∙ anew limits.kept uses k (ap (first_that (is_same_key k.peer k.asked)) (sym so_far) ∙ ap (λ (q : Peer). first_that (is_same_key q k.asked) s.kept) f ∙ ap (λ (bs : Bytes). first_that (is_same_key peer bs) s.kept) g ∙ e)
@@ -145,11 +145,11 @@ module _ (limits : Limits) (s : State) (uses : List KeptPair) (so_far : s.kept �
       go a false true = fresh_kept (new_pair peer asked xid a) refl refl
       go a false false = so_far
 
-  sent_kept : (o : Option Outgoing) → Keeps (sent s o).state uses
+  sent_kept : (o : Option Outgoing) → Keeps (sent_step s o).state uses
   sent_kept None = so_far
   sent_kept (Some c) = so_far
 
-  applied_kept : (event : Event) (store : StoreAnswer) → Keeps (applied limits s event store).state (used_by_event limits s event store uses)
+  applied_kept : (event : Event) (store : StoreAnswer) → Keeps (applied_step limits s event store).state (used_by_event limits s event store uses)
   applied_kept (Take peer asked Ignored) store = so_far
   applied_kept (Take peer asked (Turned xid refusal)) store = so_far
   applied_kept (Take peer asked (Asks xid call)) store = taken_kept peer asked xid call store (look s peer asked) refl
@@ -167,7 +167,7 @@ module _ (limits : Limits) (s : State) (uses : List KeptPair) (so_far : s.kept �
   row_kept (Nlm version (LockMsg a)) (Some call) Yes = so_far
   row_kept _ _ _ = so_far
 
-  starved_kept : (event : Event) (store : StoreAnswer) → Keeps (starved limits s event store).state uses
+  starved_kept : (event : Event) (store : StoreAnswer) → Keeps (starved_step limits s event store).state uses
   starved_kept (Take peer asked Ignored) store = so_far
   starved_kept (Take peer asked (Turned xid refusal)) store = so_far
   starved_kept (Take peer asked (Asks xid call)) store = row_kept call (store_call limits s (Take peer asked (Asks xid call))) store
@@ -190,8 +190,8 @@ kept_law limits name hosts done = run_kept limits (opening_state name hosts) [] 
 
 pub kept_is_found : KeptIsFound
 kept_is_found limits s peer asked xid version call store room new kind success =
-    let a = ruled store (ruling limits s.world peer.local (Nlm version call)) in
-    ap (λ (o : Option KeptPair). first_that (is_same_key peer asked) (taken limits s peer asked xid (Nlm version call) store o).state.kept) new ∙ go (new_pair peer asked xid a) refl refl limits.kept room (is_success a.outcome) (is_kept_kind (Nlm version call)) success kind
+    let a = ruled_answer store (ruling limits s.world peer.local (Nlm version call)) in
+    ap (λ (o : Option KeptPair). first_that (is_same_key peer asked) (taken_step limits s peer asked xid (Nlm version call) store o).state.kept) new ∙ go (new_pair peer asked xid a) refl refl limits.kept room (is_success a.outcome) (is_kept_kind (Nlm version call)) success kind
   where
     found : (k : KeptPair) → k.peer ≡ peer → k.asked ≡ asked → (ks : List KeptPair) → first_that (is_same_key peer asked) (k ∷ ks) ≡ Some k
     found k f g ks = ap (λ b. cond b (Some k) (first_that (is_same_key peer asked) ks)) (ap (λ bs. is_same_key peer bs k) (sym g) ∙ key_is peer k f)

@@ -5,7 +5,7 @@ use Rattle.std.proofs.lemmas.Option.{none-some}
 use Rattle.std.proofs.lemmas.Slice.Eq.{bytes_eq-Decides}
 use Rattle.std.specs.declared.cmp.Ordering.{Ordering}
 use Rattle.std.specs.declared.cmp.Ordering.TheVariants.{Less, Equal, Greater}
-use Rattle.definitions.specs.Bytes.{Bytes, is_any, put, placed}
+use Rattle.definitions.specs.Bytes.{Bytes, is_any, list_with, placed_list}
 use Rattle.definitions.specs.Settings.{setting_of}
 use Rattle.definitions.specs.Conflict.{conflicts}
 use Rattle.definitions.specs.Quotas.{quotas_of, lacks_room}
@@ -16,20 +16,20 @@ use Rattle.definitions.specs.Outgoing.{Message, Granted, GrantedMsg}
 use Rattle.definitions.specs.Ranges.{is_stale, is_too_far, range_refusal}
 use Rattle.definitions.specs.Waits.{is_waiting, closes_cycle}
 use Rattle.definitions.specs.World.{World, Limits, with_setting, with_waiter, with_hosts, slots_free}
-use Rattle.definitions.specs.Rulings.{Response, Ruling, stays, ruled}
+use Rattle.definitions.specs.Rulings.{Response, Ruling, stays, ruled_answer}
 use Rattle.definitions.specs.LockRules.{LockAsk, row_asked, after_row, free_lock, blocked_lock, lock_rules}
 use Rattle.definitions.specs.Answer.{lock_ask, caller_row, lock_unless, lock_verdict, lock_answer, lock_msg_answer}
 use Rattle.definition_laws.specs.Monitored.{stands, HasRow, MonitoredLaw, IsGivenUp, RefusedRowLaw}
 use Rattle.definitions.proofs.MoveLaws.{by_cond}
 
-put_any : {X : Type 0} (cmp : X → X → Ordering) (p : X → Bool) (x : X) (xs : List X) → p x ≡ true → is_any p (put cmp x xs) ≡ true
+put_any : {X : Type 0} (cmp : X → X → Ordering) (p : X → Bool) (x : X) (xs : List X) → p x ≡ true → is_any p (list_with cmp x xs) ≡ true
 put_any cmp p x [] e = or_left (p x) false e
 put_any cmp p x (y ∷ ys) e = go (cmp x y) (put_any cmp p x ys e)
   where
-    go : (o : Ordering) → is_any p (put cmp x ys) ≡ true → is_any p (placed o x y ys (put cmp x ys)) ≡ true
+    go : (o : Ordering) → is_any p (list_with cmp x ys) ≡ true → is_any p (placed_list o x y ys (list_with cmp x ys)) ≡ true
     go Less h = or_left (p x) (is_any p (y ∷ ys)) e
     go Equal h = or_left (p x) (is_any p ys) e
-    go Greater h = or_right (p y) (is_any p (put cmp x ys)) h
+    go Greater h = or_right (p y) (is_any p (list_with cmp x ys)) h
 
 row_stored : (hosts : Hosts) (name : Bytes) (state : ℤ) → has_row hosts name ≡ false → has_row (after_store hosts (Monitor name state)) name ≡ true
 row_stored hosts name state e =
@@ -84,7 +84,7 @@ module _ (limits : Limits) (w : World) (a : LockArgs) where
         go false false false = refused_has DENIED_GRACE_PERIOD refl
         go false false true = rules_have
 
-ruled_has : (a : LockArgs) (store : StoreAnswer) (r : Ruling (Response Stat)) → HasRow a r.agreed × HasRow a r.refused → HasRow a (ruled store r)
+ruled_has : (a : LockArgs) (store : StoreAnswer) (r : Ruling (Response Stat)) → HasRow a r.agreed × HasRow a r.refused → HasRow a (ruled_answer store r)
 ruled_has a NotAsked r h = h.1
 ruled_has a Yes r h = h.0
 ruled_has a Refused r h = h.1

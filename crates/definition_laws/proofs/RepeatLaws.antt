@@ -6,7 +6,7 @@ use Rattle.definitions.specs.Hosts.{StoreAnswer}
 use Rattle.definitions.specs.Nlm.{Locks, LockMsg}
 use Rattle.definitions.specs.Replies.{Call, Nlm}
 use Rattle.definitions.specs.World.{Limits, LeavesRest, slots_free}
-use Rattle.definitions.specs.Step.{Peer, KeptPair, State, Applied, Starved, Stepped, taken, look, asked_unless_kept, with_row_stored, RepeatLaw}
+use Rattle.definitions.specs.Step.{Peer, KeptPair, State, Applied, Starved, Stepped, taken_step, look, asked_unless_kept, with_row_stored, RepeatLaw}
 use Rattle.definitions.proofs.MoveLaws.{by_cond}
 use Rattle.definitions.proofs.WorldLaws.{due_keeps}
 
@@ -16,7 +16,7 @@ not_stored s (Nlm version (LockMsg a)) store = due_keeps s.world []
 not_stored s _ store = due_keeps s.world []
 
 module _ (limits : Limits) (s : State) (peer : Peer) (asked : Bytes) (xid : ℕ) (call : Call) (store : StoreAnswer) (k : KeptPair) where
-  taken_unapplied : (o : Option KeptPair) → o ≡ Some k → LeavesRest s.world (taken limits s peer asked xid call store o).state.world
+  taken_unapplied : (o : Option KeptPair) → o ≡ Some k → LeavesRest s.world (taken_step limits s peer asked xid call store o).state.world
   taken_unapplied (Some j) e =
       by_cond (λ (t : Stepped). LeavesRest s.world t.state.world) (leb (length j.callbacks) (slots_free limits s.world)) _ _
       (λ _. due_keeps s.world j.callbacks)

@@ -11,7 +11,7 @@ use Rattle.definitions.specs.Ranges.{range_refusal}
 use Rattle.definitions.specs.Replies.{Call, Nlm, SystemErr}
 use Rattle.definitions.specs.Waits.{is_waiting, closes_cycle}
 use Rattle.definitions.specs.World.{World, Limits, with_setting, with_waiter, slots_free}
-use Rattle.definitions.specs.Rulings.{Response, Ruling, decided, stays}
+use Rattle.definitions.specs.Rulings.{Response, Ruling, decided_ruling, stays}
 use Rattle.definitions.specs.LockRules.{LockAsk, NewHost, row_asked, after_row, free_lock, blocked_lock, lock_rules}
 use Rattle.definitions.specs.Answer.{by_call, lock_callback, Answered, gives, lock_ask, caller_row, lock_unless, lock_verdict, lock_msg_answer}
 use Rattle.definitions.specs.Step.{State, Peer, KeptPair, asked_unless_kept}
@@ -68,7 +68,7 @@ asks_row limits s peer (Nlm version (Locks a)) (Some k) = tt
 asks_row limits s peer (Nlm version (LockMsg a)) (Some k) = tt
 asks_row limits s peer (Nlm version (Locks a)) None = verdict_sets_none limits s.world a (lock_ask a (caller_row a) (Granted version a.exclusive a.alock) (slots_free limits s.world))
 asks_row limits s peer (Nlm version (LockMsg a)) None =
-    by_cond (λ (r : Ruling Answered). IsNoQuota r.asks) (leb 1 (slots_free limits s.world)) (by_call (lock_callback version a) (lock_msg_answer limits s.world version a)) (decided (gives s.world SystemErr))
+    by_cond (λ (r : Ruling Answered). IsNoQuota r.asks) (leb 1 (slots_free limits s.world)) (by_call (lock_callback version a) (lock_msg_answer limits s.world version a)) (decided_ruling (gives s.world SystemErr))
     (λ _. verdict_sets_none limits s.world a (lock_ask a (caller_row a) (GrantedMsg version a.exclusive a.alock) (slots_free limits s.world - 1)))
     (λ _. tt)
 asks_row limits s peer _ o = tt

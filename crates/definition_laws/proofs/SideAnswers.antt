@@ -13,9 +13,9 @@ use Rattle.definitions.specs.Hosts.{Hosts, HostRow, Watch, Begin, Seen, StoreAns
 use Rattle.definitions.specs.Outgoing.{Callback, Granted, GrantedMsg, LocalLock, is_grant, is_grant_to}
 use Rattle.definitions.specs.Ranges.{is_stale, file_refusal, line_unlock}
 use Rattle.definitions.specs.Replies.{Call, Nlm, Nsm, SystemErr, Line, GetLock, SetLock, SetLockWait, Close, Table, HostList, Stop, BadLine, LineReply, SetQuota, LineAbsent}
-use Rattle.definitions.specs.World.{World, Limits, with_hosts, with_all_due, without_host_of, restarted, restart_callback, opening, first_number, slots_free, closed_by}
-use Rattle.definitions.specs.Rulings.{Response, Ruling, decided, ruled, stays}
-use Rattle.definitions.specs.Answer.{Answered, gives, lock_ask, caller_row, lock_msg_answer, cancel_answer, unlock_answer, if_slots, by_reply, by_call, by_message, sent_back, lock_callback, cancel_callback, unlock_callback, share_unless, share_of, unshare_unless, nlm_answer, stored, notified, notify_rules, status_callback, nsm_answer, ruling}
+use Rattle.definitions.specs.World.{World, Limits, with_hosts, with_all_due, without_host_of, restarted_world, restart_callback, opening, first_number, slots_free, closed_by}
+use Rattle.definitions.specs.Rulings.{Response, Ruling, decided_ruling, ruled_answer, stays}
+use Rattle.definitions.specs.Answer.{Answered, gives, lock_ask, caller_row, lock_msg_answer, cancel_answer, unlock_answer, if_slots, by_reply, by_call, by_message, sent_back, lock_callback, cancel_callback, unlock_callback, share_unless, share_of, unshare_unless, nlm_answer, ruling_after_store, notified_answer, notify_rules, status_callback, nsm_answer, ruling}
 use Rattle.definitions.specs.Lines.{line_refusal, line_answer, set_unless, line_sets, line_ask, quota_stored}
 use Rattle.definitions.specs.Step.{Peer, is_restart}
 use Rattle.definitions.proofs.WorldLaws.{due_keeps}
@@ -35,17 +35,17 @@ module _ (R : Share → Type 0) where
     pub refused_due : AllOf IsPlain r.refused.due
 
   -- the same either way
-  decided_sides : (w : World) (a : Answered) → SideMoves R false w a.world → AllOf IsPlain a.due → AnswerSides false w (decided a)
+  decided_sides : (w : World) (a : Answered) → SideMoves R false w a.world → AllOf IsPlain a.due → AnswerSides false w (decided_ruling a)
   decided_sides w a m h = record { agreed = m; refused = m; agreed_due = h; refused_due = h }
 
-  said_sides : (begin : Bool) (w : World) (a : Answered) → IsSame w a.world → AllOf IsPlain a.due → AnswerSides begin w (decided a)
+  said_sides : (begin : Bool) (w : World) (a : Answered) → IsSame w a.world → AllOf IsPlain a.due → AnswerSides begin w (decided_ruling a)
   said_sides begin w a m h = record { agreed = same_sides R begin w a.world m; refused = same_sides R false w a.world m; agreed_due = h; refused_due = h }
 
   reply_sides : (w : World) (version : Version) (cookie : Bytes) (r : Ruling (Response Stat)) → BothSame w r → AnswerSides false w (by_reply version cookie r)
   reply_sides w version cookie r m = record { agreed = same_sides R false w r.agreed.world m.0; refused = same_sides R false w r.refused.world m.1; agreed_due = tt; refused_due = tt }
 
   slots_sides : (n : ℕ) (limits : Limits) (w : World) (r : Ruling Answered) → AnswerSides false w r → AnswerSides false w (if_slots n limits w r)
-  slots_sides n limits w r m = by_cond (AnswerSides false w) (leb n (slots_free limits w)) r (decided (gives w SystemErr)) (λ _. m) (λ _. said_sides false w (gives w SystemErr) (same w) tt)
+  slots_sides n limits w r m = by_cond (AnswerSides false w) (leb n (slots_free limits w)) r (decided_ruling (gives w SystemErr)) (λ _. m) (λ _. said_sides false w (gives w SystemErr) (same w) tt)
 
   due_sides : (w v : World) (callbacks : List Callback) → AllOf IsPlain callbacks → SideMoves R false w v → SideMoves R false w (with_all_due v callbacks)
   due_sides w v callbacks h m = record {
@@ -137,7 +137,7 @@ module _ (R : Share → Type 0) where
       let hosts = after_store w.hosts (Seen name state) in
       let watches = watches_of hosts name in
       by_cond (AnswerSides false w) (int_eq row.seen state) _ _ (λ _. said_sides false w _ (same w) tt)
-      (λ _. slots_sides (length (watches_of w.hosts name)) limits w (stored w (Seen name state) (notified name state) (gives w SystemErr))
+      (λ _. slots_sides (length (watches_of w.hosts name)) limits w (ruling_after_store w (Seen name state) (notified_answer name state) (gives w SystemErr))
       (record {
         agreed = due_sides w (without_host_of (with_hosts w hosts) name) (map (status_callback state) watches) (status_plain state watches) (drop_sides w hosts name);
         refused = unmoved_sides R false w;
@@ -149,7 +149,7 @@ module _ (R : Share → Type 0) where
   notices_plain name own [] = tt
   notices_plain name own (row ∷ rows) = (refl, notices_plain name own rows)
 
-  pub restart_sides : (w v : World) (hosts : Hosts) → v.own_name ≡ w.own_name → SideMoves R true w (restarted v hosts)
+  pub restart_sides : (w v : World) (hosts : Hosts) → v.own_name ≡ w.own_name → SideMoves R true w (restarted_world v hosts)
   restart_sides w v hosts e =
       let callbacks = map (restart_callback v.own_name hosts.own) hosts.rows in
       let start = opening v.own_name hosts in
@@ -160,7 +160,7 @@ module _ (R : Share → Type 0) where
         calls = inr (
           refl,
           record {
-            behind = subst (λ (h : Hosts). ContinuesBy IsPlain [] (first_number h.own) (restarted v hosts)) (sym kept.hosts) (all_due IsPlain [] (first_number hosts.own) start callbacks (notices_plain v.own_name hosts.own hosts.rows) (begins IsPlain [] start refl));
+            behind = subst (λ (h : Hosts). ContinuesBy IsPlain [] (first_number h.own) (restarted_world v hosts)) (sym kept.hosts) (all_due IsPlain [] (first_number hosts.own) start callbacks (notices_plain v.own_name hosts.own hosts.rows) (begins IsPlain [] start refl));
             waiters = kept.waiters;
           },
         );
@@ -195,12 +195,12 @@ module _ (R : Share → Type 0) where
   call_sides limits w peer (Nsm SmSimuCrash) mine = crash_sides limits w peer.local
   call_sides limits w peer (Nsm (SmNotify name state)) mine = notify_sides limits w name state (row_of w.hosts name)
 
-  pub ruled_sides : (w : World) (peer : Peer) (call : Call) (store : StoreAnswer) (r : Ruling Answered) → AnswerSides (is_restart peer call Yes) w r → SideMoves R (is_restart peer call store) w (ruled store r).world
+  pub ruled_sides : (w : World) (peer : Peer) (call : Call) (store : StoreAnswer) (r : Ruling Answered) → AnswerSides (is_restart peer call Yes) w r → SideMoves R (is_restart peer call store) w (ruled_answer store r).world
   ruled_sides w peer call NotAsked r m = going R (is_restart peer call NotAsked) w r.refused.world m.refused
   ruled_sides w peer call Yes r m = m.agreed
   ruled_sides w peer call Refused r m = going R (is_restart peer call Refused) w r.refused.world m.refused
 
-  pub ruled_due : (begin : Bool) (w : World) (store : StoreAnswer) (r : Ruling Answered) → AnswerSides begin w r → AllOf IsPlain (ruled store r).due
+  pub ruled_due : (begin : Bool) (w : World) (store : StoreAnswer) (r : Ruling Answered) → AnswerSides begin w r → AllOf IsPlain (ruled_answer store r).due
   ruled_due begin w NotAsked r m = m.refused_due
   ruled_due begin w Yes r m = m.agreed_due
   ruled_due begin w Refused r m = m.refused_due
@@ -238,5 +238,5 @@ module _ (R : Share → Type 0) where
   both_lines limits w l Stop = unmoved_line w
   both_lines limits w l BadLine = unmoved_line w
 
-  pub line_sides : (limits : Limits) (w : World) (l : ℕ) (line : Line) (store : StoreAnswer) → SideMoves R false w (ruled store (line_answer limits w l line)).world
+  pub line_sides : (limits : Limits) (w : World) (l : ℕ) (line : Line) (store : StoreAnswer) → SideMoves R false w (ruled_answer store (line_answer limits w l line)).world
   line_sides limits w l line store = by_store (λ (t : Response LineReply). SideMoves R false w t.world) store (line_answer limits w l line) (both_lines limits w l line)

@@ -9,17 +9,17 @@ use Rattle.definitions.specs.Ranges.{unlock_of}
 use Rattle.definitions.specs.Replies.{AnswerReading, Unreadable, AcceptedSuccess, OtherAnswer}
 use Rattle.definitions.specs.World.{World, Limits, with_setting, with_calls}
 use Rattle.definitions.specs.Rulings.{Response, Ruling}
-use Rattle.definitions.specs.Grants.{TableChange, ended, grant_answered, granted_res_rules, granted_res_at, granted_res_of, notice_answered, succeeded, answered_success, answered_otherwise, answer_rules, became, TableStays, TableChanges}
+use Rattle.definitions.specs.Grants.{TableChange, world_without_call, grant_answered, granted_res_rules, granted_res_at, granted_res_of, notice_answered, ruling_on_success, answered_success, answered_otherwise, answer_rules, became, TableStays, TableChanges}
 use Rattle.definitions.proofs.MoveLaws.{by_cond}
 use Rattle.definition_laws.proofs.CallLaws.{left_without_first}
 use Rattle.definition_laws.proofs.SideMoves.{SharesStay, SideMoves, unmoved_sides, goes_left, goes_silent}
 
 module _ (R : Share → Type 0) where
-  ended_sides : (w : World) (c : Outgoing) → SideMoves R false w (ended w c)
+  ended_sides : (w : World) (c : Outgoing) → SideMoves R false w (world_without_call w c)
   ended_sides w c = record {
     name = refl;
     shares = SharesStay;
-    calls = inl (goes_left w (ended w c) (without_call c.number w.calls) (left_without_first (is_numbered c.number) w.calls) refl refl refl);
+    calls = inl (goes_left w (world_without_call w c) (without_call c.number w.calls) (left_without_first (is_numbered c.number) w.calls) refl refl refl);
   }
 
   silent_sides : (w : World) (number : ℕ) → SideMoves R false w (with_calls w (after_silence number w.calls))
@@ -36,12 +36,12 @@ module _ (R : Share → Type 0) where
   grant_sides : (limits : Limits) (w : World) (c : Outgoing) (alock : Lock) (stat : Option Stat) → SideMoves R false w (grant_answered limits w c alock stat).world
   grant_sides limits w c alock (Some DENIED) =
       let e = ended_sides w c in
-      by_cond (λ (t : Response TableChange). SideMoves R false w t.world) (is_refused limits.runs (quotas_of w.hosts) w.settings (unlock_of alock)) (became TableStays (ended w c)) (became TableChanges (with_setting (ended w c) (unlock_of alock)))
+      by_cond (λ (t : Response TableChange). SideMoves R false w t.world) (is_refused limits.runs (quotas_of w.hosts) w.settings (unlock_of alock)) (became TableStays (world_without_call w c)) (became TableChanges (with_setting (world_without_call w c) (unlock_of alock)))
       (λ _. e)
       (λ _. record {
         name = refl;
         shares = SharesStay;
-        calls = inl (goes_left w (with_setting (ended w c) (unlock_of alock)) (without_call c.number w.calls) (left_without_first (is_numbered c.number) w.calls) refl refl refl);
+        calls = inl (goes_left w (with_setting (world_without_call w c) (unlock_of alock)) (without_call c.number w.calls) (left_without_first (is_numbered c.number) w.calls) refl refl refl);
       })
   grant_sides limits w c alock (Some DENIED_GRACE_PERIOD) = silent_sides w c.number
   grant_sides limits w c alock _ = ended_sides w c
@@ -71,7 +71,7 @@ module _ (R : Share → Type 0) where
   )
   notice_sides w c (ToConnection l) = (ended_sides w c, ended_sides w c)
 
-  succeeded_sides : (limits : Limits) (w : World) (c : Outgoing) (stat : Option Stat) (m : Message) → BothSides w (succeeded limits w c stat m)
+  succeeded_sides : (limits : Limits) (w : World) (c : Outgoing) (stat : Option Stat) (m : Message) → BothSides w (ruling_on_success limits w c stat m)
   succeeded_sides limits w c stat (Granted version exclusive alock) = (grant_sides limits w c alock stat, grant_sides limits w c alock stat)
   succeeded_sides limits w c stat (GrantedMsg version exclusive alock) = (unmoved_sides R false w, unmoved_sides R false w)
   succeeded_sides limits w c stat (Notify name state) = notice_sides w c c.callback.to

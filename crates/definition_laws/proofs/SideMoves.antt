@@ -14,7 +14,7 @@ use Rattle.definitions.specs.Outgoing.{Outgoing, Callback, is_grant, is_numbered
 use Rattle.definitions.specs.Ranges.{range_refusal, request_of, unlock_of}
 use Rattle.definitions.specs.Waits.{is_waiting, closes_cycle}
 use Rattle.definitions.specs.World.{World, Limits, with_setting, with_waiter, with_hosts, with_all_due, first_number}
-use Rattle.definitions.specs.Rulings.{Response, Ruling, decided, stays}
+use Rattle.definitions.specs.Rulings.{Response, Ruling, decided_ruling, stays}
 use Rattle.definitions.specs.LockRules.{LockAsk, row_asked, after_row, free_lock, blocked_lock, lock_rules, unlock_rules, cancel_rules}
 use Rattle.definitions.specs.Answer.{lock_unless, lock_verdict, cancel_unless, cancel_answer, unlock_unless, unlock_answer}
 use Rattle.definitions.proofs.WorldLaws.{due_keeps}
@@ -99,7 +99,7 @@ module _ (limits : Limits) (w : World) (a : LockAsk) where
 pub unlock_same : (limits : Limits) (w : World) (s : Setting) → BothSame w (unlock_rules limits w s)
 unlock_same limits w s =
     let set : IsSame w (with_setting w s) = record { name = refl; phase = refl; shares = refl; calls = refl; next = refl } in
-    by_cond (BothSame w) (is_refused limits.runs (quotas_of w.hosts) w.settings s) (stays w DENIED_NOLOCKS) (decided (record { says = GRANTED; world = with_setting w s })) (λ _. stays_same w DENIED_NOLOCKS) (λ _. (set, set))
+    by_cond (BothSame w) (is_refused limits.runs (quotas_of w.hosts) w.settings s) (stays w DENIED_NOLOCKS) (decided_ruling (record { says = GRANTED; world = with_setting w s })) (λ _. stays_same w DENIED_NOLOCKS) (λ _. (set, set))
 
 cancel_same : (w : World) (r : Request) → BothSame w (cancel_rules w r)
 cancel_same w r = by_cond (BothSame w) (is_waiting r w.waiters) _ (stays w DENIED) (λ _. (record { name = refl; phase = refl; shares = refl; calls = refl; next = refl }, record { name = refl; phase = refl; shares = refl; calls = refl; next = refl })) (λ _. stays_same w DENIED)

@@ -9,12 +9,12 @@ use Rattle.definitions.specs.Outgoing.{Callback, Outgoing, next_due, is_numbered
 use Rattle.definitions.specs.Replies.{Call, Nlm, Ignored, Turned, Asks, AnswerReading}
 use Rattle.definitions.specs.Shares.{Share}
 use Rattle.definitions.specs.Waits.{Waiter}
-use Rattle.definitions.specs.World.{World, Limits, first_ready, granted, settled, settled_within, with_all_due, with_calls, slots_free, first_number}
-use Rattle.definitions.specs.Rulings.{Response, ruled}
+use Rattle.definitions.specs.World.{World, Limits, first_ready, granted_world, settled_world, settled_within, with_all_due, with_calls, slots_free, first_number}
+use Rattle.definitions.specs.Rulings.{Response, ruled_answer}
 use Rattle.definitions.specs.Grants.{TableChange, TableStays, TableChanges, answer_rules}
 use Rattle.definitions.specs.Lines.{line_answer}
 use Rattle.definitions.specs.Answer.{ruling}
-use Rattle.definitions.specs.Step.{Peer, KeptPair, State, Event, Take, Send, Answer, Silent, Local, GraceOver, Restart, Completion, Applied, Starved, Stepped, applied, starved, step, taken, look, sent, restart, settled_after, with_row_stored, store_call, is_restart}
+use Rattle.definitions.specs.Step.{Peer, KeptPair, State, Event, Take, Send, Answer, Silent, Local, GraceOver, Restart, Completion, Applied, Starved, Stepped, applied_step, starved_step, step, taken_step, look, sent_step, restart, settled_after, with_row_stored, store_call, is_restart}
 use Rattle.definitions.proofs.WorldLaws.{due_keeps}
 use Rattle.definition_laws.specs.Numbers.{Continues, GoesOn, BeginsAnew, is_beginning, NumbersLaw}
 use Rattle.definition_laws.specs.Standing.{IsShareReclaim, IsShareReclaimOf, OwnNameLaw}
@@ -42,15 +42,15 @@ settled_continues : (n : ℕ) (limits : Limits) (before : List Outgoing) (first 
 settled_continues zero limits before first w h = h
 settled_continues (suc n) limits before first w h = go (first_ready limits w) (settled_continues n limits before first)
   where
-    next : (x : Waiter) → Continues before first (granted limits w x)
+    next : (x : Waiter) → Continues before first (granted_world limits w x)
     next x =
-        let v : World = record w { settings = (granted limits w x).settings; waiters = (granted limits w x).waiters } in
+        let v : World = record w { settings = (granted_world limits w x).settings; waiters = (granted_world limits w x).waiters } in
         let k : Continues before first v = record { callbacks = h.callbacks; calls = h.calls; next = h.next } in
         (one_due Anything before first v x.callback tt (record { rest = k; each = all_any h.callbacks })).rest
 
-    go : (o : Option Waiter) → ((v : World) → Continues before first v → Continues before first (settled_within n limits v)) → Continues before first (elim o [ None ↦ w | Some x ↦ settled_within n limits (granted limits w x) ])
+    go : (o : Option Waiter) → ((v : World) → Continues before first v → Continues before first (settled_within n limits v)) → Continues before first (elim o [ None ↦ w | Some x ↦ settled_within n limits (granted_world limits w x) ])
     go None more = h
-    go (Some x) more = more (granted limits w x) (next x)
+    go (Some x) more = more (granted_world limits w x) (next x)
 
 pub record IsKept (w v : World) : Type 0 where
   pub name : v.own_name ≡ w.own_name
@@ -62,13 +62,13 @@ settled_kept : (n : ℕ) (limits : Limits) (w : World) → IsKept w (settled_wit
 settled_kept zero limits w = record { name = refl; shares = refl; hosts = refl; phase = refl }
 settled_kept (suc n) limits w = go (first_ready limits w) (settled_kept n limits)
   where
-    go : (o : Option Waiter) → ((v : World) → IsKept v (settled_within n limits v)) → IsKept w (elim o [ None ↦ w | Some x ↦ settled_within n limits (granted limits w x) ])
+    go : (o : Option Waiter) → ((v : World) → IsKept v (settled_within n limits v)) → IsKept w (elim o [ None ↦ w | Some x ↦ settled_within n limits (granted_world limits w x) ])
     go None more = record { name = refl; shares = refl; hosts = refl; phase = refl }
     go (Some x) more =
-        let k = more (granted limits w x) in
+        let k = more (granted_world limits w x) in
         record { name = k.name; shares = k.shares; hosts = k.hosts; phase = k.phase }
 
-pub settle_keeps : (limits : Limits) (w : World) → IsKept w (settled limits w)
+pub settle_keeps : (limits : Limits) (w : World) → IsKept w (settled_world limits w)
 settle_keeps limits w = settled_kept (length w.waiters) limits w
 
 -- ---- a step
@@ -107,7 +107,7 @@ module _ (R : Share → Type 0) where
   going_step : (begin : Bool) (w v : World) → v.own_name ≡ w.own_name → v.shares ≡ w.shares → GoesOn w v → StepSides R begin w v
   going_step begin w v e k g = record { name = e; shares = subst (ShareMove R w.phase w.shares) (sym k) SharesStay; calls = inl g }
 
-  settled_step : (limits : Limits) (begin : Bool) (w v : World) → StepSides R begin w v → StepSides R begin w (settled limits v)
+  settled_step : (limits : Limits) (begin : Bool) (w v : World) → StepSides R begin w v → StepSides R begin w (settled_world limits v)
   settled_step limits begin w v m =
       let kept = settle_keeps limits v in
       record {
@@ -115,7 +115,7 @@ module _ (R : Share → Type 0) where
         shares = subst (ShareMove R w.phase w.shares) (sym kept.shares) m.shares;
         calls = elim m.calls [
           | inl g ↦ inl (record { left = g.left; again = g.again; in_order = g.in_order; behind = settled_continues (length v.waiters) limits (g.left ++ g.again) w.next v g.behind })
-          | inr k ↦ inr (k.0, subst (λ (hosts : Hosts). Continues [] (first_number hosts.own) (settled limits v)) (sym kept.hosts) (settled_continues (length v.waiters) limits [] (first_number v.hosts.own) v k.1))
+          | inr k ↦ inr (k.0, subst (λ (hosts : Hosts). Continues [] (first_number hosts.own) (settled_world limits v)) (sym kept.hosts) (settled_continues (length v.waiters) limits [] (first_number v.hosts.own) v k.1))
         ];
       }
 
@@ -137,7 +137,7 @@ module _ (R : Share → Type 0) where
       go (Some c) e = let v = with_calls w (after_silence_at (Some c) w.calls) in going_step begin w v refl refl (plainly w v (goes_silent w number c e v refl refl refl))
 
 module _ (limits : Limits) (s : State) where
-  taken_sides : (peer : Peer) (asked : Bytes) (xid : ℕ) (call : Call) (store : StoreAnswer) (o : Option KeptPair) → StepSides (IsShareReclaimOf call) (is_restart peer call store) s.world (taken limits s peer asked xid call store o).state.world
+  taken_sides : (peer : Peer) (asked : Bytes) (xid : ℕ) (call : Call) (store : StoreAnswer) (o : Option KeptPair) → StepSides (IsShareReclaimOf call) (is_restart peer call store) s.world (taken_step limits s peer asked xid call store o).state.world
   taken_sides peer asked xid call store (Some k) =
       let R = IsShareReclaimOf call in
       let begin = is_restart peer call store in
@@ -148,10 +148,10 @@ module _ (limits : Limits) (s : State) where
       let R = IsShareReclaimOf call in
       let begin = is_restart peer call store in
       let r = ruling limits s.world peer.local call in
-      settled_step R limits begin s.world (ruled store r).world
-      (by_rules R begin s.world (ruled store r).world (ruled_sides R s.world peer call store r (call_sides R limits s.world peer call (λ new h. h))))
+      settled_step R limits begin s.world (ruled_answer store r).world
+      (by_rules R begin s.world (ruled_answer store r).world (ruled_sides R s.world peer call store r (call_sides R limits s.world peer call (λ new h. h))))
 
-  sent_sides : (R : Share → Type 0) (begin : Bool) (o : Option Outgoing) → StepSides R begin s.world (sent s o).state.world
+  sent_sides : (R : Share → Type 0) (begin : Bool) (o : Option Outgoing) → StepSides R begin s.world (sent_step s o).state.world
   sent_sides R begin None = unmoved_step R begin s.world
   sent_sides R begin (Some c) =
       let v = with_calls s.world (after_sending s.world.calls) in
@@ -160,11 +160,11 @@ module _ (limits : Limits) (s : State) where
   changed_sides : (R : Share → Type 0) (begin : Bool) (t : Response TableChange) → StepSides R begin s.world t.world → StepSides R begin s.world (settled_after limits t)
   changed_sides R begin t m = go t.says
     where
-      go : (c : TableChange) → StepSides R begin s.world (elim c [ TableStays ↦ t.world | TableChanges ↦ settled limits t.world ])
+      go : (c : TableChange) → StepSides R begin s.world (elim c [ TableStays ↦ t.world | TableChanges ↦ settled_world limits t.world ])
       go TableStays = m
       go TableChanges = settled_step R limits begin s.world t.world m
 
-  answered_sides : (R : Share → Type 0) (reading : AnswerReading) (store : StoreAnswer) → StepSides R false s.world (settled_after limits (ruled store (answer_rules limits s.world reading)))
+  answered_sides : (R : Share → Type 0) (reading : AnswerReading) (store : StoreAnswer) → StepSides R false s.world (settled_after limits (ruled_answer store (answer_rules limits s.world reading)))
   answered_sides R reading NotAsked = changed_sides R false _ (by_rules R false s.world _ (answer_sides R limits s.world reading).1)
   answered_sides R reading Yes = changed_sides R false _ (by_rules R false s.world _ (answer_sides R limits s.world reading).0)
   answered_sides R reading Refused = changed_sides R false _ (by_rules R false s.world _ (answer_sides R limits s.world reading).1)
@@ -174,7 +174,7 @@ module _ (limits : Limits) (s : State) where
   begun_sides R NotAsked = unmoved_step R _ s.world
   begun_sides R Refused = unmoved_step R _ s.world
 
-  applied_sides : (event : Event) (store : StoreAnswer) → StepSides (IsShareReclaim event) (is_beginning event store) s.world (applied limits s event store).state.world
+  applied_sides : (event : Event) (store : StoreAnswer) → StepSides (IsShareReclaim event) (is_beginning event store) s.world (applied_step limits s event store).state.world
   applied_sides (Take peer asked Ignored) store = unmoved_step _ _ s.world
   applied_sides (Take peer asked (Turned xid refusal)) store = unmoved_step _ _ s.world
   applied_sides (Take peer asked (Asks xid call)) store = taken_sides peer asked xid call store (look s peer asked)
@@ -183,7 +183,7 @@ module _ (limits : Limits) (s : State) where
   applied_sides (Silent number) store = silent_step _ _ s.world number
   applied_sides (Local l line) store =
       let R = IsShareReclaim (Local l line) in
-      let v = (ruled store (line_answer limits s.world l line)).world in
+      let v = (ruled_answer store (line_answer limits s.world l line)).world in
       settled_step R limits _ s.world v (by_rules R _ s.world v (line_sides R limits s.world l line store))
   applied_sides GraceOver store = going_step _ _ s.world _ refl refl (goes_still s.world (record s.world { phase = Normal }) refl refl)
   applied_sides Restart store = begun_sides _ store
@@ -193,7 +193,7 @@ module _ (limits : Limits) (s : State) where
   row_sides R begin (Nlm version (LockMsg a)) (Some call) Yes = same_step R begin s.world _ (record { name = refl; phase = refl; shares = refl; calls = refl; next = refl })
   row_sides R begin _ _ _ = unmoved_step R begin s.world
 
-  starved_sides : (event : Event) (store : StoreAnswer) → StepSides (IsShareReclaim event) (is_beginning event store) s.world (starved limits s event store).state.world
+  starved_sides : (event : Event) (store : StoreAnswer) → StepSides (IsShareReclaim event) (is_beginning event store) s.world (starved_step limits s event store).state.world
   starved_sides (Take peer asked Ignored) store = unmoved_step _ _ s.world
   starved_sides (Take peer asked (Turned xid refusal)) store = unmoved_step _ _ s.world
   starved_sides (Take peer asked (Asks xid call)) store = row_sides _ _ call (store_call limits s (Take peer asked (Asks xid call))) store

@@ -7,11 +7,11 @@ use Rattle.definitions.specs.Hosts.{Hosts, StoreCall, Begin, StoreAnswer, NotAsk
 use Rattle.definitions.specs.Outgoing.{Outgoing, next_due}
 use Rattle.definitions.specs.Replies.{Call, Nlm, Ignored, Turned, Asks, AnswerReading, LineReply}
 use Rattle.definitions.specs.World.{Limits, slots_free, restart_callback, opening}
-use Rattle.definitions.specs.Rulings.{Response, Ruling, ruled}
+use Rattle.definitions.specs.Rulings.{Response, Ruling, ruled_answer}
 use Rattle.definitions.specs.Lines.{line_answer}
 use Rattle.definitions.specs.Grants.{TableChange, TableStays, TableChanges, answer_rules}
 use Rattle.definitions.specs.Answer.{Answered, ruling}
-use Rattle.definitions.specs.Step.{Peer, KeptPair, State, Event, Applied, Starved, Stepped, Take, Send, Answer, Silent, Local, GraceOver, Restart, taken, applied, starved, look, sent, restart, settled_after, with_row_stored, store_call, asked_unless_kept, opening_state}
+use Rattle.definitions.specs.Step.{Peer, KeptPair, State, Event, Applied, Starved, Stepped, Take, Send, Answer, Silent, Local, GraceOver, Restart, taken_step, applied_step, starved_step, look, sent_step, restart, settled_after, with_row_stored, store_call, asked_unless_kept, opening_state}
 use Rattle.definitions.specs.Replay.{Done, after, state_after, may_leave_row, fits, all_fit}
 use Rattle.definition_laws.specs.Asking.{hosts_after, StoreLaw, HostRunLaw}
 use Rattle.definitions.proofs.MoveLaws.{by_cond}
@@ -34,23 +34,23 @@ unasked hosts Yes = refl
 unasked hosts Refused = refl
 
 module _ (limits : Limits) (s : State) where
-  ruled_follows : (store : StoreAnswer) (r : Ruling Answered) → Answer_follows s.world r → (ruled store r).world.hosts ≡ hosts_after s.world.hosts r.asks store
+  ruled_follows : (store : StoreAnswer) (r : Ruling Answered) → Answer_follows s.world r → (ruled_answer store r).world.hosts ≡ hosts_after s.world.hosts r.asks store
   ruled_follows NotAsked r h = h.1 ∙ sym (unless_yes s.world.hosts r.asks NotAsked not_asked)
   ruled_follows Yes r h = h.0
   ruled_follows Refused r h = h.1 ∙ sym (unless_yes s.world.hosts r.asks Refused refused_is_no_yes)
 
-  ruled_line : (store : StoreAnswer) (r : Ruling (Response LineReply)) → Line_follows s.world r → (ruled store r).world.hosts ≡ hosts_after s.world.hosts r.asks store
+  ruled_line : (store : StoreAnswer) (r : Ruling (Response LineReply)) → Line_follows s.world r → (ruled_answer store r).world.hosts ≡ hosts_after s.world.hosts r.asks store
   ruled_line NotAsked r h = h.1 ∙ sym (unless_yes s.world.hosts r.asks NotAsked not_asked)
   ruled_line Yes r h = h.0
   ruled_line Refused r h = h.1 ∙ sym (unless_yes s.world.hosts r.asks Refused refused_is_no_yes)
 
-  taken_follows : (peer : Peer) (asked : Bytes) (xid : ℕ) (call : Call) (store : StoreAnswer) (o : Option KeptPair) → (taken limits s peer asked xid call store o).state.world.hosts ≡ hosts_after s.world.hosts (asked_unless_kept limits s peer call o) store
+  taken_follows : (peer : Peer) (asked : Bytes) (xid : ℕ) (call : Call) (store : StoreAnswer) (o : Option KeptPair) → (taken_step limits s peer asked xid call store o).state.world.hosts ≡ hosts_after s.world.hosts (asked_unless_kept limits s peer call o) store
   taken_follows peer asked xid call store (Some k) =
       by_cond (λ (t : Stepped). t.state.world.hosts ≡ s.world.hosts) (leb (length k.callbacks) (slots_free limits s.world)) _ _ (λ _. (due_keeps s.world k.callbacks).hosts) (λ _. refl)
       ∙ sym (unasked s.world.hosts store)
   taken_follows peer asked xid call store None =
       let r = ruling limits s.world peer.local call in
-      (settle_keeps limits (ruled store r).world).hosts ∙ ruled_follows store r (call_follows limits s.world peer.local call)
+      (settle_keeps limits (ruled_answer store r).world).hosts ∙ ruled_follows store r (call_follows limits s.world peer.local call)
 
   changed_hosts : (t : Response TableChange) → (settled_after limits t).hosts ≡ t.world.hosts
   changed_hosts t = go t.says
@@ -59,12 +59,12 @@ module _ (limits : Limits) (s : State) where
       go TableStays = refl
       go TableChanges = (settle_keeps limits t.world).hosts
 
-  answered_follows : (reading : AnswerReading) (store : StoreAnswer) → (settled_after limits (ruled store (answer_rules limits s.world reading))).hosts ≡ hosts_after s.world.hosts (answer_rules limits s.world reading).asks store
+  answered_follows : (reading : AnswerReading) (store : StoreAnswer) → (settled_after limits (ruled_answer store (answer_rules limits s.world reading))).hosts ≡ hosts_after s.world.hosts (answer_rules limits s.world reading).asks store
   answered_follows reading Yes = changed_hosts (answer_rules limits s.world reading).agreed ∙ (answer_follows limits s.world reading).0
   answered_follows reading NotAsked = changed_hosts (answer_rules limits s.world reading).refused ∙ (answer_follows limits s.world reading).1 ∙ sym (unless_yes s.world.hosts (answer_rules limits s.world reading).asks NotAsked not_asked)
   answered_follows reading Refused = changed_hosts (answer_rules limits s.world reading).refused ∙ (answer_follows limits s.world reading).1 ∙ sym (unless_yes s.world.hosts (answer_rules limits s.world reading).asks Refused refused_is_no_yes)
 
-  sent_follows : (o : Option Outgoing) → (sent s o).state.world.hosts ≡ s.world.hosts
+  sent_follows : (o : Option Outgoing) → (sent_step s o).state.world.hosts ≡ s.world.hosts
   sent_follows None = refl
   sent_follows (Some c) = refl
 
@@ -73,7 +73,7 @@ module _ (limits : Limits) (s : State) where
   restart_follows NotAsked = refl
   restart_follows Refused = refl
 
-  applied_follows : (event : Event) (store : StoreAnswer) → (applied limits s event store).state.world.hosts ≡ hosts_after s.world.hosts (store_call limits s event) store
+  applied_follows : (event : Event) (store : StoreAnswer) → (applied_step limits s event store).state.world.hosts ≡ hosts_after s.world.hosts (store_call limits s event) store
   applied_follows (Take peer asked Ignored) store = sym (unasked s.world.hosts store)
   applied_follows (Take peer asked (Turned xid refusal)) store = sym (unasked s.world.hosts store)
   applied_follows (Take peer asked (Asks xid call)) store = taken_follows peer asked xid call store (look s peer asked)
@@ -82,7 +82,7 @@ module _ (limits : Limits) (s : State) where
   applied_follows (Silent number) store = sym (unasked s.world.hosts store)
   applied_follows (Local l line) store =
       let r = line_answer limits s.world l line in
-      (settle_keeps limits (ruled store r).world).hosts ∙ ruled_line store r (line_follows limits s.world l line)
+      (settle_keeps limits (ruled_answer store r).world).hosts ∙ ruled_line store r (line_follows limits s.world l line)
   applied_follows GraceOver store = sym (unasked s.world.hosts store)
   applied_follows Restart store = restart_follows store
 
@@ -98,7 +98,7 @@ module _ (limits : Limits) (s : State) where
   fitting false c h = absurd (true≢false (sym h))
 
   -- without a yes nothing changes; with one it is a lock's row
-  starved_follows : (event : Event) (store : StoreAnswer) → fits limits s (record { event = event; completion = Starved; store = store }) ≡ true → (starved limits s event store).state.world.hosts ≡ hosts_after s.world.hosts (store_call limits s event) store
+  starved_follows : (event : Event) (store : StoreAnswer) → fits limits s (record { event = event; completion = Starved; store = store }) ≡ true → (starved_step limits s event store).state.world.hosts ≡ hosts_after s.world.hosts (store_call limits s event) store
   starved_follows event NotAsked h = ap (λ (t : State). t.world.hosts) (starved_law.unless_agreed limits s event NotAsked not_asked) ∙ sym (unless_yes s.world.hosts (store_call limits s event) NotAsked not_asked)
   starved_follows event Refused h = ap (λ (t : State). t.world.hosts) (starved_law.unless_agreed limits s event Refused refused_is_no_yes) ∙ sym (unless_yes s.world.hosts (store_call limits s event) Refused refused_is_no_yes)
   starved_follows (Take peer asked (Asks xid call)) Yes h = row_follows call (store_call limits s (Take peer asked (Asks xid call))) (fitting (may_leave_row call) _ h)

@@ -15,11 +15,11 @@ use Rattle.definitions.specs.Ranges.{range_refusal, file_refusal, request_of, un
 use Rattle.definitions.specs.Replies.{Call, Nlm, Nsm, SystemErr, AnswerReading, Unreadable, AcceptedSuccess, OtherAnswer, Line, GetLock, SetLock, SetLockWait, Close, Table, HostList, SetQuota, Stop, BadLine, LineReply, LineAbsent}
 use Rattle.definitions.specs.Waits.{is_waiting, closes_cycle}
 use Rattle.definitions.specs.World.{World, Limits, with_setting, with_waiter, with_hosts, slots_free, restart_callback, opening}
-use Rattle.definitions.specs.Rulings.{Response, Ruling, decided, stays}
+use Rattle.definitions.specs.Rulings.{Response, Ruling, decided_ruling, stays}
 use Rattle.definitions.specs.LockRules.{LockAsk, row_asked, after_row, free_lock, blocked_lock, lock_rules, unlock_rules, cancel_rules}
 use Rattle.definitions.specs.Lines.{line_refusal, line_answer, quota_stored, set_unless, line_sets, line_ask}
-use Rattle.definitions.specs.Grants.{TableChange, TableStays, TableChanges, ended, became, grant_answered, granted_res_rules, granted_res_at, granted_res_of, notice_answered, succeeded, answered_success, answered_otherwise, answer_rules}
-use Rattle.definitions.specs.Answer.{Answered, gives, lock_ask, caller_row, lock_unless, lock_verdict, lock_msg_answer, cancel_unless, cancel_answer, unlock_unless, unlock_answer, if_slots, by_call, by_message, sent_back, test_callback, lock_callback, cancel_callback, unlock_callback, share_unless, share_of, unshare_unless, stored, notified, notify_rules, status_callback, nlm_answer, nsm_answer, ruling}
+use Rattle.definitions.specs.Grants.{TableChange, TableStays, TableChanges, world_without_call, became, grant_answered, granted_res_rules, granted_res_at, granted_res_of, notice_answered, ruling_on_success, answered_success, answered_otherwise, answer_rules}
+use Rattle.definitions.specs.Answer.{Answered, gives, lock_ask, caller_row, lock_unless, lock_verdict, lock_msg_answer, cancel_unless, cancel_answer, unlock_unless, unlock_answer, if_slots, by_call, by_message, sent_back, test_callback, lock_callback, cancel_callback, unlock_callback, share_unless, share_of, unshare_unless, ruling_after_store, notified_answer, notify_rules, status_callback, nlm_answer, nsm_answer, ruling}
 use Rattle.definitions.proofs.WorldLaws.{due_keeps}
 use Rattle.definition_laws.specs.Asking.{hosts_after}
 use Rattle.definitions.proofs.MoveLaws.{by_cond}
@@ -57,7 +57,7 @@ lock_follows limits w a =
         (λ _. row_follows w (row_asked w a.row) BLOCKED (λ v. with_waiter v (record { request = a.request; callback = a.callback })) (λ v. refl))))
 
 unlock_follows : (limits : Limits) (w : World) (s : Setting) → Response_follows w (unlock_rules limits w s)
-unlock_follows limits w s = by_cond (Response_follows w) (is_refused limits.runs (quotas_of w.hosts) w.settings s) (stays w DENIED_NOLOCKS) (decided (record { says = GRANTED; world = with_setting w s })) (λ _. (refl, refl)) (λ _. (refl, refl))
+unlock_follows limits w s = by_cond (Response_follows w) (is_refused limits.runs (quotas_of w.hosts) w.settings s) (stays w DENIED_NOLOCKS) (decided_ruling (record { says = GRANTED; world = with_setting w s })) (λ _. (refl, refl)) (λ _. (refl, refl))
 
 cancel_follows : (w : World) (r : Request) → Response_follows w (cancel_rules w r)
 cancel_follows w r = by_cond (Response_follows w) (is_waiting r w.waiters) _ (stays w DENIED) (λ _. (refl, refl)) (λ _. (refl, refl))
@@ -87,7 +87,7 @@ unlock_answer_follows limits w a = go (range_refusal w Unlocking a.alock)
 
 grant_follows : (limits : Limits) (w : World) (c : Outgoing) (alock : Lock) (stat : Option Stat) → (grant_answered limits w c alock stat).world.hosts ≡ w.hosts
 grant_follows limits w c alock (Some DENIED) =
-    by_cond (λ (t : Response TableChange). t.world.hosts ≡ w.hosts) (is_refused limits.runs (quotas_of w.hosts) w.settings (unlock_of alock)) (became TableStays (ended w c)) (became TableChanges (with_setting (ended w c) (unlock_of alock))) (λ _. refl) (λ _. refl)
+    by_cond (λ (t : Response TableChange). t.world.hosts ≡ w.hosts) (is_refused limits.runs (quotas_of w.hosts) w.settings (unlock_of alock)) (became TableStays (world_without_call w c)) (became TableChanges (with_setting (world_without_call w c) (unlock_of alock))) (λ _. refl) (λ _. refl)
 grant_follows limits w c alock (Some DENIED_GRACE_PERIOD) = refl
 grant_follows limits w c alock _ = refl
 
@@ -106,7 +106,7 @@ notice_follows : (w : World) (c : Outgoing) (to : Destination) → Change_follow
 notice_follows w c (ToHost name) = (refl, refl)
 notice_follows w c (ToConnection l) = (refl, refl)
 
-succeeded_follows : (limits : Limits) (w : World) (c : Outgoing) (stat : Option Stat) (m : Message) → Change_follows w (succeeded limits w c stat m)
+succeeded_follows : (limits : Limits) (w : World) (c : Outgoing) (stat : Option Stat) (m : Message) → Change_follows w (ruling_on_success limits w c stat m)
 succeeded_follows limits w c stat (Granted version exclusive alock) = (grant_follows limits w c alock stat, grant_follows limits w c alock stat)
 succeeded_follows limits w c stat (GrantedMsg version exclusive alock) = (refl, refl)
 succeeded_follows limits w c stat (Notify name state) = notice_follows w c c.callback.to
@@ -128,7 +128,7 @@ answer_follows limits w (OtherAnswer xid) = go (call_of_xid xid w.calls)
 -- ---- calls
 
 slots_follow : (n : ℕ) (limits : Limits) (w : World) (r : Ruling Answered) → Answer_follows w r → Answer_follows w (if_slots n limits w r)
-slots_follow n limits w r h = by_cond (Answer_follows w) (leb n (slots_free limits w)) r (decided (gives w SystemErr)) (λ _. h) (λ _. (refl, refl))
+slots_follow n limits w r h = by_cond (Answer_follows w) (leb n (slots_free limits w)) r (decided_ruling (gives w SystemErr)) (λ _. h) (λ _. (refl, refl))
 
 message_follows : (limits : Limits) (w : World) (callback : Stat → Callback) (r : Ruling (Response Stat)) → Response_follows w r → Answer_follows w (by_message limits w callback r)
 message_follows limits w callback r h = slots_follow 1 limits w (by_call callback r) h
@@ -150,7 +150,7 @@ nlm_follows limits w version (Locks a) = verdict_follows limits w a (lock_ask a 
 nlm_follows limits w version (NmLock a) = verdict_follows limits w a (lock_ask a None (Granted version a.exclusive a.alock) (slots_free limits w))
 nlm_follows limits w version (Cancel a) = cancel_answer_follows w a
 nlm_follows limits w version (Unlock a) = unlock_answer_follows limits w a
-nlm_follows limits w version (TestMsg a) = slots_follow 1 limits w (decided (sent_back (test_callback w version a) w)) (refl, refl)
+nlm_follows limits w version (TestMsg a) = slots_follow 1 limits w (decided_ruling (sent_back (test_callback w version a) w)) (refl, refl)
 nlm_follows limits w version (LockMsg a) = message_follows limits w (lock_callback version a) (lock_msg_answer limits w version a) (verdict_follows limits w a (lock_ask a (caller_row a) (GrantedMsg version a.exclusive a.alock) (slots_free limits w - 1)))
 nlm_follows limits w version (CancelMsg a) = message_follows limits w (cancel_callback version a) (cancel_answer w a) (cancel_answer_follows w a)
 nlm_follows limits w version (UnlockMsg a) = message_follows limits w (unlock_callback version a) (unlock_answer limits w a) (unlock_answer_follows limits w a)
@@ -178,7 +178,7 @@ nsm_follows limits w local (SmNotify name state) = go (row_of w.hosts name)
     go None = (refl, refl)
     go (Some row) =
         by_cond (Answer_follows w) (int_eq row.seen state) _ _ (λ _. (refl, refl))
-        (λ _. slots_follow (length (watches_of w.hosts name)) limits w (stored w (Seen name state) (notified name state) (gives w SystemErr)) ((due_keeps _ (map (status_callback state) (watches_of (after_store w.hosts (Seen name state)) name))).hosts, refl))
+        (λ _. slots_follow (length (watches_of w.hosts name)) limits w (ruling_after_store w (Seen name state) (notified_answer name state) (gives w SystemErr)) ((due_keeps _ (map (status_callback state) (watches_of (after_store w.hosts (Seen name state)) name))).hosts, refl))
 
 pub call_follows : (limits : Limits) (w : World) (local : Bool) (call : Call) → Answer_follows w (ruling limits w local call)
 call_follows limits w local (Nlm version call) = nlm_follows limits w version call

@@ -3,7 +3,7 @@ use Rattle.std.specs.Prelude.{◌≡◌, Bool, true, false, Some}
 use Rattle.definitions.specs.Nlm.{Version, Stat, GRANTED, BLOCKED, DENIED_NOLOCKS, LockArgs}
 use Rattle.definitions.specs.Hosts.{StoreCall, StoreAnswer, has_row}
 use Rattle.definitions.specs.World.{World, Limits}
-use Rattle.definitions.specs.Rulings.{Response, Ruling, ruled}
+use Rattle.definitions.specs.Rulings.{Response, Ruling, ruled_answer}
 use Rattle.definitions.specs.Answer.{lock_answer, nm_lock_answer, lock_msg_answer}
 
 -- granted, or waiting to be
@@ -19,7 +19,7 @@ HasRow a t = stands t.says ≡ true → has_row t.world.hosts a.alock.caller_nam
 abbrev pub MonitoredLaw : Type 0
 MonitoredLaw =
     (limits : Limits) (w : World) (version : Version) (a : LockArgs) (store : StoreAnswer)
-    → HasRow a (ruled store (lock_answer limits w version a)) × HasRow a (ruled store (lock_msg_answer limits w version a))
+    → HasRow a (ruled_answer store (lock_answer limits w version a)) × HasRow a (ruled_answer store (lock_msg_answer limits w version a))
 
 -- where a row is asked for and the store refuses it, the lock is answered DENIED_NOLOCKS and nothing has changed
 abbrev pub IsGivenUp : World → Ruling (Response Stat) → Type 0

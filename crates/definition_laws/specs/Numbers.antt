@@ -7,9 +7,9 @@ use Rattle.definitions.specs.Step.{State, Event, Take, Restart, Completion, is_r
 use Rattle.definitions.specs.World.{World, Limits, first_number}
 
 -- callbacks that become due one behind the other, from a number on
-abbrev pub numbered : ℕ → List Callback → List Outgoing
-numbered next [] = []
-numbered next (callback ∷ callbacks) = due_now next callback ∷ numbered ((next + 1) % 2 ^ 64) callbacks
+abbrev pub numbered_calls : ℕ → List Callback → List Outgoing
+numbered_calls next [] = []
+numbered_calls next (callback ∷ callbacks) = due_now next callback ∷ numbered_calls ((next + 1) % 2 ^ 64) callbacks
 
 -- and the number behind theirs
 abbrev pub number_behind : ℕ → List Callback → ℕ
@@ -43,7 +43,7 @@ AreRenewed calls left again = (AreLeft calls left × (again ≡ [])) ⊎ IsDueAg
 -- the world's calls are these, and then callbacks that became due from a number on
 pub record Continues (before : List Outgoing) (first : ℕ) (v : World) : Type 0 where
   pub callbacks : List Callback
-  pub calls : v.calls ≡ before ++ numbered first callbacks
+  pub calls : v.calls ≡ before ++ numbered_calls first callbacks
   pub next : v.next ≡ number_behind first callbacks
 
 -- first the calls that are left, then one that is due again, then the new ones

@@ -12,7 +12,7 @@ use Rattle.definitions.specs.Step.{Event, Send, Silent, Local, Given, Nothing, S
 use Rattle.definitions.specs.Replay.{left_by}
 use Rattle.definitions.specs.World.{Limits, the_limits}
 use Rattle.definition_laws.specs.RowsOfRepeats.{lock_res}
-use Rattle.definition_laws.specs.ShortForms.{begun, A, B, C, D, w, r, LOCK, LOCK+block, NM_LOCK, LOCK_MSG+block, UNLOCK, TEST, TEST_MSG, CANCEL, SHARE, FREE_ALL, SM_NOTIFY, LOCK_MSG, nlm, lock_args, lock_at, stat, share_stat, held_by, told, grants, number, cookie_of, call_from, the_peer, test_stat}
+use Rattle.definition_laws.specs.ShortForms.{begun_state, A, B, C, D, w, r, LOCK, LOCK+block, NM_LOCK, LOCK_MSG+block, UNLOCK, TEST, TEST_MSG, CANCEL, SHARE, FREE_ALL, SM_NOTIFY, LOCK_MSG, nlm, lock_args, lock_at, stat, share_stat, held_by, given_result, grants, number, cookie_of, call_from, the_peer, test_stat}
 use Rattle.definitions.specs.Shares.{no_access, read_only}
 
 -- ---- runs
@@ -41,20 +41,20 @@ abbrev pub table_full_gives : List Given
 table_full_gives = seven_granted 0 ++ stat 41 DENIED_NOLOCKS ∷ stat 42 DENIED_NOLOCKS ∷ held_by 43 A w 0 3 ∷ stat 44 GRANTED ∷ stat 45 GRANTED ∷ []
 
 abbrev pub TableFullAgain : Type 0
-TableFullAgain = used (left_by eight_runs (begun eight_runs) table_full).world.settings ≡ 7
+TableFullAgain = used (left_by eight_runs (begun_state eight_runs) table_full).world.settings ≡ 7
 
 -- a drop of the host empties the table, and the same runs can be set again
 abbrev pub all_dropped : List Event
 all_dropped = table_full ++ FREE_ALL 50 A.name ∷ []
 
 abbrev pub AllDropped : Type 0
-AllDropped = used (left_by eight_runs (begun eight_runs) all_dropped).world.settings ≡ 0
+AllDropped = used (left_by eight_runs (begun_state eight_runs) all_dropped).world.settings ≡ 0
 
 abbrev pub set_again : List Event
 set_again = seven_set ++ FREE_ALL 50 A.name ∷ seven_behind 60
 
 abbrev pub set_again_gives : List Given
-set_again_gives = seven_granted 0 ++ told 50 NoResult ∷ seven_granted 60
+set_again_gives = seven_granted 0 ++ given_result 50 NoResult ∷ seven_granted 60
 
 -- ---- slots
 
@@ -72,7 +72,7 @@ slots_full = four_waiters ++ LOCK+block 6 B w 0 5 ∷ TEST_MSG 7 B w 0 0 ∷ CAN
 
 abbrev pub slots_full_gives : List Given
 slots_full_gives =
-    four_blocked ++ stat 6 DENIED_NOLOCKS ∷ Replies 7 SystemErr ∷ stat 8 GRANTED ∷ told 9 NoResult
+    four_blocked ++ stat 6 DENIED_NOLOCKS ∷ Replies 7 SystemErr ∷ stat 8 GRANTED ∷ given_result 9 NoResult
     ∷ Sends (number 1 1) (record { to = ToHost B.name; message = LockResult V4 (record { cookie = cookie_of 9; stat = DENIED_NOLOCKS }) })
     ∷ []
 
@@ -96,7 +96,7 @@ silent_hosts =
 abbrev pub silent_hosts_gives : List Given
 silent_hosts_gives =
     four_blocked ++ stat 6 GRANTED ∷ four_grants ++ four_nothings ++ four_grants ++ four_nothings ++ four_grants ++ four_nothings
-    ++ four_nothings ++ told 7 NoResult ∷ held_by 8 B w 0 4 ∷ []
+    ++ four_nothings ++ given_result 7 NoResult ∷ held_by 8 B w 0 4 ∷ []
 
 -- ---- shares
 
@@ -127,15 +127,15 @@ hosts_full = LOCK 1 A r 0 1 ∷ LOCK 2 B r 0 1 ∷ LOCK 3 C r 0 1 ∷ LOCK 4 D r
 abbrev pub hosts_full_gives : List Given
 hosts_full_gives =
     stat 1 GRANTED ∷ stat 2 GRANTED ∷ stat 3 GRANTED ∷ stat 4 DENIED_NOLOCKS ∷ stat 5 GRANTED
-    ∷ told 6 (MonitorResult STAT_FAIL (pos 1)) ∷ told 7 NoResult ∷ []
+    ∷ given_result 6 (MonitorResult STAT_FAIL (pos 1)) ∷ given_result 7 NoResult ∷ []
 
 abbrev pub watches_full : List Event
 watches_full = LOCK 1 A r 0 1 ∷ monitors 2 A 1 7 ∷ monitors 3 A 2 7 ∷ monitors 4 A 3 7 ∷ monitors 5 A 1 8 ∷ []
 
 abbrev pub watches_full_gives : List Given
 watches_full_gives =
-    stat 1 GRANTED ∷ told 2 (MonitorResult STAT_SUCC (pos 1)) ∷ told 3 (MonitorResult STAT_SUCC (pos 1))
-    ∷ told 4 (MonitorResult STAT_FAIL (pos 1)) ∷ told 5 (MonitorResult STAT_SUCC (pos 1)) ∷ []
+    stat 1 GRANTED ∷ given_result 2 (MonitorResult STAT_SUCC (pos 1)) ∷ given_result 3 (MonitorResult STAT_SUCC (pos 1))
+    ∷ given_result 4 (MonitorResult STAT_FAIL (pos 1)) ∷ given_result 5 (MonitorResult STAT_SUCC (pos 1)) ∷ []
 
 -- a message form with no slot for its _RES, and its repeat
 abbrev pub message_without_slot : List Event
@@ -153,7 +153,7 @@ stale_without_slot = four_waiters ++ stale_message 6 ∷ CANCEL 7 B w 0 1 ∷ st
 
 abbrev pub stale_without_slot_gives : List Given
 stale_without_slot_gives =
-    four_blocked ++ Replies 6 SystemErr ∷ stat 7 GRANTED ∷ told 8 NoResult
+    four_blocked ++ Replies 6 SystemErr ∷ stat 7 GRANTED ∷ given_result 8 NoResult
     ∷ Sends (number 1 1) (record { to = ToHost B.name; message = LockResult V4 (record { cookie = cookie_of 8; stat = STALE_FH }) })
     ∷ []
 
@@ -168,7 +168,7 @@ repeat_without_slot =
 
 abbrev pub repeat_without_slot_gives : List Given
 repeat_without_slot_gives =
-    told 7 NoResult ∷ stat 8 BLOCKED ∷ Replies 7 SystemErr ∷ stat 8 BLOCKED ∷ stat 9 GRANTED ∷ told 7 NoResult ∷ lock_res 1
+    given_result 7 NoResult ∷ stat 8 BLOCKED ∷ Replies 7 SystemErr ∷ stat 8 BLOCKED ∷ stat 9 GRANTED ∷ given_result 7 NoResult ∷ lock_res 1
     ∷ lock_res 2 ∷ []
 
 -- the order of the checks on a lock that would wait: an equal waiter, a cycle, a slot, and only then the row

@@ -10,7 +10,7 @@ use Rattle.definitions.specs.Replies.{NoResult, StateResult, MonitorResult, Nsm,
 use Rattle.definitions.specs.Nsm.{STAT_SUCC}
 use Rattle.definition_laws.specs.RowsOfHosts.{two_hosts, monitor_from, watcher, sixteen}
 use Rattle.definition_laws.specs.RowsAtLimits.{monitors, numbered_watcher}
-use Rattle.definition_laws.specs.ShortForms.{A, B, C, D, w, the_file, the_peer, remote_peer, server, nlm, call_from, lock_at, cookie_of, LOCK, LOCK+block, LOCK_MSG+block, UNLOCK, TEST, SM_NOTIFY, stat, held_by, told, grants, number, refused}
+use Rattle.definition_laws.specs.ShortForms.{A, B, C, D, w, the_file, the_peer, remote_peer, server, nlm, call_from, lock_at, cookie_of, LOCK, LOCK+block, LOCK_MSG+block, UNLOCK, TEST, SM_NOTIFY, stat, held_by, given_result, grants, number, refused_event}
 use Rattle.definitions.specs.Step.{Event, Send, Answer, Silent, Restart, Given, Nothing, Sends, opening_state}
 use Rattle.definitions.specs.World.{World, Limits, the_limits}
 
@@ -75,7 +75,7 @@ blocked_res n xid = Sends (number 1 n) (record { to = ToHost B.name; message = L
 
 abbrev pub message_turned_gives : List Given
 message_turned_gives =
-    stat 1 GRANTED ∷ told 2 NoResult ∷ blocked_res 1 2 ∷ stat 3 GRANTED ∷ granted_msg 2 ∷ Nothing ∷ Nothing ∷ granted_msg 2
+    stat 1 GRANTED ∷ given_result 2 NoResult ∷ blocked_res 1 2 ∷ stat 3 GRANTED ∷ granted_msg 2 ∷ Nothing ∷ Nothing ∷ granted_msg 2
     ∷ Nothing ∷ Nothing ∷ Nothing ∷ []
 
 -- the number's 8 bytes are the cookie
@@ -110,7 +110,7 @@ unlock_refused_gives =
 -- a store that refuses the epoch: the row stays, and the notice ends all the same
 abbrev pub after_refusal : World
 after_refusal =
-    (after the_limits (left_by the_limits (opening_state server two_hosts) (Restart ∷ Send ∷ [])) (refused (Answer (AcceptedSuccess 1 None)))).state.world
+    (after the_limits (left_by the_limits (opening_state server two_hosts) (Restart ∷ Send ∷ [])) (refused_event (Answer (AcceptedSuccess 1 None)))).state.world
 
 abbrev pub EpochRefusedRows : Type 0
 EpochRefusedRows = after_refusal.hosts.rows ≡ two_hosts.rows
@@ -131,7 +131,7 @@ result_first = LOCK 1 A w 0 10 ∷ LOCK+block 2 B w 0 10 ∷ UNLOCK_MSG 3 A 0 10
 
 abbrev pub result_first_gives : List Given
 result_first_gives =
-    stat 1 GRANTED ∷ stat 2 BLOCKED ∷ told 3 NoResult
+    stat 1 GRANTED ∷ stat 2 BLOCKED ∷ given_result 3 NoResult
     ∷ Sends (number 1 1) (record { to = ToHost A.name; message = UnlockResult V4 (record { cookie = cookie_of 3; stat = GRANTED }) })
     ∷ grants 2 B w 0 10 ∷ Nothing ∷ []
 
@@ -141,14 +141,14 @@ status_first = monitor_from the_peer 1 ∷ LOCK 2 A w 0 10 ∷ LOCK+block 3 B w 
 
 abbrev pub status_first_gives : List Given
 status_first_gives =
-    told 1 (MonitorResult STAT_SUCC (pos 1)) ∷ stat 2 GRANTED ∷ stat 3 BLOCKED ∷ told 900 NoResult
+    given_result 1 (MonitorResult STAT_SUCC (pos 1)) ∷ stat 2 GRANTED ∷ stat 3 BLOCKED ∷ given_result 900 NoResult
     ∷ Sends (number 1 1) (record { to = ToHost server; message = Status watcher A.name (pos 5) sixteen }) ∷ grants 2 B w 0 10
     ∷ Nothing ∷ []
 
 -- ---- watches that go, and peers that aren't local
 
-abbrev pub unmonitored : List Event
-unmonitored =
+abbrev pub unmonitored_events : List Event
+unmonitored_events =
     monitors 1 A 1 7
     ∷ monitors 2 A 2 8
     ∷ monitors 3 B 1 9
@@ -163,7 +163,7 @@ unmonitored =
 
 abbrev pub unmonitored_gives : List Given
 unmonitored_gives =
-    told 1 (MonitorResult STAT_SUCC (pos 1)) ∷ told 2 (MonitorResult STAT_SUCC (pos 1)) ∷ told 3 (MonitorResult STAT_SUCC (pos 1))
-    ∷ told 4 (StateResult (pos 1)) ∷ told 5 NoResult ∷ told 6 (StateResult (pos 1)) ∷ told 7 NoResult ∷ told 8 NoResult
+    given_result 1 (MonitorResult STAT_SUCC (pos 1)) ∷ given_result 2 (MonitorResult STAT_SUCC (pos 1)) ∷ given_result 3 (MonitorResult STAT_SUCC (pos 1))
+    ∷ given_result 4 (StateResult (pos 1)) ∷ given_result 5 NoResult ∷ given_result 6 (StateResult (pos 1)) ∷ given_result 7 NoResult ∷ given_result 8 NoResult
     ∷ Sends (number 1 1) (record { to = ToHost A.name; message = Status (numbered_watcher 2) A.name (pos 5) (8 ∷ []) }) ∷ Nothing
     ∷ []

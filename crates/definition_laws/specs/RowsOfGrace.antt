@@ -8,7 +8,7 @@ use Rattle.definitions.specs.Replay.{left_by}
 use Rattle.definitions.specs.Replies.{NoResult, GetLock, SetLock, Close, LineOk, LineGrace, LineFbig}
 use Rattle.definition_laws.specs.RowsOfHosts.{notify_call}
 use Rattle.definitions.specs.Settings.{Mode}
-use Rattle.definition_laws.specs.ShortForms.{A, w, p, the_file, nlm, lock_args, share_args, reclaiming, cookie_of, LOCK, LOCK+reclaim, NM_LOCK, LOCK_MSG, TEST, UNLOCK, CANCEL, SHARE, UNSHARE, FREE_ALL, stat, share_stat, test_stat, told, number, lock_line, fresh_daemon}
+use Rattle.definition_laws.specs.ShortForms.{A, w, p, the_file, nlm, lock_args, share_args, reclaiming, cookie_of, LOCK, LOCK+reclaim, NM_LOCK, LOCK_MSG, TEST, UNLOCK, CANCEL, SHARE, UNSHARE, FREE_ALL, stat, share_stat, test_stat, given_result, number, lock_line, fresh_daemon}
 use Rattle.definitions.specs.Step.{Event, Send, Local, Restart, GraceOver, Given, Nothing, Says, Sends}
 use Rattle.definitions.specs.World.{the_limits}
 use Rattle.definitions.specs.Shares.{no_access, read_only}
@@ -61,11 +61,11 @@ in_grace_gives =
     ∷ stat 5 DENIED_GRACE_PERIOD
     ∷ stat 6 DENIED_GRACE_PERIOD
     ∷ share_stat 7 DENIED_GRACE_PERIOD
-    ∷ told 8 NoResult
+    ∷ given_result 8 NoResult
     ∷ lock_res 3 8
     ∷ stat 9 GRANTED
     ∷ share_stat 10 GRANTED
-    ∷ told 11 NoResult
+    ∷ given_result 11 NoResult
     ∷ Says LineGrace
     ∷ Says LineGrace
     ∷ Says LineGrace
@@ -79,7 +79,7 @@ late_reclaims = LOCK+reclaim 1 A w 0 1 ∷ NM_LOCK+reclaim 2 A w 0 1 ∷ SHARE+r
 
 abbrev pub late_reclaims_give : List Given
 late_reclaims_give =
-    stat 1 DENIED_GRACE_PERIOD ∷ stat 2 DENIED_GRACE_PERIOD ∷ share_stat 3 DENIED_GRACE_PERIOD ∷ told 4 NoResult ∷ lock_res 1 4
+    stat 1 DENIED_GRACE_PERIOD ∷ stat 2 DENIED_GRACE_PERIOD ∷ share_stat 3 DENIED_GRACE_PERIOD ∷ given_result 4 NoResult ∷ lock_res 1 4
     ∷ share_stat 5 GRANTED ∷ []
 
 -- a kept reply stays what it was, also past the end of grace

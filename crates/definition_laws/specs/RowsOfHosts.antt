@@ -2,7 +2,7 @@
 use Rattle.std.specs.Prelude.{◌≡◌, ℕ, List, [], ◌∷◌, ◌++◌, pos, None}
 use Rattle.definitions.specs.Nlm.{GRANTED, BLOCKED, DENIED_GRACE_PERIOD}
 use Rattle.definitions.specs.Step.{Event, Send, Answer, Local, Restart, GraceOver, Given, Nothing, Says, Sends}
-use Rattle.definition_laws.specs.ShortForms.{left, A, B, C, w, LOCK, LOCK+block, LOCK+reclaim, NM_LOCK+block, TEST, SM_NOTIFY, stat, test_stat, held_by, told, grants, number, call_from, the_peer, remote_peer, server, UNLOCK}
+use Rattle.definition_laws.specs.ShortForms.{left, A, B, C, w, LOCK, LOCK+block, LOCK+reclaim, NM_LOCK+block, TEST, SM_NOTIFY, stat, test_stat, held_by, given_result, grants, number, call_from, the_peer, remote_peer, server, UNLOCK}
 use Rattle.definitions.specs.Hosts.{Hosts, HostRow}
 use Rattle.definitions.specs.Nsm.{MyId, SmStat, SmMon, SmUnmon, SmSimuCrash, STAT_SUCC, STAT_FAIL}
 use Rattle.definitions.specs.Outgoing.{ToHost, Notify, Status}
@@ -25,7 +25,7 @@ abbrev pub notify : List Event
 notify = notify_first ++ SM_NOTIFY 900 A.name (pos 3) ∷ SM_NOTIFY 901 A.name (pos 5) ∷ Send ∷ SM_NOTIFY 902 A.name (pos 5) ∷ TEST 903 C w 0 0 ∷ []
 
 abbrev pub notify_gives : List Given
-notify_gives = stat 34 GRANTED ∷ stat 35 BLOCKED ∷ told 900 NoResult ∷ told 901 NoResult ∷ grants 1 B w 0 10 ∷ told 902 NoResult ∷ held_by 903 B w 0 10 ∷ []
+notify_gives = stat 34 GRANTED ∷ stat 35 BLOCKED ∷ given_result 900 NoResult ∷ given_result 901 NoResult ∷ grants 1 B w 0 10 ∷ given_result 902 NoResult ∷ held_by 903 B w 0 10 ∷ []
 
 -- the state that was seen changes nothing
 abbrev pub NotifySeen : Type 0
@@ -82,16 +82,16 @@ monitor_and_simulated_crash =
 
 abbrev pub monitor_and_simulated_crash_gives : List Given
 monitor_and_simulated_crash_gives =
-    told 130 (MonitorResult STAT_FAIL (pos 1)) ∷ told 131 (MonitorResult STAT_SUCC (pos 1)) ∷ told 900 NoResult
+    given_result 130 (MonitorResult STAT_FAIL (pos 1)) ∷ given_result 131 (MonitorResult STAT_SUCC (pos 1)) ∷ given_result 900 NoResult
     ∷ Sends (number 1 1) (record { to = ToHost server; message = Status watcher A.name (pos 5) sixteen })
-    ∷ told 901 (StateResult (pos 1)) ∷ told 902 NoResult ∷ Nothing ∷ told 903 NoResult
-    ∷ told 904 (MonitorResult STAT_SUCC (pos 3)) ∷ notify_call 1 0x61 ∷ stat 132 DENIED_GRACE_PERIOD ∷ []
+    ∷ given_result 901 (StateResult (pos 1)) ∷ given_result 902 NoResult ∷ Nothing ∷ given_result 903 NoResult
+    ∷ given_result 904 (MonitorResult STAT_SUCC (pos 3)) ∷ notify_call 1 0x61 ∷ stat 132 DENIED_GRACE_PERIOD ∷ []
 
 abbrev pub stat_call : List Event
 stat_call = call_from the_peer 12 0 (Nsm (SmStat A.name)) ∷ []
 
 abbrev pub stat_call_gives : List Given
-stat_call_gives = told 12 (MonitorResult STAT_SUCC (pos 1)) ∷ []
+stat_call_gives = given_result 12 (MonitorResult STAT_SUCC (pos 1)) ∷ []
 
 abbrev pub rows_of_waiters : List Event
 rows_of_waiters = LOCK 133 A w 0 1 ∷ NM_LOCK+block 134 B w 0 1 ∷ Local 1 HostList ∷ LOCK+block 135 B w 0 1 ∷ Local 1 HostList ∷ []
@@ -116,4 +116,4 @@ abbrev pub waiter_dropped : List Event
 waiter_dropped = LOCK 1 A w 0 10 ∷ LOCK+block 2 B w 0 10 ∷ SM_NOTIFY 900 B.name (pos 5) ∷ UNLOCK 3 A 0 10 ∷ Send ∷ TEST 4 C w 0 0 ∷ []
 
 abbrev pub waiter_dropped_gives : List Given
-waiter_dropped_gives = stat 1 GRANTED ∷ stat 2 BLOCKED ∷ told 900 NoResult ∷ stat 3 GRANTED ∷ Nothing ∷ test_stat 4 GRANTED ∷ []
+waiter_dropped_gives = stat 1 GRANTED ∷ stat 2 BLOCKED ∷ given_result 900 NoResult ∷ stat 3 GRANTED ∷ Nothing ∷ test_stat 4 GRANTED ∷ []

@@ -2,19 +2,19 @@
 use Rattle.std.specs.Prelude.{◌≡◌, ℕ, true, List, [], ◌∷◌, ◌++◌, pos, negsuc, Some, None}
 use Rattle.definitions.specs.Nlm.{GRANTED, DENIED, DENIED_NOLOCKS, STALE_FH, FBIG}
 use Rattle.definitions.specs.Step.{Event, Local, Given, Nothing, Says, Replies}
-use Rattle.definition_laws.specs.ShortForms.{A, B, w, r, p, d, the_file, LOCK, NM_LOCK, UNLOCK, TEST, SHARE, UNSHARE, FREE_ALL, stat, share_stat, test_stat, held_by, held, told, lock_line, nlm, lock_at, lock_args, the_peer}
+use Rattle.definition_laws.specs.ShortForms.{A, B, w, r, p, d, the_file, LOCK, NM_LOCK, UNLOCK, TEST, SHARE, UNSHARE, FREE_ALL, stat, share_stat, test_stat, held_by, held, given_result, lock_line, nlm, lock_at, lock_args, the_peer}
 use Rattle.definitions.specs.Nlm.{Null, Locks}
 use Rattle.definitions.specs.Owners.{Caller, Remote}
 use Rattle.definitions.specs.Replies.{NoResult, GetLock, SetLock, Close, Table, BadLine, LineOk, LineAgain, LineFree, LineFbig, LineBad, LineHeld, LineTable, RpcMismatch, BadCredential, ProgUnavail, ProgMismatch, ProcUnavail, GarbageArgs, Ignored, Turned, Refuses}
 use Rattle.definitions.specs.Step.{Take}
-use Rattle.definition_laws.specs.ShortForms.{then_given, then_left, refused, left, C, LOCK+block}
+use Rattle.definition_laws.specs.ShortForms.{then_given, then_left, refused_event, left, C, LOCK+block}
 use Rattle.definitions.specs.Shares.{no_access, read_only, write_only, read_and_write}
 
 abbrev pub null : List Event
 null = nlm 1 Null ∷ []
 
 abbrev pub null_gives : List Given
-null_gives = told 1 NoResult ∷ []
+null_gives = given_result 1 NoResult ∷ []
 
 -- a record that is no call to be answered, and each verdict that refuses one
 abbrev pub refused_headers : List Event
@@ -70,14 +70,14 @@ share_conflict_gives = share_stat 46 GRANTED ∷ share_stat 47 DENIED ∷ []
 
 -- a store that refuses the new host: nothing changed
 abbrev pub RefusedHost : Type 0
-RefusedHost = then_given share_conflict (refused (LOCK 48 B w 0 1)) ≡ stat 48 DENIED_NOLOCKS
+RefusedHost = then_given share_conflict (refused_event (LOCK 48 B w 0 1)) ≡ stat 48 DENIED_NOLOCKS
 
 -- the pair of the call is kept all the same, since its reply is a SUCCESS
 abbrev pub RefusedHostChangesNothing : Type 0
-RefusedHostChangesNothing = (then_left share_conflict (refused (LOCK 48 B w 0 1))).world ≡ (left share_conflict).world
+RefusedHostChangesNothing = (then_left share_conflict (refused_event (LOCK 48 B w 0 1))).world ≡ (left share_conflict).world
 
 abbrev pub RefusedWaiterChangesNothing : Type 0
-RefusedWaiterChangesNothing = (then_left (LOCK 1 A w 0 10 ∷ []) (refused (LOCK+block 2 B w 0 10))).world ≡ (left (LOCK 1 A w 0 10 ∷ [])).world
+RefusedWaiterChangesNothing = (then_left (LOCK 1 A w 0 10 ∷ []) (refused_event (LOCK+block 2 B w 0 10))).world ≡ (left (LOCK 1 A w 0 10 ∷ [])).world
 
 abbrev pub local_lines_and_calls : List Event
 local_lines_and_calls =
@@ -122,7 +122,7 @@ abbrev pub free_all : List Event
 free_all = LOCK 100 A w 0 10 ∷ SHARE 101 A read_only read_only ∷ FREE_ALL 102 A.name ∷ TEST 103 B w 0 0 ∷ SHARE 104 B read_and_write read_and_write ∷ []
 
 abbrev pub free_all_gives : List Given
-free_all_gives = stat 100 GRANTED ∷ share_stat 101 GRANTED ∷ told 102 NoResult ∷ test_stat 103 GRANTED ∷ share_stat 104 GRANTED ∷ []
+free_all_gives = stat 100 GRANTED ∷ share_stat 101 GRANTED ∷ given_result 102 NoResult ∷ test_stat 103 GRANTED ∷ share_stat 104 GRANTED ∷ []
 
 abbrev pub absent_unlock : List Event
 absent_unlock = UNSHARE 105 A ∷ UNLOCK 106 A 0 0 ∷ []

@@ -4,7 +4,7 @@ use Rattle.definitions.specs.Bytes.{Bytes}
 use Rattle.definitions.specs.Hosts.{HostRow}
 use Rattle.definitions.specs.Nlm.{GRANTED, DENIED, DENIED_NOLOCKS, BLOCKED}
 use Rattle.definitions.specs.Replies.{AcceptedSuccess, HostList, SetQuota, BadLine, LineOk, LineAbsent, LineRefused, LineBad, LineHosts}
-use Rattle.definition_laws.specs.ShortForms.{A, B, C, w, LOCK, LOCK+block, LOCK+reclaim, TEST, UNLOCK, stat, held_by, grants, left, then_given, then_left, refused}
+use Rattle.definition_laws.specs.ShortForms.{A, B, C, w, LOCK, LOCK+block, LOCK+reclaim, TEST, UNLOCK, stat, held_by, grants, left, then_given, then_left, refused_event}
 use Rattle.definitions.specs.Step.{Event, Send, Answer, Local, Restart, GraceOver, Given, Nothing, Says}
 
 abbrev pub quota : Bytes → ℕ → Event
@@ -56,8 +56,8 @@ quota_of_runs_gives =
     ∷ []
 
 -- runs on all files and of all owners of the host count together, and what is there beyond a lowered quota stays
-abbrev pub lowered : List Event
-lowered =
+abbrev pub lowered_quota_events : List Event
+lowered_quota_events =
     LOCK 1 A w 0 1 ∷ LOCK 2 A w 2 1 ∷ LOCK 3 A w 4 1 ∷ quota A.name 2 ∷ LOCK 4 A w 6 1 ∷ LOCK 5 A w 3 1 ∷ LOCK 6 A w 6 1
     ∷ UNLOCK 7 A 0 5 ∷ LOCK 8 A w 6 1 ∷ []
 
@@ -104,7 +104,7 @@ quota_in_grace_gives = stat 1 GRANTED ∷ Nothing ∷ Says LineOk ∷ stat 2 DEN
 
 -- where the store refuses, the quota stays
 abbrev pub QuotaRefused : Type 0
-QuotaRefused = then_given (LOCK 1 A w 0 1 ∷ []) (refused (quota A.name 0)) ≡ Says LineRefused
+QuotaRefused = then_given (LOCK 1 A w 0 1 ∷ []) (refused_event (quota A.name 0)) ≡ Says LineRefused
 
 abbrev pub QuotaRefusedStays : Type 0
-QuotaRefusedStays = then_left (LOCK 1 A w 0 1 ∷ []) (refused (quota A.name 0)) ≡ left (LOCK 1 A w 0 1 ∷ [])
+QuotaRefusedStays = then_left (LOCK 1 A w 0 1 ∷ []) (refused_event (quota A.name 0)) ≡ left (LOCK 1 A w 0 1 ∷ [])

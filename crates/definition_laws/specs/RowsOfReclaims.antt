@@ -8,10 +8,10 @@ use Rattle.definitions.specs.Settings.{Mode}
 use Rattle.definitions.specs.Step.{Event, Restart, Given, State, opening_state}
 use Rattle.definitions.specs.Replay.{outputs, left_by}
 use Rattle.definitions.specs.World.{the_limits}
-use Rattle.definition_laws.specs.ShortForms.{begun, server, A, B, C, w, r, LOCK, LOCK+reclaim, lock_args, stat}
+use Rattle.definition_laws.specs.ShortForms.{begun_state, server, A, B, C, w, r, LOCK, LOCK+reclaim, lock_args, stat}
 
 abbrev pub held_before : State
-held_before = left_by the_limits (begun the_limits) (LOCK 1 A w 0 10 ∷ LOCK 2 B r 20 10 ∷ LOCK 3 C r 20 5 ∷ [])
+held_before = left_by the_limits (begun_state the_limits) (LOCK 1 A w 0 10 ∷ LOCK 2 B r 20 10 ∷ LOCK 3 C r 20 5 ∷ [])
 
 abbrev pub restarted_after : State
 restarted_after = left_by the_limits held_before (Restart ∷ [])
@@ -44,13 +44,13 @@ abbrev pub put_everywhere : {X : Type 0} → X → List X → List (List X)
 put_everywhere x [] = (x ∷ []) ∷ []
 put_everywhere x (y ∷ ys) = (x ∷ y ∷ ys) ∷ map (λ zs. y ∷ zs) (put_everywhere x ys)
 
-abbrev pub joined : {X : Type 0} → List (List X) → List X
-joined [] = []
-joined (xs ∷ rest) = xs ++ joined rest
+abbrev pub concatenation : {X : Type 0} → List (List X) → List X
+concatenation [] = []
+concatenation (xs ∷ rest) = xs ++ concatenation rest
 
 abbrev pub orders : {X : Type 0} → List X → List (List X)
 orders [] = [] ∷ []
-orders (x ∷ xs) = joined (map (put_everywhere x) (orders xs))
+orders (x ∷ xs) = concatenation (map (put_everywhere x) (orders xs))
 
 -- in an order: the four, and the same four again under new xids
 abbrev pub twice : List Reclaim → List Event
@@ -72,11 +72,11 @@ within_after xs = is_within held_before.world.settings (left_by the_limits resta
 abbrev pub ReclaimsStayWithin : Type 0
 ReclaimsStayWithin = map within_after (orders four) ≡ replicate 24 true
 
-abbrev pub honest : Reclaim → Bool
-honest x = let a = lock_args x.xid x.of x.mode x.offset x.len in is_honest held_before.world.settings (request_of a.exclusive a.alock)
+abbrev pub is_honest_claim : Reclaim → Bool
+is_honest_claim x = let a = lock_args x.xid x.of x.mode x.offset x.len in is_honest held_before.world.settings (request_of a.exclusive a.alock)
 
 abbrev pub ReclaimsAreHonest : Type 0
-ReclaimsAreHonest = map honest four ≡ true ∷ true ∷ true ∷ true ∷ []
+ReclaimsAreHonest = map is_honest_claim four ≡ true ∷ true ∷ true ∷ true ∷ []
 
 abbrev pub dishonest_reclaim : List Event
 dishonest_reclaim = LOCK+reclaim 164 B w 0 10 ∷ LOCK+reclaim 161 A w 0 10 ∷ []
@@ -85,4 +85,4 @@ abbrev pub dishonest_reclaim_gives : List Given
 dishonest_reclaim_gives = stat 164 GRANTED ∷ stat 161 DENIED ∷ []
 
 abbrev pub Dishonest : Type 0
-Dishonest = honest (reclaim 164 B w 0 10) ≡ false
+Dishonest = is_honest_claim (reclaim 164 B w 0 10) ≡ false

@@ -2,7 +2,7 @@
 use Rattle.std.specs.Prelude.{ℕ, List, [], ◌∷◌}
 use Rattle.definitions.specs.Nlm.{V4, GRANTED}
 use Rattle.definitions.specs.Step.{Event, Send, Given, Sends}
-use Rattle.definition_laws.specs.ShortForms.{A, B, w, LOCK, LOCK_MSG, UNLOCK, TEST, stat, test_stat, held_by, told, number, cookie_of, lock_args, call_from, the_peer, another_peer}
+use Rattle.definition_laws.specs.ShortForms.{A, B, w, LOCK, LOCK_MSG, UNLOCK, TEST, stat, test_stat, held_by, given_result, number, cookie_of, lock_args, call_from, the_peer, another_peer}
 use Rattle.definitions.specs.Nlm.{Locks}
 use Rattle.definitions.specs.Outgoing.{ToHost, LockResult}
 use Rattle.definitions.specs.Replies.{NoResult, Nlm}
@@ -44,7 +44,7 @@ abbrev pub lock_res : ℕ → Given
 lock_res n = Sends (number 1 n) (record { to = ToHost A.name; message = LockResult V4 (record { cookie = cookie_of 7; stat = GRANTED }) })
 
 abbrev pub message_lock_repeated_gives : List Given
-message_lock_repeated_gives = told 7 NoResult ∷ lock_res 1 ∷ told 7 NoResult ∷ lock_res 2 ∷ held_by 8 A w 0 10 ∷ []
+message_lock_repeated_gives = given_result 7 NoResult ∷ lock_res 1 ∷ given_result 7 NoResult ∷ lock_res 2 ∷ held_by 8 A w 0 10 ∷ []
 
 abbrev pub same_xid_other_bytes : List Event
 same_xid_other_bytes = LOCK 140 A w 0 1 ∷ call_from the_peer 140 2 (Nlm V4 (Locks (lock_args 140 A w 0 2))) ∷ TEST 141 B w 1 1 ∷ []

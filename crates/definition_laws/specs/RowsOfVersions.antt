@@ -6,7 +6,7 @@ use Rattle.definitions.specs.Owners.{Caller}
 use Rattle.definitions.specs.Replies.{NoResult, TestResResult}
 use Rattle.definition_laws.specs.RowsOfLocks.{long_handle}
 use Rattle.definitions.specs.Settings.{Mode}
-use Rattle.definition_laws.specs.ShortForms.{A, B, C, w, the_file, nlm_in, lock_at, cookie_of, lock_args, blocking, test_args, share_args, LOCK, LOCK+block, UNLOCK, TEST, told, stat, share_stat, test_stat, held_in, held_by, number, grants_in}
+use Rattle.definition_laws.specs.ShortForms.{A, B, C, w, the_file, nlm_in, lock_at, cookie_of, lock_args, blocking, test_args, share_args, LOCK, LOCK+block, UNLOCK, TEST, given_result, stat, share_stat, test_stat, held_in, held_by, number, grants_in}
 use Rattle.definitions.specs.Shown.{nobody}
 use Rattle.definitions.specs.Step.{Event, Send, Given, Nothing, Sends}
 use Rattle.definitions.specs.Shares.{no_access}
@@ -62,10 +62,10 @@ narrow_stale =
 abbrev pub narrow_stale_gives : List Given
 narrow_stale_gives =
     stat 1 DENIED
-    ∷ told 2 (TestResResult V3 (nobody_holds 2))
+    ∷ given_result 2 (TestResResult V3 (nobody_holds 2))
     ∷ share_stat 3 DENIED
-    ∷ told 4 NoResult
-    ∷ told 5 NoResult
+    ∷ given_result 4 NoResult
+    ∷ given_result 5 NoResult
     ∷ Sends (number 1 1) (record { to = ToHost B.name; message = TestResult V1 (nobody_holds 4) })
     ∷ Sends (number 1 2) (record { to = ToHost B.name; message = LockResult V1 (record { cookie = cookie_of 5; stat = DENIED }) })
     ∷ []
@@ -100,10 +100,10 @@ answered_across =
 abbrev pub answered_across_gives : List Given
 answered_across_gives =
     stat 1 GRANTED
-    ∷ told 2 NoResult
+    ∷ given_result 2 NoResult
     ∷ Sends (number 1 1) (record { to = ToHost B.name; message = LockResult V1 (record { cookie = cookie_of 2; stat = BLOCKED }) })
     ∷ stat 3 GRANTED
     ∷ Sends (number 1 2) (record { to = ToHost B.name; message = GrantedMsg V1 true (lock_at the_file B 0 10) })
-    ∷ told 4 NoResult
+    ∷ given_result 4 NoResult
     ∷ test_stat 5 GRANTED
     ∷ []

@@ -2,7 +2,7 @@
 use Rattle.std.specs.Prelude.{◌≡◌, true, List, [], ◌∷◌, pos, Some, None}
 use Rattle.definitions.specs.Nlm.{V4, GRANTED, DENIED, BLOCKED, DEADLCK}
 use Rattle.definitions.specs.Step.{Event, Send, Silent, Answer, Local, Given, Nothing, Says, Sends}
-use Rattle.definition_laws.specs.ShortForms.{left, A, B, C, D, w, r, p, d, the_file, LOCK, LOCK+block, LOCK_MSG, UNLOCK, TEST, CANCEL, SHARE, TEST_MSG, stat, share_stat, test_stat, held_by, told, grants, number, lock_line, cookie_of, nlm, lock_at}
+use Rattle.definition_laws.specs.ShortForms.{left, A, B, C, D, w, r, p, d, the_file, LOCK, LOCK+block, LOCK_MSG, UNLOCK, TEST, CANCEL, SHARE, TEST_MSG, stat, share_stat, test_stat, held_by, given_result, grants, number, lock_line, cookie_of, nlm, lock_at}
 use Rattle.definitions.specs.Nlm.{GrantedRes, Holder, TestRes}
 use Rattle.definitions.specs.Outgoing.{ToHost, ToConnection, LockResult, TestResult, GrantedLine, GrantedMsg}
 use Rattle.definitions.specs.Replies.{NoResult, AcceptedSuccess, Unreadable, SetLock, SetLockWait, LineOk, LineWait}
@@ -74,7 +74,7 @@ abbrev pub test_message_res : TestRes
 test_message_res = record { cookie = cookie_of 3; stat = DENIED; holder = Some holder_A }
 
 abbrev pub test_message_gives : List Given
-test_message_gives = stat 2 GRANTED ∷ told 3 NoResult ∷ Sends (number 1 1) (record { to = ToHost B.name; message = TestResult V4 test_message_res }) ∷ []
+test_message_gives = stat 2 GRANTED ∷ given_result 3 NoResult ∷ Sends (number 1 1) (record { to = ToHost B.name; message = TestResult V4 test_message_res }) ∷ []
 
 abbrev pub setlkw_granted : List Event
 setlkw_granted = LOCK 126 A w 0 1 ∷ Local 5 (SetLockWait (Some w) (lock_line (p 9) 0 1)) ∷ UNLOCK 127 A 0 1 ∷ Send ∷ Send ∷ []
@@ -98,7 +98,7 @@ message_lock = LOCK_MSG 7 A w 0 10 ∷ Send ∷ []
 
 abbrev pub message_lock_gives : List Given
 message_lock_gives =
-    told 7 NoResult
+    given_result 7 NoResult
     ∷ Sends (number 1 1) (record { to = ToHost A.name; message = LockResult V4 (record { cookie = cookie_of 7; stat = GRANTED }) })
     ∷ []
 
@@ -117,10 +117,10 @@ granted_by_message =
 
 abbrev pub granted_by_message_gives : List Given
 granted_by_message_gives =
-    stat 1 GRANTED ∷ told 2 NoResult
+    stat 1 GRANTED ∷ given_result 2 NoResult
     ∷ Sends (number 1 1) (record { to = ToHost B.name; message = LockResult V4 (record { cookie = cookie_of 2; stat = BLOCKED }) })
     ∷ stat 3 GRANTED ∷ Sends (number 1 2) (record { to = ToHost B.name; message = GrantedMsg V4 true (lock_at the_file B 0 10) })
-    ∷ Nothing ∷ told 4 NoResult ∷ test_stat 5 GRANTED ∷ []
+    ∷ Nothing ∷ given_result 4 NoResult ∷ test_stat 5 GRANTED ∷ []
 
 -- the script of the refused growths, with ample memory
 abbrev pub script_h : List Event
@@ -137,7 +137,7 @@ script_h =
 
 abbrev pub script_h_gives : List Given
 script_h_gives =
-    stat 2 GRANTED ∷ stat 60 BLOCKED ∷ share_stat 61 GRANTED ∷ Says LineOk ∷ told 62 NoResult ∷ stat 63 GRANTED
+    stat 2 GRANTED ∷ stat 60 BLOCKED ∷ share_stat 61 GRANTED ∷ Says LineOk ∷ given_result 62 NoResult ∷ stat 63 GRANTED
     ∷ Sends (number 1 1) (record { to = ToHost D.name; message = LockResult V4 (record { cookie = cookie_of 62; stat = GRANTED }) })
     ∷ grants 2 B w 0 10 ∷ []
 
@@ -175,6 +175,6 @@ equal_waiters = LOCK 1 A w 0 10 ∷ LOCK+block 2 B w 5 0 ∷ LOCK_MSG+block 3 B 
 
 abbrev pub equal_waiters_give : List Given
 equal_waiters_give =
-    stat 1 GRANTED ∷ stat 2 BLOCKED ∷ told 3 NoResult ∷ stat 4 GRANTED
+    stat 1 GRANTED ∷ stat 2 BLOCKED ∷ given_result 3 NoResult ∷ stat 4 GRANTED
     ∷ Sends (number 1 1) (record { to = ToHost B.name; message = LockResult V4 (record { cookie = cookie_of 3; stat = BLOCKED }) })
     ∷ grants 2 B w 5 0 ∷ Nothing ∷ []

@@ -169,21 +169,21 @@ lock_line o offset len = record { owner = o; file = the_file; offset = offset; l
 
 -- ---- replies
 
-abbrev pub told : ℕ → Result → Given
-told xid result = Replies xid (Success result)
+abbrev pub given_result : ℕ → Result → Given
+given_result xid result = Replies xid (Success result)
 
 abbrev pub stat : ℕ → Stat → Given
-stat xid s = told xid (ResResult (record { cookie = cookie_of xid; stat = s }))
+stat xid s = given_result xid (ResResult (record { cookie = cookie_of xid; stat = s }))
 
 abbrev pub share_stat : ℕ → Stat → Given
-share_stat xid s = told xid (ShareResult (record { cookie = cookie_of xid; stat = s; sequence = pos 0 }))
+share_stat xid s = given_result xid (ShareResult (record { cookie = cookie_of xid; stat = s; sequence = pos 0 }))
 
 abbrev pub test_stat : ℕ → Stat → Given
-test_stat xid s = told xid (TestResResult V4 (record { cookie = cookie_of xid; stat = s; holder = None }))
+test_stat xid s = given_result xid (TestResResult V4 (record { cookie = cookie_of xid; stat = s; holder = None }))
 
 abbrev pub held_in : Version → ℕ → Bool → ℤ → Bytes → ℕ → ℕ → Given
 held_in version xid exclusive svid oh offset len =
-    told xid (TestResResult version (record { cookie = cookie_of xid; stat = DENIED; holder = Some (record { exclusive = exclusive; svid = svid; oh = oh; l_offset = offset; l_len = len }) }))
+    given_result xid (TestResResult version (record { cookie = cookie_of xid; stat = DENIED; holder = Some (record { exclusive = exclusive; svid = svid; oh = oh; l_offset = offset; l_len = len }) }))
 
 abbrev pub held : ℕ → Bool → ℤ → Bytes → ℕ → ℕ → Given
 held xid exclusive svid oh offset len = held_in V4 xid exclusive svid oh offset len
@@ -206,23 +206,23 @@ grants n o mode offset len = grants_in V4 n o mode offset len
 -- ---- rows
 
 -- what a row gives behind Restart and GraceOver, on a fresh daemon; those two give nothing
-abbrev pub begun : Limits → State
-begun limits = left_by limits fresh_daemon (Restart ∷ GraceOver ∷ [])
+abbrev pub begun_state : Limits → State
+begun_state limits = left_by limits fresh_daemon (Restart ∷ GraceOver ∷ [])
 
 abbrev pub row : List Event → List Given
-row events = outputs the_limits (begun the_limits) events
+row events = outputs the_limits (begun_state the_limits) events
 
 -- the same with fewer of everything
 abbrev pub row_within : Limits → List Event → List Given
-row_within limits events = outputs limits (begun limits) events
+row_within limits events = outputs limits (begun_state limits) events
 
 -- the state that a row leaves
 abbrev pub left : List Event → State
-left events = left_by the_limits (begun the_limits) events
+left events = left_by the_limits (begun_state the_limits) events
 
 -- an event whose store call is refused
-abbrev pub refused : Event → Done
-refused event = record { event = event; completion = Applied; store = Refused }
+abbrev pub refused_event : Event → Done
+refused_event event = record { event = event; completion = Applied; store = Refused }
 
 -- an event that met want of memory, before the store was asked or after it had answered yes
 abbrev pub starved_early : Event → Done

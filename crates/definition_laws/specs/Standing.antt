@@ -8,7 +8,7 @@ use Rattle.definitions.specs.Outgoing.{Outgoing, LocalLock, is_grant}
 use Rattle.definitions.specs.Phases.{Grace}
 use Rattle.definitions.specs.Shares.{Share, SharesStand}
 use Rattle.definitions.specs.Replies.{Call, Nlm, Nsm, Asks}
-use Rattle.definitions.specs.Rulings.{ruled}
+use Rattle.definitions.specs.Rulings.{ruled_answer}
 use Rattle.definitions.specs.Shown.{shown_stat}
 use Rattle.definitions.specs.Answer.{share_of, share_verdict, lock_answer, nm_lock_answer, lock_msg_answer}
 use Rattle.definitions.specs.Lines.{line_refusal}
@@ -64,11 +64,11 @@ GraceCallsLaw =
 -- a lock or a share is answered GRANTED, or comes to wait, only where it is a reclaim, and a line's lock never is
 pub record GraceAnswersLaw : Type 0 where
   pub locks : (limits : Limits) (w : World) (version : Version) (a : LockArgs) (store : StoreAnswer) → w.phase ≡ Grace
-      → stands (ruled store (lock_answer limits w version a)).says ≡ true → a.reclaim ≡ true
+      → stands (ruled_answer store (lock_answer limits w version a)).says ≡ true → a.reclaim ≡ true
   pub unmonitored_locks : (limits : Limits) (w : World) (version : Version) (a : LockArgs) (store : StoreAnswer) → w.phase ≡ Grace
-      → stands (ruled store (nm_lock_answer limits w version a)).says ≡ true → a.reclaim ≡ true
+      → stands (ruled_answer store (nm_lock_answer limits w version a)).says ≡ true → a.reclaim ≡ true
   pub message_locks : (limits : Limits) (w : World) (version : Version) (a : LockArgs) (store : StoreAnswer) → w.phase ≡ Grace
-      → stands (ruled store (lock_msg_answer limits w version a)).says ≡ true → a.reclaim ≡ true
+      → stands (ruled_answer store (lock_msg_answer limits w version a)).says ≡ true → a.reclaim ≡ true
   pub shares : (limits : Limits) (w : World) (a : ShareArgs) → w.phase ≡ Grace → stands (share_verdict limits w a).says ≡ true → a.reclaim ≡ true
   pub lines : (w : World) (lock : LocalLock) → w.phase ≡ Grace → is_some (line_refusal w lock) ≡ true
 

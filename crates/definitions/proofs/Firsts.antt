@@ -5,7 +5,7 @@ use Rattle.std.proofs.lemmas.Bool.Decides.{nat_tests}
 use Rattle.std.specs.List.{remove, position_or_len}
 use Rattle.std.specs.Prelude.{slice_index_or}
 use Rattle.std.specs.Option.{is_some}
-use Rattle.definitions.specs.Bytes.{is_any, first_that, without_first, without, change_first}
+use Rattle.definitions.specs.Bytes.{is_any, first_that, without_first, list_without, change_first}
 use Rattle.definitions.specs.First.{IsFirstAt, IsFirstPlace}
 
 module _ {X : Type 0} (test : X → Bool) where
@@ -53,11 +53,11 @@ module _ {X : Type 0} (test : X → Bool) where
       go true k h = absurd (false≢true (sym h))
       go false k h = ap (λ l. x ∷ l) (k h)
 
-  pub without-none : (xs : List X) → is_any test xs ≡ false → without test xs ≡ xs
+  pub without-none : (xs : List X) → is_any test xs ≡ false → list_without test xs ≡ xs
   without-none [] e = refl
   without-none (x ∷ xs) e = go (test x) (without-none xs) e
     where
-      go : (b : Bool) → (is_any test xs ≡ false → without test xs ≡ xs) → (b || is_any test xs) ≡ false → cond b (without test xs) (x ∷ without test xs) ≡ x ∷ xs
+      go : (b : Bool) → (is_any test xs ≡ false → list_without test xs ≡ xs) → (b || is_any test xs) ≡ false → cond b (list_without test xs) (x ∷ list_without test xs) ≡ x ∷ xs
       go true k h = absurd (false≢true (sym h))
       go false k h = ap (λ l. x ∷ l) (k h)
 

@@ -4,7 +4,7 @@ use Rattle.std.proofs.lemmas.Cmp.{then_total, on_total, nat_list_cmp_total, int_
 use Rattle.std.proofs.lemmas.Slice.Eq.{bytes_eq-Decides}
 use Rattle.std.specs.Cmp.{IsTotalOrder, both_ways}
 use Rattle.std.specs.declared.cmp.Ordering.{Ordering}
-use Rattle.definitions.specs.Bytes.{Bytes, same_bytes, change_first, without, IsBelowAll, IsAscending}
+use Rattle.definitions.specs.Bytes.{Bytes, same_bytes, change_first, list_without, IsBelowAll, IsAscending}
 use Rattle.definitions.specs.Hosts.{HostRow, Hosts, row_cmp, my_id_cmp, watch_cmp, is_named, has_row, full_quota, with_row, with_new_row, is_watch, Begin, Monitor, Seen, Acked, Quota, Watched, Unwatched, AreInOrder, HostsLaw}
 use Rattle.definitions.specs.Shares.{Share, is_same_place, AreSingle, SharesLaw}
 use Rattle.definitions.proofs.Orders.{put_ascends}
@@ -20,19 +20,19 @@ pub watch_total : IsTotalOrder watch_cmp
 watch_total = then_total (on_total (λ w. w.mon_name) nat_list_cmp_total) (on_total (λ w. w.my_id) my_id_total)
 
 module _ {X : Type 0} (cmp : X → X → Ordering) (p : X → Bool) where
-  below_without : (x : X) (xs : List X) → IsBelowAll cmp x xs → IsBelowAll cmp x (without p xs)
+  below_without : (x : X) (xs : List X) → IsBelowAll cmp x xs → IsBelowAll cmp x (list_without p xs)
   below_without x [] h = tt
   below_without x (y ∷ ys) h = go (p y) (below_without x ys h.1)
     where
-      go : (b : Bool) → IsBelowAll cmp x (without p ys) → IsBelowAll cmp x (cond b (without p ys) (y ∷ without p ys))
+      go : (b : Bool) → IsBelowAll cmp x (list_without p ys) → IsBelowAll cmp x (cond b (list_without p ys) (y ∷ list_without p ys))
       go true k = k
       go false k = (h.0, k)
 
-  without_ascends : (xs : List X) → IsAscending cmp xs → IsAscending cmp (without p xs)
+  without_ascends : (xs : List X) → IsAscending cmp xs → IsAscending cmp (list_without p xs)
   without_ascends [] h = tt
   without_ascends (x ∷ xs) h = go (p x) (without_ascends xs h.1)
     where
-      go : (b : Bool) → IsAscending cmp (without p xs) → IsAscending cmp (cond b (without p xs) (x ∷ without p xs))
+      go : (b : Bool) → IsAscending cmp (list_without p xs) → IsAscending cmp (cond b (list_without p xs) (x ∷ list_without p xs))
       go true k = k
       go false k = (below_without x xs h.0, k)
 
@@ -81,11 +81,11 @@ hosts_law hosts (Unwatched name my) h = record { rows = h.rows; watches = withou
 
 -- ---- shares
 
-single_without : (q : Share → Bool) (xs : List Share) → AreSingle xs → AreSingle (without q xs)
+single_without : (q : Share → Bool) (xs : List Share) → AreSingle xs → AreSingle (list_without q xs)
 single_without q [] h = tt
 single_without q (x ∷ xs) h = go (q x) (single_without q xs h.1)
   where
-    go : (b : Bool) → AreSingle (without q xs) → AreSingle (cond b (without q xs) (x ∷ without q xs))
+    go : (b : Bool) → AreSingle (list_without q xs) → AreSingle (cond b (list_without q xs) (x ∷ list_without q xs))
     go true k = k
     go false k = (none_left (is_same_place x) q xs h.0, k)
 
@@ -98,13 +98,13 @@ place_back a b =
     ∙ ap (λ t. same_bytes b.file a.file && t && same_bytes a.oh b.oh) (bytes_back a.name b.name)
     ∙ ap (λ t. same_bytes b.file a.file && same_bytes b.name a.name && t) (bytes_back a.oh b.oh)
 
-single_last : (new : Share) (xs : List Share) → AreSingle xs → AreSingle (without (is_same_place new) xs ++ new ∷ [])
+single_last : (new : Share) (xs : List Share) → AreSingle xs → AreSingle (list_without (is_same_place new) xs ++ new ∷ [])
 single_last new [] h = (refl, tt)
 single_last new (x ∷ xs) h = go (is_same_place new x) refl (single_last new xs h.1)
   where
-    go : (b : Bool) → is_same_place new x ≡ b → AreSingle (without (is_same_place new) xs ++ new ∷ []) → AreSingle (cond b (without (is_same_place new) xs) (x ∷ without (is_same_place new) xs) ++ new ∷ [])
+    go : (b : Bool) → is_same_place new x ≡ b → AreSingle (list_without (is_same_place new) xs ++ new ∷ []) → AreSingle (cond b (list_without (is_same_place new) xs) (x ∷ list_without (is_same_place new) xs) ++ new ∷ [])
     go true e k = k
-    go false e k = (none_more (is_same_place x) (without (is_same_place new) xs) new (none_left (is_same_place x) (is_same_place new) xs h.0) (place_back x new ∙ e), k)
+    go false e k = (none_more (is_same_place x) (list_without (is_same_place new) xs) new (none_left (is_same_place x) (is_same_place new) xs h.0) (place_back x new ∙ e), k)
 
 pub shares_law : SharesLaw
 shares_law shares new name h = (single_last new shares h, single_without (is_same_place new) shares h, single_without (λ (s : Share). same_bytes s.name name) shares h)

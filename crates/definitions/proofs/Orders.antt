@@ -8,25 +8,25 @@ use Rattle.std.specs.Ordering.{ordering_reverse, is_lt, is_eq}
 use Rattle.std.proofs.lemmas.Cmp.{tied_itself}
 use Rattle.std.specs.declared.cmp.Ordering.{Ordering}
 use Rattle.std.specs.declared.cmp.Ordering.TheVariants.{Less, Equal, Greater}
-use Rattle.definitions.specs.Bytes.{first_that, put, placed, in_order, Holds, IsBelowAll, IsAscending}
+use Rattle.definitions.specs.Bytes.{first_that, list_with, placed_list, in_order, Holds, IsBelowAll, IsAscending}
 
 module _ {X : Type 0} (cmp : X → X → Ordering) (exact : CmpEqualImpliesEq cmp) where
-  put_holds : (x : X) (xs : List X) (z : X) → Holds (put cmp x xs) z → (x ≡ z) ⊎ Holds xs z
+  put_holds : (x : X) (xs : List X) (z : X) → Holds (list_with cmp x xs) z → (x ≡ z) ⊎ Holds xs z
   put_holds x [] z h = h
   put_holds x (y ∷ ys) z h = go (cmp x y) refl h (put_holds x ys z)
     where
-      go : (o : Ordering) → cmp x y ≡ o → Holds (placed o x y ys (put cmp x ys)) z → (Holds (put cmp x ys) z → (x ≡ z) ⊎ Holds ys z) → (x ≡ z) ⊎ ((y ≡ z) ⊎ Holds ys z)
+      go : (o : Ordering) → cmp x y ≡ o → Holds (placed_list o x y ys (list_with cmp x ys)) z → (Holds (list_with cmp x ys) z → (x ≡ z) ⊎ Holds ys z) → (x ≡ z) ⊎ ((y ≡ z) ⊎ Holds ys z)
       go Less e k more = k
       go Equal e (inl k) more = inl k
       go Equal e (inr k) more = inr (inr k)
       go Greater e (inl k) more = inr (inl k)
       go Greater e (inr k) more = elim (more k) [ inl i ↦ inl i | inr i ↦ inr (inr i) ]
 
-  holds_put : (x : X) (xs : List X) (z : X) → (x ≡ z) ⊎ Holds xs z → Holds (put cmp x xs) z
+  holds_put : (x : X) (xs : List X) (z : X) → (x ≡ z) ⊎ Holds xs z → Holds (list_with cmp x xs) z
   holds_put x [] z h = h
   holds_put x (y ∷ ys) z h = go (cmp x y) refl h (holds_put x ys z)
     where
-      go : (o : Ordering) → cmp x y ≡ o → (x ≡ z) ⊎ ((y ≡ z) ⊎ Holds ys z) → ((x ≡ z) ⊎ Holds ys z → Holds (put cmp x ys) z) → Holds (placed o x y ys (put cmp x ys)) z
+      go : (o : Ordering) → cmp x y ≡ o → (x ≡ z) ⊎ ((y ≡ z) ⊎ Holds ys z) → ((x ≡ z) ⊎ Holds ys z → Holds (list_with cmp x ys) z) → Holds (placed_list o x y ys (list_with cmp x ys)) z
       go Less e k more = k
       go Equal e (inl k) more = inl k
       go Equal e (inr (inl k)) more = inl (exact x y e ∙ k)
@@ -50,11 +50,11 @@ module _ {X : Type 0} (cmp : X → X → Ordering) (total : IsTotalOrder cmp) wh
   below_more x y e [] h = tt
   below_more x y e (z ∷ zs) h = (total.trans x y z e h.0, below_more x y e zs h.1)
 
-  below_put : (y x : X) → cmp y x ≡ Less → (xs : List X) → IsBelowAll cmp y xs → IsBelowAll cmp y (put cmp x xs)
+  below_put : (y x : X) → cmp y x ≡ Less → (xs : List X) → IsBelowAll cmp y xs → IsBelowAll cmp y (list_with cmp x xs)
   below_put y x e [] h = (e, tt)
   below_put y x e (z ∷ zs) h = go (cmp x z) (below_put y x e zs h.1)
     where
-      go : (o : Ordering) → IsBelowAll cmp y (put cmp x zs) → IsBelowAll cmp y (placed o x z zs (put cmp x zs))
+      go : (o : Ordering) → IsBelowAll cmp y (list_with cmp x zs) → IsBelowAll cmp y (placed_list o x z zs (list_with cmp x zs))
       go Less more = (e, h)
       go Equal more = (e, h.1)
       go Greater more = (h.0, more)
@@ -63,11 +63,11 @@ module _ {X : Type 0} (cmp : X → X → Ordering) (total : IsTotalOrder cmp) wh
   below_alike x y e [] h = tt
   below_alike x y e (z ∷ zs) h = (total.congr x y z e ∙ h.0, below_alike x y e zs h.1)
 
-  pub put_ascends : (x : X) (xs : List X) → IsAscending cmp xs → IsAscending cmp (put cmp x xs)
+  pub put_ascends : (x : X) (xs : List X) → IsAscending cmp xs → IsAscending cmp (list_with cmp x xs)
   put_ascends x [] h = (tt, tt)
   put_ascends x (y ∷ ys) h = go (cmp x y) refl (put_ascends x ys h.1)
     where
-      go : (o : Ordering) → cmp x y ≡ o → IsAscending cmp (put cmp x ys) → IsAscending cmp (placed o x y ys (put cmp x ys))
+      go : (o : Ordering) → cmp x y ≡ o → IsAscending cmp (list_with cmp x ys) → IsAscending cmp (placed_list o x y ys (list_with cmp x ys))
       go Less e more = ((e, below_more x y e ys h.0), h)
       go Equal e more = (below_alike x y e ys h.0, h.1)
       go Greater e more = (below_put y x (above x y e) ys h.0, more)

@@ -6,7 +6,7 @@ use Rattle.std.proofs.lemmas.Option.{none-some, same_Some}
 use Rattle.std.proofs.lemmas.Slice.Eq.{bytes_eq-Decides}
 use Rattle.std.specs.declared.cmp.Ordering.{Ordering}
 use Rattle.std.specs.declared.cmp.Ordering.TheVariants.{Less, Equal, Greater}
-use Rattle.definitions.specs.Bytes.{Bytes, same_bytes, is_any, first_that, change_first, put, placed}
+use Rattle.definitions.specs.Bytes.{Bytes, same_bytes, is_any, first_that, change_first, list_with, placed_list}
 use Rattle.definitions.specs.Owners.{Owner, Remote, Process, Description, host_of, is_of_host}
 use Rattle.definitions.specs.Settings.{Setting, setting_of, covers, mode_at}
 use Rattle.definitions.specs.Conflict.{conflicts}
@@ -141,11 +141,11 @@ module _ (name other : Bytes) (change : HostRow → HostRow) (same_name : (r : H
       go false more = miss (same_bytes r.name other) more
 
 -- a row in its place leaves the rows of other names
-put_beside : (new : HostRow) (other : Bytes) (rows : List HostRow) → same_bytes new.name other ≡ false → first_that (is_named other) (put row_cmp new rows) ≡ first_that (is_named other) rows
+put_beside : (new : HostRow) (other : Bytes) (rows : List HostRow) → same_bytes new.name other ≡ false → first_that (is_named other) (list_with row_cmp new rows) ≡ first_that (is_named other) rows
 put_beside new other [] e = ap (λ b. cond b (Some new) None) e
 put_beside new other (r ∷ rows) e = go (row_cmp new r) refl (put_beside new other rows e)
   where
-    go : (o : Ordering) → row_cmp new r ≡ o → first_that (is_named other) (put row_cmp new rows) ≡ first_that (is_named other) rows → first_that (is_named other) (placed o new r rows (put row_cmp new rows)) ≡ first_that (is_named other) (r ∷ rows)
+    go : (o : Ordering) → row_cmp new r ≡ o → first_that (is_named other) (list_with row_cmp new rows) ≡ first_that (is_named other) rows → first_that (is_named other) (placed_list o new r rows (list_with row_cmp new rows)) ≡ first_that (is_named other) (r ∷ rows)
     go Less k more = ap (λ b. cond b (Some new) (first_that (is_named other) (r ∷ rows))) e
     go Equal k more =
         ap (λ b. cond b (Some new) (first_that (is_named other) rows)) e

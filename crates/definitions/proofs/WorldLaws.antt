@@ -6,7 +6,7 @@ use Rattle.definitions.specs.Hosts.{HostRow, next_own, IsLeastOddAbove, NextOwnL
 use Rattle.definitions.specs.Outgoing.{Callback, Outgoing, due_now}
 use Rattle.definitions.specs.Waits.{Waiter}
 use Rattle.definitions.proofs.Lists.{first_found, none_found}
-use Rattle.definitions.specs.World.{World, Limits, opening, with_due, with_all_due, LeavesRest, restart_callback, RestartNotices, is_ready_in, first_ready, granted, settled_within, IsFirstReady, after_grant, Settles, AtRest, Grants, SettleLaw}
+use Rattle.definitions.specs.World.{World, Limits, opening, with_due, with_all_due, LeavesRest, restart_callback, RestartNotices, is_ready_in, first_ready, granted_world, settled_within, IsFirstReady, after_grant, Settles, AtRest, Grants, SettleLaw}
 
 -- ---- calls that become due
 
@@ -99,13 +99,13 @@ settles_within zero limits w h = AtRest (nobody w.waiters h)
     nobody (x ∷ xs) k = absurd (omega arith)
 settles_within (suc n) limits w h = go (first_ready limits w) refl (settles_within n limits)
   where
-    go : (o : Option Waiter) → first_ready limits w ≡ o → ((v : World) → length v.waiters ≤ n → Settles limits v (settled_within n limits v)) → Settles limits w (elim o [ None ↦ w | Some x ↦ settled_within n limits (granted limits w x) ])
+    go : (o : Option Waiter) → first_ready limits w ≡ o → ((v : World) → length v.waiters ≤ n → Settles limits v (settled_within n limits v)) → Settles limits w (elim o [ None ↦ w | Some x ↦ settled_within n limits (granted_world limits w x) ])
     go None e more = AtRest (none_found (is_ready_in limits w) w.waiters e)
     go (Some x) e more =
         let f = first_found (is_ready_in limits w) w.waiters x e in
         let ready : IsFirstReady limits w x = record { before = f.before; behind = f.behind; there = f.there; none_before = f.none_before; ready = f.passes } in
         let fewer : length (without_first (is_ready_in limits w) w.waiters) ≤ n = omega (arith, f.shorter, ap length f.left) in
-        Grants ready (subst (λ (others : List Waiter). Settles limits (after_grant w x others) (settled_within n limits (granted limits w x))) f.left (more (granted limits w x) fewer))
+        Grants ready (subst (λ (others : List Waiter). Settles limits (after_grant w x others) (settled_within n limits (granted_world limits w x))) f.left (more (granted_world limits w x) fewer))
 
 pub settle_law : SettleLaw
 settle_law limits w = settles_within (length w.waiters) limits w (omega arith)

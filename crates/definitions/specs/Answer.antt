@@ -12,9 +12,9 @@ use Rattle.definitions.specs.Hosts.{HostRow, Watch, StoreCall, Begin, Seen, Watc
 use Rattle.definitions.specs.Outgoing.{Callback, ToHost, Message, Granted, GrantedMsg, TestResult, LockResult, CancelResult, UnlockResult, Status}
 use Rattle.definitions.specs.Ranges.{range_refusal, file_refusal, request_of, unlock_of}
 use Rattle.definitions.specs.Replies.{Call, Nlm, Nsm, Result, NoResult, ResResult, TestResResult, ShareResult, MonitorResult, StateResult, Outcome, Success, SystemErr}
-use Rattle.definitions.specs.World.{World, Limits, slots_free, with_hosts, with_due, with_all_due, without_host_of, restarted}
+use Rattle.definitions.specs.World.{World, Limits, slots_free, with_hosts, with_due, with_all_due, without_host_of, restarted_world}
 use Rattle.definitions.specs.Shown.{res, share_res, free_test, held_test}
-use Rattle.definitions.specs.Rulings.{Response, Ruling, decided, stays, each, ruled}
+use Rattle.definitions.specs.Rulings.{Response, Ruling, decided_ruling, stays, each, ruled_answer}
 use Rattle.definitions.specs.LockRules.{LockAsk, NewHost, lock_rules, unlock_rules, cancel_rules}
 use Rattle.definitions.specs.Grants.{granted_res_rules}
 
@@ -28,7 +28,7 @@ abbrev pub gives : World → Outcome → Answered
 gives w outcome = record { outcome = outcome; due = []; world = w }
 
 abbrev pub says : World → Result → Ruling Answered
-says w result = decided (gives w (Success result))
+says w result = decided_ruling (gives w (Success result))
 
 -- ---- TEST, LOCK, CANCEL, UNLOCK, NM_LOCK: what each comes to, before it is known how it is told
 
@@ -95,8 +95,8 @@ unlock_answer limits w a = unlock_unless limits w a.alock (range_refusal w Unloc
 
 -- ---- how it is told, as the call's version shows it: as the reply's result, or by an empty reply and a call to the caller's host
 
-abbrev pub replied : Version → Bytes → Response Stat → Answered
-replied version cookie t = gives t.world (Success (ResResult (res version cookie t.says)))
+abbrev pub answer_of_response : Version → Bytes → Response Stat → Answered
+answer_of_response version cookie t = gives t.world (Success (ResResult (res version cookie t.says)))
 
 abbrev pub to_caller : Lock → Message → Callback
 to_caller alock message = record { to = ToHost alock.caller_name; message = message }
@@ -107,10 +107,10 @@ sent_back callback w = record { outcome = Success NoResult; due = callback ∷ [
 
 -- a call that needs more slots than are free changes nothing
 abbrev pub if_slots : ℕ → Limits → World → Ruling Answered → Ruling Answered
-if_slots needed limits w r = cond (leb needed (slots_free limits w)) r (decided (gives w SystemErr))
+if_slots needed limits w r = cond (leb needed (slots_free limits w)) r (decided_ruling (gives w SystemErr))
 
 abbrev pub by_reply : Version → Bytes → Ruling (Response Stat) → Ruling Answered
-by_reply version cookie r = each (replied version cookie) r
+by_reply version cookie r = each (answer_of_response version cookie) r
 
 abbrev pub by_call : (Stat → Callback) → Ruling (Response Stat) → Ruling Answered
 by_call callback r = each (λ (t : Response Stat). sent_back (callback t.says) t.world) r
@@ -174,20 +174,20 @@ nlm_answer limits w version (Locks a) = by_reply version a.cookie (lock_answer l
 nlm_answer limits w version (NmLock a) = by_reply version a.cookie (nm_lock_answer limits w version a)
 nlm_answer limits w version (Cancel a) = by_reply version a.cookie (cancel_answer w a)
 nlm_answer limits w version (Unlock a) = by_reply version a.cookie (unlock_answer limits w a)
-nlm_answer limits w version (TestMsg a) = if_slots 1 limits w (decided (sent_back (test_callback w version a) w))
+nlm_answer limits w version (TestMsg a) = if_slots 1 limits w (decided_ruling (sent_back (test_callback w version a) w))
 nlm_answer limits w version (LockMsg a) = by_message limits w (lock_callback version a) (lock_msg_answer limits w version a)
 nlm_answer limits w version (CancelMsg a) = by_message limits w (cancel_callback version a) (cancel_answer w a)
 nlm_answer limits w version (UnlockMsg a) = by_message limits w (unlock_callback version a) (unlock_answer limits w a)
 nlm_answer limits w version (GrantedRes a) = says (granted_res_rules limits w a.cookie a.stat).world NoResult
-nlm_answer limits w version (ShareCall a) = decided (share_answer limits w version a)
-nlm_answer limits w version (Unshare a) = decided (unshare_answer w version a)
+nlm_answer limits w version (ShareCall a) = decided_ruling (share_answer limits w version a)
+nlm_answer limits w version (Unshare a) = decided_ruling (unshare_answer w version a)
 nlm_answer limits w version (FreeAll name state) = says (without_host_of w name) NoResult
 
 -- ---- NSM
 
 -- an answer that a store call comes before, with the answer where it is refused
-abbrev pub stored : World → StoreCall → (World → Answered) → Answered → Ruling Answered
-stored w call agreed refused = record { asks = Some call; agreed = agreed (with_hosts w (after_store w.hosts call)); refused = refused }
+abbrev pub ruling_after_store : World → StoreCall → (World → Answered) → Answered → Ruling Answered
+ruling_after_store w call agreed refused = record { asks = Some call; agreed = agreed (with_hosts w (after_store w.hosts call)); refused = refused }
 
 abbrev pub own_state : World → Result
 own_state w = StateResult (pos w.hosts.own)
@@ -199,8 +199,8 @@ gives_state w = gives w (Success (own_state w))
 abbrev pub status_callback : ℤ → Watch → Callback
 status_callback state x = record { to = ToHost x.my_id.my_name; message = Status x.my_id x.mon_name state x.private_bytes }
 
-abbrev pub notified : Bytes → ℤ → World → Answered
-notified name state w =
+abbrev pub notified_answer : Bytes → ℤ → World → Answered
+notified_answer name state w =
     let callbacks = map (status_callback state) (watches_of w.hosts name) in
     record { outcome = Success NoResult; due = callbacks; world = with_all_due (without_host_of w name) callbacks }
 
@@ -208,33 +208,33 @@ abbrev pub notify_rules : Limits → World → Bytes → ℤ → Option HostRow 
 notify_rules limits w name state None = says w NoResult
 notify_rules limits w name state (Some row) =
     cond (int_eq row.seen state) (says w NoResult)
-    (if_slots (length (watches_of w.hosts name)) limits w (stored w (Seen name state) (notified name state) (gives w SystemErr)))
+    (if_slots (length (watches_of w.hosts name)) limits w (ruling_after_store w (Seen name state) (notified_answer name state) (gives w SystemErr)))
 
 -- SM_NOTIFY: a host with a row whose state is another than the one seen is dropped, and its watchers are called
 abbrev pub notify_answer : Limits → World → Bytes → ℤ → Ruling Answered
 notify_answer limits w name state = notify_rules limits w name state (row_of w.hosts name)
 
-abbrev pub monitored : World → Answered
-monitored w = gives w (Success (MonitorResult STAT_SUCC (pos w.hosts.own)))
+abbrev pub monitored_answer : World → Answered
+monitored_answer w = gives w (Success (MonitorResult STAT_SUCC (pos w.hosts.own)))
 
 abbrev pub not_monitored : World → Answered
 not_monitored w = gives w (Success (MonitorResult STAT_FAIL (pos w.hosts.own)))
 
 -- it acts as a restart that keeps the connections
-abbrev pub crashed : World → Answered
-crashed w = gives (restarted w w.hosts) (Success NoResult)
+abbrev pub crashed_answer : World → Answered
+crashed_answer w = gives (restarted_world w w.hosts) (Success NoResult)
 
 -- whether the peer is local decides whether SM_MON, SM_UNMON, SM_UNMON_ALL and SM_SIMU_CRASH act
 abbrev pub nsm_answer : Limits → World → Bool → NsmCall → Ruling Answered
 nsm_answer limits w local SmNull = says w NoResult
 nsm_answer limits w local (SmStat name) = says w (MonitorResult STAT_SUCC (pos w.hosts.own))
-nsm_answer limits w true (SmMon name my bytes) = stored w (Watched name my bytes) monitored (not_monitored w)
-nsm_answer limits w false (SmMon name my bytes) = decided (not_monitored w)
-nsm_answer limits w true (SmUnmon name my) = stored w (Unwatched (Some name) my) gives_state (gives w SystemErr)
-nsm_answer limits w false (SmUnmon name my) = decided (gives_state w)
-nsm_answer limits w true (SmUnmonAll my) = stored w (Unwatched None my) gives_state (gives w SystemErr)
-nsm_answer limits w false (SmUnmonAll my) = decided (gives_state w)
-nsm_answer limits w true SmSimuCrash = stored w Begin crashed (gives w SystemErr)
+nsm_answer limits w true (SmMon name my bytes) = ruling_after_store w (Watched name my bytes) monitored_answer (not_monitored w)
+nsm_answer limits w false (SmMon name my bytes) = decided_ruling (not_monitored w)
+nsm_answer limits w true (SmUnmon name my) = ruling_after_store w (Unwatched (Some name) my) gives_state (gives w SystemErr)
+nsm_answer limits w false (SmUnmon name my) = decided_ruling (gives_state w)
+nsm_answer limits w true (SmUnmonAll my) = ruling_after_store w (Unwatched None my) gives_state (gives w SystemErr)
+nsm_answer limits w false (SmUnmonAll my) = decided_ruling (gives_state w)
+nsm_answer limits w true SmSimuCrash = ruling_after_store w Begin crashed_answer (gives w SystemErr)
 nsm_answer limits w false SmSimuCrash = says w NoResult
 nsm_answer limits w local (SmNotify name state) = notify_answer limits w name state
 
@@ -246,4 +246,4 @@ ruling limits w local (Nsm call) = nsm_answer limits w local call
 
 -- what a call from a peer, local or not, comes to under the store's answer
 abbrev pub answer : Limits → World → Bool → Call → StoreAnswer → Answered
-answer limits w local call store = ruled store (ruling limits w local call)
+answer limits w local call store = ruled_answer store (ruling limits w local call)

@@ -2,7 +2,7 @@
 use Rattle.std.specs.Prelude.{◌≡◌, ◌≢◌, ◌<◌, ◌≤◌, ℕ, ◌+◌, ◌%◌, Bool, false, cond, not, ◌&&◌, ◌||◌, leb, List, length, filter, ℤ, pos, Option, Some, None}
 use Rattle.std.specs.declared.cmp.Ordering.{Ordering}
 use Rattle.std.specs.Ordering.{int_cmp, ordering_then, is_eq}
-use Rattle.definitions.specs.Bytes.{IsAscending, Bytes, same_bytes, bytes_cmp, is_any, first_that, change_first, without, put}
+use Rattle.definitions.specs.Bytes.{IsAscending, Bytes, same_bytes, bytes_cmp, is_any, first_that, change_first, list_without, list_with}
 use Rattle.definitions.specs.Nsm.{MyId}
 
 -- a host's name; the own state that was current when the row was made or that the host last acknowledged; the host's state as it
@@ -70,7 +70,7 @@ pub data StoreAnswer : Type 0 where
   NotAsked Yes Refused : StoreAnswer
 
 abbrev pub with_row : Bytes → ℕ → ℤ → List HostRow → List HostRow
-with_row name epoch seen rows = put row_cmp (record { name = name; epoch = epoch; seen = seen; quota = full_quota }) rows
+with_row name epoch seen rows = list_with row_cmp (record { name = name; epoch = epoch; seen = seen; quota = full_quota }) rows
 
 -- a row of a name that has none
 abbrev pub with_new_row : Bytes → ℤ → Hosts → List HostRow
@@ -89,9 +89,9 @@ after_store hosts (Acked name epoch) = record hosts { rows = change_first (is_na
 after_store hosts (Quota name runs) = record hosts { rows = change_first (is_named name) (λ (r : HostRow). record r { quota = runs }) hosts.rows }
 after_store hosts (Watched name my bytes) = record hosts {
   rows = with_new_row name (pos 0) hosts;
-  watches = put watch_cmp (record { mon_name = name; my_id = my; private_bytes = bytes }) hosts.watches;
+  watches = list_with watch_cmp (record { mon_name = name; my_id = my; private_bytes = bytes }) hosts.watches;
 }
-after_store hosts (Unwatched name my) = record hosts { watches = without (is_watch name my) hosts.watches }
+after_store hosts (Unwatched name my) = record hosts { watches = list_without (is_watch name my) hosts.watches }
 
 -- a store call past a limit, which is never answered yes
 abbrev pub is_past_limit : ℕ → ℕ → Hosts → StoreCall → Bool

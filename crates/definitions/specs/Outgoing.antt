@@ -1,6 +1,6 @@
 -- The calls that the server makes: results of message forms, grants, and notices of a restart. What is sent, to whom, how often, and whether it is due now.
 use Rattle.std.specs.Prelude.{ℕ, ◌+◌, ◌%◌, ◌^◌, Bool, true, false, cond, ◌&&◌, eqb, leb, ltb, List, [], ◌∷◌, ◌++◌, ℤ, Option, Some, None}
-use Rattle.definitions.specs.Bytes.{Bytes, same_bytes, eight_bytes, first_that, without, without_first}
+use Rattle.definitions.specs.Bytes.{Bytes, same_bytes, eight_bytes, first_that, list_without, without_first}
 use Rattle.definitions.specs.Owners.{Owner}
 use Rattle.definitions.specs.Settings.{Mode}
 use Rattle.definitions.specs.Nlm.{Version, Lock, TestArgs, TestRes, Res}
@@ -129,4 +129,4 @@ abbrev pub is_grant_to : Bytes → Outgoing → Bool
 is_grant_to name c = is_grant c.callback.message && is_to_host name c.callback.to
 
 abbrev pub without_grants_to : Bytes → List Outgoing → List Outgoing
-without_grants_to name calls = without (is_grant_to name) calls
+without_grants_to name calls = list_without (is_grant_to name) calls

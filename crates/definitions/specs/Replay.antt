@@ -36,9 +36,9 @@ abbrev pub numbers_of : List Entry → List ℕ
 numbers_of entries = map (λ (e : Entry). e.number) entries
 
 -- so many numbers, one above the other
-abbrev pub counted : ℕ → List Entry → List ℕ
-counted first [] = []
-counted first (e ∷ entries) = first ∷ counted (first + 1) entries
+abbrev pub numbers_from : ℕ → List Entry → List ℕ
+numbers_from first [] = []
+numbers_from first (e ∷ entries) = first ∷ numbers_from (first + 1) entries
 
 abbrev pub told_of : List Entry → List Given
 told_of entries = map (λ (e : Entry). e.given) entries
@@ -76,7 +76,7 @@ all_fit limits s (d ∷ done) = cond (fits limits s d) (all_fit limits (after li
 
 -- numbers run on from the first; each entry is a step from the state that the entries before it leave, and `end` is the state after the last
 pub record IsLegal (limits : Limits) (first : ℕ) (base : State) (entries : List Entry) (end : State) : Type 0 where
-  pub numbers : numbers_of entries ≡ counted first entries
+  pub numbers : numbers_of entries ≡ numbers_from first entries
   pub given : given_by limits base (done_of entries) ≡ told_of entries
   pub ends : state_after limits base (done_of entries) ≡ end
   pub store : all_fit limits base (done_of entries) ≡ true

@@ -1,7 +1,7 @@
 -- Shares of whole files, as MS-DOS has them (XNFS, NLM_SHARE): what an owner does, and what it denies the others.
 use Rattle.std.specs.Prelude.{◌≡◌, ◌⊎◌, ℕ, Bool, true, false, not, ◌&&◌, ◌||◌, leb, List, [], ◌∷◌, ◌++◌, length}
 use Rattle.std.specs.Bool.{Decides}
-use Rattle.definitions.specs.Bytes.{Bytes, same_bytes, is_any, without, Holds}
+use Rattle.definitions.specs.Bytes.{Bytes, same_bytes, is_any, list_without, Holds}
 
 -- none, read, write or both
 pub record Access : Type 0 where
@@ -49,13 +49,13 @@ abbrev pub has_no_room : ℕ → List Share → Share → Bool
 has_no_room room shares new = not (has_place shares new) && leb room (length shares)
 
 abbrev pub without_share : Share → List Share → List Share
-without_share new shares = without (is_same_place new) shares
+without_share new shares = list_without (is_same_place new) shares
 
 abbrev pub with_share : Share → List Share → List Share
 with_share new shares = without_share new shares ++ new ∷ []
 
 abbrev pub without_host_shares : Bytes → List Share → List Share
-without_host_shares name shares = without (λ (s : Share). same_bytes s.name name) shares
+without_host_shares name shares = list_without (λ (s : Share). same_bytes s.name name) shares
 
 -- one share for each file and owner: the second takes the first's place
 abbrev pub AreSingle : List Share → Type 0

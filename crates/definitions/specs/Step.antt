@@ -7,8 +7,8 @@ use Rattle.definitions.specs.Nsm.{SmSimuCrash}
 use Rattle.definitions.specs.Hosts.{Hosts, StoreCall, Begin, StoreAnswer, NotAsked, Yes, Refused, after_store}
 use Rattle.definitions.specs.Outgoing.{Callback, Outgoing, next_due, after_sending, after_silence}
 use Rattle.definitions.specs.Replies.{Call, Nlm, Nsm, Outcome, Success, Refuses, SystemErr, Reading, Ignored, Turned, Asks, AnswerReading, Line, LineReply, LineStarved}
-use Rattle.definitions.specs.World.{World, Limits, opening, slots_free, with_hosts, with_calls, with_all_due, LeavesRest, settled, restarted}
-use Rattle.definitions.specs.Rulings.{Response, ruled}
+use Rattle.definitions.specs.World.{World, Limits, opening, slots_free, with_hosts, with_calls, with_all_due, LeavesRest, settled_world, restarted_world}
+use Rattle.definitions.specs.Rulings.{Response, ruled_answer}
 use Rattle.definitions.specs.Answer.{Answered, ruling}
 use Rattle.definitions.specs.Lines.{line_answer}
 use Rattle.definitions.specs.Grants.{TableChange, TableStays, TableChanges, answer_rules}
@@ -100,8 +100,8 @@ abbrev pub moved_to_front : KeptPair → List KeptPair → List KeptPair
 moved_to_front k kept = k ∷ without_first (is_same_key k.peer k.asked) kept
 
 -- a repeat: the kept reply, its calls due again, its pair first; where the calls find no slots, nothing but SYSTEM_ERR
-abbrev pub repeated : Limits → State → KeptPair → Stepped
-repeated limits s k =
+abbrev pub repeated_step : Limits → State → KeptPair → Stepped
+repeated_step limits s k =
     cond (leb (length k.callbacks) (slots_free limits s.world))
     (record { given = Replies k.xid k.outcome; state = record { world = with_all_due s.world k.callbacks; kept = moved_to_front k s.kept } })
     (record { given = Replies k.xid SystemErr; state = s })
@@ -121,50 +121,50 @@ is_restart peer _ _ = false
 abbrev pub fresh : Limits → State → Peer → Bytes → ℕ → Call → StoreAnswer → Stepped
 fresh limits s peer asked xid call store =
     let r = ruling limits s.world peer.local call in
-    let a = ruled store r in
+    let a = ruled_answer store r in
     record {
       given = Replies xid a.outcome;
       state = record {
-        world = settled limits a.world;
+        world = settled_world limits a.world;
         kept = cond (is_restart peer call store) [] (kept_after limits peer asked xid call a s.kept);
       };
     }
 
-abbrev pub taken : Limits → State → Peer → Bytes → ℕ → Call → StoreAnswer → Option KeptPair → Stepped
-taken limits s peer asked xid call store (Some k) = repeated limits s k
-taken limits s peer asked xid call store None = fresh limits s peer asked xid call store
+abbrev pub taken_step : Limits → State → Peer → Bytes → ℕ → Call → StoreAnswer → Option KeptPair → Stepped
+taken_step limits s peer asked xid call store (Some k) = repeated_step limits s k
+taken_step limits s peer asked xid call store None = fresh limits s peer asked xid call store
 
 -- ---- an event that is done
 
-abbrev pub sent : State → Option Outgoing → Stepped
-sent s None = nothing s
-sent s (Some c) = record { given = Sends c.number c.callback; state = with_world s (with_calls s.world (after_sending s.world.calls)) }
+abbrev pub sent_step : State → Option Outgoing → Stepped
+sent_step s None = nothing s
+sent_step s (Some c) = record { given = Sends c.number c.callback; state = with_world s (with_calls s.world (after_sending s.world.calls)) }
 
 abbrev pub settled_after : Limits → Response TableChange → World
-settled_after limits t = elim t.says [ TableStays ↦ t.world | TableChanges ↦ settled limits t.world ]
+settled_after limits t = elim t.says [ TableStays ↦ t.world | TableChanges ↦ settled_world limits t.world ]
 
 abbrev pub told_line : Limits → State → Response LineReply → Stepped
-told_line limits s t = record { given = Says t.says; state = with_world s (settled limits t.world) }
+told_line limits s t = record { given = Says t.says; state = with_world s (settled_world limits t.world) }
 
 -- every event that begins the state anew: the store's new own state, and no kept replies
-abbrev pub begun : State → Stepped
-begun s = record { given = Nothing; state = record { world = restarted s.world (after_store s.world.hosts Begin); kept = [] } }
+abbrev pub begun_step : State → Stepped
+begun_step s = record { given = Nothing; state = record { world = restarted_world s.world (after_store s.world.hosts Begin); kept = [] } }
 
 abbrev pub restart : State → StoreAnswer → Stepped
-restart s Yes = begun s
+restart s Yes = begun_step s
 restart s NotAsked = record { given = IsRefused; state = s }
 restart s Refused = record { given = IsRefused; state = s }
 
-abbrev pub applied : Limits → State → Event → StoreAnswer → Stepped
-applied limits s (Take peer asked Ignored) store = nothing s
-applied limits s (Take peer asked (Turned xid refusal)) store = record { given = Replies xid (Refuses refusal); state = s }
-applied limits s (Take peer asked (Asks xid call)) store = taken limits s peer asked xid call store (look s peer asked)
-applied limits s Send store = sent s (next_due s.world.calls)
-applied limits s (Answer reading) store = nothing (with_world s (settled_after limits (ruled store (answer_rules limits s.world reading))))
-applied limits s (Silent number) store = nothing (with_world s (with_calls s.world (after_silence number s.world.calls)))
-applied limits s (Local l line) store = told_line limits s (ruled store (line_answer limits s.world l line))
-applied limits s GraceOver store = nothing (with_world s (record s.world { phase = Normal }))
-applied limits s Restart store = restart s store
+abbrev pub applied_step : Limits → State → Event → StoreAnswer → Stepped
+applied_step limits s (Take peer asked Ignored) store = nothing s
+applied_step limits s (Take peer asked (Turned xid refusal)) store = record { given = Replies xid (Refuses refusal); state = s }
+applied_step limits s (Take peer asked (Asks xid call)) store = taken_step limits s peer asked xid call store (look s peer asked)
+applied_step limits s Send store = sent_step s (next_due s.world.calls)
+applied_step limits s (Answer reading) store = nothing (with_world s (settled_after limits (ruled_answer store (answer_rules limits s.world reading))))
+applied_step limits s (Silent number) store = nothing (with_world s (with_calls s.world (after_silence number s.world.calls)))
+applied_step limits s (Local l line) store = told_line limits s (ruled_answer store (line_answer limits s.world l line))
+applied_step limits s GraceOver store = nothing (with_world s (record s.world { phase = Normal }))
+applied_step limits s Restart store = restart s store
 
 -- ---- what is asked of the store
 
@@ -191,18 +191,18 @@ with_row_stored s (Nlm version (Locks a)) (Some call) Yes = with_world s (with_h
 with_row_stored s (Nlm version (LockMsg a)) (Some call) Yes = with_world s (with_hosts s.world (after_store s.world.hosts call))
 with_row_stored s _ _ _ = s
 
-abbrev pub starved : Limits → State → Event → StoreAnswer → Stepped
-starved limits s (Take peer asked (Turned xid refusal)) store = record { given = Replies xid SystemErr; state = s }
-starved limits s (Take peer asked (Asks xid call)) store = record {
+abbrev pub starved_step : Limits → State → Event → StoreAnswer → Stepped
+starved_step limits s (Take peer asked (Turned xid refusal)) store = record { given = Replies xid SystemErr; state = s }
+starved_step limits s (Take peer asked (Asks xid call)) store = record {
   given = Replies xid SystemErr;
   state = with_row_stored s call (store_call limits s (Take peer asked (Asks xid call))) store;
 }
-starved limits s (Local l line) store = record { given = Says LineStarved; state = s }
-starved limits s _ store = record { given = IsStarved; state = s }
+starved_step limits s (Local l line) store = record { given = Says LineStarved; state = s }
+starved_step limits s _ store = record { given = IsStarved; state = s }
 
 abbrev pub step : Limits → State → Event → Completion → StoreAnswer → Stepped
-step limits s event Applied store = applied limits s event store
-step limits s event Starved store = starved limits s event store
+step limits s event Applied store = applied_step limits s event store
+step limits s event Starved store = starved_step limits s event store
 
 -- a call whose reply is kept is not applied again: whatever it says, locks, waiters, shares, phase and hosts stay
 abbrev pub RepeatLaw : Type 0

@@ -6,12 +6,12 @@ use std::marker::Model;
 
 /// None, read, write or both (XNFS, fsh4_mode and fsh4_access).
 #[derive(Clone, Copy, PartialEq, Eq)]
-pub struct Access {
+pub struct AccessBits {
     read: bool,
     write: bool,
 }
 
-impl Model for Access {
+impl Model for AccessBits {
     ghost use Rattle.definitions.specs.Shares.{Access as FileAccess};
 
     ghost Value = { FileAccess };
@@ -21,15 +21,15 @@ impl Model for Access {
     ghost inverse = { λ a. record { read = a.read; write = a.write } };
 }
 
-impl Access {
-    pub fn new(read: bool, write: bool) -> Access
+impl AccessBits {
+    pub fn new(read: bool, write: bool) -> AccessBits
         ensures { result ≡ record { read = read; write = write } }
     {
-        Access { read, write }
+        AccessBits { read, write }
     }
 
     /// Whether both read, or both write.
-    pub fn meets(self, other: Access) -> bool
+    pub fn meets(self, other: AccessBits) -> bool
         ensures { result ≡ is_met self other }
     {
         let both_read = self.read && other.read;

@@ -6,7 +6,7 @@ mod access;
 mod share;
 mod shares;
 
-pub use access::Access;
+pub use access::AccessBits;
 pub use owner_ids::Starved;
 pub use share::Share;
 pub use shares::{MOST_SHARES, ShareError, Shares};

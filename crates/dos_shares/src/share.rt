@@ -3,7 +3,7 @@ ghost use Rattle.std.specs.Prelude.{◌≡◌, ◌&&◌};
 ghost use Rattle.definitions.specs.Bytes.{same_bytes};
 ghost use Rattle.definitions.specs.Shares.{is_same_place, shares_clash};
 
-use crate::access::Access;
+use crate::access::AccessBits;
 use std::marker::Model;
 
 /// What one owner does with a file, and what it denies the others. An owner is a host and an owner handle
@@ -13,8 +13,8 @@ pub struct Share {
     file: Vec<u8>,
     caller_name: Vec<u8>,
     oh: Vec<u8>,
-    deny: Access,
-    access: Access,
+    deny: AccessBits,
+    access: AccessBits,
 }
 
 impl Model for Share {
@@ -31,8 +31,8 @@ impl Share {
         file: Vec<u8>,
         caller_name: Vec<u8>,
         oh: Vec<u8>,
-        deny: Access,
-        access: Access,
+        deny: AccessBits,
+        access: AccessBits,
     ) -> Share
         ensures { result ≡ record { file = file.items; name = caller_name.items; oh = oh.items; deny = deny; access = access } }
     {
@@ -66,14 +66,14 @@ impl Share {
     }
 
     /// What the others may not do.
-    pub fn deny(&self) -> Access
+    pub fn deny(&self) -> AccessBits
         ensures { result ≡ self.now.deny }
     {
         self.deny
     }
 
     /// What the owner does.
-    pub fn access(&self) -> Access
+    pub fn access(&self) -> AccessBits
         ensures { result ≡ self.now.access }
     {
         self.access

@@ -10,7 +10,7 @@ use Rattle.definitions.proofs.OwnerLaws.{same_owner-Decides}
 use Rattle.definitions.proofs.QuotaLaws.{others_keep}
 use Rattle.definitions.proofs.RunCounts.{as_many_of}
 use Rattle.definitions.proofs.SettingLaws.{drop_owner, drop_host}
-use Rattle.owner_ids.specs.Names.{named, is_owned_by}
+use Rattle.owner_ids.specs.Names.{names_of_owners, is_owned_by}
 use Rattle.held_locks.specs.HostRuns.{Counted, runs_of, IsRecounted, Puts}
 use Rattle.range_table.specs.Settings.{Held, IsUsed, mode_at as held_at, held_by}
 use Rattle.range_table.specs.declared.run.Setting.{Setting as NumberSetting}
@@ -37,8 +37,8 @@ module _ (before after : List Setting) (x : Owner) (alike : (file : Bytes) (owne
 
   pub hosts_changed : (ns others : List NumberSetting) (counts left : List ℕ) (names : List (Option Owner)) (old new : Counted) → IsTied ns counts names before → IsTied others left names after → AreHostRuns old before → IsCountedAnew x (held_at ns) (held_at others) old new → AreHostRuns new after
   hosts_changed ns others counts left names old new h k a r =
-      let b = used_over (named names) (held_at ns) before r.before h.stands r.were in
-      let l = used_over (named names) (held_at others) after r.left k.stands r.are in
+      let b = used_over (names_of_owners names) (held_at ns) before r.before h.stands r.were in
+      let l = used_over (names_of_owners names) (held_at others) after r.left k.stands r.are in
       hosts_after old new a (subst (λ n. IsRecounted x n (used after) old new) b (subst (λ n. IsRecounted x r.before n old new) l r.counted))
 
 pub counted_anew : (x : Owner) (held after : Held) (old new : Counted) (before left : ℕ) → IsUsed held before → IsUsed after left → IsRecounted x before left old new → IsCountedAnew x held after old new
@@ -55,12 +55,12 @@ drop_alike on x settings file owner byte o = drop_owner on x settings file owner
 
 -- ---- settings for which one table stands have as many runs of each host
 
-pub hosts_kept : (ns : List NumberSetting) (names : List (Option Owner)) (before after : List Setting) (hosts : Counted) → Stands (named names) (held_at ns) before → Stands (named names) (held_at ns) after → AreHostRuns hosts before → AreHostRuns hosts after
+pub hosts_kept : (ns : List NumberSetting) (names : List (Option Owner)) (before after : List Setting) (hosts : Counted) → Stands (names_of_owners names) (held_at ns) before → Stands (names_of_owners names) (held_at ns) after → AreHostRuns hosts before → AreHostRuns hosts after
 hosts_kept ns names before after hosts h k a whole name =
-    let has = is_owned_by (named names) name in
-    let of = of_host (named names) name in
+    let has = is_owned_by (names_of_owners names) name in
+    let of = of_host (names_of_owners names) name in
     a whole name
-    ∙ used_once (held_by has (held_at ns)) (used_of name before) (used_of name after) (used_of_is (named names) (held_at ns) before has name h of) (used_of_is (named names) (held_at ns) after has name k of)
+    ∙ used_once (held_by has (held_at ns)) (used_of name before) (used_of name after) (used_of_is (names_of_owners names) (held_at ns) before has name h of) (used_of_is (names_of_owners names) (held_at ns) after has name k of)
 
 -- ---- a host goes
 

@@ -45,7 +45,7 @@ third false b c d e h = cc
 other_number : (wanted r : NumberRun) → conflicts wanted r ≡ true → r.owner ≢ wanted.owner
 other_number wanted r h = number_other r.owner wanted.owner (not-true (r.owner == wanted.owner) (third (same_file r.file wanted.file) (not (r.owner == wanted.owner)) (nat_le r.first wanted.last) (nat_le wanted.first r.last) (excludes (Some r.mode) wanted.mode) h))
 
-module _ (names : Names) (held : Held) (settings : List Setting) (h : Stands names held settings) (n : ℕ) (r : HeldRequest) (ordered : r.first ≤ r.last) where
+module _ (names : Names) (held : Held) (settings : List Setting) (h : Stands names held settings) (n : ℕ) (r : HeldRequest) (ordered : r.range.first ≤ r.range.last) where
   abbrev x : Owner
   x = view_of_owner r.owner.now
 

@@ -10,7 +10,7 @@ use Rattle.definitions.specs.Starts.{used, is_short, refuses}
 use Rattle.definitions.proofs.SettingLaws.{newest_wins, drop_owner}
 use Rattle.definitions.proofs.OwnerLaws.{same_owner-Decides}
 use Rattle.definitions.proofs.ReclaimLaws.{covered}
-use Rattle.owner_ids.specs.Names.{Names, Renames, IsNumberFor, named, is_owned_by}
+use Rattle.owner_ids.specs.Names.{Names, Renames, IsNumberFor, names_of_owners, is_owned_by}
 use Rattle.range_table.specs.File.{File, same_file}
 use Rattle.range_table.specs.Settings.{Held, mode_at, held_by, IsUsed, covers as covers_number, is_by}
 use Rattle.range_table.specs.declared.run.Setting.{Setting as NumberSetting}
@@ -34,7 +34,7 @@ use Rattle.held_locks.specs.Tied.{IsTied, AreCounts, Spares, WereCounted}
 nothing_at : {X : Type 0} (d : X) (n : ℕ) → slice_index_or [] n d ≡ d
 nothing_at d n = get_or-eq_default [] d {n = n} (omega arith)
 
-nobody : (n : ℕ) (x : Owner) → named [] n ≡ Some x → ⊥
+nobody : (n : ℕ) (x : Owner) → names_of_owners [] n ≡ Some x → ⊥
 nobody n x e = let p : None ≡ Some x = sym (nothing_at None n) ∙ e in cc
 
 no_count : (n : ℕ) → ◌≡◌ {A = ℕ} (slice_index_or [] n 0) 0
@@ -42,7 +42,7 @@ no_count n = nothing_at 0 n
 
 pub tied_nothing : IsTied [] [] [] []
 tied_nothing = record {
-  stands = cleared (named []) (record { once = λ n k x e f. absurd (nobody n x e) });
+  stands = cleared (names_of_owners []) (record { once = λ n k x e f. absurd (nobody n x e) });
   counted = λ n. subst (IsUsed (held_by (λ k. k == n) (mode_at []))) (sym (no_count n)) (nothing_used (λ k. k == n) (mode_at []) (λ file k byte. by_test (k == n) (λ t. rw t refl) (λ t. rw t refl)));
   within = λ n x e. absurd (nobody n x e);
   few = omega arith;
@@ -153,29 +153,29 @@ module _ (names : Names) (held : Held) (settings : List Setting) (h : Stands nam
 
 -- ---- what keeps the tie
 
-pub same_new_setting : (names : List (Option Owner)) (n : ℕ) (c : NewSetting) → named names n ≡ Some (view_of_owner c.owner.now) → IsSameSetting (named names) (new_setting_by_number n c) (view_of_new_setting c)
+pub same_new_setting : (names : List (Option Owner)) (n : ℕ) (c : NewSetting) → names_of_owners names n ≡ Some (view_of_owner c.owner.now) → IsSameSetting (names_of_owners names) (new_setting_by_number n c) (view_of_new_setting c)
 same_new_setting names n c e = record { file = refl; owner = e; first = refl; last = refl; mode = refl }
 
 -- a setting of an owner who has a number
-pub tied_set : (ns others : List NumberSetting) (counts after : List ℕ) (names : List (Option Owner)) (settings : List Setting) (n : ℕ) (c : NewSetting) → IsTied ns counts names settings → named names n ≡ Some (view_of_owner c.owner.now) → others ≡ ns ++ new_setting_by_number n c ∷ [] → AreCounts others after → length after ≡ length counts → IsTied others after names (settings ++ view_of_new_setting c ∷ [])
+pub tied_set : (ns others : List NumberSetting) (counts after : List ℕ) (names : List (Option Owner)) (settings : List Setting) (n : ℕ) (c : NewSetting) → IsTied ns counts names settings → names_of_owners names n ≡ Some (view_of_owner c.owner.now) → others ≡ ns ++ new_setting_by_number n c ∷ [] → AreCounts others after → length after ≡ length counts → IsTied others after names (settings ++ view_of_new_setting c ∷ [])
 tied_set ns others counts after names settings n c h e o counted places = record {
-  stands = subst (λ l. Stands (named names) (mode_at l) (settings ++ view_of_new_setting c ∷ [])) (sym o) (stands_after (named names) ns settings (new_setting_by_number n c) (view_of_new_setting c) h.stands (same_new_setting names n c e));
+  stands = subst (λ l. Stands (names_of_owners names) (mode_at l) (settings ++ view_of_new_setting c ∷ [])) (sym o) (stands_after (names_of_owners names) ns settings (new_setting_by_number n c) (view_of_new_setting c) h.stands (same_new_setting names n c e));
   counted = counted;
   within = λ k x f. subst (λ l. k < l) (sym places) (h.within k x f);
   few = subst (λ l. l ≤ 4294967296) (sym places) h.few;
 }
 
 -- an unlock by an owner who has none
-pub tied_stranger : (ns : List NumberSetting) (counts : List ℕ) (names : List (Option Owner)) (settings : List Setting) (c : NewSetting) → IsTied ns counts names settings → ((k : ℕ) → named names k ≢ Some (view_of_owner c.owner.now)) → c.mode ≡ None → IsTied ns counts names (settings ++ view_of_new_setting c ∷ [])
+pub tied_stranger : (ns : List NumberSetting) (counts : List ℕ) (names : List (Option Owner)) (settings : List Setting) (c : NewSetting) → IsTied ns counts names settings → ((k : ℕ) → names_of_owners names k ≢ Some (view_of_owner c.owner.now)) → c.mode ≡ None → IsTied ns counts names (settings ++ view_of_new_setting c ∷ [])
 tied_stranger ns counts names settings c h fresh none = record {
-  stands = stranger_unlocks (named names) (mode_at ns) settings h.stands (view_of_owner c.owner.now) fresh (view_of_new_setting c) refl (ap view_of_held_mode none);
+  stands = stranger_unlocks (names_of_owners names) (mode_at ns) settings h.stands (view_of_owner c.owner.now) fresh (view_of_new_setting c) refl (ap view_of_held_mode none);
   counted = h.counted;
   within = h.within;
   few = h.few;
 }
 
 -- who locks is known, so a stranger unlocks
-pub stranger_mode : (names : List (Option Owner)) (c : NewSetting) → ((c.mode ≡ None) ⊎ ((n : ℕ) × (named names n ≡ Some (view_of_owner c.owner.now)))) → ((k : ℕ) → named names k ≢ Some (view_of_owner c.owner.now)) → c.mode ≡ None
+pub stranger_mode : (names : List (Option Owner)) (c : NewSetting) → ((c.mode ≡ None) ⊎ ((n : ℕ) × (names_of_owners names n ≡ Some (view_of_owner c.owner.now)))) → ((k : ℕ) → names_of_owners names k ≢ Some (view_of_owner c.owner.now)) → c.mode ≡ None
 stranger_mode names c (inl e) fresh = e
 stranger_mode names c (inr k) fresh = absurd (fresh k.0 k.1)
 
@@ -185,11 +185,11 @@ none_held : (m : Option NumberMode) → view_of_held_mode m ≡ None → m ≡ N
 none_held None e = refl
 none_held (Some m) e = cc
 
-pub number_holds_nothing : (ns : List NumberSetting) (counts : List ℕ) (names : List (Option Owner)) (settings : List Setting) (n : ℕ) (x : Owner) → IsTied ns counts names settings → named names n ≡ Some x → ((file : Bytes) (byte : ℕ) → owner_mode_at settings file x byte ≡ None) → (file : File) (byte : ℕ) → mode_at ns file n byte ≡ None
+pub number_holds_nothing : (ns : List NumberSetting) (counts : List ℕ) (names : List (Option Owner)) (settings : List Setting) (n : ℕ) (x : Owner) → IsTied ns counts names settings → names_of_owners names n ≡ Some x → ((file : Bytes) (byte : ℕ) → owner_mode_at settings file x byte ≡ None) → (file : File) (byte : ℕ) → mode_at ns file n byte ≡ None
 number_holds_nothing ns counts names settings n x h e nothing file byte = none_held (mode_at ns file n byte) (h.stands.used n x e file byte ∙ nothing file byte)
 
 -- the count of an owner's number is 0 exactly where it holds nothing
-pub nothing_counted : (ns : List NumberSetting) (counts : List ℕ) (names : List (Option Owner)) (settings : List Setting) (n : ℕ) (x : Owner) → IsTied ns counts names settings → named names n ≡ Some x → ((file : Bytes) (byte : ℕ) → owner_mode_at settings file x byte ≡ None) → slice_index_or counts n 0 ≡ 0
+pub nothing_counted : (ns : List NumberSetting) (counts : List ℕ) (names : List (Option Owner)) (settings : List Setting) (n : ℕ) (x : Owner) → IsTied ns counts names settings → names_of_owners names n ≡ Some x → ((file : Bytes) (byte : ℕ) → owner_mode_at settings file x byte ≡ None) → slice_index_or counts n 0 ≡ 0
 nothing_counted ns counts names settings n x h e nothing =
     used_once (held_by (λ k. k == n) (mode_at ns)) (slice_index_or counts n 0) 0 (h.counted n)
     (nothing_used (λ k. k == n) (mode_at ns) (λ file k byte. by_test (k == n)
@@ -199,7 +199,7 @@ nothing_counted ns counts names settings n x h e nothing =
 pub number_idle : (ns : List NumberSetting) (counts : List ℕ) (names : List (Option Owner)) (settings : List Setting) (n : ℕ) → IsTied ns counts names settings → slice_index_or counts n 0 ≡ 0 → (file : File) (byte : ℕ) → mode_at ns file n byte ≡ None
 number_idle ns counts names settings n h e = release_test (λ k. k == n) (mode_at ns) n (number_same n n refl) (subst (IsUsed (held_by (λ k. k == n) (mode_at ns))) e (h.counted n))
 
-pub owner_idle : (ns : List NumberSetting) (counts : List ℕ) (names : List (Option Owner)) (settings : List Setting) (n : ℕ) (x : Owner) → IsTied ns counts names settings → named names n ≡ Some x → slice_index_or counts n 0 ≡ 0 → (file : Bytes) (byte : ℕ) → owner_mode_at settings file x byte ≡ None
+pub owner_idle : (ns : List NumberSetting) (counts : List ℕ) (names : List (Option Owner)) (settings : List Setting) (n : ℕ) (x : Owner) → IsTied ns counts names settings → names_of_owners names n ≡ Some x → slice_index_or counts n 0 ≡ 0 → (file : Bytes) (byte : ℕ) → owner_mode_at settings file x byte ≡ None
 owner_idle ns counts names settings n x h e z file byte = sym (h.stands.used n x e file byte) ∙ ap view_of_held_mode (number_idle ns counts names settings n h z file byte)
 
 -- names of numbers that hold nothing may go
@@ -224,12 +224,12 @@ stands_fewer names after held settings h goes = record {
   here n x e file byte m (inl s) = s ∙ e
   here n x e file byte m (inr g) = absurd (m (sym (h.used n x e file byte) ∙ ap view_of_held_mode (g.1 file byte)))
 
-pub tied_released : (ns : List NumberSetting) (counts : List ℕ) (names after : List (Option Owner)) (settings : List Setting) (n : ℕ) → IsTied ns counts names settings → ((file : File) (byte : ℕ) → mode_at ns file n byte ≡ None) → Renames (named names) (named after) n None → IsTied ns counts after settings
+pub tied_released : (ns : List NumberSetting) (counts : List ℕ) (names after : List (Option Owner)) (settings : List Setting) (n : ℕ) → IsTied ns counts names settings → ((file : File) (byte : ℕ) → mode_at ns file n byte ≡ None) → Renames (names_of_owners names) (names_of_owners after) n None → IsTied ns counts after settings
 tied_released ns counts names after settings n h idle r = record {
-  stands = released (named names) (named after) (mode_at ns) settings n h.stands idle r;
+  stands = released (names_of_owners names) (names_of_owners after) (mode_at ns) settings n h.stands idle r;
   counted = h.counted;
   within = λ k x e. by_test (k == n)
-      (λ t. let p : None ≡ Some x = sym r.there ∙ ap (named after) (sym (number_is k n t)) ∙ e in cc)
+      (λ t. let p : None ≡ Some x = sym r.there ∙ ap (names_of_owners after) (sym (number_is k n t)) ∙ e in cc)
       (λ t. h.within k x (sym (r.others k (number_other k n t)) ∙ e));
   few = h.few;
 }
@@ -245,29 +245,29 @@ tied_counts ns counts more names settings h same longer few = record {
   few = few;
 }
 
-module _ (ns : List NumberSetting) (counts : List ℕ) (names mid : List (Option Owner)) (settings : List Setting) (n : ℕ) (x : Owner) (h : IsTied ns counts names settings) (was : IsNumberFor (named names) n x) (r : Renames (named names) (named mid) n (Some x)) where
+module _ (ns : List NumberSetting) (counts : List ℕ) (names mid : List (Option Owner)) (settings : List Setting) (n : ℕ) (x : Owner) (h : IsTied ns counts names settings) (was : IsNumberFor (names_of_owners names) n x) (r : Renames (names_of_owners names) (names_of_owners mid) n (Some x)) where
   pub tied_admitted : n < length counts → IsTied ns counts mid settings
   tied_admitted place = record {
-    stands = had_or_interned (named names) (named mid) (mode_at ns) settings n x h.stands was r;
+    stands = had_or_interned (names_of_owners names) (names_of_owners mid) (mode_at ns) settings n x h.stands was r;
     counted = h.counted;
     within = λ k y e. by_test (k == n) (λ t. subst (λ z. z < length counts) (sym (number_is k n t)) place) (λ t. h.within k y (sym (r.others k (number_other k n t)) ∙ e));
     few = h.few;
   }
 
   -- a number without a place was new, so giving it back leaves each name as it was
-  module _ (after : List (Option Owner)) (back : Renames (named mid) (named after) n None) (past : length counts ≤ n) where
-    was_free : IsNumberFor (named names) n x → named names n ≡ None
+  module _ (after : List (Option Owner)) (back : Renames (names_of_owners mid) (names_of_owners after) n None) (past : length counts ≤ n) where
+    was_free : IsNumberFor (names_of_owners names) n x → names_of_owners names n ≡ None
     was_free (inl e) = let w = h.within n x e in absurd (omega (arith, w, past))
     was_free (inr e) = e.0
 
-    pub given_back : (k : ℕ) → named after k ≡ named names k
+    pub given_back : (k : ℕ) → names_of_owners after k ≡ names_of_owners names k
     given_back k = by_test (k == n)
-        (λ t. let i = number_is k n t in ap (named after) i ∙ back.there ∙ sym (was_free was) ∙ ap (named names) (sym i))
+        (λ t. let i = number_is k n t in ap (names_of_owners after) i ∙ back.there ∙ sym (was_free was) ∙ ap (names_of_owners names) (sym i))
         (λ t. let o = number_other k n t in back.others k o ∙ r.others k o)
 
     pub tied_back : IsTied ns counts after settings
     tied_back = record {
-      stands = stands_fewer (named names) (named after) (mode_at ns) settings h.stands (λ k. inl (given_back k));
+      stands = stands_fewer (names_of_owners names) (names_of_owners after) (mode_at ns) settings h.stands (λ k. inl (given_back k));
       counted = h.counted;
       within = λ k y e. h.within k y (sym (given_back k) ∙ e);
       few = h.few;
@@ -275,16 +275,16 @@ module _ (ns : List NumberSetting) (counts : List ℕ) (names mid : List (Option
 
 -- ---- a drop of an owner on a file
 
-pub tied_dropped : (ns others : List NumberSetting) (counts after : List ℕ) (names : List (Option Owner)) (settings : List Setting) (n : ℕ) (x : Owner) (on : Bytes) → IsTied ns counts names settings → named names n ≡ Some x → others ≡ filter (λ s. not (is_by on n s)) ns → AreCounts others after → length after ≡ length counts → IsTied others after names (without_owner_on on x settings)
+pub tied_dropped : (ns others : List NumberSetting) (counts after : List ℕ) (names : List (Option Owner)) (settings : List Setting) (n : ℕ) (x : Owner) (on : Bytes) → IsTied ns counts names settings → names_of_owners names n ≡ Some x → others ≡ filter (λ s. not (is_by on n s)) ns → AreCounts others after → length after ≡ length counts → IsTied others after names (without_owner_on on x settings)
 tied_dropped ns others counts after names settings n x on h e o counted places = record {
-  stands = subst (λ l. Stands (named names) (mode_at l) (without_owner_on on x settings)) (sym o) (stands_without_owner (named names) ns settings on n x h.stands e);
+  stands = subst (λ l. Stands (names_of_owners names) (mode_at l) (without_owner_on on x settings)) (sym o) (stands_without_owner (names_of_owners names) ns settings on n x h.stands e);
   counted = counted;
   within = λ k y f. subst (λ l. k < l) (sym places) (h.within k y f);
   few = subst (λ l. l ≤ 4294967296) (sym places) h.few;
 }
 
 -- of an owner without a number nothing is taken out
-pub tied_undropped : (ns : List NumberSetting) (counts : List ℕ) (names : List (Option Owner)) (settings : List Setting) (x : Owner) (on : Bytes) → IsTied ns counts names settings → ((k : ℕ) → named names k ≢ Some x) → IsTied ns counts names (without_owner_on on x settings)
+pub tied_undropped : (ns : List NumberSetting) (counts : List ℕ) (names : List (Option Owner)) (settings : List Setting) (x : Owner) (on : Bytes) → IsTied ns counts names settings → ((k : ℕ) → names_of_owners names k ≢ Some x) → IsTied ns counts names (without_owner_on on x settings)
 tied_undropped ns counts names settings x on h fresh = record {
   stands = record {
     distinct = h.stands.distinct;
@@ -300,25 +300,25 @@ tied_undropped ns counts names settings x on h fresh = record {
   same file y byte =
       drop_owner on x settings file y byte
       ∙ by_test (same_bytes file on && same_owner y x)
-      (λ t. let i : y ≡ x = (same_owner-Decides y x).0 (and_parts (same_bytes file on) (same_owner y x) t).1 in rw t (sym (subst (λ z. owner_mode_at settings file z byte ≡ None) (sym i) (stranger_holds_nothing (named names) (mode_at ns) settings h.stands x fresh file byte))))
+      (λ t. let i : y ≡ x = (same_owner-Decides y x).0 (and_parts (same_bytes file on) (same_owner y x) t).1 in rw t (sym (subst (λ z. owner_mode_at settings file z byte ≡ None) (sym i) (stranger_holds_nothing (names_of_owners names) (mode_at ns) settings h.stands x fresh file byte))))
       (λ t. rw t refl)
 
 -- ---- a drop of a host
 
-module _ (ns others : List NumberSetting) (counts after : List ℕ) (names left : List (Option Owner)) (settings : List Setting) (name : Bytes) (h : IsTied ns counts names settings) (o : others ≡ filter (λ s. not (is_owned_by (named names) name s.owner)) ns) (cleared_counts : (n : ℕ) → slice_index_or after n 0 ≡ cond (is_owned_by (named names) name n) 0 (slice_index_or counts n 0)) (places : length after ≡ length counts) (gone : (n : ℕ) → named left n ≡ cond (is_owned_by (named names) name n) None (named names n)) where
+module _ (ns others : List NumberSetting) (counts after : List ℕ) (names left : List (Option Owner)) (settings : List Setting) (name : Bytes) (h : IsTied ns counts names settings) (o : others ≡ filter (λ s. not (is_owned_by (names_of_owners names) name s.owner)) ns) (cleared_counts : (n : ℕ) → slice_index_or after n 0 ≡ cond (is_owned_by (names_of_owners names) name n) 0 (slice_index_or counts n 0)) (places : length after ≡ length counts) (gone : (n : ℕ) → names_of_owners left n ≡ cond (is_owned_by (names_of_owners names) name n) None (names_of_owners names n)) where
   abbrev has : ℕ → Bool
-  has = is_owned_by (named names) name
+  has = is_owned_by (names_of_owners names) name
 
   others_hold : (file : File) (n byte : ℕ) → mode_at others file n byte ≡ cond (has n) None (mode_at ns file n byte)
   others_hold file n byte = ap (λ l. mode_at l file n byte) o ∙ mode_at-filter (λ file k. has k) ns file n byte
 
-  host_stands : Stands (named left) (mode_at others) (without_host name settings)
+  host_stands : Stands (names_of_owners left) (mode_at others) (without_host name settings)
   host_stands =
-      stands_fewer (named names) (named left) (mode_at others) (without_host name settings)
-      (subst (λ l. Stands (named names) (mode_at l) (without_host name settings)) (sym o) (stands_without_host (named names) ns settings has name h.stands (of_host (named names) name)))
+      stands_fewer (names_of_owners names) (names_of_owners left) (mode_at others) (without_host name settings)
+      (subst (λ l. Stands (names_of_owners names) (mode_at l) (without_host name settings)) (sym o) (stands_without_host (names_of_owners names) ns settings has name h.stands (of_host (names_of_owners names) name)))
       (λ n. by_test (has n)
-      (λ t. inr (gone n ∙ ap (λ b. cond b None (named names n)) t, λ file byte. others_hold file n byte ∙ ap (λ b. cond b None (mode_at ns file n byte)) t))
-      (λ t. inl (gone n ∙ ap (λ b. cond b None (named names n)) t)))
+      (λ t. inr (gone n ∙ ap (λ b. cond b None (names_of_owners names n)) t, λ file byte. others_hold file n byte ∙ ap (λ b. cond b None (mode_at ns file n byte)) t))
+      (λ t. inl (gone n ∙ ap (λ b. cond b None (names_of_owners names n)) t)))
 
   host_counted : AreCounts others after
   host_counted n = by_test (has n)
@@ -334,10 +334,10 @@ module _ (ns others : List NumberSetting) (counts after : List ℕ) (names left 
       (λ q. rw q (sym (others_hold file k byte ∙ ap (λ b. cond b None (mode_at ns file k byte)) (ap has (number_is k n q) ∙ t))))
       (λ q. rw q refl)) (h.counted n)))
 
-  host_within : (n : ℕ) (x : Owner) → named left n ≡ Some x → n < length after
+  host_within : (n : ℕ) (x : Owner) → names_of_owners left n ≡ Some x → n < length after
   host_within n x e = by_test (has n)
-      (λ t. let p : None ≡ Some x = sym (gone n ∙ ap (λ b. cond b None (named names n)) t) ∙ e in cc)
-      (λ t. subst (λ l. n < l) (sym places) (h.within n x (sym (gone n ∙ ap (λ b. cond b None (named names n)) t) ∙ e)))
+      (λ t. let p : None ≡ Some x = sym (gone n ∙ ap (λ b. cond b None (names_of_owners names n)) t) ∙ e in cc)
+      (λ t. subst (λ l. n < l) (sym places) (h.within n x (sym (gone n ∙ ap (λ b. cond b None (names_of_owners names n)) t) ∙ e)))
 
   pub tied_without_host : IsTied others after left (without_host name settings)
   tied_without_host = record { stands = host_stands; counted = host_counted; within = host_within; few = subst (λ l. l ≤ 4294967296) (sym places) h.few }

@@ -3,7 +3,7 @@ use Rattle.std.specs.Prelude.{ℕ, ◌≡◌, List, Option, Some, None}
 use Rattle.definitions.specs.Bytes.{Bytes}
 use Rattle.definitions.specs.Owners.{Owner}
 use Rattle.definitions.specs.Settings.{Setting, mode_at}
-use Rattle.owner_ids.specs.Names.{named}
+use Rattle.owner_ids.specs.Names.{names_of_owners}
 
 pub record Held : Type 0 where
   pub settings : List Setting
@@ -11,7 +11,7 @@ pub record Held : Type 0 where
 
 -- the owner has a number, so that a lock of it takes no memory
 abbrev pub IsKnown : Held → Owner → Type 0
-IsKnown h x = (n : ℕ) × (named h.names n ≡ Some x)
+IsKnown h x = (n : ℕ) × (names_of_owners h.names n ≡ Some x)
 
 -- who was known still is
 abbrev pub KeepsKnown : Held → Held → Type 0
@@ -19,11 +19,11 @@ KeepsKnown before after = (x : Owner) → IsKnown before x → IsKnown after x
 
 -- who had a number has that number still
 abbrev pub KeepsNames : Held → Held → Type 0
-KeepsNames before after = (n : ℕ) (x : Owner) → named before.names n ≡ Some x → named after.names n ≡ Some x
+KeepsNames before after = (n : ℕ) (x : Owner) → names_of_owners before.names n ≡ Some x → names_of_owners after.names n ≡ Some x
 
 -- each number names whom it named
 abbrev pub SameNames : Held → Held → Type 0
-SameNames before after = (n : ℕ) → named after.names n ≡ named before.names n
+SameNames before after = (n : ℕ) → names_of_owners after.names n ≡ names_of_owners before.names n
 
 -- the owner holds no byte
 abbrev pub HoldsNothing : Held → Owner → Type 0

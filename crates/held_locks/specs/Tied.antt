@@ -8,7 +8,7 @@ use Rattle.definitions.specs.Starts.{used_of}
 use Rattle.held_locks.specs.HostRuns.{Counted, runs_of, IsRecounted}
 use Rattle.range_table.specs.File.{File}
 use Rattle.range_table.specs.Settings.{Held, mode_at, held_by, IsUsed}
-use Rattle.owner_ids.specs.Names.{named}
+use Rattle.owner_ids.specs.Names.{names_of_owners}
 use Rattle.held_locks.specs.Stands.{Stands}
 
 -- how many runs each number has
@@ -27,9 +27,9 @@ pub record WereCounted (n : ℕ) (counts : List ℕ) (all : ℕ) (after : List N
   pub spares : Spares n (mode_at before) (mode_at after)
 
 pub record IsTied (ns : List NumberSetting) (counts : List ℕ) (names : List (Option Owner)) (settings : List Setting) : Type 0 where
-  pub stands : Stands (named names) (mode_at ns) settings
+  pub stands : Stands (names_of_owners names) (mode_at ns) settings
   pub counted : AreCounts ns counts
-  pub within : (n : ℕ) (x : Owner) → named names n ≡ Some x → n < length counts
+  pub within : (n : ℕ) (x : Owner) → names_of_owners names n ≡ Some x → n < length counts
   pub few : length counts ≤ 4294967296
 
 -- and how many each host has, where all are counted

@@ -1,36 +1,30 @@
 //! What is asked of the locks, and what they show.
-ghost use Rattle.std.specs.Prelude.{◌≡◌, ◌≤◌, ◌<◌, ◌^◌};
+ghost use Rattle.std.specs.Prelude.{◌≡◌};
 
 use owner_ids::{Owner, OwnerId};
-use range_table::{FileId, Mode, Run, Wanted};
+use range_table::{ByteRange, FileId, Mode, Run, Wanted};
 
-/// A lock that is wanted (POSIX fcntl): from the first to the last byte, 0 to 2^63 - 1.
+/// A lock that is wanted (POSIX, fcntl).
 #[derive(Clone, Copy)]
 pub struct Request<'a> {
     pub file: FileId,
     pub owner: &'a Owner,
-    pub first: u64,
-    pub last: u64,
+    pub range: ByteRange,
     pub mode: Mode,
-    pub ghost ordered: { first ≤ last },
-    pub ghost inside: { last < 2 ^ 63 },
 }
 
-/// What an owner is to hold from the first to the last byte from now on: a mode, or nothing.
+/// What an owner is to hold of a range from now on: a mode, or nothing.
 #[derive(Clone, Copy)]
 pub struct NewSetting<'a> {
     pub file: FileId,
     pub owner: &'a Owner,
-    pub first: u64,
-    pub last: u64,
+    pub range: ByteRange,
     pub mode: Option<Mode>,
-    pub ghost ordered: { first ≤ last },
-    pub ghost inside: { last < 2 ^ 63 },
 }
 
 /// Bytes of a file that an owner holds in one mode, and no more around them.
 #[derive(Clone, Copy)]
-pub struct Holder<'a> {
+pub struct RunHolder<'a> {
     pub file: FileId,
     pub owner: &'a Owner,
     pub first: u64,
@@ -49,23 +43,22 @@ impl<'a> Request<'a> {
         NewSetting {
             file: self.file,
             owner: self.owner,
-            first: self.first,
-            last: self.last,
+            range: self.range,
             mode: Some(self.mode),
         }
     }
 }
 
-impl<'a> Holder<'a> {
+impl<'a> RunHolder<'a> {
     ghost use Rattle.held_locks.specs.Asked.{view_of_lock_holder};
     ghost use Rattle.held_locks.specs.Same.{view_of_run};
     ghost use Rattle.owner_ids.specs.Views.{view_of_owner};
 
     /// Of a run, and the owner of its number.
-    pub(crate) fn of(run: &Run, owner: &'a Owner) -> Holder<'a>
+    pub(crate) fn of(run: &Run, owner: &'a Owner) -> RunHolder<'a>
         ensures { view_of_lock_holder result ≡ view_of_run (view_of_owner owner.now) run.now }
     {
-        Holder {
+        RunHolder {
             file: run.file,
             owner,
             first: run.first,
@@ -85,8 +78,8 @@ impl Request<'_> {
         Wanted::new(Run {
             file: self.file,
             owner,
-            first: self.first,
-            last: self.last,
+            first: self.range.first,
+            last: self.range.last,
             mode: self.mode,
         })
     }

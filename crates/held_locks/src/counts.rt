@@ -2,7 +2,7 @@
 ghost use Rattle.std.specs.Prelude.{◌≡◌, ◌<◌, ◌≤◌, ◌↔◌, ◌-◌, ◌++◌, ◌∷◌, ℕ, [], Some, None, cond, length, not, IsErr, OnOk, OnErr, slice_index_or, slice_set};
 ghost use Rattle.std.specs.List.{filter};
 ghost use Rattle.definitions.specs.Owners.{Owner as SaidOwner};
-ghost use Rattle.owner_ids.specs.Names.{named, is_owned_by};
+ghost use Rattle.owner_ids.specs.Names.{names_of_owners, is_owned_by};
 ghost use Rattle.range_table.specs.Settings.{Held, IsRefused, IsUsed, mode_at, is_by};
 ghost use Rattle.held_locks.specs.Asked.{new_setting_by_number};
 ghost use Rattle.owner_ids.specs.Views.{view_of_owner};
@@ -81,8 +81,8 @@ pub(crate) fn set<R: RangeTable>(
     table.set(
         &setting.file,
         number,
-        setting.first,
-        setting.last,
+        setting.range.first,
+        setting.range.last,
         setting.mode,
     )?;
     count_anew(table, counts, hosts, number, setting.owner, before);
@@ -126,8 +126,8 @@ pub(crate) fn clear_host<H: Host>(counts: &mut Vec<u32>, host: &H)
 /// Takes the numbers of a host's owners out of use.
 pub(crate) fn release_host(owners: &mut Owners, most: usize, name: &[u8])
     requires few { most ≤ 4294967296 }
-    requires within { (n : ℕ) (x : SaidOwner) → named owners.old n ≡ Some x → n < most }
-    ensures { (n : ℕ) → named owners.new n ≡ cond (is_owned_by (named owners.old) name.now n) None (named owners.old n) }
+    requires within { (n : ℕ) (x : SaidOwner) → names_of_owners owners.old n ≡ Some x → n < most }
+    ensures { (n : ℕ) → names_of_owners owners.new n ≡ cond (is_owned_by (names_of_owners owners.old) name.now n) None (names_of_owners owners.old n) }
 {
     for number in 0..most {
         let number = number as OwnerId;

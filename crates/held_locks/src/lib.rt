@@ -10,7 +10,7 @@ mod locks;
 mod owners;
 mod quotas;
 
-pub use asked::{Holder, NewSetting, Request};
+pub use asked::{NewSetting, Request, RunHolder};
 pub use host_runs::{HostRuns, RunsOfHosts};
 pub use listing::Listing;
 pub use locks::Locks;

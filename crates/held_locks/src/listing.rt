@@ -22,13 +22,13 @@ impl Model for Listing {
 }
 
 ghost use Rattle.std.specs.Prelude.{◌<◌, IfSome, length, slice_get, Some, ◌≡◌};
-ghost use Rattle.owner_ids.specs.Names.{named, number_cmp};
+ghost use Rattle.owner_ids.specs.Names.{names_of_owners, number_cmp};
 ghost use Rattle.range_table.specs.Settings.{mode_at, AreRuns};
 
 impl Listing {
     /// Of all that the table holds. `None` where there is no memory for it.
     pub(crate) fn of<R: RangeTable>(alloc: Global, table: &R, owners: &Owners) -> Option<Listing>
-        ensures { IfSome result (λ all. AreRuns (number_cmp (named owners.now)) (mode_at (R.settings table.now)) all) }
+        ensures { IfSome result (λ all. AreRuns (number_cmp (names_of_owners owners.now)) (mode_at (R.settings table.now)) all) }
     {
         let Ok(mut runs) = Vec::with_capacity(alloc, table.used() as usize) else {
             return None;

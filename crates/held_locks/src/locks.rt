@@ -5,7 +5,7 @@ ghost use Rattle.definitions.specs.Settings.{without_host, without_owner_on};
 ghost use Rattle.definitions.specs.Conflict.{conflicts};
 ghost use Rattle.definitions.specs.Starts.{first_conflict, is_short, refuses, used, used_of, runs};
 ghost use Rattle.owner_ids.specs.Views.{view_of_owner};
-ghost use Rattle.owner_ids.specs.Names.{named};
+ghost use Rattle.owner_ids.specs.Names.{names_of_owners};
 ghost use Rattle.held_locks.specs.Stands.{Stands};
 ghost use Rattle.range_table.specs.Settings.{mode_at};
 ghost use Rattle.held_locks.specs.Asked.{view_of_request, view_of_new_setting, setting_by, view_of_lock_holder, view_of_found_holder};
@@ -13,13 +13,13 @@ ghost use Rattle.held_locks.specs.Held.{IsKnown, KeepsKnown, KeepsNames, SameNam
 ghost use Rattle.held_locks.specs.Listing.{IsListing};
 ghost use Rattle.owner_ids.specs.Names.{IsNumberFor};
 
-use crate::asked::{Holder, NewSetting, Request};
+use crate::asked::{NewSetting, Request, RunHolder};
 use crate::counts::{self, make_place};
 use crate::host_runs::HostRuns;
 use crate::listing::Listing;
 use ghost_list::History;
 use owner_ids::{HostOf, NOBODY, Owner, OwnerId, Owners, Starved};
-use range_table::{FileId, NoRuns, RangeTable, Wanted};
+use range_table::{ByteRange, FileId, NoRuns, RangeTable, Wanted};
 use std::alloc::Global;
 use std::marker::Model;
 
@@ -115,15 +115,15 @@ impl<R: RangeTable> Locks<R> {
         self.table.used_after(
             &setting.file,
             asker,
-            setting.first,
-            setting.last,
+            setting.range.first,
+            setting.range.last,
             setting.mode,
         )
     }
 
     // The asker's number, or nobody's.
     pub(crate) fn asker(&self, owner: &Owner) -> OwnerId
-        ensures { IsNumberFor (named self.now.names) result (view_of_owner owner.now) }
+        ensures { IsNumberFor (names_of_owners self.now.names) result (view_of_owner owner.now) }
     {
         match self.owners.number(owner) {
             Some(number) => number,
@@ -132,7 +132,7 @@ impl<R: RangeTable> Locks<R> {
     }
 
     /// The lock of another owner that is first in the way: of the least first byte, then of the least owner.
-    pub fn first_conflict(&self, wanted: &Request<'_>) -> Option<Holder<'_>>
+    pub fn first_conflict(&self, wanted: &Request<'_>) -> Option<RunHolder<'_>>
         ensures { view_of_found_holder result ≡ first_conflict self.now.settings (view_of_request wanted.now) }
     {
         let asker = self.asker(wanted.owner);
@@ -140,7 +140,7 @@ impl<R: RangeTable> Locks<R> {
             .table
             .first_conflict(&self.owners, &wanted.by_number(asker))
         {
-            Some(run) => Some(Holder::of(&run, self.owners.get(run.owner))),
+            Some(run) => Some(RunHolder::of(&run, self.owners.get(run.owner))),
             None => None,
         }
     }
@@ -182,8 +182,8 @@ impl<R: RangeTable> Locks<R> {
                 self.table.refuses(
                     &setting.file,
                     number,
-                    setting.first,
-                    setting.last,
+                    setting.range.first,
+                    setting.range.last,
                     setting.mode,
                 )
             }
@@ -216,9 +216,9 @@ impl<R: RangeTable> Locks<R> {
 
     /// The same of a lock that is wanted by its owner's number, which is in use.
     pub fn set_run(&mut self, wanted: &Wanted) -> Result<(), NoRuns>
-        requires known { IsSome (named self.old.names wanted.now.owner) }
-        ensures refused { (x : SaidOwner) → named self.old.names wanted.now.owner ≡ Some x → IsErr result ↔ IsTrue (refuses 65536 self.old.settings (setting_by x wanted.now)) }
-        ensures ok { OnOk result ((x : SaidOwner) → named self.old.names wanted.now.owner ≡ Some x → self.new.settings ≡ self.old.settings ++ setting_by x wanted.now ∷ []) }
+        requires known { IsSome (names_of_owners self.old.names wanted.now.owner) }
+        ensures refused { (x : SaidOwner) → names_of_owners self.old.names wanted.now.owner ≡ Some x → IsErr result ↔ IsTrue (refuses 65536 self.old.settings (setting_by x wanted.now)) }
+        ensures ok { OnOk result ((x : SaidOwner) → names_of_owners self.old.names wanted.now.owner ≡ Some x → self.new.settings ≡ self.old.settings ++ setting_by x wanted.now ∷ []) }
         ensures err { OnErr result (self.new.settings ≡ self.old.settings) }
         ensures names { self.new.names ≡ self.old.names }
     {
@@ -226,8 +226,10 @@ impl<R: RangeTable> Locks<R> {
         let setting = NewSetting {
             file: run.file,
             owner: self.owners.get(run.owner),
-            first: run.first,
-            last: run.last,
+            range: ByteRange {
+                first: run.first,
+                last: run.last,
+            },
             mode: Some(run.mode),
         };
         counts::set(
@@ -245,9 +247,9 @@ impl<R: RangeTable> Locks<R> {
 impl<R: RangeTable> Locks<R> {
     // The number of a known owner that holds nothing.
     fn idle_number(&self, owner: &Owner) -> Option<OwnerId>
-        ensures number { IfSome result (λ n. named self.now.names n ≡ Some (view_of_owner owner.now)) }
+        ensures number { IfSome result (λ n. names_of_owners self.now.names n ≡ Some (view_of_owner owner.now)) }
         ensures idle { IfSome result (λ n. HoldsNothing self.now (view_of_owner owner.now)) }
-        ensures none { IfNone result (HoldsNothing self.now (view_of_owner owner.now) → (n : ℕ) → named self.now.names n ≢ Some (view_of_owner owner.now)) }
+        ensures none { IfNone result (HoldsNothing self.now (view_of_owner owner.now) → (n : ℕ) → names_of_owners self.now.names n ≢ Some (view_of_owner owner.now)) }
     {
         match self.owners.number(owner) {
             Some(number) if self.counts[number as usize] == 0 => Some(number),
@@ -259,8 +261,8 @@ impl<R: RangeTable> Locks<R> {
     pub fn forget_idle(&mut self, owner: &Owner)
         ensures settings { self.new.settings ≡ self.old.settings }
         ensures others { (x : SaidOwner) → x ≢ view_of_owner owner.now → IsKnown self.old x → IsKnown self.new x }
-        ensures names { (n : ℕ) (x : SaidOwner) → x ≢ view_of_owner owner.now → named self.old.names n ≡ Some x → named self.new.names n ≡ Some x }
-        ensures forgotten { HoldsNothing self.old (view_of_owner owner.now) → (n : ℕ) → named self.new.names n ≢ Some (view_of_owner owner.now) }
+        ensures names { (n : ℕ) (x : SaidOwner) → x ≢ view_of_owner owner.now → names_of_owners self.old.names n ≡ Some x → names_of_owners self.new.names n ≡ Some x }
+        ensures forgotten { HoldsNothing self.old (view_of_owner owner.now) → (n : ℕ) → names_of_owners self.new.names n ≢ Some (view_of_owner owner.now) }
         ensures kept { (HoldsNothing self.old (view_of_owner owner.now) → ⊥) → KeepsKnown self.old self.new }
     {
         if let Some(number) = self.idle_number(owner) {
@@ -272,8 +274,8 @@ impl<R: RangeTable> Locks<R> {
     pub fn drop_host(&mut self, name: &[u8])
         ensures settings { self.new.settings ≡ without_host name.now self.old.settings }
         ensures others { (x : SaidOwner) → is_of_host name.now x ≡ false → IsKnown self.old x → IsKnown self.new x }
-        ensures names { (n : ℕ) (x : SaidOwner) → is_of_host name.now x ≡ false → named self.old.names n ≡ Some x → named self.new.names n ≡ Some x }
-        ensures forgotten { (x : SaidOwner) → is_of_host name.now x ≡ true → (n : ℕ) → named self.new.names n ≢ Some x }
+        ensures names { (n : ℕ) (x : SaidOwner) → is_of_host name.now x ≡ false → names_of_owners self.old.names n ≡ Some x → names_of_owners self.new.names n ≡ Some x }
+        ensures forgotten { (x : SaidOwner) → is_of_host name.now x ≡ true → (n : ℕ) → names_of_owners self.new.names n ≢ Some x }
     {
         let host = HostOf {
             owners: &self.owners,
@@ -319,12 +321,12 @@ impl<R: RangeTable> Locks<R> {
 
 impl<R: RangeTable> Locks<R> {
     /// The i-th of all locks, in order of file, first byte and owner.
-    pub fn holder(&self, i: u32) -> Holder<'_>
+    pub fn holder(&self, i: u32) -> RunHolder<'_>
         requires { i < used self.now.settings }
         ensures { slice_get (runs self.now.settings) i ≡ Some (view_of_lock_holder result) }
     {
         let run = self.table.runs(&self.owners, i);
-        Holder::of(&run, self.owners.get(run.owner))
+        RunHolder::of(&run, self.owners.get(run.owner))
     }
 
     /// All locks in a row, for whoever reads all of them. `None` where there is no memory for them.
@@ -336,26 +338,26 @@ impl<R: RangeTable> Locks<R> {
     }
 
     /// The i-th of all locks, as `holder`, out of their row, and without a search.
-    pub fn listed(&self, all: &Listing, i: u32) -> Holder<'_>
+    pub fn listed(&self, all: &Listing, i: u32) -> RunHolder<'_>
         requires listing { IsListing self.now all.now }
         requires within { i < used self.now.settings }
         ensures { slice_get (runs self.now.settings) i ≡ Some (view_of_lock_holder result) }
     {
         let run = all.get(i);
-        Holder::of(run, self.owners.get(run.owner))
+        RunHolder::of(run, self.owners.get(run.owner))
     }
 
     /// The owner of a number in use.
     pub fn owner(&self, number: OwnerId) -> &Owner
-        requires { IsSome (named self.now.names number) }
-        ensures { named self.now.names number ≡ Some (view_of_owner result.now) }
+        requires { IsSome (names_of_owners self.now.names number) }
+        ensures { names_of_owners self.now.names number ≡ Some (view_of_owner result.now) }
     {
         self.owners.get(number)
     }
 
     /// The table and the owners' numbers, for the tables beside it that know owners by number.
     pub fn parts(&self) -> (&R, &Owners)
-        ensures stands { Stands (named result.1.now) (mode_at (R.settings result.0.now)) self.now.settings }
+        ensures stands { Stands (names_of_owners result.1.now) (mode_at (R.settings result.0.now)) self.now.settings }
         ensures names { result.1.now ≡ self.now.names }
     {
         (&self.table, &self.owners)

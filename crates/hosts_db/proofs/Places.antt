@@ -7,7 +7,7 @@ use Rattle.std.specs.List.Sorted.{IsBinarySearchResult, IsSearchInRange}
 use Rattle.std.specs.Ordering.{is_eq, is_lt, ordering_reverse}
 use Rattle.std.specs.declared.cmp.Ordering.{Ordering}
 use Rattle.std.specs.declared.cmp.Ordering.TheVariants.{Less, Equal, Greater}
-use Rattle.definitions.specs.Bytes.{is_any, first_that, change_first, put, placed, IsBelowAll, IsAscending}
+use Rattle.definitions.specs.Bytes.{is_any, first_that, change_first, list_with, placed_list, IsBelowAll, IsAscending}
 use Rattle.definitions.proofs.Orders.{above}
 use Rattle.hosts_db.specs.Places.{IsPlace}
 
@@ -67,11 +67,11 @@ module _ {X : Type 0} (cmp : X → X → Ordering) (total : IsTotalOrder cmp) wh
     change_at g (y ∷ ys) (suc at) d h l ties =
         ap (λ b. cond b (g y ∷ ys) (y ∷ change_first p g ys)) (fails y (fails_before y ys at h.0 (omega arith) ties)) ∙ ap (λ zs. y ∷ zs) (change_at g ys at d h.1 (omega arith) ties)
 
-    pub put_at : (xs : List X) (at : ℕ) → IsAscending cmp xs → at < length xs → HoldsAt (λ z. cmp z x ≡ Equal) xs at → put cmp x xs ≡ set xs at x
+    pub put_at : (xs : List X) (at : ℕ) → IsAscending cmp xs → at < length xs → HoldsAt (λ z. cmp z x ≡ Equal) xs at → list_with cmp x xs ≡ set xs at x
     put_at [] at h l ties = absurd (omega arith)
-    put_at (y ∷ ys) zero h l ties = ap (λ o. placed o x y ys (put cmp x ys)) (equal_back y x (ties y))
+    put_at (y ∷ ys) zero h l ties = ap (λ o. placed_list o x y ys (list_with cmp x ys)) (equal_back y x (ties y))
     put_at (y ∷ ys) (suc at) h l ties =
-        ap (λ o. placed o x y ys (put cmp x ys)) (less_back y x (fails_before y ys at h.0 (omega arith) ties)) ∙ ap (λ zs. y ∷ zs) (put_at ys at h.1 (omega arith) ties)
+        ap (λ o. placed_list o x y ys (list_with cmp x ys)) (less_back y x (fails_before y ys at h.0 (omega arith) ties)) ∙ ap (λ zs. y ∷ zs) (put_at ys at h.1 (omega arith) ties)
 
     -- ---- where none ties with x
 
@@ -92,10 +92,10 @@ module _ {X : Type 0} (cmp : X → X → Ordering) (total : IsTotalOrder cmp) wh
         ap (λ t. t || is_any p ys) (fails y (b 0 y (omega arith) (omega arith)))
         ∙ none_gap ys at (omega arith) (λ k d u v. b (suc k) d (omega arith) (omega arith)) (λ k d u v. a (suc k) d (omega arith) (omega arith))
 
-    pub put_gap : (xs : List X) (at : ℕ) → at ≤ length xs → AllWithin (λ y. cmp y x ≡ Less) xs 0 at → AllWithin (λ y. cmp y x ≡ Greater) xs at (length xs) → put cmp x xs ≡ insert xs at x
+    pub put_gap : (xs : List X) (at : ℕ) → at ≤ length xs → AllWithin (λ y. cmp y x ≡ Less) xs 0 at → AllWithin (λ y. cmp y x ≡ Greater) xs at (length xs) → list_with cmp x xs ≡ insert xs at x
     put_gap [] zero l b a = refl
-    put_gap (y ∷ ys) zero l b a = ap (λ o. placed o x y ys (put cmp x ys)) (above cmp total y x (a 0 y (omega arith) (omega arith)))
+    put_gap (y ∷ ys) zero l b a = ap (λ o. placed_list o x y ys (list_with cmp x ys)) (above cmp total y x (a 0 y (omega arith) (omega arith)))
     put_gap [] (suc at) l b a = absurd (omega arith)
     put_gap (y ∷ ys) (suc at) l b a =
-        ap (λ o. placed o x y ys (put cmp x ys)) (less_back y x (b 0 y (omega arith) (omega arith)))
+        ap (λ o. placed_list o x y ys (list_with cmp x ys)) (less_back y x (b 0 y (omega arith) (omega arith)))
         ∙ ap (λ zs. y ∷ zs) (put_gap ys at (omega arith) (λ k d u v. b (suc k) d (omega arith) (omega arith)) (λ k d u v. a (suc k) d (omega arith) (omega arith)))

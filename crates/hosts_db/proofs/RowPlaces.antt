@@ -3,12 +3,12 @@ use Rattle.std.proofs.Common.{◌≡◌, ◌<◌, ◌≤◌, ℕ, true, false, n
 use Rattle.std.proofs.lemmas.Bool.{true≢false}
 use Rattle.std.proofs.lemmas.Bool.Decides.{nat_tests}
 use Rattle.std.specs.List.{insert}
-use Rattle.definitions.specs.Bytes.{Bytes, is_any, first_that, change_first, put, IsAscending}
+use Rattle.definitions.specs.Bytes.{Bytes, is_any, first_that, change_first, list_with, IsAscending}
 use Rattle.definitions.specs.Nsm.{MyId}
 use Rattle.definitions.specs.Hosts.{HostRow, Hosts, Watch, row_cmp, watch_cmp, is_named, is_watch, after_store}
-use Rattle.hosts_db.specs.Notes.{view_of_note, noted}
-use Rattle.hosts_db.specs.declared.rows.Note.{Note}
-use Rattle.hosts_db.specs.declared.rows.Note.TheVariants as to
+use Rattle.hosts_db.specs.Notes.{view_of_note, noted_row}
+use Rattle.hosts_db.specs.declared.rows.RowNote.{RowNote}
+use Rattle.hosts_db.specs.declared.rows.RowNote.TheVariants as to
 use Rattle.hosts_db.specs.Places.{IsAt, IsGap, IsPlace, IsInside, put_at_place, len_after, row_named, watch_keyed}
 use Rattle.definitions.proofs.HostLaws.{row_total, watch_total}
 use Rattle.hosts_db.proofs.Orders.{row_agrees, watch_agrees}
@@ -36,10 +36,10 @@ module _ (rows : List HostRow) (name : Bytes) (rise : IsAscending row_cmp rows) 
   unchanged g at h = change_first-none (is_named name) g rows (no_row at h)
 
 -- a row in its place
-pub row_put_at : (rows : List HostRow) (row : HostRow) (at : ℕ) → IsAscending row_cmp rows → IsAt row_cmp (row_named row.name) rows at → set rows at row ≡ put row_cmp row rows
+pub row_put_at : (rows : List HostRow) (row : HostRow) (at : ℕ) → IsAscending row_cmp rows → IsAt row_cmp (row_named row.name) rows at → set rows at row ≡ list_with row_cmp row rows
 row_put_at rows row at rise h = sym (put_at row_cmp row_total row (is_named row.name) (row_agrees row.name) rows at rise h.inside h.ties)
 
-pub row_put_gap : (rows : List HostRow) (row : HostRow) (at : ℕ) → IsGap row_cmp (row_named row.name) rows at → insert rows at row ≡ put row_cmp row rows
+pub row_put_gap : (rows : List HostRow) (row : HostRow) (at : ℕ) → IsGap row_cmp (row_named row.name) rows at → insert rows at row ≡ list_with row_cmp row rows
 row_put_gap rows row at h = sym (put_gap row_cmp row_total row (is_named row.name) (row_agrees row.name) rows at h.inside h.below h.above)
 
 module _ (watches : List Watch) (name : Bytes) (my : MyId) where
@@ -47,20 +47,20 @@ module _ (watches : List Watch) (name : Bytes) (my : MyId) where
   has_watch_at (Ok at) h = sym (any_at watch_cmp watch_total (watch_keyed name my) (is_watch (Some name) my) (watch_agrees name my) watches at h.inside h.ties)
   has_watch_at (Err at) h = sym (none_gap watch_cmp watch_total (watch_keyed name my) (is_watch (Some name) my) (watch_agrees name my) watches at h.inside h.below h.above)
 
-pub watch_put_at : (watches : List Watch) (w : Watch) (at : ℕ) → IsAscending watch_cmp watches → IsAt watch_cmp (watch_keyed w.mon_name w.my_id) watches at → set watches at w ≡ put watch_cmp w watches
+pub watch_put_at : (watches : List Watch) (w : Watch) (at : ℕ) → IsAscending watch_cmp watches → IsAt watch_cmp (watch_keyed w.mon_name w.my_id) watches at → set watches at w ≡ list_with watch_cmp w watches
 watch_put_at watches w at rise h = sym (put_at watch_cmp watch_total w (is_watch (Some w.mon_name) w.my_id) (watch_agrees w.mon_name w.my_id) watches at rise h.inside h.ties)
 
-pub watch_put_gap : (watches : List Watch) (w : Watch) (at : ℕ) → IsGap watch_cmp (watch_keyed w.mon_name w.my_id) watches at → insert watches at w ≡ put watch_cmp w watches
+pub watch_put_gap : (watches : List Watch) (w : Watch) (at : ℕ) → IsGap watch_cmp (watch_keyed w.mon_name w.my_id) watches at → insert watches at w ≡ list_with watch_cmp w watches
 watch_put_gap watches w at h = sym (put_gap watch_cmp watch_total w (is_watch (Some w.mon_name) w.my_id) (watch_agrees w.mon_name w.my_id) watches at h.inside h.below h.above)
 
 -- ---- what is noted in a row
 
-pub keeps_name : (note : Note) (r : HostRow) → (noted note r).name ≡ r.name
+pub keeps_name : (note : RowNote) (r : HostRow) → (noted_row note r).name ≡ r.name
 keeps_name (to.Seen seen) r = refl
 keeps_name (to.Epoch epoch) r = refl
 keeps_name (to.Quota runs) r = refl
 
-pub note_is : (h : Hosts) (name : Bytes) (note : Note) → ◌≡◌ {A = Hosts} (record h { rows = change_first (is_named name) (noted note) h.rows }) (after_store h (view_of_note name note))
+pub note_is : (h : Hosts) (name : Bytes) (note : RowNote) → ◌≡◌ {A = Hosts} (record h { rows = change_first (is_named name) (noted_row note) h.rows }) (after_store h (view_of_note name note))
 note_is h name (to.Seen seen) = refl
 note_is h name (to.Epoch epoch) = refl
 note_is h name (to.Quota runs) = refl
@@ -76,7 +76,7 @@ module _ (rows : List HostRow) (row : HostRow) (count room : ℕ) (counted : len
   short : is_any (is_named row.name) rows ≡ false → length rows < 4096
   short e = let f : leb 4096 (length rows) ≡ false = ap (λ b. not b && leb 4096 (length rows)) (sym e) ∙ fits in grind (arith, nat_tests, f)
 
-  pub put_row : (place : Result ℕ ℕ) → IsPlace row_cmp (row_named row.name) rows place → IsPut rows (put row_cmp row rows) place row count room 4096
+  pub put_row : (place : Result ℕ ℕ) → IsPlace row_cmp (row_named row.name) rows place → IsPut rows (list_with row_cmp row rows) place row count room 4096
   put_row (Ok at) h = record { items = row_put_at rows row at rise h; inside = subst (λ n. at < n) counted h.inside; few = few }
   put_row (Err at) h =
       let s = short (no_row rows row.name rise at h) in
@@ -90,7 +90,7 @@ module _ (watches : List Watch) (w : Watch) (count room : ℕ) (counted : length
   short_watches : is_any (is_watch (Some w.mon_name) w.my_id) watches ≡ false → length watches < 1024
   short_watches e = elim fits [ inl h ↦ absurd (true≢false (sym h ∙ e)) | inr h ↦ h ]
 
-  pub put_watch : (place : Result ℕ ℕ) → IsPlace watch_cmp (watch_keyed w.mon_name w.my_id) watches place → IsPut watches (put watch_cmp w watches) place w count room 1024
+  pub put_watch : (place : Result ℕ ℕ) → IsPlace watch_cmp (watch_keyed w.mon_name w.my_id) watches place → IsPut watches (list_with watch_cmp w watches) place w count room 1024
   put_watch (Ok at) h = record { items = watch_put_at watches w at rise h; inside = subst (λ n. at < n) counted h.inside; few = few }
   put_watch (Err at) h =
       let s = short_watches (sym (has_watch_at watches w.mon_name w.my_id (Err at) h)) in

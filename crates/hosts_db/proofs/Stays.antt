@@ -4,20 +4,20 @@ use Rattle.std.proofs.lemmas.Bool.{true≢false, or_cases, or_left, or_right}
 use Rattle.std.proofs.lemmas.Map.Lookups.{exact_bytes}
 use Rattle.std.specs.declared.cmp.Ordering.{Ordering}
 use Rattle.std.specs.declared.cmp.Ordering.TheVariants.{Less, Equal, Greater}
-use Rattle.definitions.specs.Bytes.{Bytes, same_bytes, is_any, change_first, put, placed}
+use Rattle.definitions.specs.Bytes.{Bytes, same_bytes, is_any, change_first, list_with, placed_list}
 use Rattle.definitions.specs.Hosts.{Hosts, HostRow, StoreCall, Begin, Monitor, Seen, Acked, Quota, Watched, Unwatched, has_row, full_quota, row_cmp, is_named, with_row, with_new_row, after_store}
 
 module _ (name : Bytes) where
-  put_keeps : (x : HostRow) (rows : List HostRow) → is_any (is_named name) rows ≡ true → is_any (is_named name) (put row_cmp x rows) ≡ true
+  put_keeps : (x : HostRow) (rows : List HostRow) → is_any (is_named name) rows ≡ true → is_any (is_named name) (list_with row_cmp x rows) ≡ true
   put_keeps x [] e = absurd (true≢false (sym e))
   put_keeps x (y ∷ ys) e = go (row_cmp x y) refl (put_keeps x ys)
     where
-      go : (o : Ordering) → row_cmp x y ≡ o → (is_any (is_named name) ys ≡ true → is_any (is_named name) (put row_cmp x ys) ≡ true) → is_any (is_named name) (placed o x y ys (put row_cmp x ys)) ≡ true
+      go : (o : Ordering) → row_cmp x y ≡ o → (is_any (is_named name) ys ≡ true → is_any (is_named name) (list_with row_cmp x ys) ≡ true) → is_any (is_named name) (placed_list o x y ys (list_with row_cmp x ys)) ≡ true
       go Less k more = or_right (is_named name x) (is_any (is_named name) (y ∷ ys)) e
       go Equal k more = ap (λ n. same_bytes n name || is_any (is_named name) ys) (exact_bytes x.name y.name k) ∙ e
       go Greater k more = elim (or_cases (is_named name y) (is_any (is_named name) ys) e) [
-        | inl h ↦ or_left (is_named name y) (is_any (is_named name) (put row_cmp x ys)) h
-        | inr h ↦ or_right (is_named name y) (is_any (is_named name) (put row_cmp x ys)) (more h)
+        | inl h ↦ or_left (is_named name y) (is_any (is_named name) (list_with row_cmp x ys)) h
+        | inr h ↦ or_right (is_named name y) (is_any (is_named name) (list_with row_cmp x ys)) (more h)
       ]
 
   new_row_keeps : (hosts : Hosts) (other : Bytes) (state : ℤ) → has_row hosts name ≡ true → is_any (is_named name) (with_new_row other state hosts) ≡ true

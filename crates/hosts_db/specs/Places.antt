@@ -3,7 +3,7 @@ use Rattle.std.specs.Prelude.{◌≡◌, ℕ, ◌<◌, ◌≤◌, ◌+◌, pos, 
 use Rattle.std.specs.List.{AllWithin, HoldsAt, insert}
 use Rattle.std.specs.declared.cmp.Ordering.{Ordering}
 use Rattle.std.specs.declared.cmp.Ordering.TheVariants.{Less, Equal, Greater}
-use Rattle.definitions.specs.Bytes.{Bytes, put}
+use Rattle.definitions.specs.Bytes.{Bytes, list_with}
 use Rattle.definitions.specs.Nsm.{MyId}
 use Rattle.definitions.specs.Hosts.{HostRow, Watch}
 
@@ -45,4 +45,4 @@ len_after count (Err at) = count + 1
 -- each of the first list in its place in the second, the last first
 abbrev pub put_all : {X : Type 0} → (X → X → Ordering) → List X → List X → List X
 put_all cmp [] more = more
-put_all cmp (x ∷ xs) more = put cmp x (put_all cmp xs more)
+put_all cmp (x ∷ xs) more = list_with cmp x (put_all cmp xs more)

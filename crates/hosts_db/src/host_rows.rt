@@ -1,13 +1,13 @@
 //! The rows and watches in memory.
 ghost use Rattle.std.specs.Prelude.{◌≡◌, ◌<◌, ◌≤◌, ◌⊎◌, [], true, false, length, pos, IfOk};
 ghost use Rattle.std.specs.Option.{is_some, option_copied};
-ghost use Rattle.definitions.specs.Bytes.{is_any, put};
+ghost use Rattle.definitions.specs.Bytes.{is_any, list_with};
 ghost use Rattle.definitions.specs.Hosts.{row_cmp, watch_cmp, row_of, has_row, next_own, after_store, is_past_limit, is_watch, Begin, Monitor, Seen, Acked, Watched, Unwatched, AreInOrder, Quota};
 ghost use Rattle.hosts_db.specs.Notes.{view_of_note};
 ghost use Rattle.hosts_db.specs.Writings.{view_of_prepared, view_of_writing, Fits, IsOfHost};
 
 use crate::prepared::Prepared;
-use crate::rows::{HostRow, MOST_NAME_BYTES, MyId, Note, Watch};
+use crate::rows::{HostRow, MOST_NAME_BYTES, MyIdRef, RowNote, Watch};
 use crate::search::{MOST_HOSTS, MOST_WATCHES, place_of_host, place_of_watch, put_in};
 use crate::writing::Writing;
 use definitions::own_state::next_own_state;
@@ -92,7 +92,7 @@ impl HostRows {
     }
 
     /// Whether this watcher watches this host.
-    pub fn has_watch(&self, mon_name: &[u8], my_id: &MyId<'_>) -> bool
+    pub fn has_watch(&self, mon_name: &[u8], my_id: &MyIdRef<'_>) -> bool
         ensures { result ≡ is_any (is_watch (Some mon_name.now) my_id.now) self.now.watches }
     {
         place_of_watch(self.watches(), mon_name, my_id).is_ok()
@@ -106,7 +106,7 @@ impl HostRows {
     }
 
     // Whether this watch, or the row of its host, would be one too many.
-    fn is_watch_past_limit(&self, mon_name: &[u8], my_id: &MyId<'_>) -> bool
+    fn is_watch_past_limit(&self, mon_name: &[u8], my_id: &MyIdRef<'_>) -> bool
         ensures { result ≡ is_past_limit MOST_HOSTS MOST_WATCHES self.now (Watched mon_name.now my_id.now []) }
     {
         self.is_host_past_limit(mon_name)
@@ -138,7 +138,7 @@ impl HostRows {
     /// Puts a row in its place. It takes the place of the row of its name.
     pub fn put_host(&mut self, row: HostRow)
         requires { is_past_limit MOST_HOSTS MOST_WATCHES self.old (Monitor row.name (pos 0)) ≡ false }
-        ensures { self.new ≡ record self.old { rows = put row_cmp row self.old.rows } }
+        ensures { self.new ≡ record self.old { rows = list_with row_cmp row self.old.rows } }
     {
         let place = place_of_host(&self.hosts, row.name());
         put_in(&mut self.hosts, place, row);
@@ -147,7 +147,7 @@ impl HostRows {
     /// Puts a watch in its place. It takes the place of the watch of its key.
     pub fn put_watch(&mut self, watch: Watch)
         requires { (is_any (is_watch (Some watch.mon_name) watch.my_id) self.old.watches ≡ true) ⊎ (length self.old.watches < MOST_WATCHES) }
-        ensures { self.new ≡ record self.old { watches = put watch_cmp watch self.old.watches } }
+        ensures { self.new ≡ record self.old { watches = list_with watch_cmp watch self.old.watches } }
     {
         let place = place_of_watch(&self.watches, watch.mon_name(), &watch.my_id());
         put_in(&mut self.watches, place, watch);
@@ -175,7 +175,7 @@ impl HostRows {
     }
 
     // Notes something in the row of a host. Without a row of that name nothing changes.
-    fn note(&mut self, name: &[u8], note: Note)
+    fn note(&mut self, name: &[u8], note: RowNote)
         ensures { self.new ≡ after_store self.old (view_of_note name.now note) }
     {
         if let Ok(at) = place_of_host(&self.hosts, name) {
@@ -196,7 +196,7 @@ impl HostRows {
     }
 
     // Drops the watches of a watcher: of one host, or of all.
-    fn unwatch(&mut self, mon_name: Option<&[u8]>, my_id: &MyId<'_>)
+    fn unwatch(&mut self, mon_name: Option<&[u8]>, my_id: &MyIdRef<'_>)
         ensures { self.new ≡ after_store self.old (Unwatched (option_copied mon_name.entry) my_id.now) }
     {
         self.watches.retain(|watch| !watch.is_of(mon_name, my_id));

@@ -19,7 +19,7 @@ pub use lasting::{KeptHosts, Lasting};
 pub use memory::MemHosts;
 pub use prepared::Prepared;
 pub use refusals::Refusals;
-pub use rows::{HostRow, MOST_NAME_BYTES, MyId, Note, Watch};
+pub use rows::{HostRow, MOST_NAME_BYTES, MyIdRef, RowNote, Watch};
 pub use search::{MOST_HOSTS, MOST_WATCHES};
 pub use store::HostStore;
 pub use writing::Writing;

@@ -2,7 +2,7 @@
 ghost use Rattle.std.specs.Prelude.{◌≡◌, ◌≤◌, length, IfOk};
 ghost use Rattle.definitions.specs.Bytes.{bytes_cmp, same_bytes};
 ghost use Rattle.definitions.specs.Hosts.{my_id_cmp, is_watch};
-ghost use Rattle.hosts_db.specs.Notes.{noted};
+ghost use Rattle.hosts_db.specs.Notes.{noted_row};
 ghost use Rattle.std.specs.Ordering.{ordering_then};
 ghost use Rattle.std.specs.Option.{option_copied};
 
@@ -24,7 +24,7 @@ pub struct HostRow {
 
 /// What is noted in a row.
 #[derive(Clone, Copy)]
-pub enum Note {
+pub enum RowNote {
     /// The state that the host has told.
     Seen(i32),
     /// The own state that it has acknowledged.
@@ -87,13 +87,13 @@ impl HostRow {
         self.quota
     }
 
-    pub(crate) fn note(&mut self, note: Note)
-        ensures { self.new ≡ noted note self.old }
+    pub(crate) fn note(&mut self, note: RowNote)
+        ensures { self.new ≡ noted_row note self.old }
     {
         match note {
-            Note::Seen(seen) => self.seen = seen,
-            Note::Epoch(epoch) => self.epoch = epoch,
-            Note::Quota(quota) => self.quota = quota,
+            RowNote::Seen(seen) => self.seen = seen,
+            RowNote::Epoch(epoch) => self.epoch = epoch,
+            RowNote::Quota(quota) => self.quota = quota,
         }
     }
 
@@ -107,14 +107,14 @@ impl HostRow {
 
 /// Whom to call when a monitored host has restarted (XNFS, my_id).
 #[derive(Drop)]
-pub struct MyId<'a> {
+pub struct MyIdRef<'a> {
     my_name: &'a [u8],
     prog: i32,
     vers: i32,
     proc: i32,
 }
 
-impl<'a> Model for MyId<'a> {
+impl<'a> Model for MyIdRef<'a> {
     ghost use Rattle.definitions.specs.Nsm.{MyId as WatcherId};
 
     ghost Value = { WatcherId };
@@ -126,13 +126,13 @@ impl<'a> Model for MyId<'a> {
     ghost invariant = { λ m. length m.my_name.now ≤ 1024 };
 }
 
-impl<'a> MyId<'a> {
+impl<'a> MyIdRef<'a> {
     /// The procedure `proc` of the program `prog`, version `vers`, on the host `my_name`.
-    pub fn new(my_name: &'a [u8], prog: i32, vers: i32, proc: i32) -> MyId<'a>
+    pub fn new(my_name: &'a [u8], prog: i32, vers: i32, proc: i32) -> MyIdRef<'a>
         requires { length my_name.now ≤ MOST_NAME_BYTES }
         ensures { result ≡ record { my_name = my_name.now; prog = prog; vers = vers; proc = proc } }
     {
-        MyId {
+        MyIdRef {
             my_name,
             prog,
             vers,
@@ -166,7 +166,7 @@ impl<'a> MyId<'a> {
     }
 
     // In order of my_name, prog, vers and proc.
-    pub(crate) fn order(&self, other: &MyId<'_>) -> Ordering
+    pub(crate) fn order(&self, other: &MyIdRef<'_>) -> Ordering
         ensures { result ≡ my_id_cmp self.now other.now }
     {
         self.my_name
@@ -205,7 +205,7 @@ impl Watch {
     pub fn new(
         alloc: Global,
         mon_name: &[u8],
-        my_id: &MyId<'_>,
+        my_id: &MyIdRef<'_>,
         private_bytes: &[u8; 16],
     ) -> Result<Watch, AllocError>
         requires { length mon_name.now ≤ MOST_NAME_BYTES }
@@ -230,10 +230,10 @@ impl Watch {
     }
 
     /// Whom it calls.
-    pub fn my_id(&self) -> MyId<'_>
+    pub fn my_id(&self) -> MyIdRef<'_>
         ensures { result ≡ self.now.my_id }
     {
-        MyId {
+        MyIdRef {
             my_name: self.my_name.as_slice(),
             prog: self.prog,
             vers: self.vers,
@@ -248,7 +248,7 @@ impl Watch {
     }
 
     // How the watch's key compares with another.
-    pub(crate) fn order(&self, mon_name: &[u8], my_id: &MyId<'_>) -> Ordering
+    pub(crate) fn order(&self, mon_name: &[u8], my_id: &MyIdRef<'_>) -> Ordering
         ensures { result ≡ ordering_then (bytes_cmp self.now.mon_name mon_name.now) (my_id_cmp self.now.my_id my_id.now) }
     {
         self.mon_name
@@ -258,7 +258,7 @@ impl Watch {
     }
 
     // Whether it is the watch of this watcher, of this host or of any.
-    pub(crate) fn is_of(&self, mon_name: Option<&[u8]>, my_id: &MyId<'_>) -> bool
+    pub(crate) fn is_of(&self, mon_name: Option<&[u8]>, my_id: &MyIdRef<'_>) -> bool
         ensures { result ≡ is_watch (option_copied mon_name.entry) my_id.now self.now }
     {
         let is_mine = self.my_id().order(my_id).is_eq();

@@ -4,7 +4,7 @@ ghost use Rattle.definitions.specs.Bytes.{IsAscending};
 ghost use Rattle.definitions.specs.Hosts.{row_cmp, watch_cmp};
 ghost use Rattle.hosts_db.specs.Places.{IsInside, IsPlace, len_after, put_at_place, row_named, watch_keyed};
 
-use crate::rows::{HostRow, MyId, Watch};
+use crate::rows::{HostRow, MyIdRef, Watch};
 
 /// How many hosts there may be.
 pub const MOST_HOSTS: usize = 4096;
@@ -24,7 +24,7 @@ pub(crate) fn place_of_host(rows: &[HostRow], name: &[u8]) -> Result<usize, usiz
 pub(crate) fn place_of_watch(
     watches: &[Watch],
     mon_name: &[u8],
-    my_id: &MyId<'_>,
+    my_id: &MyIdRef<'_>,
 ) -> Result<usize, usize>
     requires { IsAscending watch_cmp watches.now }
     ensures { IsPlace watch_cmp (watch_keyed mon_name.now my_id.now) watches.now result }

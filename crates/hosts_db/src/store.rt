@@ -7,7 +7,7 @@ ghost use Rattle.hosts_db.specs.Writings.{view_of_writing, Adds, Fits, IsNew};
 
 use crate::error::StoreError;
 use crate::host_rows::HostRows;
-use crate::rows::{HostRow, MyId, Note, Watch};
+use crate::rows::{HostRow, MyIdRef, RowNote, Watch};
 use crate::writing::Writing;
 
 /// What is kept over a restart (XNFS, NSM): the own state, a row for each host that is to be told of it, and the
@@ -78,7 +78,7 @@ pub trait HostStore {
     {
         self.write(Writing::Note {
             name,
-            note: Note::Seen(state),
+            note: RowNote::Seen(state),
         })
     }
 
@@ -92,7 +92,7 @@ pub trait HostStore {
     {
         self.write(Writing::Note {
             name,
-            note: Note::Epoch(epoch),
+            note: RowNote::Epoch(epoch),
         })
     }
 
@@ -107,7 +107,7 @@ pub trait HostStore {
     {
         self.write(Writing::Note {
             name,
-            note: Note::Quota(runs),
+            note: RowNote::Quota(runs),
         })
     }
 
@@ -116,7 +116,7 @@ pub trait HostStore {
     fn watch(
         &mut self,
         mon_name: &[u8],
-        my_id: &MyId<'_>,
+        my_id: &MyIdRef<'_>,
         private_bytes: &[u8; 16],
     ) -> Result<(), StoreError>
         requires { length mon_name.now ≤ 1024 }
@@ -134,7 +134,7 @@ pub trait HostStore {
     }
 
     /// Drops the watches of a watcher: of one host, or of all.
-    fn unwatch(&mut self, mon_name: Option<&[u8]>, my_id: &MyId<'_>) -> Result<(), StoreError>
+    fn unwatch(&mut self, mon_name: Option<&[u8]>, my_id: &MyIdRef<'_>) -> Result<(), StoreError>
         ensures makes { Makes result (rows self.old) (rows self.new) (after_store (rows self.old) (Unwatched (option_copied mon_name.entry) my_id.now)) }
         ensures counts { Counts result (refusals self.old) (refusals self.new) }
         ensures refused { OnRefused result (may_refuse self.old false) }

@@ -3,7 +3,7 @@ ghost use Rattle.std.specs.Prelude.{◌≡◌, IfOk, IfErr};
 ghost use Rattle.hosts_db.specs.Writings.{view_of_prepared, view_of_writing, Adds, Fits, IsOfHost};
 
 use crate::prepared::Prepared;
-use crate::rows::{MyId, Note, Watch};
+use crate::rows::{MyIdRef, RowNote, Watch};
 use std::alloc::{AllocError, Global};
 
 /// A change of a store's rows and watches.
@@ -17,18 +17,18 @@ pub enum Writing<'a> {
     /// A note in the row of a host. Without a row of that name nothing changes.
     Note {
         name: &'a [u8],
-        note: Note,
+        note: RowNote,
     },
     /// A watch, or these bytes for the watch of this host and watcher. A host without a row gets one, in which no state was seen.
     Watch {
         mon_name: &'a [u8],
-        my_id: &'a MyId<'a>,
+        my_id: &'a MyIdRef<'a>,
         private_bytes: &'a [u8; 16],
     },
     /// No watch of a watcher any more: of one host, or of all.
     Unwatch {
         mon_name: Option<&'a [u8]>,
-        my_id: &'a MyId<'a>,
+        my_id: &'a MyIdRef<'a>,
     },
 }
 

@@ -17,7 +17,7 @@ use Rattle.sqlite.specs.Does.{lacks_sequence}
 use Rattle.sqlite_tied.specs.Compute.{everything}
 use Rattle.hosts_sql.specs.Tables.{own_name, hosts_name, watches_name, first_hosts_name, hosts_table, first_hosts_table}
 use Rattle.hosts_sql.specs.Schemas.{HasTable, IsHostSchema, table_in, tree_in, checks_in, is_expected, has_no_other}
-use Rattle.hosts_sql.specs.declared.tables.Version.TheVariants.{First, Second}
+use Rattle.hosts_sql.specs.declared.tables.TablesVersion.TheVariants.{First, Second}
 use Rattle.hosts_sql.proofs.Places.{own_at, hosts_at, watches_at, first_at, expected}
 
 -- ---- a list with one element more

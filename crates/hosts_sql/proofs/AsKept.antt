@@ -4,13 +4,13 @@ use Rattle.std.proofs.lemmas.Map.Text.{is_eq-slice_cmp}
 use Rattle.sqlite_trees.specs.Tree.{Trees}
 use Rattle.sqlite.specs.State.{State, HasCleanDisk}
 use Rattle.sqlite.proofs.StateLemmas.{survives_weaker}
-use Rattle.definitions.specs.Bytes.{Bytes, IsAscending, bytes_cmp, same_bytes, put, without}
+use Rattle.definitions.specs.Bytes.{Bytes, IsAscending, bytes_cmp, same_bytes, list_with, list_without}
 use Rattle.definitions.specs.Nsm.{MyId}
 use Rattle.definitions.specs.Hosts.{HostRow, Hosts, row_cmp, watch_cmp, row_of, is_named, has_row, after_store, Watched}
-use Rattle.hosts_db.specs.Notes.{view_of_note, noted}
-use Rattle.hosts_db.specs.declared.rows.Note.{Note}
+use Rattle.hosts_db.specs.Notes.{view_of_note, noted_row}
+use Rattle.hosts_db.specs.declared.rows.RowNote.{RowNote}
 use Rattle.hosts_db.proofs.RowPlaces.{keeps_name, note_is}
-use Rattle.hosts_sql.specs.Maps.{listed}
+use Rattle.hosts_sql.specs.Maps.{hosts_of_rows}
 use Rattle.hosts_sql.specs.Shown.{shown}
 use Rattle.hosts_sql.specs.Wrote.{IsAsKept, MayLeave, MayWriteHosts, hosts_in}
 use Rattle.sql_transactions.proofs.Results.{gave, on_then}
@@ -38,27 +38,27 @@ pub left_is : {X E : Type 0} {old new : State} {r : Result X E} (change : Hosts 
 left_is {old = old} {r = r} change rows left kept settled went w may =
     let wrote = gave r went (w.ok may.0) in
     let early : HasCleanDisk old = omega (arith, may.0, w.crash.clean) in
-    sym may.3 ∙ ap (λ (db : Trees). listed (shown db)) (settled may.1 wrote.is_open may.2) ∙ wrote.rows ∙ ap change (kept early wrote.was_open)
+    sym may.3 ∙ ap (λ (db : Trees). hosts_of_rows (shown db)) (settled may.1 wrote.is_open may.2) ∙ wrote.rows ∙ ap change (kept early wrote.was_open)
 
 -- a row that is put in the place of the one of its name
 abbrev pub with_row : HostRow → Hosts → Hosts
-with_row row h = record h { rows = put row_cmp row h.rows }
+with_row row h = record h { rows = list_with row_cmp row h.rows }
 
 pub watch_of_host : (h : Hosts) (mon : Bytes) (my : MyId) (private : Bytes) → has_row h mon ≡ true
-    → ◌≡◌ {A = Hosts} (record h { watches = put watch_cmp (record { mon_name = mon; my_id = my; private_bytes = private }) h.watches }) (after_store h (Watched mon my private))
+    → ◌≡◌ {A = Hosts} (record h { watches = list_with watch_cmp (record { mon_name = mon; my_id = my; private_bytes = private }) h.watches }) (after_store h (Watched mon my private))
 watch_of_host h mon my private there =
-    let other = put row_cmp (record { name = mon; epoch = h.own; seen = pos 0; quota = 65536 }) h.rows in
+    let other = list_with row_cmp (record { name = mon; epoch = h.own; seen = pos 0; quota = 65536 }) h.rows in
     let same : h.rows ≡ cond (has_row h mon) h.rows other = ap (λ b. cond b h.rows other) (sym there) in
-    λ i. record { own = h.own; rows = same i; watches = put watch_cmp (record { mon_name = mon; my_id = my; private_bytes = private }) h.watches }
+    λ i. record { own = h.own; rows = same i; watches = list_with watch_cmp (record { mon_name = mon; my_id = my; private_bytes = private }) h.watches }
 
 same_name : (a b : Bytes) → same_bytes a b ≡ true → a ≡ b
 same_name a b e = bytes_exact a b (eq_equal (bytes_cmp a b) (is_eq-slice_cmp a b ∙ e))
 
 module _ (h : Hosts) (name : Bytes) where
-  pub unnoted : (note : Note) → has_row h name ≡ false → ◌≡◌ {A = Hosts} (record h { rows = without (is_named name) h.rows }) (after_store h (view_of_note name note))
-  unnoted note none = ap (λ rows. record h { rows = rows }) (without-none (is_named name) h.rows none ∙ sym (change_first-none (is_named name) (noted note) h.rows none)) ∙ note_is h name note
+  pub unnoted : (note : RowNote) → has_row h name ≡ false → ◌≡◌ {A = Hosts} (record h { rows = list_without (is_named name) h.rows }) (after_store h (view_of_note name note))
+  unnoted note none = ap (λ rows. record h { rows = rows }) (without-none (is_named name) h.rows none ∙ sym (change_first-none (is_named name) (noted_row note) h.rows none)) ∙ note_is h name note
 
-  pub noted_at : IsAscending row_cmp h.rows → (row : HostRow) → row_of h name ≡ Some row → (note : Note) → ◌≡◌ {A = Hosts} (record h { rows = put row_cmp (record (noted note row) { name = name }) h.rows }) (after_store h (view_of_note name note))
+  pub noted_at : IsAscending row_cmp h.rows → (row : HostRow) → row_of h name ≡ Some row → (note : RowNote) → ◌≡◌ {A = Hosts} (record h { rows = list_with row_cmp (record (noted_row note row) { name = name }) h.rows }) (after_store h (view_of_note name note))
   noted_at rise row is note =
-      let named : name ≡ (noted note row).name = sym (same_name row.name name (first_found (is_named name) h.rows row is).passes) ∙ sym (keeps_name note row) in
-      ap (λ n. record h { rows = put row_cmp (record (noted note row) { name = n }) h.rows }) named ∙ ap (λ rows. record h { rows = rows }) (put_changes name (noted note) (keeps_name note) row h.rows rise is) ∙ note_is h name note
+      let named : name ≡ (noted_row note row).name = sym (same_name row.name name (first_found (is_named name) h.rows row is).passes) ∙ sym (keeps_name note row) in
+      ap (λ n. record h { rows = list_with row_cmp (record (noted_row note row) { name = n }) h.rows }) named ∙ ap (λ rows. record h { rows = rows }) (put_changes name (noted_row note) (keeps_name note) row h.rows rise is) ∙ note_is h name note

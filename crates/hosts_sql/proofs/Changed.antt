@@ -8,17 +8,17 @@ use Rattle.std.specs.Cmp.Lexicographic.{nat_list_cmp_total}
 use Rattle.std.proofs.lemmas.Cmp.{tied_itself}
 use Rattle.std.specs.FinMap.{FinMap, IsAntisymmetric, get, insert, entries, retain_keys, get-insert, get-retain_keys, same_map}
 use Rattle.std.proofs.lemmas.Option.{same_Some}
-use Rattle.definitions.specs.Bytes.{Bytes, IsAscending, IsBelowAll, bytes_cmp, same_bytes, first_that, change_first, put, placed, without}
+use Rattle.definitions.specs.Bytes.{Bytes, IsAscending, IsBelowAll, bytes_cmp, same_bytes, first_that, change_first, list_with, placed_list, list_without}
 use Rattle.definitions.specs.Nsm.{MyId}
 use Rattle.definitions.specs.Hosts.{HostRow, Hosts, row_cmp, watch_cmp, is_named, has_row, is_watch, after_store, Watched, Unwatched}
 use Rattle.definitions.proofs.HostLaws.{row_total}
 use Rattle.sqlite.specs.Effect.{Database}
-use Rattle.hosts_sql.specs.Maps.{Host, WatchKey, Rows, key_cmp, host_row, watch_row, listed, made_now, is_key_of, with_host, with_watch, without_host, without_watches}
+use Rattle.hosts_sql.specs.Maps.{Host, WatchKey, Rows, key_cmp, host_row, watch_row, hosts_of_rows, made_now, is_key_of, with_host, with_watch, without_host, without_watches}
 use Rattle.hosts_sql.specs.Shown.{shown}
 use Rattle.hosts_sql.specs.Tables.{monitor_text, watch_text, delete_host_text, delete_watch_text}
 use Rattle.sql_transactions.specs.Work.{RanTwo, RanThree}
 use Rattle.hosts_sql.specs.Wrote.{IsWhole}
-use Rattle.hosts_sql.specs.declared.tables.Version.TheVariants.{Second}
+use Rattle.hosts_sql.specs.declared.tables.TablesVersion.TheVariants.{Second}
 use Rattle.hosts_sql.proofs.Monitor.{params}
 use Rattle.hosts_sql.proofs.Names.{names_agree}
 use Rattle.hosts_sql.specs.Given.{watch_given, watch_params}
@@ -72,22 +72,22 @@ host_and_watch_put host k private from to whole none ran =
 
 -- ---- and the lists
 
-pub host_replaced : (name : Bytes) (host : Host) (r : Rows) → listed (with_host name host (without_host name r)) ≡ record (listed r) { rows = put row_cmp (host_row (name, host)) (listed r).rows }
+pub host_replaced : (name : Bytes) (host : Host) (r : Rows) → hosts_of_rows (with_host name host (without_host name r)) ≡ record (hosts_of_rows r) { rows = list_with row_cmp (host_row (name, host)) (hosts_of_rows r).rows }
 host_replaced name host r =
     let rows = ap (λ (m : FinMap bytes_cmp Host). map host_row (entries m)) (put_back nat_list_cmp_total bytes_exact r.hosts (λ k. same_bytes k name) name (λ q. names_agree q name) host) ∙ host_put r.hosts name host in
     λ i. record { own = r.own; rows = rows i; watches = map watch_row (entries r.watches) }
 
-pub watch_replaced : (k : WatchKey) (private : Bytes) (r : Rows) → listed (with_watch k private (without_watches (Some k.mon) k.my r)) ≡ record (listed r) { watches = put watch_cmp (watch_row (k, private)) (listed r).watches }
+pub watch_replaced : (k : WatchKey) (private : Bytes) (r : Rows) → hosts_of_rows (with_watch k private (without_watches (Some k.mon) k.my r)) ≡ record (hosts_of_rows r) { watches = list_with watch_cmp (watch_row (k, private)) (hosts_of_rows r).watches }
 watch_replaced k private r =
     let watches = ap (λ (m : FinMap key_cmp Bytes). map watch_row (entries m)) (put_back watch_total watch_exact r.watches (is_key_of (Some k.mon) k.my) k (watch_key_agrees k) private) ∙ watch_put r.watches k private in
     λ i. record { own = r.own; rows = map host_row (entries r.hosts); watches = watches i }
 
-pub host_gone : (name : Bytes) (r : Rows) → listed (without_host name r) ≡ record (listed r) { rows = without (λ (row : HostRow). same_bytes row.name name) (listed r).rows }
+pub host_gone : (name : Bytes) (r : Rows) → hosts_of_rows (without_host name r) ≡ record (hosts_of_rows r) { rows = list_without (λ (row : HostRow). same_bytes row.name name) (hosts_of_rows r).rows }
 host_gone name r =
     let rows = shown_left nat_list_cmp_total bytes_exact host_row (λ k. same_bytes k name) (λ (row : HostRow). same_bytes row.name name) (λ e. refl) r.hosts in
     λ i. record { own = r.own; rows = rows i; watches = map watch_row (entries r.watches) }
 
-pub watches_gone : (mon : Option Bytes) (my : MyId) (r : Rows) → listed (without_watches mon my r) ≡ after_store (listed r) (Unwatched mon my)
+pub watches_gone : (mon : Option Bytes) (my : MyId) (r : Rows) → hosts_of_rows (without_watches mon my r) ≡ after_store (hosts_of_rows r) (Unwatched mon my)
 watches_gone mon my r =
     let watches = shown_left watch_total watch_exact watch_row (is_key_of mon my) (is_watch mon my) (key_alone mon) r.watches in
     λ i. record { own = r.own; rows = map host_row (entries r.hosts); watches = watches i }
@@ -107,25 +107,25 @@ below_found r row name (s ∷ rs) below found = go (same_bytes s.name name) foun
     go false e more = more e
 
 pub put_changes : (name : Bytes) (g : HostRow → HostRow) → ((r : HostRow) → (g r).name ≡ r.name) → (row : HostRow) (rows : List HostRow) → IsAscending row_cmp rows → first_that (is_named name) rows ≡ Some row
-    → put row_cmp (g row) rows ≡ change_first (is_named name) g rows
+    → list_with row_cmp (g row) rows ≡ change_first (is_named name) g rows
 put_changes name g same row [] rise found = absurd cc
 put_changes name g same row (r ∷ rs) rise found = go (same_bytes r.name name) found (λ more. put_changes name g same row rs rise.1 more)
   where
     keyed : (s : HostRow) → row_cmp (g row) s ≡ row_cmp row s
     keyed s = ap (λ n. bytes_cmp n s.name) (same row)
 
-    go : (b : Bool) → cond b (Some r) (first_that (is_named name) rs) ≡ Some row → (first_that (is_named name) rs ≡ Some row → put row_cmp (g row) rs ≡ change_first (is_named name) g rs)
-        → put row_cmp (g row) (r ∷ rs) ≡ cond b (g r ∷ rs) (r ∷ change_first (is_named name) g rs)
+    go : (b : Bool) → cond b (Some r) (first_that (is_named name) rs) ≡ Some row → (first_that (is_named name) rs ≡ Some row → list_with row_cmp (g row) rs ≡ change_first (is_named name) g rs)
+        → list_with row_cmp (g row) (r ∷ rs) ≡ cond b (g r ∷ rs) (r ∷ change_first (is_named name) g rs)
     go true e more =
         let is : r ≡ row = same_Some {A = HostRow} r row e in
         let tie : row_cmp (g row) r ≡ Equal = keyed r ∙ ap (row_cmp row) is ∙ tied_itself row_total row in
-        ap (λ o. placed o (g row) r rs (put row_cmp (g row) rs)) tie ∙ ap (λ x. g x ∷ rs) (sym is)
+        ap (λ o. placed_list o (g row) r rs (list_with row_cmp (g row) rs)) tie ∙ ap (λ x. g x ∷ rs) (sym is)
     go false e more =
         let above : row_cmp (g row) r ≡ Greater = keyed r ∙ row_total.antisymm row r ∙ ap ordering_reverse (below_found r row name rs rise.0 e) in
-        ap (λ o. placed o (g row) r rs (put row_cmp (g row) rs)) above ∙ ap (λ xs. r ∷ xs) (more e)
+        ap (λ o. placed_list o (g row) r rs (list_with row_cmp (g row) rs)) above ∙ ap (λ xs. r ∷ xs) (more e)
 
 -- a watch of a host that is new
-pub host_and_watch_listed : (r : Rows) (k : WatchKey) (private : Bytes) (epoch : ℕ) → (listed r).own ≡ epoch → has_row (listed r) k.mon ≡ false
-    → listed (with_watch k private (without_watches (Some k.mon) k.my (with_host k.mon (made_now epoch (pos 0)) r))) ≡ after_store (listed r) (Watched k.mon k.my private)
+pub host_and_watch_listed : (r : Rows) (k : WatchKey) (private : Bytes) (epoch : ℕ) → (hosts_of_rows r).own ≡ epoch → has_row (hosts_of_rows r) k.mon ≡ false
+    → hosts_of_rows (with_watch k private (without_watches (Some k.mon) k.my (with_host k.mon (made_now epoch (pos 0)) r))) ≡ after_store (hosts_of_rows r) (Watched k.mon k.my private)
 host_and_watch_listed r k private epoch own none =
-    watch_replaced k private (with_host k.mon (made_now epoch (pos 0)) r) ∙ ap (λ (h : Hosts). record h { watches = put watch_cmp (watch_row (k, private)) h.watches }) (monitored_at r k.mon epoch (pos 0) own none)
+    watch_replaced k private (with_host k.mon (made_now epoch (pos 0)) r) ∙ ap (λ (h : Hosts). record h { watches = list_with watch_cmp (watch_row (k, private)) h.watches }) (monitored_at r k.mon epoch (pos 0) own none)

@@ -4,7 +4,7 @@ use Rattle.sqlite.specs.Effect.{Database}
 use Rattle.sqlite.specs.State.{State, HasCleanDisk, Survives}
 use Rattle.sqlite.proofs.StateLemmas.{survives_weaker}
 use Rattle.definitions.specs.Hosts.{Hosts}
-use Rattle.hosts_sql.specs.Maps.{Rows, listed}
+use Rattle.hosts_sql.specs.Maps.{Rows, hosts_of_rows}
 use Rattle.sql_transactions.specs.Work.{Committed, MayWork}
 use Rattle.hosts_sql.specs.Wrote.{WroteHosts, MayWriteHosts, rows_in, hosts_in}
 use Rattle.sql_transactions.proofs.Results.{on_then}
@@ -28,7 +28,7 @@ module _ {X E : Type 0} {old new : State} (r : Result X E) where
 
 -- what the work makes of the rows is the change of the hosts
 pub hosts_by_work : {X E : Type 0} {Work : Database → Database → Type 0} {old new : State} {r : Result X E} (makes : Rows → Rows) (change : Hosts → Hosts)
-    → (HasCleanDisk old → IsTrue old.is_open → (to : Database) → Work old.committed to → Makes makes old.committed to × (listed (makes (rows_in old)) ≡ change (hosts_in old)))
+    → (HasCleanDisk old → IsTrue old.is_open → (to : Database) → Work old.committed to → Makes makes old.committed to × (hosts_of_rows (makes (rows_in old)) ≡ change (hosts_in old)))
     → CommitsWork Work old new r → CommitsHosts change old new r
 hosts_by_work {Work = Work} {old = old} {new = new} {r = r} makes change does w = record {
   ok = λ clean. on_then r (w.ok clean) (λ done.

@@ -35,7 +35,7 @@ use Rattle.sqlite.specs.Effect.{Database, IsDatabase}
 use Rattle.definitions.specs.Bytes.{bytes_cmp}
 use Rattle.hosts_sql.specs.Tables.{hosts_name, hosts_table, first_hosts_table}
 use Rattle.hosts_sql.specs.Schemas.{tree_in, IsHostSchema}
-use Rattle.hosts_sql.specs.declared.tables.Version.TheVariants.{Second}
+use Rattle.hosts_sql.specs.declared.tables.TablesVersion.TheVariants.{Second}
 use Rattle.hosts_sql.specs.Shown.{host_of, upgraded_row}
 use Rattle.hosts_sql.specs.Own.{is_host, AreOwn}
 use Rattle.hosts_sql.specs.Reading.{AreApart}

@@ -31,7 +31,7 @@ use Rattle.sql_transactions.specs.Work.{command_in, Ran}
 use Rattle.sql_transactions.proofs.Ran.{same_command}
 use Rattle.hosts_sql.specs.Making.{Defines, Created, MakesTable, text_in}
 use Rattle.hosts_sql.specs.Wrote.{HasOwnRow, IsWhole}
-use Rattle.hosts_sql.specs.declared.tables.Version.TheVariants.{Second}
+use Rattle.hosts_sql.specs.declared.tables.TablesVersion.TheVariants.{Second}
 use Rattle.hosts_sql.proofs.Listings.{shows_version, shows_none}
 use Rattle.hosts_sql.specs.Own.{is_host, is_watched, AreOwn}
 use Rattle.hosts_sql.proofs.Texts.{own_is, hosts_is, watches_is}

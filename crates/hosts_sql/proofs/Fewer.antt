@@ -36,7 +36,7 @@ use Rattle.hosts_sql.specs.Schemas.{tree_in, has_no_other, IsHostSchema}
 use Rattle.hosts_sql.specs.Shown.{host_of, watch_of, number_at}
 use Rattle.sql_transactions.specs.Work.{Ran}
 use Rattle.hosts_sql.specs.Wrote.{HasOwnRow, IsWhole}
-use Rattle.hosts_sql.specs.declared.tables.Version.TheVariants.{Second}
+use Rattle.hosts_sql.specs.declared.tables.TablesVersion.TheVariants.{Second}
 use Rattle.hosts_sql.proofs.Places.{Has, own_at, hosts_at, watches_at, tables_of, has_hosts, trees_apart, own_not_hosts, own_not_watches, hosts_not_watches, reads_tree, on_table, one_change, stays, list_stays}
 use Rattle.hosts_sql.proofs.Listings.{shown_in}
 use Rattle.hosts_sql.proofs.Monitor.{went, same_value}

@@ -15,8 +15,8 @@ use Rattle.hosts_sql.specs.Tables.{own_name, hosts_name, watches_name, first_hos
 use Rattle.hosts_sql.specs.Schemas.{table_in, tree_in, IsHostSchema}
 use Rattle.hosts_sql.specs.Shown.{number_at, upgraded_row, rows_named, shown_rows, hosts_by, shown}
 use Rattle.hosts_sql.specs.Wrote.{number, rows_of, hosts_of}
-use Rattle.hosts_sql.specs.declared.tables.Version.{Version}
-use Rattle.hosts_sql.specs.declared.tables.Version.TheVariants.{First, Second}
+use Rattle.hosts_sql.specs.declared.tables.TablesVersion.{TablesVersion}
+use Rattle.hosts_sql.specs.declared.tables.TablesVersion.TheVariants.{First, Second}
 
 -- what the tables of schema 2 show
 abbrev pub shown_in : Schema → Trees → Rows
@@ -61,20 +61,20 @@ module _ (schema : Schema) (db : Trees) (lists : Lists schema db) where
       let listed = listed_as name (filter is_table_row (db catalog_tree)) schema.tables lists in
       ap (λ o. unwrap_or (option_map db o) []) (listed ∙ ap (option_map (λ (u : Table). u.tree)) is)
 
-hosts_are : (version : Version) (schema : Schema) (db : Trees) → Lists schema db → IsHostSchema version schema → hosts_by (number version) db ≡ hosts_of version (record { schema = schema; trees = db })
+hosts_are : (version : TablesVersion) (schema : Schema) (db : Trees) → Lists schema db → IsHostSchema version schema → hosts_by (number version) db ≡ hosts_of version (record { schema = schema; trees = db })
 hosts_are First schema db lists h = ap (map upgraded_row) (rows_in_tree schema db lists first_hosts_name _ h.1.0.0)
 hosts_are Second schema db lists h = rows_in_tree schema db lists hosts_name _ h.1.0.0
 
-watches_are : (version : Version) (schema : Schema) (db : Trees) → Lists schema db → IsHostSchema version schema → rows_named watches_name db ≡ db (tree_in schema watches_name)
+watches_are : (version : TablesVersion) (schema : Schema) (db : Trees) → Lists schema db → IsHostSchema version schema → rows_named watches_name db ≡ db (tree_in schema watches_name)
 watches_are First schema db lists h = rows_in_tree schema db lists watches_name _ h.0.0.1.0
 watches_are Second schema db lists h = rows_in_tree schema db lists watches_name _ h.0.0.1.0
 
-own_is : (version : Version) (schema : Schema) (db : Trees) → Lists schema db → IsHostSchema version schema → rows_named own_name db ≡ db (tree_in schema own_name)
+own_is : (version : TablesVersion) (schema : Schema) (db : Trees) → Lists schema db → IsHostSchema version schema → rows_named own_name db ≡ db (tree_in schema own_name)
 own_is First schema db lists h = rows_in_tree schema db lists own_name _ h.0.0.0.0
 own_is Second schema db lists h = rows_in_tree schema db lists own_name _ h.0.0.0.0
 
 -- a database with the tables of a version shows their rows
-pub shows_version : (version : Version) (d : Database) → Lists d.schema d.trees → IsHostSchema version d.schema → number_at (rows_of own_name d) 2 ≡ number version
+pub shows_version : (version : TablesVersion) (d : Database) → Lists d.schema d.trees → IsHostSchema version d.schema → number_at (rows_of own_name d) 2 ≡ number version
     → shown d.trees ≡ shown_rows (rows_of own_name d) (hosts_of version d) (rows_of watches_name d)
 shows_version version d lists h is =
     let own = own_is version d.schema d.trees lists h in

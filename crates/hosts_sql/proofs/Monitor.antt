@@ -26,7 +26,7 @@ use Rattle.sqlite_catalog.specs.Listing.{IsSound}
 use Rattle.hosts_sql.specs.Tables.{own_name, hosts_name, watches_name, hosts_table}
 use Rattle.hosts_sql.specs.Schemas.{tree_in, IsHostSchema}
 use Rattle.hosts_sql.specs.Maps.{Host}
-use Rattle.hosts_sql.specs.declared.tables.Version.TheVariants.{Second}
+use Rattle.hosts_sql.specs.declared.tables.TablesVersion.TheVariants.{Second}
 use Rattle.hosts_sql.proofs.Places.{own_at, hosts_at, watches_at, tables_of, has_hosts, trees_apart, own_not_hosts, hosts_not_watches, on_table, one_change, stays, list_stays}
 
 abbrev pub stored : Value → List ℕ → Host → Row

@@ -26,8 +26,8 @@ use Rattle.sqlite.specs.Effect.{Database}
 use Rattle.sqlite.proofs.Callers.{one_step}
 use Rattle.hosts_sql.specs.Tables.{own_name, hosts_name, watches_name, first_hosts_name, own_table, hosts_table, watches_table, first_hosts_table}
 use Rattle.hosts_sql.specs.Schemas.{HasTable, IsHostSchema, tree_in, checks_in, is_expected, has_no_other}
-use Rattle.hosts_sql.specs.declared.tables.Version.{Version}
-use Rattle.hosts_sql.specs.declared.tables.Version.TheVariants.{First, Second}
+use Rattle.hosts_sql.specs.declared.tables.TablesVersion.{TablesVersion}
+use Rattle.hosts_sql.specs.declared.tables.TablesVersion.TheVariants.{First, Second}
 
 -- ---- the tables of a schema, in their trees
 
@@ -158,12 +158,12 @@ list_stays schema keys db next edit a h sound =
 -- ---- the tables of a version
 
 -- the tables that both versions have, and no other acts
-pub record HasTables (schema : Schema) (version : Version) : Type 0 where
+pub record HasTables (schema : Schema) (version : TablesVersion) : Type 0 where
   pub own : Has schema (own_at schema)
   pub watches : Has schema (watches_at schema)
   pub no_other : has_no_other schema ≡ true
 
-pub tables_of : (version : Version) (schema : Schema) → IsHostSchema version schema → HasTables schema version
+pub tables_of : (version : TablesVersion) (schema : Schema) → IsHostSchema version schema → HasTables schema version
 tables_of First schema h = record { own = has schema (own_at schema) h.0.0.0; watches = has schema (watches_at schema) h.0.0.1; no_other = h.0.1 }
 tables_of Second schema h = record { own = has schema (own_at schema) h.0.0.0; watches = has schema (watches_at schema) h.0.0.1; no_other = h.0.1 }
 

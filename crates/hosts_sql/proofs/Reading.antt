@@ -17,8 +17,8 @@ use Rattle.sqlite.proofs.Callers.{IsPlain, reads_as, one_permutation}
 use Rattle.hosts_sql.specs.Tables.{own_name, hosts_name, watches_name, first_hosts_name, read_own_text, read_hosts_text, read_first_hosts_text, read_watches_text}
 use Rattle.hosts_sql.specs.Schemas.{tree_in, checks_in, IsHostSchema}
 use Rattle.hosts_sql.specs.Wrote.{number, rows_of, hosts_of, hosts_text, own_shown, HasOwnRow}
-use Rattle.hosts_sql.specs.declared.tables.Version.{Version}
-use Rattle.hosts_sql.specs.declared.tables.Version.TheVariants.{First, Second}
+use Rattle.hosts_sql.specs.declared.tables.TablesVersion.{TablesVersion}
+use Rattle.hosts_sql.specs.declared.tables.TablesVersion.TheVariants.{First, Second}
 use Rattle.sqlite_schema.specs.declared.schema.Schema.{Schema}
 use Rattle.sqlite_schema.specs.declared.schema.Table.{Table}
 use Rattle.std.specs.List.{flat_map}
@@ -42,10 +42,10 @@ use Rattle.std.proofs.lemmas.List.Concat.{flat_map_single}
 
 -- ---- what the texts mean
 
-own_means : (version : Version) (schema : Schema) → IsHostSchema version schema → Is schema read_own_text (Select (alone (query (tree_in schema own_name) [] own_terms [])) (own_named 0).1)
+own_means : (version : TablesVersion) (schema : Schema) → IsHostSchema version schema → Is schema read_own_text (Select (alone (query (tree_in schema own_name) [] own_terms [])) (own_named 0).1)
 own_means version schema is = read_own_is schema (tree_in schema own_name) (checks_in schema own_name) (tables_of version schema is).own
 
-watches_mean : (version : Version) (schema : Schema) → IsHostSchema version schema → Is schema read_watches_text (Select (alone (query (tree_in schema watches_name) [] watches_terms by_rowid)) (watches_named 0).1)
+watches_mean : (version : TablesVersion) (schema : Schema) → IsHostSchema version schema → Is schema read_watches_text (Select (alone (query (tree_in schema watches_name) [] watches_terms by_rowid)) (watches_named 0).1)
 watches_mean version schema is = read_watches_is schema (tree_in schema watches_name) (tables_of version schema is).watches
 
 first_hosts_mean : (schema : Schema) → IsHostSchema First schema → Is schema read_first_hosts_text (Select (alone (query (tree_in schema first_hosts_name) [] first_hosts_terms by_rowid)) (first_named 0).1)
@@ -54,14 +54,14 @@ first_hosts_mean schema is = read_first_hosts_is schema (tree_in schema first_ho
 hosts_mean : (schema : Schema) → IsHostSchema Second schema → Is schema read_hosts_text (Select (alone (query (tree_in schema hosts_name) [] hosts_terms by_rowid)) (hosts_named 0).1)
 hosts_mean schema is = read_hosts_is schema (tree_in schema hosts_name) (has_hosts schema is)
 
-pub own_plain_at : (version : Version) (db : Database) → IsHostSchema version db.schema → IsPlain (understood db.schema read_own_text)
+pub own_plain_at : (version : TablesVersion) (db : Database) → IsHostSchema version db.schema → IsPlain (understood db.schema read_own_text)
 own_plain_at version db is = (own_means version db.schema is).plain
 
-pub hosts_plain_at : (version : Version) (db : Database) → IsHostSchema version db.schema → IsPlain (understood db.schema (hosts_text version))
+pub hosts_plain_at : (version : TablesVersion) (db : Database) → IsHostSchema version db.schema → IsPlain (understood db.schema (hosts_text version))
 hosts_plain_at First db is = (first_hosts_mean db.schema is).plain
 hosts_plain_at Second db is = (hosts_mean db.schema is).plain
 
-pub watches_plain_at : (version : Version) (db : Database) → IsHostSchema version db.schema → IsPlain (understood db.schema read_watches_text)
+pub watches_plain_at : (version : TablesVersion) (db : Database) → IsHostSchema version db.schema → IsPlain (understood db.schema read_watches_text)
 watches_plain_at version db is = (watches_mean version db.schema is).plain
 
 pub tells : (sql : List ℕ) (db : Database) (mid new : State) (rows : List Row) → mid.now ≡ db → IsPlain (understood db.schema sql) → Shown sql [] mid new rows → Tells sql db rows
@@ -95,16 +95,16 @@ all_rows db sql t terms order names rows has means h =
     let a = (h _ _ means.command means.unlisted).answer Null in
     answer_is t.tree terms order db.trees rows a (a.grouped ∙ ap (flat_map (λ row. env_of row ∷ [])) (reads_tree db.schema t has db.trees) ∙ flat_map_single env_of (db.trees t.tree))
 
-pub reads_own : (version : Version) (db : Database) (rows : List Row) → IsHostSchema version db.schema → Tells read_own_text db rows → IsPermutation (map own_shown (rows_of own_name db)) rows
+pub reads_own : (version : TablesVersion) (db : Database) (rows : List Row) → IsHostSchema version db.schema → Tells read_own_text db rows → IsPermutation (map own_shown (rows_of own_name db)) rows
 reads_own version db rows is h = all_rows db read_own_text (own_at db.schema) own_terms [] (own_named 0).1 rows (tables_of version db.schema is).own (own_means version db.schema is) h
 
-pub reads_hosts : (version : Version) (db : Database) (rows : List Row) → IsHostSchema version db.schema → Tells (hosts_text version) db rows → IsPermutation (map host_shown (hosts_of version db)) rows
+pub reads_hosts : (version : TablesVersion) (db : Database) (rows : List Row) → IsHostSchema version db.schema → Tells (hosts_text version) db rows → IsPermutation (map host_shown (hosts_of version db)) rows
 reads_hosts First db rows is h =
     let all = all_rows db read_first_hosts_text (first_at db.schema) first_hosts_terms by_rowid (first_named 0).1 rows (has_first db.schema is) (first_hosts_mean db.schema is) h in
     subst (λ xs. IsPermutation xs rows) (sym (map_twice upgraded_row host_shown (rows_of first_hosts_name db))) all
 reads_hosts Second db rows is h = all_rows db read_hosts_text (hosts_at db.schema) hosts_terms by_rowid (hosts_named 0).1 rows (has_hosts db.schema is) (hosts_mean db.schema is) h
 
-pub reads_watches : (version : Version) (db : Database) (rows : List Row) → IsHostSchema version db.schema → Tells read_watches_text db rows → IsPermutation (map watch_shown (rows_of watches_name db)) rows
+pub reads_watches : (version : TablesVersion) (db : Database) (rows : List Row) → IsHostSchema version db.schema → Tells read_watches_text db rows → IsPermutation (map watch_shown (rows_of watches_name db)) rows
 reads_watches version db rows is h = all_rows db read_watches_text (watches_at db.schema) watches_terms by_rowid (watches_named 0).1 rows (tables_of version db.schema is).watches (watches_mean version db.schema is) h
 
 -- the one row, as the query shows it
@@ -118,41 +118,41 @@ own_alone version (r ∷ []) row own one id is state =
     (rw (first, second, third), rw third)
 own_alone version (r ∷ next ∷ rows) row own one id is state = absurd cc
 
-pub own_from : (version : Version) (db : Database) (rows : List Row) (own : ℕ) → IsHostSchema version db.schema → Tells read_own_text db rows → ShowsOwn (number version) rows own → HasOwnRow (number version) (rows_of own_name db) × (number_at (rows_of own_name db) 3 ≡ own)
+pub own_from : (version : TablesVersion) (db : Database) (rows : List Row) (own : ℕ) → IsHostSchema version db.schema → Tells read_own_text db rows → ShowsOwn (number version) rows own → HasOwnRow (number version) (rows_of own_name db) × (number_at (rows_of own_name db) 3 ≡ own)
 own_from version db rows own is h shows =
     let back = IsPermutation-sym (map own_shown (rows_of own_name db)) rows (reads_own version db rows is h) in
     let one = one_permutation shows.0 (map own_shown (rows_of own_name db)) (subst (λ xs. IsPermutation xs (map own_shown (rows_of own_name db))) shows.1 back) in
     own_alone (number version) (rows_of own_name db) shows.0 own one shows.2 shows.3 shows.4
 
-pub hosts_from : (version : Version) (db : Database) (rows : List Row) → IsHostSchema version db.schema → Tells (hosts_text version) db rows → AreApart bytes_cmp (map host_of rows) → from_entries {R = bytes_cmp} (map host_of rows) ≡ from_entries (map host_of (hosts_of version db))
+pub hosts_from : (version : TablesVersion) (db : Database) (rows : List Row) → IsHostSchema version db.schema → Tells (hosts_text version) db rows → AreApart bytes_cmp (map host_of rows) → from_entries {R = bytes_cmp} (map host_of rows) ≡ from_entries (map host_of (hosts_of version db))
 hosts_from version db rows is h apart =
     let hosts = hosts_of version db in
     let moved = IsPermutation-map host_of (map host_shown hosts) rows (reads_hosts version db rows is h) in
     let all = subst (λ es. IsPermutation es (map host_of rows)) (map_twice host_shown host_of hosts) moved in
     sym (same_entries nat_list_cmp_total (slice_cmp-IsAntisymmetric nat_cmp-IsAntisymmetric) (map host_of hosts) (map host_of rows) all apart)
 
-pub watches_from : (version : Version) (db : Database) (rows : List Row) → IsHostSchema version db.schema → Tells read_watches_text db rows → AreApart key_cmp (map watch_of rows) → from_entries {R = key_cmp} (map watch_of rows) ≡ from_entries (map watch_of (rows_of watches_name db))
+pub watches_from : (version : TablesVersion) (db : Database) (rows : List Row) → IsHostSchema version db.schema → Tells read_watches_text db rows → AreApart key_cmp (map watch_of rows) → from_entries {R = key_cmp} (map watch_of rows) ≡ from_entries (map watch_of (rows_of watches_name db))
 watches_from version db rows is h apart =
     let moved = IsPermutation-map watch_of (map watch_shown (rows_of watches_name db)) rows (reads_watches version db rows is h) in
     let all = subst (λ es. IsPermutation es (map watch_of rows)) (map_twice watch_shown watch_of (rows_of watches_name db)) moved in
     sym (same_entries watch_total watch_exact (map watch_of (rows_of watches_name db)) (map watch_of rows) all apart)
 
-pub shows_hosts : (version : Version) (db : Database) → IsHostSchema version db.schema → IsDatabase db → HasOwnRow (number version) (rows_of own_name db) → shown db.trees ≡ shown_rows (rows_of own_name db) (hosts_of version db) (rows_of watches_name db)
+pub shows_hosts : (version : TablesVersion) (db : Database) → IsHostSchema version db.schema → IsDatabase db → HasOwnRow (number version) (rows_of own_name db) → shown db.trees ≡ shown_rows (rows_of own_name db) (hosts_of version db) (rows_of watches_name db)
 shows_hosts version db is sound own = shows_version version db sound.lists.listed.tables is (version_is (number version) (rows_of own_name db) own)
 
 -- the rows of the tables, as they were read
-pub all_shown : (version : Version) (db : Database) → IsHostSchema version db.schema → IsDatabase db → HasOwnRow (number version) (rows_of own_name db) → (own : ℕ) → number_at (rows_of own_name db) 3 ≡ own
+pub all_shown : (version : TablesVersion) (db : Database) → IsHostSchema version db.schema → IsDatabase db → HasOwnRow (number version) (rows_of own_name db) → (own : ℕ) → number_at (rows_of own_name db) 3 ≡ own
     → shown db.trees ≡ record { own = own; hosts = from_entries (map host_of (hosts_of version db)); watches = from_entries (map watch_of (rows_of watches_name db)) }
 all_shown version db is sound row own state = shows_hosts version db is sound row ∙ (λ i. record { own = state i; hosts = from_entries (map host_of (hosts_of version db)); watches = from_entries (map watch_of (rows_of watches_name db)) })
 
-pub own_hosts_from : (version : Version) (db : Database) (rows : List Row) → IsHostSchema version db.schema → Tells (hosts_text version) db rows → AreOwn is_host rows → AreOwn is_host (hosts_of version db)
+pub own_hosts_from : (version : TablesVersion) (db : Database) (rows : List Row) → IsHostSchema version db.schema → Tells (hosts_text version) db rows → AreOwn is_host rows → AreOwn is_host (hosts_of version db)
 own_hosts_from version db rows is h own =
     let hosts = hosts_of version db in own_of_map is_host host_shown (λ r. refl) (λ r. refl) hosts (own_moved is_host rows (map host_shown hosts) (IsPermutation-sym (map host_shown hosts) rows (reads_hosts version db rows is h)) own)
 
-pub own_watches_from : (version : Version) (db : Database) (rows : List Row) → IsHostSchema version db.schema → Tells read_watches_text db rows → AreOwn is_watched rows → AreOwn is_watched (rows_of watches_name db)
+pub own_watches_from : (version : TablesVersion) (db : Database) (rows : List Row) → IsHostSchema version db.schema → Tells read_watches_text db rows → AreOwn is_watched rows → AreOwn is_watched (rows_of watches_name db)
 own_watches_from version db rows is h own =
     own_of_map is_watched watch_shown (λ r. refl) (λ r. refl) (rows_of watches_name db) (own_moved is_watched rows (map watch_shown (rows_of watches_name db)) (IsPermutation-sym (map watch_shown (rows_of watches_name db)) rows (reads_watches version db rows is h)) own)
 
-pub fitting_hosts_from : (version : Version) (db : Database) (rows : List Row) → IsHostSchema version db.schema → Tells (hosts_text version) db rows → AllFit has_host_numbers rows → AllFit has_host_numbers (hosts_of version db)
+pub fitting_hosts_from : (version : TablesVersion) (db : Database) (rows : List Row) → IsHostSchema version db.schema → Tells (hosts_text version) db rows → AllFit has_host_numbers rows → AllFit has_host_numbers (hosts_of version db)
 fitting_hosts_from version db rows is h fit =
     let hosts = hosts_of version db in fit_of_map has_host_numbers host_shown (λ r. refl) hosts (list_any-IsPermutation (λ row. not (has_host_numbers row)) (map host_shown hosts) rows (reads_hosts version db rows is h) ∙ fit)

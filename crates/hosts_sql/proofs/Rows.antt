@@ -26,7 +26,7 @@ use Rattle.hosts_sql.specs.Schemas.{tree_in, IsHostSchema}
 use Rattle.hosts_sql.specs.Shown.{host_of, watch_of, number_at, shown}
 use Rattle.sql_transactions.specs.Work.{IsRowWrite, Ran}
 use Rattle.hosts_sql.specs.Wrote.{own_shown, HasOwnRow, IsWhole}
-use Rattle.hosts_sql.specs.declared.tables.Version.TheVariants.{Second}
+use Rattle.hosts_sql.specs.declared.tables.TablesVersion.TheVariants.{Second}
 use Rattle.hosts_sql.proofs.Places.{tables_of, has_hosts}
 use Rattle.hosts_sql.proofs.Listings.{Lists, shown_in, shows_version}
 use Rattle.hosts_sql.proofs.OwnIds.{own_put}

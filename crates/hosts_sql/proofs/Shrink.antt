@@ -9,7 +9,7 @@ use Rattle.std.specs.Cmp.{IsTotalOrder}
 use Rattle.std.proofs.lemmas.Map.Text.{is_eq-slice_cmp}
 use Rattle.std.specs.FinMap.{FinMap, IsAntisymmetric, find, entries, entries_sorted, from_sorted, get-from_sorted, entries-from_sorted, get-entries, from_entries, get-from_entries, same_map, retain_keys, get-retain_keys}
 use Rattle.std.specs.FinMap.Entries.{where_key, find-where_key, is_sorted-where_key}
-use Rattle.definitions.specs.Bytes.{Bytes, same_bytes, without}
+use Rattle.definitions.specs.Bytes.{Bytes, same_bytes, list_without}
 use Rattle.sqlite_value.specs.declared.value.Value.{Value}
 use Rattle.sqlite_value.specs.declared.value.Value.TheVariants.{Null, Int, Real, Text, Blob}
 use Rattle.sqlite_value.specs.declared.keys.Collation.TheVariants.{Binary}
@@ -74,14 +74,14 @@ entries_left {R} o exact m p =
     get-retain_keys m p q (alike q) ∙ ap (λ found. cond (p q) found None) (get-entries m q) ∙ sym (find-where_key R p q (alike q) (entries m)) ∙ sym (get-from_sorted R (where_key R p (entries m)) q sorted)) in
     ap entries same ∙ entries-from_sorted R (where_key R p (entries m)) sorted
 
-pub shown_left : {K X A : Type 0} {R : K → K → Ordering} (o : IsTotalOrder R) (exact : IsAntisymmetric R) (row : K × X → A) (P : K → Bool) (Q : A → Bool) → ((e : K × X) → Q (row e) ≡ P e.0) → (m : FinMap R X) → map row (entries (retain_keys m (λ k. not (P k)))) ≡ without Q (map row (entries m))
+pub shown_left : {K X A : Type 0} {R : K → K → Ordering} (o : IsTotalOrder R) (exact : IsAntisymmetric R) (row : K × X → A) (P : K → Bool) (Q : A → Bool) → ((e : K × X) → Q (row e) ≡ P e.0) → (m : FinMap R X) → map row (entries (retain_keys m (λ k. not (P k)))) ≡ list_without Q (map row (entries m))
 shown_left o exact row P Q same m = ap (map row) (entries_left o exact m (λ k. not (P k))) ∙ go (entries m)
   where
-    go : (es : List _) → map row (filter (λ e. not (P e.0)) es) ≡ without Q (map row es)
+    go : (es : List _) → map row (filter (λ e. not (P e.0)) es) ≡ list_without Q (map row es)
     go [] = refl
     go (e ∷ es) = one (P e.0) (Q (row e)) (same e) (go es)
       where
-        one : (a b : Bool) → b ≡ a → map row (filter (λ e. not (P e.0)) es) ≡ without Q (map row es)
-            → map row (cond (not a) (e ∷ filter (λ e. not (P e.0)) es) (filter (λ e. not (P e.0)) es)) ≡ cond b (without Q (map row es)) (row e ∷ without Q (map row es))
-        one true b same more = more ∙ ap (λ x. cond x (without Q (map row es)) (row e ∷ without Q (map row es))) (sym same)
-        one false b same more = ap (λ rs. row e ∷ rs) more ∙ ap (λ x. cond x (without Q (map row es)) (row e ∷ without Q (map row es))) (sym same)
+        one : (a b : Bool) → b ≡ a → map row (filter (λ e. not (P e.0)) es) ≡ list_without Q (map row es)
+            → map row (cond (not a) (e ∷ filter (λ e. not (P e.0)) es) (filter (λ e. not (P e.0)) es)) ≡ cond b (list_without Q (map row es)) (row e ∷ list_without Q (map row es))
+        one true b same more = more ∙ ap (λ x. cond x (list_without Q (map row es)) (row e ∷ list_without Q (map row es))) (sym same)
+        one false b same more = ap (λ rs. row e ∷ rs) more ∙ ap (λ x. cond x (list_without Q (map row es)) (row e ∷ list_without Q (map row es))) (sym same)

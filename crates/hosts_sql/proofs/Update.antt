@@ -25,7 +25,7 @@ use Rattle.hosts_sql.specs.Maps.{with_own}
 use Rattle.hosts_sql.specs.Shown.{host_of, watch_of, number_at}
 use Rattle.sql_transactions.specs.Work.{Ran}
 use Rattle.hosts_sql.specs.Wrote.{own_row_at, own_shown, HasOwnRow, IsWhole}
-use Rattle.hosts_sql.specs.declared.tables.Version.TheVariants.{Second}
+use Rattle.hosts_sql.specs.declared.tables.TablesVersion.TheVariants.{Second}
 use Rattle.sqlite_catalog.specs.Listing.{IsSound}
 use Rattle.sqlite_schema.specs.declared.schema.Schema.{Schema}
 use Rattle.sqlite_schema.specs.declared.schema.Table.{Table}

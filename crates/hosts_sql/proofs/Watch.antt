@@ -21,7 +21,7 @@ use Rattle.sqlite.specs.Effect.{Database, IsDatabase}
 use Rattle.sqlite_catalog.specs.Listing.{IsSound}
 use Rattle.sqlite_schema.specs.declared.schema.Schema.{Schema}
 use Rattle.hosts_sql.specs.Schemas.{tree_in, IsHostSchema}
-use Rattle.hosts_sql.specs.declared.tables.Version.TheVariants.{Second}
+use Rattle.hosts_sql.specs.declared.tables.TablesVersion.TheVariants.{Second}
 use Rattle.hosts_sql.specs.Given.{watch_params}
 use Rattle.hosts_sql.specs.Maps.{WatchKey, key_cmp, with_watch}
 use Rattle.definitions.specs.Nsm.{MyId}

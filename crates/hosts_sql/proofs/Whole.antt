@@ -23,7 +23,7 @@ use Rattle.hosts_sql.specs.Shown.{host_of, watch_of, number_at, upgraded_row, sh
 use Rattle.hosts_sql.specs.Own.{is_host, is_watched, AreOwn}
 use Rattle.hosts_sql.specs.Making.{Defines, MakesTable}
 use Rattle.hosts_sql.specs.Wrote.{rows_of, HasOwnRow, IsWhole}
-use Rattle.hosts_sql.specs.declared.tables.Version.TheVariants.{First, Second}
+use Rattle.hosts_sql.specs.declared.tables.TablesVersion.TheVariants.{First, Second}
 use Rattle.hosts_sql.proofs.Delete.{passes}
 use Rattle.hosts_sql.proofs.Fewer.{does_delete, host_whole}
 use Rattle.hosts_sql.proofs.OwnIds.{own_ids, own_of_map}

@@ -3,7 +3,7 @@ use Rattle.std.specs.Prelude.{ℕ, ℤ, Bool, not, Option, [], map}
 use Rattle.std.specs.declared.cmp.Ordering.{Ordering}
 use Rattle.std.specs.Ordering.{ordering_then}
 use Rattle.std.specs.FinMap.{FinMap, empty, insert, retain_keys, entries}
-use Rattle.definitions.specs.Bytes.{Bytes, bytes_cmp, put, same_bytes}
+use Rattle.definitions.specs.Bytes.{Bytes, bytes_cmp, list_with, same_bytes}
 use Rattle.definitions.specs.Nsm.{MyId}
 use Rattle.definitions.specs.Hosts.{HostRow, Watch, Hosts, row_cmp, watch_cmp, my_id_cmp, is_watch}
 
@@ -46,8 +46,8 @@ host_row e = record { name = e.0; epoch = e.1.epoch; seen = e.1.seen; quota = e.
 abbrev pub watch_row : WatchKey × Bytes → Watch
 watch_row e = record { mon_name = e.0.mon; my_id = e.0.my; private_bytes = e.1 }
 
-abbrev pub listed : Rows → Hosts
-listed r = record { own = r.own; rows = map host_row (entries r.hosts); watches = map watch_row (entries r.watches) }
+abbrev pub hosts_of_rows : Rows → Hosts
+hosts_of_rows r = record { own = r.own; rows = map host_row (entries r.hosts); watches = map watch_row (entries r.watches) }
 
 abbrev pub without_host : Bytes → Rows → Rows
 without_host name r = record r { hosts = retain_keys r.hosts (λ k. not (same_bytes k name)) }
@@ -69,7 +69,7 @@ my_of my prog vers proc = record { my_name = my; prog = prog; vers = vers; proc 
 -- ---- what is put into the lists: it stands in the place of the one of its key, or is added
 
 abbrev pub with_listed_host : Bytes → Host → Hosts → Hosts
-with_listed_host name host h = record h { rows = put row_cmp (host_row (name, host)) h.rows }
+with_listed_host name host h = record h { rows = list_with row_cmp (host_row (name, host)) h.rows }
 
 abbrev pub with_listed_watch : WatchKey → Bytes → Hosts → Hosts
-with_listed_watch key private h = record h { watches = put watch_cmp (watch_row (key, private)) h.watches }
+with_listed_watch key private h = record h { watches = list_with watch_cmp (watch_row (key, private)) h.watches }

@@ -9,8 +9,8 @@ use Rattle.sqlite_schema.specs.contracts.schema.Table as table
 use Rattle.sqlite_schema.specs.Names.{same_name, table_named, index_named}
 use Rattle.sqlite_catalog.specs.Change.{is_reserved}
 use Rattle.hosts_sql.specs.Tables.{own_table, hosts_table, watches_table, first_hosts_table, own_name, hosts_name, watches_name, first_hosts_name}
-use Rattle.hosts_sql.specs.declared.tables.Version.{Version}
-use Rattle.hosts_sql.specs.declared.tables.Version.TheVariants.{First, Second}
+use Rattle.hosts_sql.specs.declared.tables.TablesVersion.{TablesVersion}
+use Rattle.hosts_sql.specs.declared.tables.TablesVersion.TheVariants.{First, Second}
 
 -- the table of this name, wherever it stands among the tables
 abbrev pub table_in : Schema → List ℕ → Option Table
@@ -45,7 +45,7 @@ has_no_other schema = list_all is_expected schema.tables && (list_all (λ i. is_
 
 -- the tables of a version, in any order and in any trees, whatever the CHECK of the own state is; a file that was upgraded
 -- has the table of schema 1, too
-abbrev pub IsHostSchema : Version → Schema → Type 0
+abbrev pub IsHostSchema : TablesVersion → Schema → Type 0
 IsHostSchema First schema =
     ((HasTable schema (own_table (tree_in schema own_name) (checks_in schema own_name)) × HasTable schema (watches_table (tree_in schema watches_name))) × (has_no_other schema ≡ true))
     × (HasTable schema (first_hosts_table (tree_in schema first_hosts_name)) × ((table_in schema hosts_name ≡ None) × (index_named schema hosts_name ≡ None)))
@@ -56,7 +56,7 @@ IsHostSchema Second schema =
 HasBoth-prop : (schema : Schema) (s t : Table) → IsProp ((HasTable schema s × HasTable schema t) × (has_no_other schema ≡ true))
 HasBoth-prop schema s t = ×_prop (×_prop (HasTable-prop schema s) (HasTable-prop schema t)) (Coded-set coded_bool _ _)
 
-pub IsHostSchema-prop : (version : Version) (schema : Schema) → IsProp (IsHostSchema version schema)
+pub IsHostSchema-prop : (version : TablesVersion) (schema : Schema) → IsProp (IsHostSchema version schema)
 IsHostSchema-prop First schema =
     ×_prop (HasBoth-prop schema _ _) (×_prop (HasTable-prop schema _) (×_prop (Coded-set (coded_option table.the_row.coded) _ _) (Coded-set (coded_option coded_ℕ) _ _)))
 IsHostSchema-prop Second schema = ×_prop (HasBoth-prop schema _ _) (×_prop (HasTable-prop schema _) (Coded-set (coded_option table.the_row.coded) _ _))

@@ -36,12 +36,12 @@ watches_text =
     codes "CREATE TABLE watches (mon BLOB NOT NULL, my BLOB NOT NULL, prog INTEGER NOT NULL, vers INTEGER NOT NULL, proc INTEGER NOT NULL, priv BLOB NOT NULL, PRIMARY KEY (mon, my, prog, vers, proc)) STRICT"
 
 -- a column that is NOT NULL
-abbrev pub required : List ℕ → Kind → Column
-required name kind = record { name = name; kind = kind; is_strict = true; not_null = true; default = Null; collation = Binary }
+abbrev pub required_column : List ℕ → Kind → Column
+required_column name kind = record { name = name; kind = kind; is_strict = true; not_null = true; default = Null; collation = Binary }
 
 -- a table with a key that is no rowid, in the tree with this number
-abbrev pub keyed : List ℕ → ℕ → List Column → List ℕ → Order → Table
-keyed name tree columns key order = record {
+abbrev pub keyed_table : List ℕ → ℕ → List Column → List ℕ → Order → Table
+keyed_table name tree columns key order = record {
   name = name;
   tree = tree;
   columns = columns;
@@ -57,12 +57,12 @@ keyed name tree columns key order = record {
 }
 
 abbrev pub hosts_columns : List Column
-hosts_columns = required (codes "name") Blob ∷ required (codes "epoch") Integer ∷ required (codes "seen") Integer ∷ required (codes "quota") Integer ∷ []
+hosts_columns = required_column (codes "name") Blob ∷ required_column (codes "epoch") Integer ∷ required_column (codes "seen") Integer ∷ required_column (codes "quota") Integer ∷ []
 
 abbrev pub watches_columns : List Column
 watches_columns =
-    required (codes "mon") Blob ∷ required (codes "my") Blob ∷ required (codes "prog") Integer ∷ required (codes "vers") Integer
-    ∷ required (codes "proc") Integer ∷ required (codes "priv") Blob ∷ []
+    required_column (codes "mon") Blob ∷ required_column (codes "my") Blob ∷ required_column (codes "prog") Integer ∷ required_column (codes "vers") Integer
+    ∷ required_column (codes "proc") Integer ∷ required_column (codes "priv") Blob ∷ []
 
 abbrev pub one_key : Order
 one_key = record { digits = 0 }
@@ -71,16 +71,16 @@ abbrev pub five_keys : Order
 five_keys = record { digits = 0 }
 
 abbrev pub hosts_table : ℕ → Table
-hosts_table tree = keyed hosts_name tree hosts_columns (1 ∷ []) one_key
+hosts_table tree = keyed_table hosts_name tree hosts_columns (1 ∷ []) one_key
 
 abbrev pub watches_table : ℕ → Table
-watches_table tree = keyed watches_name tree watches_columns (1 ∷ 2 ∷ 3 ∷ 4 ∷ 5 ∷ []) five_keys
+watches_table tree = keyed_table watches_name tree watches_columns (1 ∷ 2 ∷ 3 ∷ 4 ∷ 5 ∷ []) five_keys
 
 abbrev pub id_column : Column
 id_column = record { name = codes "id"; kind = Integer; is_strict = true; not_null = false; default = Null; collation = Binary }
 
 abbrev pub own_columns : List Column
-own_columns = id_column ∷ required (codes "version") Integer ∷ required (codes "state") Integer ∷ []
+own_columns = id_column ∷ required_column (codes "version") Integer ∷ required_column (codes "state") Integer ∷ []
 
 -- the table of the own state, whose one row has the id 1
 abbrev pub own_table : ℕ → List Term → Table
@@ -105,10 +105,10 @@ own_checks = op2 (Compare Eq Binary) (col 1 0) (lit (Int (pos 1))) ∷ []
 
 -- the table of the hosts in schema 1
 abbrev pub first_hosts_columns : List Column
-first_hosts_columns = required (codes "name") Blob ∷ required (codes "epoch") Integer ∷ required (codes "seen") Integer ∷ []
+first_hosts_columns = required_column (codes "name") Blob ∷ required_column (codes "epoch") Integer ∷ required_column (codes "seen") Integer ∷ []
 
 abbrev pub first_hosts_table : ℕ → Table
-first_hosts_table tree = keyed first_hosts_name tree first_hosts_columns (1 ∷ []) one_key
+first_hosts_table tree = keyed_table first_hosts_name tree first_hosts_columns (1 ∷ []) one_key
 
 abbrev pub no_schema : Schema
 no_schema = record { tables = []; indexes = []; views = [] }

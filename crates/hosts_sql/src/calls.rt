@@ -5,23 +5,23 @@ ghost use Rattle.sqlite.specs.Held.{state};
 ghost use Rattle.definitions.specs.Hosts.{after_store, Watched};
 ghost use Rattle.hosts_db.specs.Writings.{view_of_writing, IsNew};
 ghost use Rattle.hosts_sql.specs.Wrote.{HasTables, IsAsKept, MayWriteHosts, WroteHosts};
-ghost use Rattle.hosts_sql.specs.declared.tables.Version.TheVariants.{Second};
+ghost use Rattle.hosts_sql.specs.declared.tables.TablesVersion.TheVariants.{Second};
 ghost use Rattle.hosts_sql.specs.Holds.{Holds};
 
 use crate::notes::write_note;
 use crate::statements::{
     delete_watches, insert_host, make_and_start, put_host_and_watch, put_watch, set_own,
 };
-use crate::tables::Version;
+use crate::tables::TablesVersion;
 use crate::upgrade::upgrade;
-use hosts_db::{HostRows, MyId, Writing};
+use hosts_db::{HostRows, MyIdRef, Writing};
 use sqlite::{Alter, Connection, Error};
 
 /// Sets the own state of a file with the tables of this version, or with no object, and leaves it with those of
 /// schema 2, all in one transaction.
 pub(crate) fn write_start<S: Alter>(
     conn: &mut Connection<S>,
-    version: Option<Version>,
+    version: Option<TablesVersion>,
     own: u32,
 ) -> Result<(), Error>
     requires { Holds version (state S.Store conn.old) }
@@ -31,8 +31,8 @@ pub(crate) fn write_start<S: Alter>(
 {
     match version {
         None => make_and_start(conn, own),
-        Some(Version::First) => upgrade(conn, own),
-        Some(Version::Second) => set_own(conn, own),
+        Some(TablesVersion::First) => upgrade(conn, own),
+        Some(TablesVersion::Second) => set_own(conn, own),
     }
 }
 
@@ -41,7 +41,7 @@ fn write_watch<S: Alter>(
     conn: &mut Connection<S>,
     rows: &HostRows,
     mon: &[u8],
-    my_id: &MyId<'_>,
+    my_id: &MyIdRef<'_>,
     private: &[u8; 16],
 ) -> Result<(), Error>
     requires tables { HasTables Second (state S.Store conn.old) }

@@ -15,9 +15,9 @@ ghost use Rattle.hosts_sql.specs.Wrote.{HasOwnRow, IsWhole, hosts_of, hosts_text
 
 use crate::error::AdoptError;
 use crate::rowids::{are_own_hosts, are_own_watches};
-use crate::tables::Version;
+use crate::tables::TablesVersion;
 use hosts_db::{
-    FULL_QUOTA, HostRow, HostRows, MOST_HOSTS, MOST_NAME_BYTES, MOST_WATCHES, MyId, Watch,
+    FULL_QUOTA, HostRow, HostRows, MOST_HOSTS, MOST_NAME_BYTES, MOST_WATCHES, MyIdRef, Watch,
 };
 use sqlite::{Alter, Connection, Error, ErrorCode, Row};
 use std::alloc::Global;
@@ -65,7 +65,7 @@ fn told<T: Drop>(
     }
 }
 
-fn own_in(rows: &[Row], version: Version) -> Result<u32, AdoptError>
+fn own_in(rows: &[Row], version: TablesVersion) -> Result<u32, AdoptError>
     ensures ok { IfOk result (ShowsOwn (number version) rows.now) }
     ensures fits { IfOk result (λ own. own < 2147483648) }
 {
@@ -92,10 +92,10 @@ fn own_in(rows: &[Row], version: Version) -> Result<u32, AdoptError>
 }
 
 // The table of the hosts in this version.
-fn hosts_table_of(version: Version) -> &'static str {
+fn hosts_table_of(version: TablesVersion) -> &'static str {
     match version {
-        Version::First => "hosts",
-        Version::Second => "hosts2",
+        TablesVersion::First => "hosts",
+        TablesVersion::Second => "hosts2",
     }
 }
 
@@ -149,7 +149,7 @@ fn keep_hosts(table: &'static str, kept: &mut HostRows, rows: &[Row]) -> Result<
     Ok(())
 }
 
-fn read_own<S: Alter>(conn: &mut Connection<S>, version: Version) -> Result<u32, AdoptError>
+fn read_own<S: Alter>(conn: &mut Connection<S>, version: TablesVersion) -> Result<u32, AdoptError>
     requires { HasCleanDisk (state S.Store conn.old) → IsTrue (state S.Store conn.old).is_open → IsHostSchema version (state S.Store conn.old).committed.schema }
     ensures row { HasCleanDisk (state S.Store conn.new) → OnOk result (HasOwnRow (number version) (rows_of own_name (state S.Store conn.old).committed)) }
     ensures state { HasCleanDisk (state S.Store conn.new) → IfOk result (λ own. number_at (rows_of own_name (state S.Store conn.old).committed) 3 ≡ own) }
@@ -168,18 +168,18 @@ fn read_own<S: Alter>(conn: &mut Connection<S>, version: Version) -> Result<u32,
 }
 
 // A host of schema 1 shows the full quota.
-fn hosts_query(version: Version) -> &'static str
+fn hosts_query(version: TablesVersion) -> &'static str
     ensures { result.now ≡ hosts_text version }
 {
     match version {
-        Version::First => "SELECT rowid AS id, *, 65536 FROM hosts ORDER BY 1",
-        Version::Second => "SELECT rowid AS id, * FROM hosts2 ORDER BY 1",
+        TablesVersion::First => "SELECT rowid AS id, *, 65536 FROM hosts ORDER BY 1",
+        TablesVersion::Second => "SELECT rowid AS id, * FROM hosts2 ORDER BY 1",
     }
 }
 
 fn read_hosts<S: Alter>(
     conn: &mut Connection<S>,
-    version: Version,
+    version: TablesVersion,
     kept: &mut HostRows,
 ) -> Result<(), AdoptError>
     requires tables { HasCleanDisk (state S.Store conn.old) → IsTrue (state S.Store conn.old).is_open → IsHostSchema version (state S.Store conn.old).committed.schema }
@@ -216,7 +216,7 @@ fn watch_of_parts(
     ensures { IfOk result (λ watch. watch ≡ watch_row (record { mon = mon.now; my = my_of my.now numbers.0 numbers.1 numbers.2 }, private.now)) }
 {
     let (prog, vers, proc) = numbers;
-    match Watch::new(alloc, mon, &MyId::new(my, prog, vers, proc), private) {
+    match Watch::new(alloc, mon, &MyIdRef::new(my, prog, vers, proc), private) {
         Ok(watch) => Ok(watch),
         Err(_) => Err(AdoptError::Starved),
     }
@@ -278,7 +278,7 @@ fn keep_watches(alloc: Global, kept: &mut HostRows, rows: &[Row]) -> Result<(), 
 fn read_watches<S: Alter>(
     alloc: Global,
     conn: &mut Connection<S>,
-    version: Version,
+    version: TablesVersion,
     kept: &mut HostRows,
 ) -> Result<(), AdoptError>
     requires tables { HasCleanDisk (state S.Store conn.old) → IsTrue (state S.Store conn.old).is_open → IsHostSchema version (state S.Store conn.old).committed.schema }
@@ -309,7 +309,7 @@ fn read_watches<S: Alter>(
 pub(crate) fn load<S: Alter>(
     alloc: Global,
     conn: &mut Connection<S>,
-    version: Version,
+    version: TablesVersion,
     kept: &mut HostRows,
 ) -> Result<(), AdoptError>
     requires live { IsLive (state S.Store conn.old) }

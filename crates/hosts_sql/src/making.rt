@@ -1,7 +1,7 @@
 //! A statement that makes a table, as the work of a transaction.
 ghost use Rattle.hosts_sql.specs.Making.{MakesTable};
 
-use sql_transactions::Work;
+use sql_transactions::TransactionBody;
 use sqlite::{Alter, Error, Transaction};
 
 /// The table of the hosts, with their quotas.
@@ -12,7 +12,7 @@ pub(crate) const HOSTS: &str =
 #[derive(Clone, Copy)]
 pub(crate) struct Make<'a>(pub(crate) &'a str);
 
-impl Work for Make<'_> {
+impl TransactionBody for Make<'_> {
     ghost works = { λ make. MakesTable make.0.now };
 
     fn run<S: Alter>(&self, tx: &mut Transaction<'_, S>) -> Result<(), Error> {

@@ -3,22 +3,22 @@ ghost use Rattle.std.specs.Prelude.{◌≡◌, OnOk, OnErr};
 ghost use Rattle.sqlite.specs.State.{HasCleanDisk, KeepsCommit, Survives};
 ghost use Rattle.sqlite.specs.Held.{state};
 ghost use Rattle.definitions.specs.Hosts.{after_store};
-ghost use Rattle.hosts_db.specs.Notes.{view_of_note, noted};
+ghost use Rattle.hosts_db.specs.Notes.{view_of_note, noted_row};
 ghost use Rattle.hosts_sql.specs.Wrote.{HasTables, IsAsKept, MayWriteHosts, WroteHosts};
-ghost use Rattle.hosts_sql.specs.declared.tables.Version.TheVariants.{Second};
+ghost use Rattle.hosts_sql.specs.declared.tables.TablesVersion.TheVariants.{Second};
 
 use crate::statements::{delete_host, replace_host};
-use hosts_db::{HostRow, HostRows, Note};
+use hosts_db::{HostRow, HostRows, RowNote};
 use sqlite::{Alter, Connection, Error};
 
 // What stands beside the name of this row, with the note.
-fn beside_name(note: Note, row: &HostRow) -> (u32, i32, u32)
-    ensures { record row.now { epoch = result.0; seen = result.1; quota = result.2 } ≡ noted note row.now }
+fn beside_name(note: RowNote, row: &HostRow) -> (u32, i32, u32)
+    ensures { record row.now { epoch = result.0; seen = result.1; quota = result.2 } ≡ noted_row note row.now }
 {
     match note {
-        Note::Seen(seen) => (row.epoch(), seen, row.quota()),
-        Note::Epoch(epoch) => (epoch, row.seen(), row.quota()),
-        Note::Quota(runs) => (row.epoch(), row.seen(), runs),
+        RowNote::Seen(seen) => (row.epoch(), seen, row.quota()),
+        RowNote::Epoch(epoch) => (epoch, row.seen(), row.quota()),
+        RowNote::Quota(runs) => (row.epoch(), row.seen(), runs),
     }
 }
 
@@ -27,7 +27,7 @@ pub(crate) fn write_note<S: Alter>(
     conn: &mut Connection<S>,
     rows: &HostRows,
     name: &[u8],
-    note: Note,
+    note: RowNote,
 ) -> Result<(), Error>
     requires tables { HasTables Second (state S.Store conn.old) }
     requires kept { IsAsKept (state S.Store conn.old) rows.now }

@@ -9,7 +9,7 @@ ghost use Rattle.hosts_sql.specs.Tables.{first_hosts_name, first_hosts_table, ho
 
 use crate::error::AdoptError;
 use crate::tables::{
-    Version, check_first_table, check_hosts_table, check_own_table, check_watches_table,
+    TablesVersion, check_first_table, check_hosts_table, check_own_table, check_watches_table,
 };
 use sqlite_schema::names::same_name;
 use sqlite_schema::schema::{Index, Schema, Table};
@@ -213,7 +213,7 @@ fn check_old(schema: &Schema) -> Result<(), AdoptError>
 
 /// The version whose tables the schema has, in whatever order and trees, if it has no other object but SQLite's own. A file that
 /// was upgraded from schema 1 has the table of its hosts, too.
-pub(crate) fn version_of(alloc: Global, schema: &Schema) -> Result<Version, AdoptError>
+pub(crate) fn version_of(alloc: Global, schema: &Schema) -> Result<TablesVersion, AdoptError>
     ensures { IfOk result (λ version. IsHostSchema version schema.now) }
 {
     check_others(alloc, schema)?;
@@ -222,11 +222,11 @@ pub(crate) fn version_of(alloc: Global, schema: &Schema) -> Result<Version, Adop
     if table_in(schema, b"hosts2").is_some() {
         check_hosts(schema)?;
         check_old(schema)?;
-        return Ok(Version::Second);
+        return Ok(TablesVersion::Second);
     }
     check_first(schema)?;
     if schema.index_named(b"hosts2").is_some() {
         return Err(AdoptError::UnnamedObject);
     }
-    Ok(Version::First)
+    Ok(TablesVersion::First)
 }

@@ -4,15 +4,15 @@ ghost use Rattle.std.specs.Option.{option_copied};
 ghost use Rattle.sqlite.specs.Values.{bound};
 ghost use Rattle.sqlite.specs.State.{HasCleanDisk, KeepsCommit, Survives};
 ghost use Rattle.sqlite.specs.Held.{state};
-ghost use Rattle.definitions.specs.Bytes.{same_bytes, without};
+ghost use Rattle.definitions.specs.Bytes.{same_bytes, list_without};
 ghost use Rattle.definitions.specs.Hosts.{HostRow, has_row, after_store, Monitor, Watched, Unwatched, is_named};
 ghost use Rattle.hosts_sql.specs.Given.{my_given, watch_given, watch_params};
 ghost use Rattle.hosts_sql.specs.Maps.{with_listed_host, with_listed_watch};
 ghost use Rattle.hosts_sql.specs.Wrote.{HasTables, IsFresh, MayWriteHosts, WroteHosts, hosts_in};
-ghost use Rattle.hosts_sql.specs.declared.tables.Version.TheVariants.{Second};
+ghost use Rattle.hosts_sql.specs.declared.tables.TablesVersion.TheVariants.{Second};
 
 use crate::making::{HOSTS, Make};
-use hosts_db::{FULL_QUOTA, MyId};
+use hosts_db::{FULL_QUOTA, MyIdRef};
 use sql_transactions::{One, Then, run_one, run_two, transact};
 use sqlite::types::ValueRef;
 use sqlite::{Alter, Connection, Error, params};
@@ -65,9 +65,9 @@ pub(crate) fn replace_host<S: Alter>(
 /// Takes out the row of a host.
 pub(crate) fn delete_host<S: Alter>(conn: &mut Connection<S>, name: &[u8]) -> Result<(), Error>
     requires tables { HasTables Second (state S.Store conn.old) }
-    ensures ok { HasCleanDisk (state S.Store conn.new) → OnOk result (WroteHosts (λ h. record h { rows = without (is_named name.now) h.rows }) (state S.Store conn.old) (state S.Store conn.new)) }
+    ensures ok { HasCleanDisk (state S.Store conn.new) → OnOk result (WroteHosts (λ h. record h { rows = list_without (is_named name.now) h.rows }) (state S.Store conn.old) (state S.Store conn.new)) }
     ensures err { HasCleanDisk (state S.Store conn.new) → OnErr result (KeepsCommit (state S.Store conn.old) (state S.Store conn.new)) }
-    ensures crash { Survives (state S.Store conn.old) (state S.Store conn.new) (MayWriteHosts (λ h. record h { rows = without (is_named name.now) h.rows }) (state S.Store conn.old)) }
+    ensures crash { Survives (state S.Store conn.old) (state S.Store conn.new) (MayWriteHosts (λ h. record h { rows = list_without (is_named name.now) h.rows }) (state S.Store conn.old)) }
 {
     run_one(conn, DELETE_HOST, params![name])
 }
@@ -81,7 +81,7 @@ const INSERT_WATCH: &str =
     "INSERT INTO watches (mon, my, prog, vers, proc, priv) VALUES (?1, ?2, ?3, ?4, ?5, ?6)";
 
 /// What the statement is given that takes out the watches of a watcher.
-fn watcher<'a>(my_id: &MyId<'a>) -> [ValueRef<'a>; 4]
+fn watcher<'a>(my_id: &MyIdRef<'a>) -> [ValueRef<'a>; 4]
     ensures { bound result ≡ my_given my_id.now }
 {
     [
@@ -93,7 +93,7 @@ fn watcher<'a>(my_id: &MyId<'a>) -> [ValueRef<'a>; 4]
 }
 
 /// What the statement is given that takes out a watch.
-fn watch_key<'a>(mon: &'a [u8], my_id: &MyId<'a>) -> [ValueRef<'a>; 5]
+fn watch_key<'a>(mon: &'a [u8], my_id: &MyIdRef<'a>) -> [ValueRef<'a>; 5]
     ensures { bound result ≡ watch_given mon.now my_id.now }
 {
     let [my, prog, vers, proc] = watcher(my_id);
@@ -101,7 +101,7 @@ fn watch_key<'a>(mon: &'a [u8], my_id: &MyId<'a>) -> [ValueRef<'a>; 5]
 }
 
 /// What the statement is given that adds a watch.
-fn watch_row<'a>(mon: &'a [u8], my_id: &MyId<'a>, private: &'a [u8; 16]) -> [ValueRef<'a>; 6]
+fn watch_row<'a>(mon: &'a [u8], my_id: &MyIdRef<'a>, private: &'a [u8; 16]) -> [ValueRef<'a>; 6]
     ensures { bound result ≡ watch_params (record { mon = mon.now; my = my_id.now }) private.now }
 {
     let [mon, my, prog, vers, proc] = watch_key(mon, my_id);
@@ -119,7 +119,7 @@ fn watch_row<'a>(mon: &'a [u8], my_id: &MyId<'a>, private: &'a [u8; 16]) -> [Val
 pub(crate) fn put_watch<S: Alter>(
     conn: &mut Connection<S>,
     mon: &[u8],
-    my_id: &MyId<'_>,
+    my_id: &MyIdRef<'_>,
     private: &[u8; 16],
 ) -> Result<(), Error>
     requires tables { HasTables Second (state S.Store conn.old) }
@@ -137,7 +137,7 @@ pub(crate) fn put_host_and_watch<S: Alter>(
     conn: &mut Connection<S>,
     epoch: u32,
     mon: &[u8],
-    my_id: &MyId<'_>,
+    my_id: &MyIdRef<'_>,
     private: &[u8; 16],
 ) -> Result<(), Error>
     requires tables { HasTables Second (state S.Store conn.old) }
@@ -159,7 +159,7 @@ pub(crate) fn put_host_and_watch<S: Alter>(
 pub(crate) fn delete_watches<S: Alter>(
     conn: &mut Connection<S>,
     mon: Option<&[u8]>,
-    my_id: &MyId<'_>,
+    my_id: &MyIdRef<'_>,
 ) -> Result<(), Error>
     requires tables { HasTables Second (state S.Store conn.old) }
     ensures ok { HasCleanDisk (state S.Store conn.new) → OnOk result (WroteHosts (λ h. after_store h (Unwatched (option_copied mon.entry) my_id.now)) (state S.Store conn.old) (state S.Store conn.new)) }

@@ -8,14 +8,14 @@ ghost use Rattle.sqlite.specs.State.{HasCleanDisk, KeepsCommit, Survives};
 ghost use Rattle.sqlite.specs.Held.{state};
 ghost use Rattle.hosts_sql.specs.Own.{has_host_numbers, AllFit};
 ghost use Rattle.hosts_sql.specs.Wrote.{IsAsKept, hosts_of};
-ghost use Rattle.hosts_sql.specs.declared.tables.Version.TheVariants.{Second};
+ghost use Rattle.hosts_sql.specs.declared.tables.TablesVersion.TheVariants.{Second};
 ghost use Rattle.hosts_sql.specs.Holds.{Holds, Holds-prop};
 
 use crate::calls::{write_change, write_start};
 use crate::error::AdoptError;
 use crate::loading::load;
 use crate::objects::version_of;
-use crate::tables::{Version, is_none};
+use crate::tables::{TablesVersion, is_none};
 use definitions::own_state::next_own_state;
 use hosts_db::{HostRows, HostStore, Refusals, StoreError, Writing};
 use sqlite::{Alter, Connection, Error};
@@ -26,7 +26,7 @@ pub struct SqlHosts<S: Alter> {
     conn: Connection<S>,
     rows: HostRows,
     // Of its tables, where it has any.
-    version: Option<Version>,
+    version: Option<TablesVersion>,
     is_started: bool,
     refusals: Refusals,
     alloc: Global,
@@ -112,7 +112,7 @@ impl<S: Alter> SqlHosts<S> {
         ensures second { IsTrue result → self.now.version ≡ Some Second }
         ensures started { IsTrue result → IsTrue self.now.is_started }
     {
-        self.is_started && matches!(self.version, Some(Version::Second))
+        self.is_started && matches!(self.version, Some(TablesVersion::Second))
     }
 
     /// Gives the connection back, as the last call left it.
@@ -184,7 +184,7 @@ impl<S: Alter> HostStore for SqlHosts<S> {
             return Err(self.refusals.refuse());
         }
         let own = self.rows.start();
-        self.version = Some(Version::Second);
+        self.version = Some(TablesVersion::Second);
         self.is_started = true;
         Ok(own)
     }

@@ -3,7 +3,7 @@ ghost use Rattle.std.specs.Prelude.{◌≡◌, [], ◌∷◌, IsTrue, OnOk};
 ghost use Rattle.hosts_sql.specs.Wrote.{number};
 ghost use Rattle.sqlite_value.specs.declared.value.Value.TheVariants.{Null};
 ghost use Rattle.sqlite_value.specs.declared.keys.Collation.TheVariants.{Binary};
-ghost use Rattle.hosts_sql.specs.Tables.{first_hosts_columns, first_hosts_table, hosts_columns, hosts_table, id_column, keyed, no_schema, one_key, own_columns, own_table, required, watches_columns, watches_table};
+ghost use Rattle.hosts_sql.specs.Tables.{first_hosts_columns, first_hosts_table, hosts_columns, hosts_table, id_column, keyed_table, no_schema, one_key, own_columns, own_table, required_column, watches_columns, watches_table};
 
 use crate::error::AdoptError;
 use sqlite::types::Value;
@@ -12,19 +12,19 @@ use sqlite_value::keys::{Collation, Order};
 
 /// The version of the tables: hosts have a quota from the second on.
 #[derive(Clone, Copy)]
-pub(crate) enum Version {
+pub(crate) enum TablesVersion {
     First,
     Second,
 }
 
-impl Version {
+impl TablesVersion {
     /// The number that the table of the own state has.
     pub(crate) fn number(self) -> u32
         ensures { result ≡ number self }
     {
         match self {
-            Version::First => 1,
-            Version::Second => 2,
+            TablesVersion::First => 1,
+            TablesVersion::Second => 2,
         }
     }
 }
@@ -41,7 +41,7 @@ pub(crate) fn is_none(schema: &Schema) -> bool
 
 // A column that is NOT NULL.
 fn is_required(column: &Column, name: &[u8], kind: Kind) -> bool
-    ensures { IsTrue result → column.now ≡ required name.now kind }
+    ensures { IsTrue result → column.now ≡ required_column name.now kind }
 {
     column.name.as_slice() == name
         && column.kind == kind
@@ -169,7 +169,7 @@ fn is_order(orders: &[Order]) -> bool
 
 // A table with this key.
 fn is_keyed(table: &Table, name: &[u8], key: &[usize]) -> bool
-    ensures { IsTrue result → table.now ≡ keyed name.now table.now.tree table.now.columns key.now one_key }
+    ensures { IsTrue result → table.now ≡ keyed_table name.now table.now.tree table.now.columns key.now one_key }
 {
     table.name.as_slice() == name
         && table.key.is_none()

@@ -4,7 +4,7 @@ ghost use Rattle.sqlite.specs.State.{HasCleanDisk, KeepsCommit, Survives};
 ghost use Rattle.sqlite.specs.Held.{state};
 ghost use Rattle.hosts_sql.specs.Tables.{first_hosts_name};
 ghost use Rattle.hosts_sql.specs.Wrote.{HasTables, MayWriteHosts, WroteHosts, rows_of};
-ghost use Rattle.hosts_sql.specs.declared.tables.Version.TheVariants.{First};
+ghost use Rattle.hosts_sql.specs.declared.tables.TablesVersion.TheVariants.{First};
 
 use crate::making::{HOSTS, Make};
 use sql_transactions::{One, Then, transact};

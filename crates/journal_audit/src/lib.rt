@@ -8,7 +8,7 @@ ghost use Rattle.book.specs.Notes.{is_take, view_of_entry};
 ghost use Rattle.book.specs.Histories.{notes_of};
 ghost use Rattle.journal_audit.specs.Audits.{Agrees, meet, meet_all};
 
-use book::{BookEvent, Closed, Entry, Operation, Receipt};
+use book::{BookEvent, ClosedSegment, Entry, Operation, Receipt};
 use hosts_db::HostStore;
 use range_table::RangeTable;
 use thiserror::Error;
@@ -22,7 +22,7 @@ pub struct AuditMismatch;
 /// receipt stands at its number with its call and its reply. The receipts are in order of number afterwards. It takes no memory,
 /// and time by the number of entries, and of receipts times its logarithm.
 pub fn audit<R: RangeTable, S: HostStore>(
-    segments: &[Closed<R, S>],
+    segments: &[ClosedSegment<R, S>],
     receipts: &mut [Receipt],
 ) -> Result<(), AuditMismatch>
     ensures permutation { IsPermutation receipts.old receipts.new }
@@ -51,7 +51,7 @@ fn put_in_order(receipts: &mut [Receipt])
 // Meets the entries of all segments: the last number, and the receipts that are left.
 fn follow<'a, R: RangeTable, S: HostStore>(
     receipts: &'a [Receipt],
-    segments: &[Closed<R, S>],
+    segments: &[ClosedSegment<R, S>],
 ) -> Option<(u64, &'a [Receipt])>
     ensures some { IfSome result (λ r. meet_all 0 receipts.now (notes_of segments.now) ≡ Some (r.0, r.1.now)) }
     ensures none { IfNone result (meet_all 0 receipts.now (notes_of segments.now) ≡ None) }

@@ -18,9 +18,9 @@ use Rattle.workers.specs.Answers.{StarvesAs}
 use Rattle.byte_io.specs.Written.{Wrote, WroteFront}
 use Rattle.byte_io.specs.declared.written.WriteFault.{WriteFault}
 use Rattle.byte_io.proofs.Appending.{WroteFront-whole}
-use Rattle.line_loop.specs.declared.ending.Ending.{Ending}
-use Rattle.line_loop.specs.declared.ending.Ending.TheVariants as ending
-use Rattle.line_loop.specs.Lines.{IsOpen, Answer, AreOpen, ended, kept, text_of, texts, entries, IsAnswered, AreAnswered, Asks, Trace, trace, Goes, Serves, ServesFront, Breaks, Cuts, Stops, Ends, Turns, Takes, Hears, IsSaid, AnswersLine, Finishes, TellsOf}
+use Rattle.line_loop.specs.declared.ending.LinesEnding.{LinesEnding}
+use Rattle.line_loop.specs.declared.ending.LinesEnding.TheVariants as ending
+use Rattle.line_loop.specs.Lines.{IsOpen, Answer, AreOpen, bytes_of_lines, kept_prefix, text_of, texts, entries, IsAnswered, AreAnswered, Asks, Trace, trace, Goes, Serves, ServesFront, Breaks, Cuts, Stops, Ends, Turns, Takes, Hears, IsSaid, AnswersLine, Finishes, TellsOf}
 
 open-all : (ls ms : List Answer) → AreOpen ls → AreOpen ms → AreOpen (ls ++ ms)
 open-all [] ms p q = q
@@ -46,7 +46,7 @@ Goes-trans x y z s t ms ns g h = record {
 pub Serves-none : (c : ℕ) (part : Bytes) (x : Trace) → IsOpen part → Serves c part [] part x x
 Serves-none c part x o = record { answers = []; joined = append-nil part; whole = tt; unended = o; answered = tt; goes = Goes-none x }
 
-pub Serves-line : (c : ℕ) (part : Bytes) (x y : Trace) → IsOpen part → IsSaid c (kept part) x y → Serves c part (10 ∷ []) [] x y
+pub Serves-line : (c : ℕ) (part : Bytes) (x y : Trace) → IsOpen part → IsSaid c (kept_prefix part) x y → Serves c part (10 ∷ []) [] x y
 Serves-line c part x y o said = record {
   answers = record { line = part; given = said.0; entry = said.1 } ∷ [];
   joined = sym (append-nil (part ++ 10 ∷ [])) ∙ sym (append-nil ((part ++ 10 ∷ []) ++ []));
@@ -63,8 +63,8 @@ pub Serves-append : (c : ℕ) (p q r : Bytes) (bs cs : Bytes) (x y z : Trace) �
 Serves-append c p q r bs cs x y z s t = record {
   answers = s.answers ++ t.answers;
   joined =
-      sym (append_assoc p bs cs) ∙ ap (λ (l : Bytes). l ++ cs) s.joined ∙ append_assoc (ended s.answers) q cs
-      ∙ ap (λ (l : Bytes). ended s.answers ++ l) t.joined ∙ sym (append_assoc (ended s.answers) (ended t.answers) r)
+      sym (append_assoc p bs cs) ∙ ap (λ (l : Bytes). l ++ cs) s.joined ∙ append_assoc (bytes_of_lines s.answers) q cs
+      ∙ ap (λ (l : Bytes). bytes_of_lines s.answers ++ l) t.joined ∙ sym (append_assoc (bytes_of_lines s.answers) (bytes_of_lines t.answers) r)
       ∙ ap (λ (l : Bytes). l ++ r) (sym (flat_map-append (λ (a : Answer). a.line ++ 10 ∷ []) s.answers t.answers));
   whole = open-all s.answers t.answers s.whole t.whole;
   unended = t.unended;
@@ -105,14 +105,14 @@ module _ (c : ℕ) (p q : Bytes) (bs : Bytes) (x y : Trace) (s : Serves c p bs q
     goes = f.goes;
   }
 
-  Cuts-after : (e : Ending) (cs : Bytes) (z : Trace) → Cuts e c q cs y z → Cuts e c p (bs ++ cs) x z
+  Cuts-after : (e : LinesEnding) (cs : Bytes) (z : Trace) → Cuts e c q cs y z → Cuts e c p (bs ++ cs) x z
   Cuts-after ending.Over cs z h = absurd h
   Cuts-after ending.Stopped cs z h = Front-after cs z h
   Cuts-after ending.Starved cs z h = absurd h
   Cuts-after ending.ReadFault cs z h = Front-after cs z h
   Cuts-after ending.WriteFault cs z h = Breaks-after cs z h
 
-  pub Stops-after : (u m l : Option Bytes) → Consumes u m bs → (e : Ending) (z : Trace) → Stops e c q m l y z → Stops e c p u l x z
+  pub Stops-after : (u m l : Option Bytes) → Consumes u m bs → (e : LinesEnding) (z : Trace) → Stops e c q m l y z → Stops e c p u l x z
   Stops-after u m l read ending.Over z h = (bs ++ h.0, Consumes-trans u m l bs h.0 read h.1, h.2, (h.3.0, Serves-append c p q h.3.0 bs h.0 x y z s h.3.1))
   Stops-after u m l read ending.Stopped z h = (bs ++ h.0, Consumes-trans u m l bs h.0 read h.1, Front-after h.0 z h.2)
   Stops-after u m l read ending.Starved z h = absurd h.2
@@ -120,7 +120,7 @@ module _ (c : ℕ) (p q : Bytes) (bs : Bytes) (x y : Trace) (s : Serves c p bs q
   Stops-after u m l read ending.WriteFault z h = (bs ++ h.0, Consumes-trans u m l bs h.0 read h.1, Breaks-after h.0 z h.2)
 
 -- more bytes may stand behind those that cut it
-pub Cuts-longer : (e : Ending) (c : ℕ) (p bs cs : Bytes) (x y : Trace) → Cuts e c p bs x y → Cuts e c p (bs ++ cs) x y
+pub Cuts-longer : (e : LinesEnding) (c : ℕ) (p bs cs : Bytes) (x y : Trace) → Cuts e c p bs x y → Cuts e c p (bs ++ cs) x y
 Cuts-longer ending.Over c p bs cs x y h = absurd h
 Cuts-longer ending.Stopped c p bs cs x y h = record { front = h.front; rest = h.rest ++ cs; is = ap (λ (l : Bytes). l ++ cs) h.is ∙ append_assoc h.front h.rest cs; left = h.left; serves = h.serves }
 Cuts-longer ending.Starved c p bs cs x y h = absurd h
@@ -141,7 +141,7 @@ Cuts-longer ending.WriteFault c p bs cs x y h = record {
 -- ---- a line
 
 -- the end of a line is the byte that was taken
-pub line-said : (e : Option Ending) (c : ℕ) (part line : Bytes) (x y : Trace) → IsOpen part → line ≡ kept part → AnswersLine e c line x y → Takes e c part (10 ∷ []) [] x y
+pub line-said : (e : Option LinesEnding) (c : ℕ) (part line : Bytes) (x y : Trace) → IsOpen part → line ≡ kept_prefix part → AnswersLine e c line x y → Takes e c part (10 ∷ []) [] x y
 line-said None c part line x y o is h = Serves-line c part x y o (subst (λ (l : Bytes). IsSaid c l x y) is h)
 line-said (Some ending.Stopped) c part line x y o is h = Front-all c part (10 ∷ []) [] x y (Serves-line c part x y o (subst (λ (l : Bytes). IsSaid c l x y) is h))
 line-said (Some ending.WriteFault) c part line x y o is h = record {
@@ -161,7 +161,7 @@ line-said (Some ending.Starved) c part line x y o is h = absurd h
 line-said (Some ending.ReadFault) c part line x y o is h = absurd h
 
 -- what a line was answered was written, or a front of it
-pub line-answered : (e : Option Ending) (r : Result (Unit {0}) WriteFault) (c : ℕ) (line : Bytes) (given : Given) (a b : Option Bytes) (told told' : List Note) → Asks c line given told told' → Wrote a b r (text_of given) → Finishes r e → AnswersLine e c line (trace a told) (trace b told')
+pub line-answered : (e : Option LinesEnding) (r : Result (Unit {0}) WriteFault) (c : ℕ) (line : Bytes) (given : Given) (a b : Option Bytes) (told told' : List Note) → Asks c line given told told' → Wrote a b r (text_of given) → Finishes r e → AnswersLine e c line (trace a told) (trace b told')
 line-answered None (Ok done) c line given a b told told' asked wrote ends = (given, asked.0, asked.1, record { wrote = wrote; noted = asked.2 })
 line-answered (Some ending.Stopped) (Ok done) c line given a b told told' asked wrote ends = (given, asked.0, asked.1, record { wrote = wrote; noted = asked.2 })
 line-answered (Some ending.WriteFault) (Err fault) c line given a b told told' asked wrote ends = (given, asked.0, asked.1, record { wrote = wrote; noted = asked.2 })
@@ -191,7 +191,7 @@ pub read-failed : (c : ℕ) (part : Bytes) (u l : Option Bytes) (x : Trace) → 
 read-failed c part u l x o keeps = ([], Consumes-kept u u l [] (Consumes-nil u) keeps, Front-none c part [] x o)
 
 -- how a turn ends it
-pub stopped : (e : Ending) (c : ℕ) (u l : Option Bytes) (x y : Trace) → Stops e c [] u l x y → Ends e c u l x y
+pub stopped : (e : LinesEnding) (c : ℕ) (u l : Option Bytes) (x y : Trace) → Stops e c [] u l x y → Ends e c u l x y
 stopped ending.Over c u l x y h = h
 stopped ending.Stopped c u l x y h = h
 stopped ending.Starved c u l x y h = absurd h.2
@@ -199,7 +199,7 @@ stopped ending.ReadFault c u l x y h = h
 stopped ending.WriteFault c u l x y h = h
 
 -- what was read was answered
-pub piece-heard : (e : Option Ending) (c count : ℕ) (part rest place : Bytes) (u l : Option Bytes) (x y : Trace) → (count ≤ length place) × Consumes u l (take count place) × (count ≡ 0 → IsAtEnd l) → Hears e c part (take count place) rest x y → Turns e c part rest u l x y
+pub piece-heard : (e : Option LinesEnding) (c count : ℕ) (part rest place : Bytes) (u l : Option Bytes) (x y : Trace) → (count ≤ length place) × Consumes u l (take count place) × (count ≡ 0 → IsAtEnd l) → Hears e c part (take count place) rest x y → Turns e c part rest u l x y
 piece-heard None c count part rest place u l x y read h = (take count place, read.1, h)
 piece-heard (Some ending.Over) c count part rest place u l x y read h =
     let none : count ≡ 0 = sym (length-take-le count place read.0) ∙ ap length h.0 in
@@ -211,7 +211,7 @@ piece-heard (Some ending.WriteFault) c count part rest place u l x y read h = (t
 
 -- ---- a byte
 
-pub byte_ended : (e : Option Ending) (c : ℕ) (part rest : Bytes) (byte : ℕ) (t : Bool) (x y : Trace) → t ≡ eqb byte 10 → t ≡ true → Takes e c part (10 ∷ []) rest x y → Takes e c part (byte ∷ []) rest x y
+pub byte_ended : (e : Option LinesEnding) (c : ℕ) (part rest : Bytes) (byte : ℕ) (t : Bool) (x y : Trace) → t ≡ eqb byte 10 → t ≡ true → Takes e c part (10 ∷ []) rest x y → Takes e c part (byte ∷ []) rest x y
 byte_ended e c part rest byte t x y is fed h = subst (λ (b : ℕ). Takes e c part (b ∷ []) rest x y) (sym (eqb-true byte 10 (sym is ∙ fed))) h
 
 pub byte_added : (c : ℕ) (part more : Bytes) (byte : ℕ) (x : Trace) → IsOpen more → more ≡ part ++ byte ∷ [] → Serves c part (byte ∷ []) more x x
@@ -221,7 +221,7 @@ module _ (c : ℕ) (p piece : Bytes) (i d : ℕ) (q : Bytes) (x y : Trace) (with
   pub piece-more : (r : Bytes) (z : Trace) → Serves c q (get_or piece i d ∷ []) r y z → Serves c p (take (i + 1) piece) r x z
   piece-more r z t = subst (λ (l : Bytes). Serves c p l r x z) (sym (take_more piece i d within)) (Serves-append c p q r (take i piece) (get_or piece i d ∷ []) x y z s t)
 
-  pub piece-cut : (e : Ending) (z : Trace) → Cuts e c q (get_or piece i d ∷ []) y z → Cuts e c p piece x z
+  pub piece-cut : (e : LinesEnding) (z : Trace) → Cuts e c q (get_or piece i d ∷ []) y z → Cuts e c p piece x z
   piece-cut e z h =
       let front = subst (λ (l : Bytes). Cuts e c p l x z) (sym (take_more piece i d within)) (Cuts-after c p q (take i piece) x y s e (get_or piece i d ∷ []) z h) in
       subst (λ (l : Bytes). Cuts e c p l x z) (take-append-drop (i + 1) piece) (Cuts-longer e c p (take (i + 1) piece) (drop (i + 1) piece) x z front)

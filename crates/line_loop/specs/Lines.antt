@@ -9,13 +9,13 @@ use Rattle.local_ops.specs.Texts.{reply_text}
 use Rattle.book.specs.declared.event.BookEvent.{BookEvent}
 use Rattle.book.specs.Given.{StepResult}
 use Rattle.book.specs.Notes.{AsksLine, Note, view_of_event}
-use Rattle.book.specs.Receipts.{newest}
+use Rattle.book.specs.Receipts.{newest_note}
 use Rattle.workers.specs.Holds.{Held, Notes}
 use Rattle.workers.specs.Answers.{StarvesAs}
 use Rattle.byte_io.specs.declared.written.WriteFault.{WriteFault}
 use Rattle.byte_io.specs.Written.{WroteFront}
-use Rattle.line_loop.specs.declared.ending.Ending.{Ending}
-use Rattle.line_loop.specs.declared.ending.Ending.TheVariants as ending
+use Rattle.line_loop.specs.declared.ending.LinesEnding.{LinesEnding}
+use Rattle.line_loop.specs.declared.ending.LinesEnding.TheVariants as ending
 
 -- it has no line feed
 abbrev pub IsOpen : Bytes → Type 0
@@ -32,12 +32,12 @@ AreOpen [] = Unit {0}
 AreOpen (a ∷ answers) = IsOpen a.line × AreOpen answers
 
 -- each line with its line feed
-abbrev pub ended : List Answer → Bytes
-ended answers = flat_map (λ (a : Answer). a.line ++ 10 ∷ []) answers
+abbrev pub bytes_of_lines : List Answer → Bytes
+bytes_of_lines answers = flat_map (λ (a : Answer). a.line ++ 10 ∷ []) answers
 
 -- what is kept of a line; one past 512 bytes is none of the protocol, and its first 513 tell so
-abbrev pub kept : Bytes → Bytes
-kept line = take 513 line
+abbrev pub kept_prefix : Bytes → Bytes
+kept_prefix line = take 513 line
 
 -- the text that a line is answered
 abbrev pub text_of : Given → Bytes
@@ -59,7 +59,7 @@ pub record IsEntered (connection : ℕ) (line : Bytes) (given : Given) (entry : 
   pub before : Held
   pub after : Held
   pub notes : Notes before (AsksLine connection line) entry.step_result after
-  pub is_newest : newest after.book.journal.notes ≡ Some entry
+  pub is_newest : newest_note after.book.journal.notes ≡ Some entry
   pub event : entry.event ≡ AsksLine connection line
   pub gave : entry.step_result.given ≡ given
 
@@ -71,7 +71,7 @@ IsAnswered connection line given None = StarvesAs (AsksLine connection line) giv
 -- each line is answered in a hold of its own
 abbrev pub AreAnswered : ℕ → List Answer → Type 0
 AreAnswered connection [] = Unit {0}
-AreAnswered connection (a ∷ answers) = IsAnswered connection (kept a.line) a.given a.entry × AreAnswered connection answers
+AreAnswered connection (a ∷ answers) = IsAnswered connection (kept_prefix a.line) a.given a.entry × AreAnswered connection answers
 
 -- the line gets this, and its entry, if there is one, stands behind those so far, and no other
 abbrev pub Asks : ℕ → Bytes → Given → List Note → List Note → Type 0
@@ -99,7 +99,7 @@ pub record GoesFront (before after : Trace) (text : Bytes) (made : List Note) : 
 -- had room; what they were answered was written, and a part is left
 pub record Serves (connection : ℕ) (part bytes left : Bytes) (before after : Trace) : Type 0 where
   pub answers : List Answer
-  pub joined : part ++ bytes ≡ ended answers ++ left
+  pub joined : part ++ bytes ≡ bytes_of_lines answers ++ left
   pub whole : AreOpen answers
   pub unended : IsOpen left
   pub answered : AreAnswered connection answers
@@ -123,11 +123,11 @@ pub record Breaks (connection : ℕ) (part bytes : Bytes) (before after : Trace)
   pub serves : Serves connection part front line before between
   pub given : Given
   pub entry : Option Note
-  pub answered : IsAnswered connection (kept line) given entry
+  pub answered : IsAnswered connection (kept_prefix line) given entry
   pub goes : GoesFront between after (text_of given) (option_to_list entry)
 
 -- how bytes end it
-abbrev pub Cuts : Ending → ℕ → Bytes → Bytes → Trace → Trace → Type 0
+abbrev pub Cuts : LinesEnding → ℕ → Bytes → Bytes → Trace → Trace → Type 0
 Cuts ending.Over connection part bytes before after = ⊥
 Cuts ending.Stopped connection part bytes before after = ServesFront connection part bytes before after
 Cuts ending.Starved connection part bytes before after = ⊥
@@ -135,24 +135,24 @@ Cuts ending.ReadFault connection part bytes before after = ServesFront connectio
 Cuts ending.WriteFault connection part bytes before after = Breaks connection part bytes before after
 
 -- behind the part of a line some bytes were read. At the stream's end all their lines were answered
-abbrev pub Stops : Ending → ℕ → Bytes → Option Bytes → Option Bytes → Trace → Trace → Type 0
+abbrev pub Stops : LinesEnding → ℕ → Bytes → Option Bytes → Option Bytes → Trace → Trace → Type 0
 Stops ending.Over connection part unread left before after =
     (bytes : Bytes) × Consumes unread left bytes × IsAtEnd left
     × ((rest : Bytes) × Serves connection part bytes rest before after)
 Stops e connection part unread left before after = (bytes : Bytes) × Consumes unread left bytes × Cuts e connection part bytes before after
 
 -- the same from the connection's start, where alone it may starve: nothing was read or answered then
-abbrev pub Ends : Ending → ℕ → Option Bytes → Option Bytes → Trace → Trace → Type 0
+abbrev pub Ends : LinesEnding → ℕ → Option Bytes → Option Bytes → Trace → Trace → Type 0
 Ends ending.Starved connection unread left before after = (left ≡ unread) × (after ≡ before)
 Ends e connection unread left before after = Stops e connection [] unread left before after
 
 -- or it goes on
-abbrev pub Turns : Option Ending → ℕ → Bytes → Bytes → Option Bytes → Option Bytes → Trace → Trace → Type 0
+abbrev pub Turns : Option LinesEnding → ℕ → Bytes → Bytes → Option Bytes → Option Bytes → Trace → Trace → Type 0
 Turns None connection part rest unread left before after = (bytes : Bytes) × Consumes unread left bytes × Serves connection part bytes rest before after
 Turns (Some e) connection part rest unread left before after = Stops e connection part unread left before after
 
 -- the same of bytes
-abbrev pub Takes : Option Ending → ℕ → Bytes → Bytes → Bytes → Trace → Trace → Type 0
+abbrev pub Takes : Option LinesEnding → ℕ → Bytes → Bytes → Bytes → Trace → Trace → Type 0
 Takes None connection part bytes rest before after = Serves connection part bytes rest before after
 Takes (Some e) connection part bytes rest before after = Cuts e connection part bytes before after
 
@@ -161,7 +161,7 @@ abbrev pub IsSaid : ℕ → Bytes → Trace → Trace → Type 0
 IsSaid connection line before after = (given : Given) × (entry : Option Note) × IsAnswered connection line given entry × Goes before after (text_of given) (option_to_list entry)
 
 -- whole or in part
-abbrev pub AnswersLine : Option Ending → ℕ → Bytes → Trace → Trace → Type 0
+abbrev pub AnswersLine : Option LinesEnding → ℕ → Bytes → Trace → Trace → Type 0
 AnswersLine None connection line before after = IsSaid connection line before after
 AnswersLine (Some ending.Stopped) connection line before after = IsSaid connection line before after
 AnswersLine (Some ending.WriteFault) connection line before after =
@@ -171,7 +171,7 @@ AnswersLine (Some ending.Starved) connection line before after = ⊥
 AnswersLine (Some ending.ReadFault) connection line before after = ⊥
 
 -- a piece that was read: none is the end
-abbrev pub Hears : Option Ending → ℕ → Bytes → Bytes → Bytes → Trace → Trace → Type 0
+abbrev pub Hears : Option LinesEnding → ℕ → Bytes → Bytes → Bytes → Trace → Trace → Type 0
 Hears None connection part bytes rest before after = Serves connection part bytes rest before after
 Hears (Some ending.Over) connection part bytes rest before after = (bytes ≡ []) × Serves connection part [] rest before after
 Hears (Some ending.Stopped) connection part bytes rest before after = Cuts ending.Stopped connection part bytes before after
@@ -180,7 +180,7 @@ Hears (Some ending.ReadFault) connection part bytes rest before after = Cuts end
 Hears (Some ending.WriteFault) connection part bytes rest before after = Cuts ending.WriteFault connection part bytes before after
 
 -- what a line was answered was written, or not, and the connection goes on or ends for that
-abbrev pub Finishes : Result (Unit {0}) WriteFault → Option Ending → Type 0
+abbrev pub Finishes : Result (Unit {0}) WriteFault → Option LinesEnding → Type 0
 Finishes (Ok done) None = Unit {0}
 Finishes (Ok done) (Some ending.Stopped) = Unit {0}
 Finishes (Ok done) (Some ending.Over) = ⊥

@@ -2,7 +2,7 @@
 
 /// How a local program's connection ends.
 #[derive(Clone, Copy, PartialEq, Eq)]
-pub enum Ending {
+pub enum LinesEnding {
     /// The stream's end. What stood there without a line feed was dropped.
     Over,
     /// The line `stop` was answered `ok`, or the server stops for another cause.

@@ -7,6 +7,6 @@ mod lines;
 mod part;
 mod signals;
 
-pub use ending::Ending;
+pub use ending::LinesEnding;
 pub use lines::{MOST_READ_BYTES, Served, serve_lines};
 pub use signals::Signals;

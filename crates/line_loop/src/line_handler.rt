@@ -59,7 +59,7 @@ impl<'a, R: RangeTable, S: HostStore, L: Ledger, G, W> LineHandler<'a, R, S, L, 
 
 // What an event came to, and whether a call is due then.
 #[derive(Drop)]
-struct Done {
+struct AnsweredLine {
     step_result: Result<StepResult, BookEvent>,
     is_due: bool,
 }
@@ -69,7 +69,7 @@ fn apply<R: RangeTable, S: HostStore, L: Ledger>(
     held: &mut Shared<R, S, L>,
     event: BookEvent,
     ghost_trace: &mut GhostTrace,
-) -> Done
+) -> AnsweredLine
     requires { is_take (view_of_event event) ≡ false }
     ensures noted { IfOk result.step_result (λ step_result. Notes held.old (view_of_event event) step_result held.new) }
     ensures told { IfOk result.step_result (λ step_result. (number : ℕ) × Adds held.new (entry_of number (view_of_event event) step_result) ghost_trace.old ghost_trace.new) }
@@ -77,7 +77,7 @@ fn apply<R: RangeTable, S: HostStore, L: Ledger>(
 {
     let step_result = held.apply(event, ghost_trace);
     let is_due = held.has_due();
-    Done {
+    AnsweredLine {
         step_result,
         is_due,
     }

@@ -5,9 +5,9 @@ ghost use Rattle.byte_io.specs.Reads.{TakesAtMost};
 ghost use Rattle.byte_io.specs.Written.{Wrote};
 ghost use Rattle.line_loop.specs.Lines.{AnswersLine, Ends, Finishes, Hears, Takes, Turns, text_of, trace};
 
-use crate::ending::Ending;
+use crate::ending::LinesEnding;
 use crate::line_handler::{Answers, LineHandler};
-use crate::part::Part;
+use crate::part::PartialLine;
 use crate::signals::Signals;
 use book::{LocalAnswer, Reply, Starved};
 use byte_io::{WriteFault, make_place, read_piece};
@@ -26,7 +26,7 @@ pub const MOST_READ_BYTES: usize = 4_096;
 #[derive(Drop)]
 pub struct Served {
     /// How its connection ended.
-    pub ending: Ending,
+    pub ending: LinesEnding,
     /// What the holds of its lines gave.
     pub ghost_trace: GhostTrace,
 }
@@ -36,9 +36,8 @@ fn write_reply<O: Write>(output: &mut O, reply: &Reply) -> Result<(), WriteFault
     ensures { Wrote (O.contents output.old) (O.contents output.new) result (text_of (view_of_reply reply.now)) }
 {
     match reply {
-        Reply::Says(answer) => answer.write(output),
-        Reply::Answers { .. } | Reply::Refuses { .. } | Reply::SystemErr { .. } => Ok(()),
-        Reply::Nothing | Reply::Starved | Reply::StoreRefused => Ok(()),
+        Reply::Line(answer) => answer.write(output),
+        Reply::Record(_) | Reply::Nobody(_) => Ok(()),
     }
 }
 
@@ -59,15 +58,15 @@ fn finish<A: Answers>(
     told: Result<(), WriteFault>,
     is_stop: bool,
     reply: Reply,
-) -> Option<Ending>
+) -> Option<LinesEnding>
     ensures { Finishes told result }
 {
     if told.is_err() {
-        return Some(Ending::WriteFault);
+        return Some(LinesEnding::WriteFault);
     }
-    if is_stop && matches!(reply, Reply::Says(LocalAnswer::Done)) {
+    if is_stop && matches!(reply, Reply::Line(LocalAnswer::Done)) {
         line_handler.stop();
-        return Some(Ending::Stopped);
+        return Some(LinesEnding::Stopped);
     }
     None
 }
@@ -78,7 +77,7 @@ fn answer_line<A: Answers, O: Write>(
     connection: u64,
     output: &mut O,
     line: Vec<u8>,
-) -> Option<Ending>
+) -> Option<LinesEnding>
     ensures { AnswersLine result connection line.items (trace (O.contents output.old) (A.told line_handler.old)) (trace (O.contents output.new) (A.told line_handler.new)) }
 {
     let is_stop = line.as_slice() == b"stop".as_slice();
@@ -97,9 +96,9 @@ fn is_feed(byte: u8) -> bool
 fn starve_line<A: Answers, O: Write>(
     line_handler: &A,
     connection: u64,
-    part: &mut Part,
+    part: &mut PartialLine,
     output: &mut O,
-) -> Option<Ending>
+) -> Option<LinesEnding>
     ensures { Takes result connection part.old (10 ∷ []) part.new (trace (O.contents output.old) (A.told line_handler.now)) (trace (O.contents output.new) (A.told line_handler.now)) }
 {
     let reply = part.starve(connection);
@@ -111,9 +110,9 @@ fn starve_line<A: Answers, O: Write>(
 fn end_line<A: Answers, O: Write>(
     line_handler: &mut A,
     connection: u64,
-    part: &mut Part,
+    part: &mut PartialLine,
     output: &mut O,
-) -> Option<Ending>
+) -> Option<LinesEnding>
     ensures { Takes result connection part.old (10 ∷ []) part.new (trace (O.contents output.old) (A.told line_handler.old)) (trace (O.contents output.new) (A.told line_handler.new)) }
 {
     match part.end() {
@@ -127,10 +126,10 @@ fn end_line<A: Answers, O: Write>(
 fn take_byte<A: Answers, O: Write>(
     line_handler: &mut A,
     connection: u64,
-    part: &mut Part,
+    part: &mut PartialLine,
     output: &mut O,
     byte: u8,
-) -> Option<Ending>
+) -> Option<LinesEnding>
     ensures { Takes result connection part.old (byte ∷ []) part.new (trace (O.contents output.old) (A.told line_handler.old)) (trace (O.contents output.new) (A.told line_handler.new)) }
 {
     let is_end = is_feed(byte);
@@ -145,10 +144,10 @@ fn take_byte<A: Answers, O: Write>(
 fn take_piece<A: Answers, O: Write>(
     line_handler: &mut A,
     connection: u64,
-    part: &mut Part,
+    part: &mut PartialLine,
     output: &mut O,
     piece: &[u8],
-) -> Option<Ending>
+) -> Option<LinesEnding>
     ensures { Takes result connection part.old piece.now part.new (trace (O.contents output.old) (A.told line_handler.old)) (trace (O.contents output.new) (A.told line_handler.new)) }
 {
     part.has_no_feed();
@@ -165,18 +164,18 @@ fn take_piece<A: Answers, O: Write>(
 fn hear<A: Answers, O: Write>(
     line_handler: &mut A,
     connection: u64,
-    part: &mut Part,
+    part: &mut PartialLine,
     output: &mut O,
     piece: &[u8],
-) -> Option<Ending>
+) -> Option<LinesEnding>
     ensures { Hears result connection part.old piece.now part.new (trace (O.contents output.old) (A.told line_handler.old)) (trace (O.contents output.new) (A.told line_handler.new)) }
 {
     part.has_no_feed();
     if piece.is_empty() {
-        return Some(Ending::Over);
+        return Some(LinesEnding::Over);
     }
     if line_handler.is_stopping() {
-        return Some(Ending::Stopped);
+        return Some(LinesEnding::Stopped);
     }
     take_piece(line_handler, connection, part, output, piece)
 }
@@ -185,11 +184,11 @@ fn hear<A: Answers, O: Write>(
 fn turn<A: Answers, I: Read, O: Write>(
     line_handler: &mut A,
     connection: u64,
-    part: &mut Part,
+    part: &mut PartialLine,
     place: &mut [u8],
     input: &mut I,
     output: &mut O,
-) -> Option<Ending>
+) -> Option<LinesEnding>
     requires { length place.old ≡ MOST_READ_BYTES }
     ensures turns { Turns result connection part.old part.new (I.remaining input.old) (I.remaining input.new) (trace (O.contents output.old) (A.told line_handler.old)) (trace (O.contents output.new) (A.told line_handler.new)) }
     ensures few { TakesAtMost MOST_READ_BYTES (I.remaining input.old) (I.remaining input.new) }
@@ -198,7 +197,7 @@ fn turn<A: Answers, I: Read, O: Write>(
     match read_piece(input, place) {
         Ok(count) => hear(line_handler, connection, part, output, &place[..count]),
         Err(failed) if failed.is_interrupted => None,
-        Err(_) => Some(Ending::ReadFault),
+        Err(_) => Some(LinesEnding::ReadFault),
     }
 }
 
@@ -210,16 +209,16 @@ fn serve<A: Answers, I: Read, O: Write>(
     input: &mut I,
     output: &mut O,
     bound: u64,
-) -> Ending
+) -> LinesEnding
     ensures ends { Ends result connection (I.remaining input.old) (I.remaining input.new) (trace (O.contents output.old) (A.told line_handler.old)) (trace (O.contents output.new) (A.told line_handler.new)) }
     ensures few { TakesAtMost (MOST_READ_BYTES * bound) (I.remaining input.old) (I.remaining input.new) }
 {
     // All memory that the connection needs is got before the first read, so that no line is lost for want of it.
-    let Ok(mut part) = Part::new(alloc) else {
-        return Ending::Starved;
+    let Ok(mut part) = PartialLine::new(alloc) else {
+        return LinesEnding::Starved;
     };
     let Ok(mut bytes) = make_place(alloc, MOST_READ_BYTES) else {
-        return Ending::Starved;
+        return LinesEnding::Starved;
     };
     let place = bytes.as_mut_slice();
     for _read in 0..bound {
@@ -228,7 +227,7 @@ fn serve<A: Answers, I: Read, O: Write>(
             None => {}
         }
     }
-    Ending::ReadFault
+    LinesEnding::ReadFault
 }
 
 /// Answers the lines of a local program on the connection of this number, each in a hold of its own, in order, and writes what

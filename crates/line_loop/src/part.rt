@@ -3,7 +3,7 @@ ghost use Rattle.std.specs.Prelude.{◌≡◌, ◌≢◌, ◌≤◌, ◌<◌, �
 ghost use Rattle.book.specs.Given.{view_of_reply};
 ghost use Rattle.book.specs.Notes.{AsksLine};
 ghost use Rattle.workers.specs.Answers.{StarvesAs};
-ghost use Rattle.line_loop.specs.Lines.{IsOpen, kept};
+ghost use Rattle.line_loop.specs.Lines.{IsOpen, kept_prefix};
 
 use book::{LocalAnswer, Reply, Starved};
 use ghost_list::History;
@@ -17,13 +17,13 @@ const KEPT: usize = 513;
 
 /// What has come of a line so far, without a line feed. Contracts see all of it; its first bytes alone are kept.
 #[derive(Drop)]
-pub(crate) struct Part {
+pub(crate) struct PartialLine {
     alloc: Global,
     kept: Vec<u8>,
     all: History<u8>,
 }
 
-impl Model for Part {
+impl Model for PartialLine {
     ghost use Rattle.std.specs.Prelude.{◌≡◌, ◌≤◌, ℕ, List, take, vec_capacity};
     ghost use Rattle.line_loop.specs.Lines.{IsOpen};
 
@@ -53,15 +53,15 @@ fn starved_line(connection: u64, line: &[u8]) -> Reply
     let _connection = connection;
     // Whatever its reading is, it changes nothing.
     let _reading = LocalCall::read(line);
-    Reply::Says(LocalAnswer::Starved)
+    Reply::Line(LocalAnswer::Starved)
 }
 
-impl Part {
+impl PartialLine {
     /// Nothing has come.
-    pub(crate) fn new(alloc: Global) -> Result<Part, Starved>
+    pub(crate) fn new(alloc: Global) -> Result<PartialLine, Starved>
         ensures { IfOk result (λ part. part ≡ []) }
     {
-        Ok(Part {
+        Ok(PartialLine {
             alloc,
             kept: Vec::with_capacity(alloc, KEPT)?,
             all: History::new(),
@@ -100,7 +100,7 @@ impl Part {
     /// The line is whole, and there is no memory to hand it on: what it is answered on the connection of this number. The next line
     /// begins in the same place.
     pub(crate) fn starve(&mut self, connection: u64) -> Reply
-        ensures said { StarvesAs (AsksLine connection (kept self.old)) (view_of_reply result) }
+        ensures said { StarvesAs (AsksLine connection (kept_prefix self.old)) (view_of_reply result) }
         ensures next { self.new ≡ [] }
         ensures no_feed { IsOpen self.old }
     {

@@ -10,10 +10,10 @@ use Rattle.definitions.specs.Owners.{Owner, Remote, Process, Description}
 use Rattle.definitions.specs.Settings.{Mode, Shared, Exclusive}
 use Rattle.definitions.specs.Outgoing.{LocalLock}
 use Rattle.definitions.specs.Replies as def
-use Rattle.local_ops.specs.Texts.{spaced, owner_text, mode_text}
+use Rattle.local_ops.specs.Texts.{spaced_fields, owner_text, mode_text}
 use Rattle.local_ops.specs.Grammar.{IsLocalOwner, SpellsLock, SpellsClose, SpellsQuota, Spells, IsLine, Reads, change_text}
 use Rattle.local_ops.specs.Reading.{Gives, first_field, owned_in, quota_in, lock_in, fields_of, ◌>>=◌}
-use Rattle.local_ops.specs.Words.{word_in, asked, get_lock_of, line_by, whole_line, line_in, read_line}
+use Rattle.local_ops.specs.Words.{word_in, asked_line, get_lock_of, line_by, whole_line, line_in, read_line}
 use Rattle.local_ops.specs.Calls.{view_of_local_call, view_of_line_read}
 use Rattle.local_ops.specs.declared.call.LocalCall.{LocalCall}
 use Rattle.local_ops.specs.declared.fields.BadLine.{BadLine}
@@ -25,11 +25,11 @@ use Rattle.local_ops.proofs.Wholes.{LockRead, OwnedRead, QuotaRead, Locked, Owne
 
 -- ---- what is read is spelled
 
-asked_parts : (mode : Option Mode) (lock : LocalLock) (line : def.Line) → asked (mode, lock) ≡ Some line → (m : Mode) × (mode ≡ Some m) × (def.GetLock m lock ≡ line)
+asked_parts : (mode : Option Mode) (lock : LocalLock) (line : def.Line) → asked_line (mode, lock) ≡ Some line → (m : Mode) × (mode ≡ Some m) × (def.GetLock m lock ≡ line)
 asked_parts None lock line e = absurd cc
 asked_parts (Some m) lock line e = (m, refl, same_Some _ _ e)
 
-spells_lock : (word bytes : Bytes) (fields : List Bytes) (read : LockRead) → Locked fields read → read.1 ≡ [] → bytes ≡ spaced (word ∷ fields)
+spells_lock : (word bytes : Bytes) (fields : List Bytes) (read : LockRead) → Locked fields read → read.1 ≡ [] → bytes ≡ spaced_fields (word ∷ fields)
     → SpellsLock word (change_text read.0.0) read.0.1 bytes
 spells_lock word bytes fields read h ends whole = record {
   owner = h.local;
@@ -38,36 +38,36 @@ spells_lock word bytes fields read h ends whole = record {
   first = h.first;
   len = h.len;
   whole =
-      whole ∙ ap (λ (fs : List Bytes). spaced (word ∷ fs)) (h.whole
+      whole ∙ ap (λ (fs : List Bytes). spaced_fields (word ∷ fs)) (h.whole
       ∙ ap (λ (fs : List Bytes). owner_text read.0.1.owner ∷ h.text ∷ change_text read.0.0 ∷ decimal read.0.1.offset ∷ decimal read.0.1.len ∷ fs) ends);
 }
 
-spells_close : (bytes : Bytes) (fields : List Bytes) (read : OwnedRead) → Owned fields read → read.1 ≡ [] → bytes ≡ spaced (codes "close" ∷ fields)
+spells_close : (bytes : Bytes) (fields : List Bytes) (read : OwnedRead) → Owned fields read → read.1 ≡ [] → bytes ≡ spaced_fields (codes "close" ∷ fields)
     → SpellsClose read.0.0 read.0.1 bytes
 spells_close bytes fields read h ends whole = record {
   owner = h.local;
   file = h.text;
   file_is = h.file_is;
   whole =
-      whole ∙ ap (λ (fs : List Bytes). spaced (codes "close" ∷ fs)) (h.whole
+      whole ∙ ap (λ (fs : List Bytes). spaced_fields (codes "close" ∷ fs)) (h.whole
       ∙ ap (λ (fs : List Bytes). owner_text read.0.0 ∷ h.text ∷ fs) ends);
 }
 
-spells_quota : (bytes : Bytes) (fields : List Bytes) (read : QuotaRead) → Rationed fields read → read.1 ≡ [] → bytes ≡ spaced (codes "quota" ∷ fields)
+spells_quota : (bytes : Bytes) (fields : List Bytes) (read : QuotaRead) → Rationed fields read → read.1 ≡ [] → bytes ≡ spaced_fields (codes "quota" ∷ fields)
     → SpellsQuota read.0.0 read.0.1 bytes
 spells_quota bytes fields read h ends whole = record {
   name = h.text;
   name_is = h.name_is;
   most = h.most;
   whole =
-      whole ∙ ap (λ (fs : List Bytes). spaced (codes "quota" ∷ fs)) (h.whole
+      whole ∙ ap (λ (fs : List Bytes). spaced_fields (codes "quota" ∷ fs)) (h.whole
       ∙ ap (λ (fs : List Bytes). h.text ∷ decimal read.0.1 ∷ fs) ends);
 }
 
-get_spelled : (bytes : Bytes) (fields : List Bytes) (line : def.Line) → (lock_in fields >>= get_lock_of) ≡ Some (line, []) → bytes ≡ spaced (codes "getlk" ∷ fields) → Spells bytes line
+get_spelled : (bytes : Bytes) (fields : List Bytes) (line : def.Line) → (lock_in fields >>= get_lock_of) ≡ Some (line, []) → bytes ≡ spaced_fields (codes "getlk" ∷ fields) → Spells bytes line
 get_spelled bytes fields line e whole =
     let a = bind_some (lock_in fields) get_lock_of (line, []) e in
-    let b = map_some (λ l. (l, a.0.1)) (asked a.0.0) (line, []) a.2 in
+    let b = map_some (λ l. (l, a.0.1)) (asked_line a.0.0) (line, []) a.2 in
     let c = asked_parts a.0.0.0 a.0.0.1 b.0 b.1 in
     let ends : a.0.1 ≡ [] = ap (λ p. p.1) b.2 in
     let is : def.GetLock c.0 a.0.0.1 ≡ line = c.2 ∙ ap (λ p. p.0) b.2 in
@@ -78,7 +78,7 @@ get_spelled bytes fields line e whole =
 ends_so : {X : Type 0} (f : X → def.Line) (x : X) (rest : List Bytes) (line : def.Line) → ◌≡◌ {A = Option (def.Line × List Bytes)} (Some (f x, rest)) (Some (line, [])) → (f x ≡ line) × (rest ≡ [])
 ends_so f x rest line e = let p = same_Some (f x, rest) (line, []) e in (ap (λ q. q.0) p, ap (λ q. q.1) p)
 
-by_word : (word : Word) (bytes : Bytes) (fields : List Bytes) (line : def.Line) → line_by word fields ≡ Some (line, []) → bytes ≡ spaced (word_text word ∷ fields) → Spells bytes line
+by_word : (word : Word) (bytes : Bytes) (fields : List Bytes) (line : def.Line) → line_by word fields ≡ Some (line, []) → bytes ≡ spaced_fields (word_text word ∷ fields) → Spells bytes line
 by_word GetLock bytes fields line e whole = get_spelled bytes fields line e whole
 by_word SetLock bytes fields line e whole =
     let a = bind_some (lock_in fields) _ (line, []) e in
@@ -94,30 +94,30 @@ by_word Close bytes fields line e whole =
     subst (Spells bytes) b.0 (spells_close bytes fields a.0 (owned_parts fields a.0 a.1) b.1 whole)
 by_word Table bytes fields line e whole =
     let b = ends_so (λ (l : def.Line). l) def.Table fields line e in
-    subst (Spells bytes) b.0 (whole ∙ ap (λ (fs : List Bytes). spaced (codes "table" ∷ fs)) b.1)
+    subst (Spells bytes) b.0 (whole ∙ ap (λ (fs : List Bytes). spaced_fields (codes "table" ∷ fs)) b.1)
 by_word Hosts bytes fields line e whole =
     let b = ends_so (λ (l : def.Line). l) def.HostList fields line e in
-    subst (Spells bytes) b.0 (whole ∙ ap (λ (fs : List Bytes). spaced (codes "hosts" ∷ fs)) b.1)
+    subst (Spells bytes) b.0 (whole ∙ ap (λ (fs : List Bytes). spaced_fields (codes "hosts" ∷ fs)) b.1)
 by_word Quota bytes fields line e whole =
     let a = bind_some (quota_in fields) _ (line, []) e in
     let b = ends_so (λ (read : Bytes × ℕ). def.SetQuota read.0 read.1) a.0.0 a.0.1 line a.2 in
     subst (Spells bytes) b.0 (spells_quota bytes fields a.0 (quota_parts fields a.0 a.1) b.1 whole)
 by_word Stop bytes fields line e whole =
     let b = ends_so (λ (l : def.Line). l) def.Stop fields line e in
-    subst (Spells bytes) b.0 (whole ∙ ap (λ (fs : List Bytes). spaced (codes "stop" ∷ fs)) b.1)
+    subst (Spells bytes) b.0 (whole ∙ ap (λ (fs : List Bytes). spaced_fields (codes "stop" ∷ fs)) b.1)
 
 whole_parts : (read : def.Line × List Bytes) (line : def.Line) → whole_line read ≡ Some line → read ≡ (line, [])
 whole_parts (l, []) line e = ap (λ (x : def.Line). (x, [])) (same_Some l line e)
 whole_parts (l, field ∷ fields) line e = absurd cc
 
-line_spelled : (bytes : Bytes) (fields : List Bytes) (line : def.Line) → line_in fields ≡ Some line → bytes ≡ spaced fields → Spells bytes line
+line_spelled : (bytes : Bytes) (fields : List Bytes) (line : def.Line) → line_in fields ≡ Some line → bytes ≡ spaced_fields fields → Spells bytes line
 unfolding line_in
 line_spelled bytes fields line e whole =
     let a = bind_some (first_field word_in fields) _ line e in
     let b = bind_some (line_by a.0.0 a.0.1) whole_line line a.2 in
     let word = first_some word_in fields a.0.0 a.0.1 a.1 in
     by_word a.0.0 bytes a.0.1 line (b.1 ∙ ap Some (whole_parts b.0 line b.2))
-    (whole ∙ ap spaced (word.1 ∙ ap (λ (f : Bytes). f ∷ a.0.1) (word_parts word.0 a.0.0 word.2)))
+    (whole ∙ ap spaced_fields (word.1 ∙ ap (λ (f : Bytes). f ∷ a.0.1) (word_parts word.0 a.0.0 word.2)))
 
 pub read_is_spelled : (bytes : Bytes) (line : def.Line) → read_line bytes ≡ Some line → IsLine bytes line
 unfolding read_line

@@ -13,7 +13,7 @@ use Rattle.std.proofs.lemmas.Str.Parse.{digit_from_value}
 use Rattle.definitions.specs.Bytes.{Bytes}
 use Rattle.hex.specs.Hex.{decode_of, is_hex_digit}
 use Rattle.hex.proofs.HexLemmas.{decode_of-ok}
-use Rattle.local_ops.specs.Texts.{spaced}
+use Rattle.local_ops.specs.Texts.{spaced_fields}
 use Rattle.local_ops.specs.Reading.{fields_of}
 
 abbrev is_space : ℕ → Bool
@@ -33,11 +33,11 @@ no_space (c ∷ cs) e =
     let p = and_parts (not (is_space c)) (spaceless cs) e in
     All-cons (λ b. is_space b ≡ false) c cs (not-true (is_space c) p.0) (no_space cs p.1)
 
-pub fields_of-spaced : (field : Bytes) (fields : List Bytes) → spaceless field ≡ true → are_spaceless fields ≡ true → fields_of (spaced (field ∷ fields)) ≡ field ∷ fields
+pub fields_of-spaced : (field : Bytes) (fields : List Bytes) → spaceless field ≡ true → are_spaceless fields ≡ true → fields_of (spaced_fields (field ∷ fields)) ≡ field ∷ fields
 fields_of-spaced field [] e all = slice_split_none is_space field (no_space field e)
 fields_of-spaced field (next ∷ fields) e all =
     let p = and_parts (spaceless next) (are_spaceless fields) all in
-    slice_split_at is_space field 32 (spaced (next ∷ fields)) (no_space field e) refl ∙ ap (λ (fs : List Bytes). field ∷ fs) (fields_of-spaced next fields p.0 p.1)
+    slice_split_at is_space field 32 (spaced_fields (next ∷ fields)) (no_space field e) refl ∙ ap (λ (fs : List Bytes). field ∷ fs) (fields_of-spaced next fields p.0 p.1)
 
 -- ---- what holds none
 

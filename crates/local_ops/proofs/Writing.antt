@@ -5,7 +5,7 @@ use Rattle.std.specs.Prelude.{Result, IsErr, codes}
 use Rattle.std.specs.List.{flat_map}
 use Rattle.std.proofs.KnownBytes.{Appends-trans}
 use Rattle.hex.specs.Hex.{encode_with}
-use Rattle.local_ops.specs.Texts.{spaced, line}
+use Rattle.local_ops.specs.Texts.{spaced_fields, line}
 use Rattle.byte_io.specs.Written.{WroteFront, Wrote}
 use Rattle.byte_io.proofs.Appending.{WroteFront-after, WroteFront-longer, Wrote-failed}
 
@@ -74,5 +74,5 @@ remote_text name svid oh = ap (λ (s : List ℕ). 104 ∷ (name ++ (47 ∷ s))) 
 
 -- the line `held`
 pub held_text : (mode first len owner : List ℕ)
-    → spaced (codes "held" ∷ mode ∷ first ∷ len ∷ [] ∷ []) ++ (owner ++ 10 ∷ []) ≡ line (codes "held" ∷ mode ∷ first ∷ len ∷ owner ∷ [])
+    → spaced_fields (codes "held" ∷ mode ∷ first ∷ len ∷ [] ∷ []) ++ (owner ++ 10 ∷ []) ≡ line (codes "held" ∷ mode ∷ first ∷ len ∷ owner ∷ [])
 held_text mode first len owner = simp append_assoc

@@ -7,7 +7,7 @@ use Rattle.definitions.specs.Settings.{Mode}
 use Rattle.definitions.specs.Outgoing.{LocalLock}
 use Rattle.definitions.specs.Replies.{Line, GetLock, SetLock, SetLockWait, Close, Table, HostList, SetQuota, Stop, BadLine}
 use Rattle.hex.specs.Hex.{decode_of}
-use Rattle.local_ops.specs.Texts.{spaced, owner_text, mode_text}
+use Rattle.local_ops.specs.Texts.{spaced_fields, owner_text, mode_text}
 
 -- a process by its pid, or an open file description by its number
 abbrev pub IsLocalOwner : Owner → Type 0
@@ -36,21 +36,21 @@ pub record SpellsLock (word mode : Bytes) (lock : LocalLock) (bytes : Bytes) : T
   pub file_is : SpellsFile file lock.file
   pub first : lock.offset < 2 ^ 64
   pub len : lock.len < 2 ^ 64
-  pub whole : bytes ≡ spaced (word ∷ owner_text lock.owner ∷ file ∷ mode ∷ decimal lock.offset ∷ decimal lock.len ∷ [])
+  pub whole : bytes ≡ spaced_fields (word ∷ owner_text lock.owner ∷ file ∷ mode ∷ decimal lock.offset ∷ decimal lock.len ∷ [])
 
 -- close OWNER FH
 pub record SpellsClose (closing : Owner) (closed bytes : Bytes) : Type 0 where
   pub owner : IsLocalOwner closing
   pub file : Bytes
   pub file_is : SpellsFile file closed
-  pub whole : bytes ≡ spaced (codes "close" ∷ owner_text closing ∷ file ∷ [])
+  pub whole : bytes ≡ spaced_fields (codes "close" ∷ owner_text closing ∷ file ∷ [])
 
 -- quota NAME N
 pub record SpellsQuota (host : Bytes) (runs : ℕ) (bytes : Bytes) : Type 0 where
   pub name : Bytes
   pub name_is : SpellsHex 480 name host
   pub most : runs ≤ 65536
-  pub whole : bytes ≡ spaced (codes "quota" ∷ name ∷ decimal runs ∷ [])
+  pub whole : bytes ≡ spaced_fields (codes "quota" ∷ name ∷ decimal runs ∷ [])
 
 abbrev pub Spells : Bytes → Line → Type 0
 Spells bytes (GetLock mode lock) = SpellsLock (codes "getlk") (mode_text mode) lock bytes

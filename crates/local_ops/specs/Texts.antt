@@ -12,12 +12,12 @@ use Rattle.definitions.specs.Replies.{LineReply, LineOk, LineAgain, LineWait, Li
 use Rattle.hex.specs.Hex.{encode_lower}
 
 -- fields with one space between each two
-abbrev pub spaced : List Bytes → Bytes
-spaced fields = join_with_byte 32 fields
+abbrev pub spaced_fields : List Bytes → Bytes
+spaced_fields fields = join_with_byte 32 fields
 
 -- and a line feed behind them
 abbrev pub line : List Bytes → Bytes
-line fields = spaced fields ++ 10 ∷ []
+line fields = spaced_fields fields ++ 10 ∷ []
 
 -- `p` and a pid, `d` and a number; of a client's owner `h`, its host's name, its number there and its own bytes
 abbrev pub owner_text : Owner → Bytes

@@ -21,12 +21,12 @@ word_in text =
     (cond (bytes_eq text (codes "stop")) (Some Stop) None)))))))
 
 -- no mode is an unlock, which isn't asked about
-abbrev pub asked : Option Mode × LocalLock → Option def.Line
-asked (None, lock) = None
-asked (Some mode, lock) = Some (def.GetLock mode lock)
+abbrev pub asked_line : Option Mode × LocalLock → Option def.Line
+asked_line (None, lock) = None
+asked_line (Some mode, lock) = Some (def.GetLock mode lock)
 
 abbrev pub get_lock_of : (Option Mode × LocalLock) × List Bytes → Option (def.Line × List Bytes)
-get_lock_of read = option_map (λ line. (line, read.1)) (asked read.0)
+get_lock_of read = option_map (λ line. (line, read.1)) (asked_line read.0)
 
 abbrev pub line_by : Word → List Bytes → Option (def.Line × List Bytes)
 line_by GetLock fields = lock_in fields >>= get_lock_of

@@ -6,7 +6,7 @@ ghost use Rattle.owner_ids.specs.Views.{view_of_owner};
 ghost use Rattle.range_table.specs.Modes.{view_of_mode};
 ghost use Rattle.definitions.specs.Owners.{Remote};
 ghost use Rattle.definitions.specs.Replies.{LineHeld};
-ghost use Rattle.local_ops.specs.Texts.{reply_text, owner_text, mode_text, spaced};
+ghost use Rattle.local_ops.specs.Texts.{reply_text, owner_text, mode_text, spaced_fields};
 ghost use Rattle.local_ops.specs.Answers.{view_of_local_answer};
 ghost use Rattle.byte_io.specs.Written.{Wrote};
 
@@ -107,7 +107,7 @@ fn write_held<W: Write>(
 /// Writes what stands before the owner, up to the space.
 fn write_range<W: Write>(writer: &mut W, mode: Mode, first: u64, len: u64) -> Result<(), WriteFault>
     ensures { Wrote (W.contents writer.old) (W.contents writer.new) result
-        (spaced (codes "held" ∷ mode_text (view_of_mode mode) ∷ decimal first ∷ decimal len ∷ [] ∷ [])) }
+        (spaced_fields (codes "held" ∷ mode_text (view_of_mode mode) ∷ decimal first ∷ decimal len ∷ [] ∷ [])) }
 {
     let mut first_digits = Buffer::new();
     let mut len_digits = Buffer::new();
@@ -150,11 +150,11 @@ fn write_remote<W: Write>(
     write_hex(writer, oh)
 }
 
-fn write_numbered<W: Write>(writer: &mut W, callback: &[u8], number: u64) -> Result<(), WriteFault>
-    ensures { Wrote (W.contents writer.old) (W.contents writer.new) result (callback.now ++ decimal number) }
+fn write_numbered<W: Write>(writer: &mut W, letter: &[u8], number: u64) -> Result<(), WriteFault>
+    ensures { Wrote (W.contents writer.old) (W.contents writer.new) result (letter.now ++ decimal number) }
 {
     let mut digits = Buffer::new();
-    write_parts(writer, &[callback, digits.format(number).as_bytes()])
+    write_parts(writer, &[letter, digits.format(number).as_bytes()])
 }
 
 fn write_svid<W: Write>(writer: &mut W, svid: i32) -> Result<(), WriteFault>

@@ -39,7 +39,7 @@ pub(crate) fn mode_text_of(mode: Mode) -> &'static [u8]
     }
 }
 
-/// The callback and the number of a process or an open file description.
+/// The letter and the number of a process or an open file description.
 pub(crate) fn local_text_of(owner: &Owner) -> (&'static [u8], u64)
     requires { is_local (view_of_owner owner.now) ≡ true }
     ensures text { owner_text (view_of_owner owner.now) ≡ result.0.now ++ decimal result.1 }

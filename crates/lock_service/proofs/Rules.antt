@@ -15,7 +15,7 @@ use Rattle.definitions.specs.Nlm.{Stat}
 use Rattle.definitions.specs.Waits.{Waiter, is_waiting, without_waiter, same_request as is_same_request, closes_cycle}
 use Rattle.definitions.specs.World.{World, the_limits, slots_free, with_hosts, with_setting, with_waiter}
 use Rattle.definitions.specs.Ranges.{range_refusal, request_of}
-use Rattle.definitions.specs.Rulings.{Ruling, Response, decided, stays}
+use Rattle.definitions.specs.Rulings.{Ruling, Response, decided_ruling, stays}
 use Rattle.definitions.specs.Outgoing.{Granted, GrantedMsg}
 use Rattle.definitions.specs.LockRules.{LockAsk, NewHost, row_asked, after_row, lock_rules, blocked_lock}
 use Rattle.definitions.specs.Answer.{Answered, cancel_answer, cancel_unless, lock_unless, lock_ask, caller_row}
@@ -25,7 +25,7 @@ use Rattle.call_plans.specs.declared.plans.Change.{Change}
 use Rattle.call_plans.specs.declared.plans.Plan.{Plan}
 use Rattle.nlm4_types.specs.declared.stat.Stat.{Stat as NumberedStat}
 use Rattle.nlm4_types.specs.Stat.{view_of_stat}
-use Rattle.call_plans.specs.Planned.{view_of_asked, changed, CanAskFor, FitsChange, IsPlan}
+use Rattle.call_plans.specs.Planned.{view_of_asked, changed_world, CanAskFor, FitsChange, IsPlan}
 use Rattle.lock_service.specs.declared.lock.LockCall.{LockCall}
 use Rattle.lock_service.specs.declared.lock.LockCall.TheVariants as call
 use Rattle.lock_service.specs.declared.verdict.Verdict.{Verdict}
@@ -84,11 +84,11 @@ can_ask (asks.Unwatched mon_name my_id) w h is none = tt
 can_ask asks.Begin w h is none = tt
 
 pub after_the_row : {E : Type 0} (r : Result Verdict E) (w : World) (h : NewHost) (stat : NumberedStat) (change : Change) → has_row w.hosts h.name ≡ false → ((hosts : Hosts) → FitsChange change (with_hosts w hosts))
-    → IfOk r (IsAfterRow (Monitor h.name h.state) stat change) → IfOk r (λ v. (n : ℕ) → LeavesRoomBy n change w → LeavesRoomAfter n change w → IsVerdict (after_row w (row_asked w (Some h)) (view_of_stat stat) (changed change)) n w v)
+    → IfOk r (IsAfterRow (Monitor h.name h.state) stat change) → IfOk r (λ v. (n : ℕ) → LeavesRoomBy n change w → LeavesRoomAfter n change w → IsVerdict (after_row w (row_asked w (Some h)) (view_of_stat stat) (changed_world change)) n w v)
 after_the_row (Err e) w h stat change none fits is = tt
 after_the_row (Ok (verdict.Decided s c)) w h stat change none fits is = absurd is
 after_the_row (Ok (verdict.AfterStore asked s c)) w h stat change none fits (call, says, does) = λ n here after. record {
-  ruled = rw (says, does) (row_first w h (view_of_stat stat) (changed change) (view_of_asked asked) none call);
+  ruled = rw (says, does) (row_first w h (view_of_stat stat) (changed_world change) (view_of_asked asked) none call);
   fits = rw does (fits (after_store w.hosts (view_of_asked asked)), can_ask asked w h call none);
   room = rw does (after (after_store w.hosts (view_of_asked asked)));
 }
@@ -115,7 +115,7 @@ module _ (w : World) (a : nlm.CancelArgs) (none : range_refusal w Cancelling a.a
   waits_not true e h = absurd (false≢true (sym h))
   waits_not false e h = ap (cancel_unless w (request_of a.exclusive a.alock)) none ∙ rw (waits false e) refl
 
-  pub is_cancelled : (b : Bool) → b ≡ is_waiting q w.waiters → b ≡ true → decided (record { says = nlm.GRANTED; world = record w { waiters = without_waiter r w.waiters } }) ≡ cancel_answer w a
+  pub is_cancelled : (b : Bool) → b ≡ is_waiting q w.waiters → b ≡ true → decided_ruling (record { says = nlm.GRANTED; world = record w { waiters = without_waiter r w.waiters } }) ≡ cancel_answer w a
   is_cancelled false e h = absurd (false≢true h)
   is_cancelled true e h = rw is (sym (ap (cancel_unless w (request_of a.exclusive a.alock)) none ∙ rw (waits true e) refl))
 

@@ -9,12 +9,12 @@ use Rattle.callbacks.specs.Meanings.{view_of_local_lock}
 use Rattle.local_ops.specs.Answers.{view_of_local_answer}
 use Rattle.range_table.specs.Modes.{view_of_mode, view_of_held_mode}
 use Rattle.range_table.specs.declared.run.Mode.{Mode}
-use Rattle.call_plans.specs.Planned.{changed}
+use Rattle.call_plans.specs.Planned.{changed_world}
 use Rattle.lock_service.specs.declared.local.LinePlan.{LinePlan}
 use Rattle.lock_service.specs.declared.local.SetLine as line
 
 abbrev pub line_planned : LinePlan → World → Response LineReply
-line_planned p w = record { says = view_of_local_answer p.answer; world = changed p.change w }
+line_planned p w = record { says = view_of_local_answer p.answer; world = changed_world p.change w }
 
 -- `setlk`, or `setlkw`, which waits
 abbrev pub set_line_if : Bool → line.SetLine → Line

@@ -3,19 +3,19 @@ use Rattle.std.specs.Prelude.{◌≡◌, ◌≤◌, ℕ, Bool, true, Some}
 use Rattle.definitions.specs.Hosts.{Hosts, StoreCall}
 use Rattle.definitions.specs.Nlm as nlm
 use Rattle.definitions.specs.World.{World, the_limits, slots_free, with_hosts}
-use Rattle.definitions.specs.Rulings.{Response, Ruling, decided}
+use Rattle.definitions.specs.Rulings.{Response, Ruling, decided_ruling}
 use Rattle.nlm4_types.specs.declared.stat.Stat.{Stat}
 use Rattle.nlm4_types.specs.Stat.{view_of_stat}
 use Rattle.call_plans.specs.declared.plans.Change.{Change}
-use Rattle.call_plans.specs.Planned.{changed, view_of_asked, after_asked, FitsChange, CanAskFor}
+use Rattle.call_plans.specs.Planned.{changed_world, view_of_asked, after_asked, FitsChange, CanAskFor}
 use Rattle.lock_service.specs.declared.verdict.Verdict.{Verdict}
 use Rattle.lock_service.specs.declared.verdict.Verdict.TheVariants as verdict
 
 abbrev pub verdict_in : Verdict → World → Ruling (Response nlm.Stat)
-verdict_in (verdict.Decided stat change) w = decided (record { says = view_of_stat stat; world = changed change w })
+verdict_in (verdict.Decided stat change) w = decided_ruling (record { says = view_of_stat stat; world = changed_world change w })
 verdict_in (verdict.AfterStore asked stat change) w = record {
   asks = Some (view_of_asked asked);
-  agreed = record { says = view_of_stat stat; world = changed change (after_asked asked w) };
+  agreed = record { says = view_of_stat stat; world = changed_world change (after_asked asked w) };
   refused = record { says = nlm.DENIED_NOLOCKS; world = w };
 }
 
@@ -25,7 +25,7 @@ FitsIn (verdict.Decided stat change) w = FitsChange change w
 FitsIn (verdict.AfterStore asked stat change) w = FitsChange change (after_asked asked w) × CanAskFor asked w
 
 abbrev pub LeavesRoomBy : ℕ → Change → World → Type 0
-LeavesRoomBy reserved change w = reserved ≤ slots_free the_limits w → reserved ≤ slots_free the_limits (changed change w)
+LeavesRoomBy reserved change w = reserved ≤ slots_free the_limits w → reserved ≤ slots_free the_limits (changed_world change w)
 
 -- and so whatever row is stored
 abbrev pub LeavesRoomAfter : ℕ → Change → World → Type 0

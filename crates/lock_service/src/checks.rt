@@ -11,16 +11,13 @@ use grace::{CallKind, admits};
 use hosts_db::HostStore;
 use lock_state::World;
 use nlm4_types::{Lock, Stat, TOP, WIDE};
-use range_table::{FileId, RangeTable};
+use range_table::{ByteRange, FileId, RangeTable};
 
 /// The bytes that a call names.
 #[derive(Clone, Copy)]
-pub(crate) struct Place {
+pub(crate) struct CallRange {
     pub file: FileId,
-    pub first: u64,
-    pub last: u64,
-    pub ghost ordered: { first ≤ last },
-    pub ghost inside: { last < 2 ^ 63 },
+    pub range: ByteRange,
 }
 
 /// The bytes that a lock call names, or what it is refused for.
@@ -28,25 +25,21 @@ pub(crate) fn place_of<R: RangeTable, S: HostStore>(
     world: &World<R, S>,
     kind: CallKind,
     alock: &Lock<'_, WIDE>,
-) -> Result<Place, Stat>
-    ensures ok { IfOk result (λ p. IsPlaceOf world.now.world (view_of_kind kind) (view_of_lock alock.now) p.file p.first p.last) }
+) -> Result<CallRange, Stat>
+    ensures ok { IfOk result (λ p. IsPlaceOf world.now.world (view_of_kind kind) (view_of_lock alock.now) p.file p.range.first p.range.last) }
     ensures err { IfErr result (λ stat. range_refusal world.now.world (view_of_kind kind) (view_of_lock alock.now) ≡ Some (view_of_stat stat)) }
     ensures other { IfErr result (λ stat. is_denial (view_of_stat stat) ≡ false) }
 {
     let Some(file) = file_of(alock.fh.bytes) else {
         return Err(Stat::StaleFh);
     };
-    let Some(last) = last_of(alock.l_offset, alock.l_len) else {
+    let Some(range) = range_of(alock.l_offset, alock.l_len) else {
         return Err(Stat::Fbig);
     };
     if !admits(world.phase(), &kind) {
         return Err(Stat::DeniedGracePeriod);
     }
-    Ok(Place {
-        file,
-        first: alock.l_offset,
-        last,
-    })
+    Ok(CallRange { file, range })
 }
 
 /// What a call about a whole file is refused for.
@@ -78,19 +71,25 @@ fn file_of(fh: &[u8]) -> Option<FileId>
     Some(FileId::new(fh))
 }
 
-// The last byte of a range that a file can have.
-pub(crate) fn last_of(offset: u64, len: u64) -> Option<u64>
-    ensures some { IfSome result (λ last. (is_too_far offset len ≡ false) × (last ≡ last_byte offset len) × (offset ≤ last) × (last < 2 ^ 63)) }
+// The bytes from this offset on that a file can have, where it can have so many. The length 0 is to the last byte.
+pub(crate) fn range_of(offset: u64, len: u64) -> Option<ByteRange>
+    ensures some { IfSome result (λ range. (is_too_far offset len ≡ false) × (range.first ≡ offset) × (range.last ≡ last_byte offset len)) }
     ensures none { IfNone result (is_too_far offset len ≡ true) }
 {
     if offset > TOP {
         return None;
     }
     if len == 0 {
-        return Some(TOP);
+        return Some(ByteRange {
+            first: offset,
+            last: TOP,
+        });
     }
     if len - 1 > TOP - offset {
         return None;
     }
-    Some(offset + (len - 1))
+    Some(ByteRange {
+        first: offset,
+        last: offset + (len - 1),
+    })
 }

@@ -7,8 +7,8 @@ ghost use Rattle.range_table.specs.Modes.{view_of_mode};
 ghost use Rattle.lock_state.specs.Whole.{IsShown};
 ghost use Rattle.call_plans.specs.Planned.{view_of_wanted};
 
-use crate::checks::Place;
-use call_plans::Wanted;
+use crate::checks::CallRange;
+use call_plans::WantedLock;
 use callbacks::ShortBytes;
 use nlm4_types::{Lock, Netobj, WIDE};
 use owner_ids::{Owner, Starved};
@@ -41,20 +41,19 @@ pub(crate) fn mode_of(exclusive: bool) -> Mode
 #[tactic(auto, using(crate::proofs::Rules::same_request))]
 pub(crate) fn wanted_of(
     alloc: Global,
-    place: &Place,
+    place: &CallRange,
     exclusive: bool,
     alock: &Lock<'_, WIDE>,
-) -> Result<Wanted, Starved>
+) -> Result<WantedLock, Starved>
     requires file { place.now.file ≡ alock.now.fh.bytes.now }
-    requires first { place.now.first ≡ alock.now.l_offset }
-    requires last { place.now.last ≡ last_of alock.now.l_offset alock.now.l_len }
+    requires first { place.now.range.first ≡ alock.now.l_offset }
+    requires last { place.now.range.last ≡ last_of alock.now.l_offset alock.now.l_len }
     ensures { IfOk result (λ wanted. view_of_wanted wanted ≡ request_of exclusive (view_of_lock alock.now)) }
 {
-    Ok(Wanted {
+    Ok(WantedLock {
         file: place.file,
         owner: owner_of(alloc, alock)?,
-        first: place.first,
-        last: place.last,
+        range: place.range,
         mode: mode_of(exclusive),
     })
 }

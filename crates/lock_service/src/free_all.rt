@@ -6,7 +6,7 @@ ghost use Rattle.definitions.specs.Answer.{nlm_answer};
 ghost use Rattle.call_plans.specs.Planned.{IsPlan, AsksOnlyIf};
 
 use call_codec::{CallResult, Outcome};
-use call_plans::{Answer, Change, Plan, Response};
+use call_plans::{Change, Plan, PlannedAnswer, Response};
 use nlm4_types::Notify;
 use owner_ids::Starved;
 use std::alloc::Global;
@@ -17,7 +17,7 @@ pub(crate) fn plan(alloc: Global, args: &Notify<'_>) -> Result<Plan, Starved>
 {
     let told = Response::reply(alloc, Outcome::Success(CallResult::Nothing))?;
     let name = Vec::from_slice(alloc, args.name.bytes)?;
-    Ok(Plan::Decided(Answer {
+    Ok(Plan::Decided(PlannedAnswer {
         told,
         change: Change::DropHost(name),
     }))

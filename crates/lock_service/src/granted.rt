@@ -8,7 +8,7 @@ ghost use Rattle.call_plans.specs.Planned.{IsPlan, AsksOnlyIf};
 
 use crate::copies::cookie_of;
 use call_codec::{CallResult, Outcome};
-use call_plans::{Answer, Change, Plan, Response};
+use call_plans::{Change, Plan, PlannedAnswer, Response};
 use nlm4_types::Res;
 use owner_ids::Starved;
 use std::alloc::Global;
@@ -19,7 +19,7 @@ pub(crate) fn plan(alloc: Global, args: &Res<'_>) -> Result<Plan, Starved>
 {
     let told = Response::reply(alloc, Outcome::Success(CallResult::Nothing))?;
     let cookie = cookie_of(alloc, &args.cookie)?;
-    Ok(Plan::Decided(Answer {
+    Ok(Plan::Decided(PlannedAnswer {
         told,
         change: Change::GrantAnswered {
             cookie,

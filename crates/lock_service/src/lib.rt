@@ -25,9 +25,9 @@ mod verdict;
 
 pub use call_codec::Call;
 pub use call_plans::{
-    Plan, Starved, StoreAnswer, World, abandon, agree, answered, commit, prepare,
+    Plan, Starved, StoreAnswer, World, abandon, answered, commit, reserve, reserve_and_ask,
 };
 pub use listing::{list_hosts, list_table};
 pub use local::{LinePlan, SetLine, close_file, get_lock, plan_set, set_lock};
 pub use quota::set_quota;
-pub use steps::{agreed, plan};
+pub use steps::{plan, plan_and_ask};

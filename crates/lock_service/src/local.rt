@@ -2,10 +2,10 @@
 ghost use Rattle.std.specs.Prelude.{◌≡◌, ◌<◌, ◌^◌, ℕ, false, None, Some, IfOk, IfErr, OnErr};
 ghost use Rattle.definitions.specs.Hosts.{NotAsked};
 ghost use Rattle.definitions.specs.LockRules.{lock_rules as lock_rules_said, unlock_rules as unlock_rules_said};
-ghost use Rattle.definitions.specs.World.{World as SaidWorld, the_limits, settled, slots_free};
+ghost use Rattle.definitions.specs.World.{World as SaidWorld, the_limits, settled_world, slots_free};
 ghost use Rattle.definitions.specs.Ranges.{last_of as last_byte, line_unlock};
 ghost use Rattle.definitions.specs.Replies.{Close};
-ghost use Rattle.definitions.specs.Rulings.{ruled};
+ghost use Rattle.definitions.specs.Rulings.{ruled_answer};
 ghost use Rattle.definitions.specs.Lines.{line_refusal, line_answer, line_told, line_word, get_unless, shown_run};
 ghost use Rattle.owner_ids.specs.Views.{view_of_owner};
 ghost use Rattle.range_table.specs.Modes.{view_of_mode};
@@ -19,12 +19,12 @@ ghost use Rattle.call_plans.specs.declared.plans.Change.TheVariants.{Nothing};
 ghost use Rattle.lock_service.specs.Lined.{line_planned, lock_asked, view_of_set_line};
 ghost use Rattle.lock_service.specs.Verdicts.{verdict_in, FitsIn, IsVerdict, OnlyAsksIf};
 
-use crate::checks::{Place, last_of};
+use crate::checks::{CallRange, range_of};
 use crate::lock_ask::{Grant, LockAsk};
 use crate::lock_rules::lock_rules;
 use crate::unlock::unlock_rules;
 use crate::verdict::Verdict;
-use call_plans::{Change, Range, Wanted, prepare_change};
+use call_plans::{Change, Range, WantedLock, reserve_for_change};
 use callbacks::LocalLock;
 use grace::{CallKind, admits};
 use hosts_db::HostStore;
@@ -55,20 +55,19 @@ pub struct SetLine<'r> {
 fn place_of<R: RangeTable, S: HostStore>(
     world: &World<R, S>,
     lock: &LocalLock,
-) -> Result<Place, LocalAnswer>
-    ensures ok { IfOk result (λ p. (line_refusal world.now.world (view_of_local_lock lock.now) ≡ None) × (p.file ≡ lock.now.file) × (p.first ≡ lock.now.offset) × (p.last ≡ last_byte lock.now.offset lock.now.len)) }
+) -> Result<CallRange, LocalAnswer>
+    ensures ok { IfOk result (λ p. (line_refusal world.now.world (view_of_local_lock lock.now) ≡ None) × (p.file ≡ lock.now.file) × (p.range.first ≡ lock.now.offset) × (p.range.last ≡ last_byte lock.now.offset lock.now.len)) }
     ensures err { IfErr result (λ answer. line_refusal world.now.world (view_of_local_lock lock.now) ≡ Some (view_of_local_answer answer)) }
 {
-    let Some(last) = last_of(lock.offset, lock.len) else {
+    let Some(range) = range_of(lock.offset, lock.len) else {
         return Err(LocalAnswer::TooFar);
     };
     if !admits(world.phase(), &CallKind::LocalLocking) {
         return Err(LocalAnswer::Grace);
     }
-    Ok(Place {
+    Ok(CallRange {
         file: lock.file,
-        first: lock.offset,
-        last,
+        range,
     })
 }
 
@@ -87,8 +86,7 @@ pub fn get_lock<R: RangeTable, S: HostStore>(
     let wanted = held_locks::Request {
         file: place.file,
         owner: &lock.owner,
-        first: place.first,
-        last: place.last,
+        range: place.range,
         mode,
     };
     match world.first_conflict(&wanted) {
@@ -98,7 +96,7 @@ pub fn get_lock<R: RangeTable, S: HostStore>(
 }
 
 // A lock that is in the way, as a line shows it.
-fn held_by(found: &held_locks::Holder<'_>) -> Result<LocalAnswer, Starved>
+fn held_by(found: &held_locks::RunHolder<'_>) -> Result<LocalAnswer, Starved>
     requires { found.now.last < 2 ^ 63 }
     ensures { IfOk result (λ answer. view_of_local_answer answer ≡ shown_run (Some (view_of_lock_holder found.now))) }
 {
@@ -115,7 +113,7 @@ pub fn plan_set<R: RangeTable, S: HostStore>(
     world: &World<R, S>,
     line: &SetLine<'_>,
 ) -> Result<LinePlan, Starved>
-    ensures plan { IfOk result (λ made. line_planned made world.now.world ≡ ruled NotAsked (line_answer the_limits world.now.world line.now.connection (view_of_set_line line.now))) }
+    ensures plan { IfOk result (λ made. line_planned made world.now.world ≡ ruled_answer NotAsked (line_answer the_limits world.now.world line.now.connection (view_of_set_line line.now))) }
     ensures fits { IfOk result (λ made. FitsChange made.change world.now.world) }
 {
     let place = match place_of(world, line.lock) {
@@ -141,7 +139,7 @@ fn plan_to_say(answer: LocalAnswer) -> LinePlan
 // The verdict in a line's word. It never asks the store.
 fn told_by_line(verdict: Verdict) -> LinePlan
     requires { OnlyAsksIf false verdict }
-    ensures plan { (w : SaidWorld) → line_planned result w ≡ line_told (ruled NotAsked (verdict_in verdict w)) }
+    ensures plan { (w : SaidWorld) → line_planned result w ≡ line_told (ruled_answer NotAsked (verdict_in verdict w)) }
     ensures fits { (w : SaidWorld) → FitsIn verdict w → FitsChange result.change w }
 {
     match verdict {
@@ -172,21 +170,20 @@ fn word_of(stat: Stat) -> LocalAnswer
 // As for LOCK, without a row.
 fn lock_verdict<R: RangeTable, S: HostStore>(
     world: &World<R, S>,
-    place: &Place,
+    place: &CallRange,
     mode: Mode,
     line: &SetLine<'_>,
 ) -> Result<Verdict, Starved>
     requires file { place.now.file ≡ line.now.lock.now.file }
-    requires first { place.now.first ≡ line.now.lock.now.offset }
-    requires last { place.now.last ≡ last_byte line.now.lock.now.offset line.now.lock.now.len }
+    requires first { place.now.range.first ≡ line.now.lock.now.offset }
+    requires last { place.now.range.last ≡ last_byte line.now.lock.now.offset line.now.lock.now.len }
     ensures verdict { IfOk result (λ made. IsVerdict (lock_rules_said the_limits world.now.world (lock_asked line.now mode (slots_free the_limits world.now.world))) 0 world.now.world made) }
     ensures asks { IfOk result (OnlyAsksIf false) }
 {
-    let wanted = Wanted {
+    let wanted = WantedLock {
         file: place.file,
         owner: line.lock.owner.clone()?,
-        first: place.first,
-        last: place.last,
+        range: place.range,
         mode,
     };
     let ask = LockAsk {
@@ -206,12 +203,12 @@ fn lock_verdict<R: RangeTable, S: HostStore>(
 
 fn unlock_verdict<R: RangeTable, S: HostStore>(
     world: &World<R, S>,
-    place: &Place,
+    place: &CallRange,
     lock: &LocalLock,
 ) -> Result<Verdict, Starved>
     requires file { place.now.file ≡ lock.now.file }
-    requires first { place.now.first ≡ lock.now.offset }
-    requires last { place.now.last ≡ last_byte lock.now.offset lock.now.len }
+    requires first { place.now.range.first ≡ lock.now.offset }
+    requires last { place.now.range.last ≡ last_byte lock.now.offset lock.now.len }
     ensures verdict { IfOk result (λ made. IsVerdict (unlock_rules_said the_limits world.now.world (line_unlock (view_of_local_lock lock.now))) 0 world.now.world made) }
     ensures asks { IfOk result (OnlyAsksIf false) }
 {
@@ -220,18 +217,17 @@ fn unlock_verdict<R: RangeTable, S: HostStore>(
 }
 
 // What the line's owner is to hold there: nothing.
-fn unlocked_range(place: &Place, lock: &LocalLock) -> Result<Range, Starved>
+fn unlocked_range(place: &CallRange, lock: &LocalLock) -> Result<Range, Starved>
     requires file { place.now.file ≡ lock.now.file }
-    requires first { place.now.first ≡ lock.now.offset }
-    requires last { place.now.last ≡ last_byte lock.now.offset lock.now.len }
+    requires first { place.now.range.first ≡ lock.now.offset }
+    requires last { place.now.range.last ≡ last_byte lock.now.offset lock.now.len }
     ensures setting { IfOk result (λ range. view_of_range range ≡ line_unlock (view_of_local_lock lock.now)) }
     ensures mode { IfOk result (λ range. range.mode ≡ None) }
 {
     Ok(Range {
         file: place.file,
         owner: lock.owner.clone()?,
-        first: place.first,
-        last: place.last,
+        range: place.range,
         mode: None,
     })
 }
@@ -242,15 +238,15 @@ pub fn set_lock<R: RangeTable, S: HostStore>(
     world: &mut World<R, S>,
     line: &SetLine<'_>,
 ) -> Result<LocalAnswer, Starved>
-    ensures reply { IfOk result (λ answer. view_of_local_answer answer ≡ (ruled NotAsked (line_answer the_limits world.old.world line.now.connection (view_of_set_line line.now))).says) }
-    ensures world { IfOk result (λ answer. world.new.world ≡ settled the_limits (ruled NotAsked (line_answer the_limits world.old.world line.now.connection (view_of_set_line line.now))).world) }
+    ensures reply { IfOk result (λ answer. view_of_local_answer answer ≡ (ruled_answer NotAsked (line_answer the_limits world.old.world line.now.connection (view_of_set_line line.now))).says) }
+    ensures world { IfOk result (λ answer. world.new.world ≡ settled_world the_limits (ruled_answer NotAsked (line_answer the_limits world.old.world line.now.connection (view_of_set_line line.now))).world) }
     ensures err { OnErr result (world.new.world ≡ world.old.world) }
     ensures refusals { world.new.refusals ≡ world.old.refusals }
     ensures forgotten { IfOk result (λ _. IsForgottenIfIdle (view_of_owner line.now.lock.now.owner) world.new.world world.new) }
     ensures unknown { OnErr result (AdmitsNobody world.old world.new) }
 {
     let plan = plan_set(world, line)?;
-    let Ok(()) = prepare_change(world, &plan.change) else {
+    let Ok(()) = reserve_for_change(world, &plan.change) else {
         drop(plan);
         return Err(Starved);
     };
@@ -268,7 +264,7 @@ pub fn close_file<R: RangeTable, S: HostStore>(
     owner: &Owner,
     file: &FileId,
 )
-    ensures world { (l : ℕ) → world.new.world ≡ settled the_limits (ruled NotAsked (line_answer the_limits world.old.world l (Close (view_of_owner owner.now) file.now))).world }
+    ensures world { (l : ℕ) → world.new.world ≡ settled_world the_limits (ruled_answer NotAsked (line_answer the_limits world.old.world l (Close (view_of_owner owner.now) file.now))).world }
     ensures refusals { world.new.refusals ≡ world.old.refusals }
     ensures forgotten { IsForgottenIfIdle (view_of_owner owner.now) world.new.world world.new }
 {

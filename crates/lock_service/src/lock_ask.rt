@@ -2,7 +2,7 @@
 ghost use Rattle.std.specs.Prelude.{◌≡◌, ◌≤◌, length, false};
 ghost use Rattle.definitions.specs.Ranges.{is_stale, is_too_far};
 
-use call_plans::Wanted;
+use call_plans::WantedLock;
 use callbacks::LocalLock;
 use nlm4_types::{Lock, Version, WIDE};
 use range_table::Mode;
@@ -42,7 +42,7 @@ pub(crate) struct GrantCall<'r> {
 /// A lock that is asked for.
 #[derive(Drop)]
 pub(crate) struct LockAsk<'r> {
-    pub wanted: Wanted,
+    pub wanted: WantedLock,
     pub block: bool,
     pub reclaim: bool,
     /// Of a host that is to be told of a restart.

@@ -8,7 +8,7 @@ ghost use Rattle.definitions.specs.World.{the_limits, slots_free, with_hosts};
 ghost use Rattle.callbacks.specs.Meanings.{view_of_told_lock, view_of_message};
 ghost use Rattle.nlm4_types.specs.Lock.{view_of_lock};
 ghost use Rattle.nlm4_types.specs.Stat.{view_of_stat};
-ghost use Rattle.call_plans.specs.Planned.{changed, FitsChange};
+ghost use Rattle.call_plans.specs.Planned.{changed_world, FitsChange};
 ghost use Rattle.lock_service.specs.Asks.{view_of_ask, view_of_grant_call, view_of_granted, kept_out as kept_out_said, view_of_grant, view_of_grant_line, view_of_new_host};
 ghost use Rattle.lock_service.specs.Verdicts.{IsAfterRow, IsVerdict, IsVerdictWith, OnlyAsksIf};
 
@@ -98,7 +98,7 @@ fn behind_row<R: RangeTable, S: HostStore>(
 ) -> Result<Verdict, Starved>
     requires fits { FitsChange change world.now.world }
     requires fits_after { (hosts : Hosts) → FitsChange change (with_hosts world.now.world hosts) }
-    ensures verdict { IfOk result (λ made. IsVerdictWith change (after_row_said world.now.world (row_asked world.now.world (option_map view_of_new_host row.entry)) (view_of_stat stat) (changed change)) world.now.world made) }
+    ensures verdict { IfOk result (λ made. IsVerdictWith change (after_row_said world.now.world (row_asked world.now.world (option_map view_of_new_host row.entry)) (view_of_stat stat) (changed_world change)) world.now.world made) }
     ensures asks { IfOk result (OnlyAsksIf (is_some row.entry)) }
 {
     let Some(host) = row else {
@@ -172,7 +172,7 @@ impl GrantCall<'_> {
         let host = ShortBytes::copy_of(alloc, name)?;
         let caller = Caller::copy_of(alloc, name, self.lock.svid, self.lock.oh.bytes)?;
         let fh = ShortBytes::copy_of(alloc, self.lock.fh.bytes)?;
-        let lock = callbacks::Lock {
+        let lock = callbacks::OwnedLock {
             caller,
             fh,
             l_offset: self.lock.l_offset,
@@ -181,7 +181,7 @@ impl GrantCall<'_> {
         Ok(Callback::new(Destination::Host(host), self.message(lock)))
     }
 
-    fn message(&self, lock: callbacks::Lock) -> Message
+    fn message(&self, lock: callbacks::OwnedLock) -> Message
         requires { view_of_told_lock lock ≡ view_of_lock self.now.lock }
         ensures { view_of_message result ≡ view_of_granted self.now }
     {

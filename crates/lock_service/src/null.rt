@@ -6,7 +6,7 @@ ghost use Rattle.definitions.specs.Answer.{nlm_answer};
 ghost use Rattle.call_plans.specs.Planned.{IsPlan, AsksOnlyIf};
 
 use call_codec::{CallResult, Outcome};
-use call_plans::{Answer, Change, Plan, Response};
+use call_plans::{Change, Plan, PlannedAnswer, Response};
 use owner_ids::Starved;
 use std::alloc::Global;
 
@@ -15,7 +15,7 @@ pub(crate) fn plan(alloc: Global) -> Result<Plan, Starved>
     ensures asks { IfOk result (AsksOnlyIf false) }
 {
     let told = Response::reply(alloc, Outcome::Success(CallResult::Nothing))?;
-    Ok(Plan::Decided(Answer {
+    Ok(Plan::Decided(PlannedAnswer {
         told,
         change: Change::Nothing,
     }))

@@ -3,18 +3,18 @@ ghost use Rattle.std.specs.Prelude.{◌≡◌, false, IfOk};
 ghost use Rattle.definitions.specs.Nlm as nlm;
 ghost use Rattle.definitions.specs.World.{World as SaidWorld, the_limits};
 ghost use Rattle.definitions.specs.Answer.{nlm_answer, share_told, share_of as share_said};
-ghost use Rattle.definitions.specs.Rulings.{decided};
+ghost use Rattle.definitions.specs.Rulings.{decided_ruling};
 ghost use Rattle.nlm4_types.specs.Stat.{view_of_stat};
 ghost use Rattle.nlm4_types.specs.Version.{view_of_version};
 ghost use Rattle.nlm4_types.specs.Access.{view_of_access};
 ghost use Rattle.nlm4_types.specs.Share.{view_of_shareargs};
-ghost use Rattle.call_plans.specs.Planned.{IsPlan, AsksOnlyIf, FitsChange, FitsDue, changed, told_in};
+ghost use Rattle.call_plans.specs.Planned.{IsPlan, AsksOnlyIf, FitsChange, FitsDue, changed_world, told_in};
 
 use crate::checks::check_file;
 use crate::copies::cookie_of;
-use call_codec::{CallResult, Outcome, ShareRes};
-use call_plans::{Answer, Change, Plan, Response};
-use dos_shares::{Access, Share, ShareError};
+use call_codec::{CallResult, Outcome, OwnedShareRes};
+use call_plans::{Change, Plan, PlannedAnswer, Response};
+use dos_shares::{AccessBits, Share, ShareError};
 use grace::CallKind;
 use hosts_db::HostStore;
 use lock_state::World;
@@ -60,14 +60,14 @@ pub(crate) fn told(
     stat: Stat,
     change: Change,
 ) -> Result<Plan, Starved>
-    ensures plan { IfOk result (λ made. (w : SaidWorld) → FitsChange change w → IsPlan (decided (share_told (view_of_version version) (view_of_shareargs args.now) (record { says = view_of_stat stat; world = changed change w }))) w made) }
+    ensures plan { IfOk result (λ made. (w : SaidWorld) → FitsChange change w → IsPlan (decided_ruling (share_told (view_of_version version) (view_of_shareargs args.now) (record { says = view_of_stat stat; world = changed_world change w }))) w made) }
     ensures asks { IfOk result (AsksOnlyIf false) }
 {
     let Ok(told) = reply(alloc, version, args, stat) else {
         drop(change);
         return Err(Starved);
     };
-    Ok(Plan::Decided(Answer { told, change }))
+    Ok(Plan::Decided(PlannedAnswer { told, change }))
 }
 
 // The status as the call's version shows it.
@@ -81,7 +81,7 @@ fn reply(
     ensures fits { IfOk result (λ made. (w : SaidWorld) → FitsDue made w) }
 {
     let cookie = cookie_of(alloc, &args.cookie)?;
-    let res = ShareRes {
+    let res = OwnedShareRes {
         cookie,
         stat: stat.shown_in(version),
         sequence: 0,
@@ -99,13 +99,13 @@ pub(crate) fn share_of(alloc: Global, args: &ShareArgs<'_>) -> Result<Share, Sta
     Ok(Share::new(file, name, oh, access_of(args.mode), access_of(args.access)))
 }
 
-fn access_of(asked: AskedAccess) -> Access
+fn access_of(asked: AskedAccess) -> AccessBits
     ensures { result ≡ view_of_access asked }
 {
     match asked {
-        AskedAccess::None => Access::new(false, false),
-        AskedAccess::Read => Access::new(true, false),
-        AskedAccess::Write => Access::new(false, true),
-        AskedAccess::Both => Access::new(true, true),
+        AskedAccess::None => AccessBits::new(false, false),
+        AskedAccess::Read => AccessBits::new(true, false),
+        AskedAccess::Write => AccessBits::new(false, true),
+        AskedAccess::Both => AccessBits::new(true, true),
     }
 }

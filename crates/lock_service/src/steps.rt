@@ -7,7 +7,7 @@ ghost use Rattle.definitions.specs.Replay.{may_leave_row};
 ghost use Rattle.nlm4_types.specs.Call.{view_of_call as view_of_nlm_call};
 ghost use Rattle.nlm4_types.specs.Version.{view_of_version};
 ghost use Rattle.call_codec.specs.CallValues.{view_of_call};
-ghost use Rattle.call_plans.specs.Planned.{view_of_stored, counted, stored, AsksOnlyIf, FitsUnder, IsAnswerTo, IsPlan, IsReady, IsWithin};
+ghost use Rattle.call_plans.specs.Planned.{view_of_stored, refusal_count, world_after_store, AsksOnlyIf, FitsUnder, IsAnswerTo, IsPlan, IsReady, IsWithin};
 ghost use Rattle.call_plans.specs.Forgotten.{LeavesNobody};
 ghost use Rattle.lock_service.specs.MayAsk.{may_ask};
 
@@ -15,7 +15,7 @@ use crate::lock::LockCall;
 use crate::telling::Form;
 use crate::{cancel, free_all, granted, lock, null, share, status, test, unlock, unshare};
 use call_codec::Call;
-use call_plans::{Plan, StoreAnswer, agree};
+use call_plans::{Plan, StoreAnswer, reserve_and_ask};
 use hosts_db::HostStore;
 use lock_state::World;
 use nlm4_types::{NlmCall, Version};
@@ -67,7 +67,7 @@ fn plan_nlm<R: RangeTable, S: HostStore>(
 /// A call is planned, all memory is got for that, and the store is asked. The plan is that of the rules for the world before;
 /// since then its hosts alone have changed, as the store answered. Starved: the world stays, and nobody is known for the call
 /// alone.
-pub fn agreed<R: RangeTable, S: HostStore>(
+pub fn plan_and_ask<R: RangeTable, S: HostStore>(
     world: &mut World<R, S>,
     local: bool,
     call: &Call<'_>,
@@ -76,15 +76,15 @@ pub fn agreed<R: RangeTable, S: HostStore>(
     ensures asks { IfOk result (λ made. AsksOnlyIf (may_ask (view_of_call call.now)) made.0) }
     ensures answer { IfOk result (λ made. IsAnswerTo made.0 (view_of_stored made.1)) }
     ensures limit { IfOk result (λ made. IsWithin made.0 (view_of_stored made.1) world.old.world) }
-    ensures world { IfOk result (λ made. world.new.world ≡ stored made.0 (view_of_stored made.1) world.old.world) }
-    ensures counts { IfOk result (λ made. world.new.refusals ≡ counted (view_of_stored made.1) world.old.refusals) }
+    ensures world { IfOk result (λ made. world.new.world ≡ world_after_store made.0 (view_of_stored made.1) world.old.world) }
+    ensures counts { IfOk result (λ made. world.new.refusals ≡ refusal_count (view_of_stored made.1) world.old.refusals) }
     ensures fits { IfOk result (λ made. FitsUnder (view_of_stored made.1) made.0 world.new.world) }
     ensures ready { IfOk result (λ made. IsReady made.0 world.new) }
     ensures err { OnErr result ((world.new.world ≡ world.old.world) × (world.new.refusals ≡ world.old.refusals)) }
     ensures forgotten { OnErr result (LeavesNobody (ruling the_limits world.old.world local (view_of_call call.now)) world.old world.new) }
 {
     let plan = plan(world, local, call)?;
-    let Ok(store) = agree(world, &plan) else {
+    let Ok(store) = reserve_and_ask(world, &plan) else {
         plan.let_go();
         return Err(Starved);
     };

@@ -3,7 +3,7 @@
 ghost use Rattle.std.specs.Prelude.{◌≡◌, ◌≤◌, ◌<◌, Bool, false, IfOk};
 ghost use Rattle.definitions.specs.Answer.{gives};
 ghost use Rattle.definitions.specs.Replies.{SystemErr};
-ghost use Rattle.definitions.specs.Rulings.{decided};
+ghost use Rattle.definitions.specs.Rulings.{decided_ruling};
 ghost use Rattle.definitions.specs.World.{World as SaidWorld, the_limits, slots_free};
 ghost use Rattle.callbacks.specs.Meanings.{view_of_message, view_of_told_res};
 ghost use Rattle.nlm4_types.specs.Stat.{view_of_stat};
@@ -15,8 +15,8 @@ ghost use Rattle.lock_service.specs.Verdicts.{OnlyAsksIf};
 use crate::copies::cookie_of;
 use crate::verdict::Verdict;
 use call_codec::{CallResult, Outcome};
-use call_plans::{Answer, Change, Plan, Response};
-use callbacks::{Callback, Destination, Message, Res, ShortBytes};
+use call_plans::{Change, Plan, PlannedAnswer, Response};
+use callbacks::{Callback, Destination, Message, OwnedRes, ShortBytes};
 use nlm4_types::{Name, Netobj, Stat, Version};
 use owner_ids::Starved;
 use std::alloc::Global;
@@ -51,7 +51,7 @@ pub(crate) enum ResultCall {
 }
 
 impl ResultCall {
-    fn message(self, version: Version, res: Res) -> Message
+    fn message(self, version: Version, res: OwnedRes) -> Message
         ensures { view_of_message result ≡ result_message self (view_of_version version) (view_of_told_res res) }
     {
         match self {
@@ -75,7 +75,7 @@ pub(crate) struct Telling<'r> {
 
 impl Telling<'_> {
     // What changes, and then what is told of it.
-    fn answer(&self, alloc: Global, stat: Stat, change: Change) -> Result<Answer, Starved>
+    fn answer(&self, alloc: Global, stat: Stat, change: Change) -> Result<PlannedAnswer, Starved>
         ensures change { IfOk result (λ made. made.change ≡ change) }
         ensures told { IfOk result (λ made. (w : SaidWorld) → told_in made.told w ≡ told_as self.now.form self.now (view_of_stat stat) w) }
         ensures fits { IfOk result (λ made. (w : SaidWorld) → places self.now.form ≤ slots_free the_limits w → FitsDue made.told w) }
@@ -84,7 +84,7 @@ impl Telling<'_> {
             drop(change);
             return Err(Starved);
         };
-        Ok(Answer { told, change })
+        Ok(PlannedAnswer { told, change })
     }
 
     // The status as the call's version shows it.
@@ -94,7 +94,7 @@ impl Telling<'_> {
     {
         let cookie = cookie_of(alloc, &self.cookie)?;
         let stat = stat.shown_in(self.version);
-        let res = Res { cookie, stat };
+        let res = OwnedRes { cookie, stat };
         match self.form {
             Form::Reply => Response::reply(alloc, Outcome::Success(CallResult::Res(res))),
             Form::Message => {
@@ -158,11 +158,11 @@ impl Verdict {
 
 /// There is no place for the call that would tell what came of it.
 pub(crate) fn no_place(alloc: Global) -> Result<Plan, Starved>
-    ensures plan { IfOk result (λ made. (w : SaidWorld) → IsPlan (decided (gives w SystemErr)) w made) }
+    ensures plan { IfOk result (λ made. (w : SaidWorld) → IsPlan (decided_ruling (gives w SystemErr)) w made) }
     ensures asks { IfOk result (λ made. (allowed : Bool) → AsksOnlyIf allowed made) }
 {
     let told = Response::reply(alloc, Outcome::SystemErr)?;
-    Ok(Plan::Decided(Answer {
+    Ok(Plan::Decided(PlannedAnswer {
         told,
         change: Change::Nothing,
     }))

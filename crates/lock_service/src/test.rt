@@ -18,8 +18,8 @@ use crate::checks::place_of;
 use crate::copies::{cookie_of, mode_of, owner_of};
 use crate::telling::no_place;
 use call_codec::{CallResult, Outcome};
-use call_plans::{Answer, Change, Plan, Response};
-use callbacks::{Callback, Destination, Holder, Message, ShortBytes, TestRes};
+use call_plans::{Change, Plan, PlannedAnswer, Response};
+use callbacks::{Callback, Destination, Message, OwnedHolder, OwnedTestRes, ShortBytes};
 use grace::CallKind;
 use hosts_db::HostStore;
 use lock_state::World;
@@ -37,7 +37,7 @@ pub(crate) fn plan<R: RangeTable, S: HostStore>(
     ensures asks { IfOk result (AsksOnlyIf false) }
 {
     let res = test_res(world, version, args)?;
-    Ok(Plan::Decided(Answer {
+    Ok(Plan::Decided(PlannedAnswer {
         told: Response::reply(
             world.alloc(),
             Outcome::Success(CallResult::TestRes(version, res)),
@@ -66,7 +66,7 @@ pub(crate) fn plan_message<R: RangeTable, S: HostStore>(
         Message::TestResult { version, res },
     );
     let told = Response::message(alloc, callback)?;
-    Ok(Plan::Decided(Answer {
+    Ok(Plan::Decided(PlannedAnswer {
         told,
         change: Change::Nothing,
     }))
@@ -77,7 +77,7 @@ fn test_res<R: RangeTable, S: HostStore>(
     world: &World<R, S>,
     version: Version,
     args: &TestArgs<'_, WIDE>,
-) -> Result<TestRes, Starved>
+) -> Result<OwnedTestRes, Starved>
     ensures { IfOk result (λ res. view_of_told_test_res res ≡ test_answer world.now.world (view_of_version version) (view_of_testargs args.now)) }
 {
     let alloc = world.alloc();
@@ -93,14 +93,13 @@ fn test_res<R: RangeTable, S: HostStore>(
     let wanted = held_locks::Request {
         file: place.file,
         owner: &owner,
-        first: place.first,
-        last: place.last,
+        range: place.range,
         mode: mode_of(args.exclusive),
     };
     let res = match world.first_conflict(&wanted) {
         None => unheld(alloc, version, cookie, Stat::Granted),
         Some(found) => match holder_of(alloc, version, &found) {
-            Ok(holder) => Ok(TestRes {
+            Ok(holder) => Ok(OwnedTestRes {
                 cookie,
                 stat: Stat::Denied,
                 holder: Some(holder),
@@ -122,7 +121,7 @@ fn unheld(
     version: Version,
     cookie: ShortBytes,
     stat: Stat,
-) -> Result<TestRes, Starved>
+) -> Result<OwnedTestRes, Starved>
     ensures { IfOk result (λ res. view_of_told_test_res res ≡ free_test (view_of_version version) cookie (view_of_stat stat)) }
 {
     let stat = stat.shown_in(version);
@@ -130,17 +129,17 @@ fn unheld(
         Stat::Denied => Some(nobody(alloc)?),
         _ => None,
     };
-    Ok(TestRes {
+    Ok(OwnedTestRes {
         cookie,
         stat,
         holder,
     })
 }
 
-fn nobody(alloc: Global) -> Result<Holder, Starved>
+fn nobody(alloc: Global) -> Result<OwnedHolder, Starved>
     ensures { IfOk result (λ holder. view_of_told_holder holder ≡ nobody_said) }
 {
-    Ok(Holder {
+    Ok(OwnedHolder {
         exclusive: false,
         svid: 0,
         oh: ShortBytes::copy_of(alloc, &[])?,
@@ -153,12 +152,12 @@ fn nobody(alloc: Global) -> Result<Holder, Starved>
 fn holder_of(
     alloc: Global,
     version: Version,
-    found: &held_locks::Holder<'_>,
-) -> Result<Holder, Starved>
+    found: &held_locks::RunHolder<'_>,
+) -> Result<OwnedHolder, Starved>
     requires { IsShown (view_of_owner found.now.owner.now) × (found.now.last < 2 ^ 63) }
     ensures { IfOk result (λ holder. view_of_told_holder holder ≡ holder_said (view_of_version version) (view_of_lock_holder found.now)) }
 {
-    Ok(Holder {
+    Ok(OwnedHolder {
         exclusive: found.mode.is_same(Mode::Exclusive),
         svid: shown_svid(found.owner),
         oh: shown_oh(alloc, found.owner)?,

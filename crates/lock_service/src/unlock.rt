@@ -54,8 +54,7 @@ fn verdict<R: RangeTable, S: HostStore>(
     let range = Range {
         file: place.file,
         owner: owner_of(world.alloc(), &args.alock)?,
-        first: place.first,
-        last: place.last,
+        range: place.range,
         mode: None,
     };
     Ok(unlock_rules(world, range))

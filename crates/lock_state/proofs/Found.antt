@@ -4,12 +4,12 @@ use Rattle.std.specs.Prelude.{IfSome}
 use Rattle.std.proofs.lemmas.Option.{none-some, same_Some}
 use Rattle.std.specs.declared.cmp.Ordering.{Ordering}
 use Rattle.std.specs.declared.cmp.Ordering.TheVariants.{Less, Equal, Greater}
-use Rattle.definitions.specs.Bytes.{same_bytes, first_that, placed, put, in_order}
+use Rattle.definitions.specs.Bytes.{same_bytes, first_that, placed_list, list_with, in_order}
 use Rattle.definitions.specs.Owners.{same_owner}
 use Rattle.definitions.specs.Settings.{Setting, Request, mode_at}
 use Rattle.definitions.specs.Starts.{Start, Run, start_cmp, is_start, ends, starts, run_at, changes_behind, least, least_or, same_mode, stands_against, first_conflict}
 use Rattle.owner_ids.specs.Views.{view_of_owner}
-use Rattle.held_locks.specs.declared.asked.Holder.{Holder}
+use Rattle.held_locks.specs.declared.asked.RunHolder.{RunHolder}
 use Rattle.held_locks.specs.Asked.{view_of_lock_holder, view_of_found_holder}
 use Rattle.lock_state.specs.Whole.{IsShown, AreShown}
 
@@ -24,11 +24,11 @@ ends_shown (s ∷ settings) a =
     let begins : s.first < 2 ^ 63 = a.0.1 in
     ((a.0.0, omega arith), ((a.0.0, omega arith), ends_shown settings a.1))
 
-put_shown : (x : Start) (ts : List Start) → IsShown x.owner × (x.byte ≤ 2 ^ 63) → AreStarts ts → AreStarts (put start_cmp x ts)
+put_shown : (x : Start) (ts : List Start) → IsShown x.owner × (x.byte ≤ 2 ^ 63) → AreStarts ts → AreStarts (list_with start_cmp x ts)
 put_shown x [] h a = (h, tt)
 put_shown x (t ∷ ts) h a = go (start_cmp x t) (put_shown x ts h a.1)
   where
-    go : (o : Ordering) → AreStarts (put start_cmp x ts) → AreStarts (placed o x t ts (put start_cmp x ts))
+    go : (o : Ordering) → AreStarts (list_with start_cmp x ts) → AreStarts (placed_list o x t ts (list_with start_cmp x ts))
     go Less more = (h, a)
     go Equal more = (h, a.1)
     go Greater more = (a.0, more)
@@ -83,7 +83,7 @@ run_shown settings test (t ∷ ts) run w a e = go (test (run_at settings t)) e (
     go true f more = subst IsRunShown (same_Some (run_at settings t) run f) (run_at_shown settings t w a.0.0)
     go false f more = more f
 
-pub found_shown : (settings : List Setting) (r : Request) (found : Option Holder) → AreShown settings → view_of_found_holder found ≡ first_conflict settings r → IfSome found (λ h. IsShown (view_of_owner h.owner.now) × (h.last < 2 ^ 63))
+pub found_shown : (settings : List Setting) (r : Request) (found : Option RunHolder) → AreShown settings → view_of_found_holder found ≡ first_conflict settings r → IfSome found (λ h. IsShown (view_of_owner h.owner.now) × (h.last < 2 ^ 63))
 found_shown settings r None a e = tt
 found_shown settings r (Some h) a e =
     let whole = ends_shown settings a in

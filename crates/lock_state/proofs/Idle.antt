@@ -7,7 +7,7 @@ use Rattle.definitions.specs.Bytes.{Bytes, same_bytes, is_any, first_that, witho
 use Rattle.definitions.specs.Owners.{Owner, same_owner}
 use Rattle.definitions.specs.Settings.{Mode, Setting, setting_of, covers, within, mode_at}
 use Rattle.definitions.specs.Waits.{Waiter}
-use Rattle.definitions.specs.World.{World, the_limits, is_ready_in, first_ready, granted, with_setting, with_waiter}
+use Rattle.definitions.specs.World.{World, the_limits, is_ready_in, first_ready, granted_world, with_setting, with_waiter}
 use Rattle.definitions.proofs.OwnerLaws.{same_owner-Decides}
 use Rattle.definitions.proofs.SettingLaws.{newest_wins}
 use Rattle.lock_state.specs.Seen.{IsIdle}
@@ -61,7 +61,7 @@ none_there p q (y ∷ ys) h e = go (p y) h e (none_there p q ys)
         ap (λ b. b || is_any q ys) f.0 ∙ more h f.1
 
 module _ (w : World) (x : Waiter) (there : first_ready the_limits w ≡ Some x) (ordered : x.request.first ≤ x.request.last) (y : Owner) where
-  another : IsIdle (granted the_limits w x) y → same_owner x.request.owner y ≡ false
+  another : IsIdle (granted_world the_limits w x) y → same_owner x.request.owner y ≡ false
   another idle = go (same_owner x.request.owner y) refl
     where
       go : (b : Bool) → same_owner x.request.owner y ≡ b → b ≡ false
@@ -73,7 +73,7 @@ module _ (w : World) (x : Waiter) (there : first_ready the_limits w ≡ Some x) 
           ∙ ap (λ b. cond b (Some x.request.mode) (mode_at w.settings x.request.file x.request.owner x.request.first)) (covers_first (setting_of x.request) ordered)))
       go false e = refl
 
-  held_nothing : IsIdle (granted the_limits w x) y → (file : Bytes) (byte : ℕ) → mode_at w.settings file y byte ≡ None
+  held_nothing : IsIdle (granted_world the_limits w x) y → (file : Bytes) (byte : ℕ) → mode_at w.settings file y byte ≡ None
   held_nothing idle file byte =
       go (covers (setting_of x.request) file y byte) (sym (newest_wins w.settings (setting_of x.request) file y byte) ∙ idle.holds_nothing file byte)
     where
@@ -81,7 +81,7 @@ module _ (w : World) (x : Waiter) (there : first_ready the_limits w ≡ Some x) 
       go true e = absurd (none-some x.request.mode (sym e))
       go false e = e
 
-  pub idle_granted : IsIdle (granted the_limits w x) y → IsIdle w y
+  pub idle_granted : IsIdle (granted_world the_limits w x) y → IsIdle w y
   idle_granted idle = record {
     holds_nothing = held_nothing idle;
     waits_not =

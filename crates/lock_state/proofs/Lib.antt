@@ -11,3 +11,4 @@ pub mod Closed
 pub mod Strangers
 pub mod Waiting
 pub mod Stored
+pub mod Listed

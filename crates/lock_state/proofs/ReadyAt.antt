@@ -3,7 +3,7 @@ use Rattle.std.proofs.Common.{◌≡◌, Bool, true, false, not, ◌&&◌, ◌||
 use Rattle.std.proofs.lemmas.Bool.{false≢true, or_parts, and_right}
 use Rattle.std.proofs.lemmas.Option.{none-some, same_Some}
 use Rattle.std.proofs.lemmas.Slice.Eq.{bytes_eq-Decides}
-use Rattle.definitions.specs.Bytes.{Bytes, same_bytes, is_any, first_that, without, without_first}
+use Rattle.definitions.specs.Bytes.{Bytes, same_bytes, is_any, first_that, list_without, without_first}
 use Rattle.definitions.specs.Moves.{AreRanges}
 use Rattle.definitions.specs.Owners.{Owner}
 use Rattle.definitions.specs.Quotas.{Quotas}
@@ -61,7 +61,7 @@ no_off file quotas settings ws e =
 -- ---- changes
 
 -- fewer wait
-pub ready_without : (u : Unsettled) (quotas : Quotas) (settings : List Setting) (test : Waiter → Bool) (ws : List Waiter) → IsReadyAt u quotas settings ws → IsReadyAt u quotas settings (without test ws)
+pub ready_without : (u : Unsettled) (quotas : Quotas) (settings : List Setting) (test : Waiter → Bool) (ws : List Waiter) → IsReadyAt u quotas settings ws → IsReadyAt u quotas settings (list_without test ws)
 ready_without Nowhere quotas settings test ws e = none_left (is_ready the_limits quotas settings) test ws e
 ready_without (On file) quotas settings test ws e = none_left (is_ready_off file quotas settings) test ws e
 ready_without Anywhere quotas settings test ws e = tt

@@ -1,7 +1,7 @@
 -- Which owners can be shown, through the changes of a list.
 use Rattle.std.proofs.Common.{◌≡◌, Bool, true, false, cond, List, [], ◌∷◌, ◌++◌, Some, Result, Ok, Err, OnOk, OnErr}
 use Rattle.std.proofs.lemmas.Option.{none-some, same_Some}
-use Rattle.definitions.specs.Bytes.{without, without_first, first_that}
+use Rattle.definitions.specs.Bytes.{list_without, without_first, first_that}
 use Rattle.definitions.specs.Settings.{Setting}
 use Rattle.definitions.specs.Waits.{Waiter}
 use Rattle.definitions.proofs.Lists.{have_without, have_without_first}
@@ -11,10 +11,10 @@ pub shown_more : (settings : List Setting) (s : Setting) → AreShown settings �
 shown_more [] s a h = (h, tt)
 shown_more (t ∷ settings) s a h = (a.0, shown_more settings s a.1 h)
 
-pub shown_without : (test : Setting → Bool) (settings : List Setting) → AreShown settings → AreShown (without test settings)
+pub shown_without : (test : Setting → Bool) (settings : List Setting) → AreShown settings → AreShown (list_without test settings)
 shown_without = have_without CanShow AreShown (λ s settings a. a) (λ s settings h a. (h, a))
 
-pub waiters_without : (test : Waiter → Bool) (waiters : List Waiter) → AreWaitersShown waiters → AreWaitersShown (without test waiters)
+pub waiters_without : (test : Waiter → Bool) (waiters : List Waiter) → AreWaitersShown waiters → AreWaitersShown (list_without test waiters)
 waiters_without = have_without (λ (x : Waiter). IsShown x.request.owner) AreWaitersShown (λ x waiters a. a) (λ x waiters h a. (h, a))
 
 pub waiters_without_first : (test : Waiter → Bool) (waiters : List Waiter) → AreWaitersShown waiters → AreWaitersShown (without_first test waiters)

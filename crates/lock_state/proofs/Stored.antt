@@ -6,7 +6,7 @@ use Rattle.definitions.specs.Outgoing.{Outgoing}
 use Rattle.definitions.specs.Quotas.{quotas_of}
 use Rattle.definitions.specs.Settings.{Setting}
 use Rattle.definitions.proofs.QuotaLaws.{AreKept, all_kept, is_quota, store_keeps}
-use Rattle.owner_ids.specs.Names.{named}
+use Rattle.owner_ids.specs.Names.{names_of_owners}
 use Rattle.hosts_db.specs.Calls.{Makes}
 use Rattle.hosts_db.specs.declared.error.StoreError.{StoreError}
 use Rattle.blocked_list.specs.Waiting.{Taken, waiters_by}
@@ -26,5 +26,5 @@ whole_stored r before after call settings names slots calls unsettled plain made
   shown = h.shown;
   waiters_shown = h.waiters_shown;
   ranges = h.ranges;
-  ready = ready_stored unsettled (quotas_of before) (quotas_of after) settings (waiters_by (named names) slots.waiters) (quotas_kept r before after call plain made) h.ready;
+  ready = ready_stored unsettled (quotas_of before) (quotas_of after) settings (waiters_by (names_of_owners names) slots.waiters) (quotas_kept r before after call plain made) h.ready;
 }

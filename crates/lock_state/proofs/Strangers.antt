@@ -5,22 +5,22 @@ use Rattle.std.proofs.Math.Bool.{and-false}
 use Rattle.definitions.specs.Bytes.{Bytes, same_bytes, is_any}
 use Rattle.definitions.specs.Owners.{Owner, Process, same_owner, is_description}
 use Rattle.definitions.specs.Settings.{Mode, Setting, Request, mode_at}
-use Rattle.definitions.specs.Conflict.{excludes, holds_against, tested, conflicts_with}
+use Rattle.definitions.specs.Conflict.{excludes, holds_against, tested_bytes, conflicts_with}
 use Rattle.definitions.specs.Waits.{Waiter, same_request, is_waiting, waits_for, reached_from, closes_cycle}
 use Rattle.range_table.specs.Settings.{Held}
-use Rattle.owner_ids.specs.Names.{Names, named}
+use Rattle.owner_ids.specs.Names.{Names, names_of_owners}
 use Rattle.held_locks.specs.Stands.{Stands}
 use Rattle.blocked_list.specs.Waiting.{Waiting, AreNamed, waiter_by, waiters_by}
 use Rattle.lock_state.proofs.Closed.{not_same}
 use Rattle.lock_state.proofs.Kept.{some_of}
 
 -- no waiter is for the request of one that has no number
-pub stranger_waits : (names : List (Option Owner)) (r : Request) → ((n : ℕ) → named names n ≢ Some r.owner) → (ws : List Waiting) → AreNamed (named names) ws
-    → is_waiting r (waiters_by (named names) ws) ≡ false
+pub stranger_waits : (names : List (Option Owner)) (r : Request) → ((n : ℕ) → names_of_owners names n ≢ Some r.owner) → (ws : List Waiting) → AreNamed (names_of_owners names) ws
+    → is_waiting r (waiters_by (names_of_owners names) ws) ≡ false
 stranger_waits names r nobody [] a = refl
 stranger_waits names r nobody (w ∷ ws) a =
-    let s = some_of (named names w.wanted.owner) a.0 in
-    let waiter = waiter_by (named names) w in
+    let s = some_of (names_of_owners names w.wanted.owner) a.0 in
+    let waiter = waiter_by (names_of_owners names) w in
     let is : waiter.request.owner ≡ s.0 = ap (λ o. unwrap_or o (Process 0)) s.1 in
     let other : same_owner waiter.request.owner r.owner ≡ false = not_same waiter.request.owner r.owner (λ same. nobody w.wanted.owner (s.1 ∙ ap Some (sym is ∙ same))) in
     let differs : same_request waiter.request r ≡ false = rw other (and-false (same_bytes waiter.request.file r.file)) in
@@ -42,7 +42,7 @@ module _ (names : Names) (held : Held) (settings : List Setting) (h : Stands nam
   keeps_nobody_out q =
       none_any (λ byte. holds_against settings q byte r.owner)
       (λ byte. ap (λ o. not (same_owner r.owner q.owner) && excludes o q.mode) (holds_nothing q.file byte) ∙ and-false (not (same_owner r.owner q.owner)))
-      (tested settings q)
+      (tested_bytes settings q)
 
   nobody_waits_for : (waiters : List Waiter) (y : Owner) → waits_for settings waiters y r.owner ≡ false
   nobody_waits_for waiters y =

@@ -8,7 +8,7 @@ use Rattle.definitions.specs.Settings.{Setting}
 use Rattle.definitions.specs.Quotas.{Quotas}
 use Rattle.definitions.specs.Waits.{Waiter, same_request, without_waiter}
 use Rattle.owner_ids.specs.Views.{view_of_owner}
-use Rattle.owner_ids.specs.Names.{Names, named}
+use Rattle.owner_ids.specs.Names.{Names, names_of_owners}
 use Rattle.range_table.specs.declared.run.Run.{Run}
 use Rattle.held_locks.specs.declared.asked.Request.{Request as HeldRequest}
 use Rattle.held_locks.specs.Asked.{view_of_request, run_by_number}
@@ -38,26 +38,26 @@ on_ok (Err e) h p = absurd (h refl)
 
 module _ {A E : Type 0} (r : Result A E) (names : List (Option Owner)) (settings : List Setting) (slots left : Taken) (calls : List Outgoing) (quotas : Quotas) (unsettled : Unsettled) (h : IsWhole settings names slots calls quotas unsettled) where
   -- a place is free
-  pub has_room : 0 < 8192 - (length (waiters_by (named names) slots.waiters) + length calls) → (IsErr r → 8192 - (length slots.waiters + slots.calls) ≡ 0) → IsErr r → ⊥
+  pub has_room : 0 < 8192 - (length (waiters_by (names_of_owners names) slots.waiters) + length calls) → (IsErr r → 8192 - (length slots.waiters + slots.calls) ≡ 0) → IsErr r → ⊥
   has_room room full e =
       let none = full e in
-      let same = length-map slots.waiters (waiter_by (named names)) in
+      let same = length-map slots.waiters (waiter_by (names_of_owners names)) in
       let counted = h.counted in
       omega arith
 
-  pub whole_waiting : (x : Waiter) → waiters_by (named names) left.waiters ≡ waiters_by (named names) slots.waiters ++ x ∷ [] → AreNamed (named names) left.waiters → left.calls ≡ slots.calls → IsShown x.request.owner → x.request.first ≤ x.request.last → IsWhole settings names left calls quotas (with_file unsettled x.request.file)
+  pub whole_waiting : (x : Waiter) → waiters_by (names_of_owners names) left.waiters ≡ waiters_by (names_of_owners names) slots.waiters ++ x ∷ [] → AreNamed (names_of_owners names) left.waiters → left.calls ≡ slots.calls → IsShown x.request.owner → x.request.first ≤ x.request.last → IsWhole settings names left calls quotas (with_file unsettled x.request.file)
   whole_waiting x by in_use same shown ordered = record {
     in_use = in_use;
     counted = same ∙ h.counted;
     shown = h.shown;
-    waiters_shown = subst AreWaitersShown (sym by) (waiters_more (waiters_by (named names) slots.waiters) x h.waiters_shown shown);
-    ranges = subst AreRanges (sym by) (ranges_behind (waiters_by (named names) slots.waiters) (x ∷ []) h.ranges (ordered, tt));
-    ready = subst (IsReadyAt (with_file unsettled x.request.file) quotas settings) (sym by) (ready_waiting unsettled quotas settings (waiters_by (named names) slots.waiters) x h.ready);
+    waiters_shown = subst AreWaitersShown (sym by) (waiters_more (waiters_by (names_of_owners names) slots.waiters) x h.waiters_shown shown);
+    ranges = subst AreRanges (sym by) (ranges_behind (waiters_by (names_of_owners names) slots.waiters) (x ∷ []) h.ranges (ordered, tt));
+    ready = subst (IsReadyAt (with_file unsettled x.request.file) quotas settings) (sym by) (ready_waiting unsettled quotas settings (waiters_by (names_of_owners names) slots.waiters) x h.ready);
   }
 
-  pub whole_cancelled : (wanted : Run) → AreKnown (named names) slots.waiters → IsSome (named names wanted.owner)
+  pub whole_cancelled : (wanted : Run) → AreKnown (names_of_owners names) slots.waiters → IsSome (names_of_owners names wanted.owner)
       → OnOk r ((ns : Names) → AreKnown ns slots.waiters → IsSome (ns wanted.owner) → waiters_by ns left.waiters ≡ without_waiter (request_by ns wanted) (waiters_by ns slots.waiters))
-      → OnErr r (left ≡ slots) → AreNamed (named names) left.waiters → left.calls ≡ slots.calls → IsWhole settings names left calls quotas unsettled
+      → OnErr r (left ≡ slots) → AreNamed (names_of_owners names) left.waiters → left.calls ≡ slots.calls → IsWhole settings names left calls quotas unsettled
   whole_cancelled wanted known one ok err in_use same = record {
     in_use = in_use;
     counted = same ∙ h.counted;
@@ -72,10 +72,10 @@ module _ {A E : Type 0} (r : Result A E) (names : List (Option Owner)) (settings
 
       go : (q : Result A E)
           → OnOk q ((ns : Names) → AreKnown ns slots.waiters → IsSome (ns wanted.owner) → waiters_by ns left.waiters ≡ without_waiter (request_by ns wanted) (waiters_by ns slots.waiters))
-          → OnErr q (left ≡ slots) → Stay (waiters_by (named names) left.waiters)
+          → OnErr q (left ≡ slots) → Stay (waiters_by (names_of_owners names) left.waiters)
       go (Ok y) is same_left =
-          let test = λ (w : Waiter). same_request w.request (request_by (named names) wanted) in
-          let ws = waiters_by (named names) slots.waiters in
-          subst Stay (sym (is (named names) known one))
+          let test = λ (w : Waiter). same_request w.request (request_by (names_of_owners names) wanted) in
+          let ws = waiters_by (names_of_owners names) slots.waiters in
+          subst Stay (sym (is (names_of_owners names) known one))
           (waiters_without_first test ws h.waiters_shown, (ranges_without_first test ws h.ranges, ready_without_first unsettled quotas settings test ws h.ready))
-      go (Err e) is stays = subst (λ (t : Taken). Stay (waiters_by (named names) t.waiters)) (sym stays) (h.waiters_shown, (h.ranges, h.ready))
+      go (Err e) is stays = subst (λ (t : Taken). Stay (waiters_by (names_of_owners names) t.waiters)) (sym stays) (h.waiters_shown, (h.ranges, h.ready))

@@ -1,4 +1,5 @@
+pub mod Answered
+pub mod Listed
 pub mod Seen
 pub mod ReadyAt
 pub mod Whole
-pub mod Answered

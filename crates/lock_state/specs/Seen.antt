@@ -5,7 +5,7 @@ use Rattle.definitions.specs.Owners.{Owner, same_owner}
 use Rattle.definitions.specs.Settings.{mode_at}
 use Rattle.definitions.specs.Waits.{Waiter}
 use Rattle.definitions.specs.World.{World}
-use Rattle.owner_ids.specs.Names.{named}
+use Rattle.owner_ids.specs.Names.{names_of_owners}
 
 pub record Seen : Type 0 where
   pub world : World
@@ -14,7 +14,7 @@ pub record Seen : Type 0 where
 
 -- the owner has a number, so that a lock of it takes no memory
 abbrev pub Knows : Seen → Owner → Type 0
-Knows s x = (n : ℕ) × (named s.names n ≡ Some x)
+Knows s x = (n : ℕ) × (names_of_owners s.names n ≡ Some x)
 
 -- who was known still is
 abbrev pub KeepsKnown : Seen → Seen → Type 0

@@ -5,7 +5,7 @@ use Rattle.definitions.specs.Settings.{Setting}
 use Rattle.definitions.specs.Outgoing.{Outgoing}
 use Rattle.definitions.specs.Quotas.{Quotas}
 use Rattle.definitions.specs.Waits.{Waiter}
-use Rattle.owner_ids.specs.Names.{named}
+use Rattle.owner_ids.specs.Names.{names_of_owners}
 use Rattle.definitions.specs.Moves.{AreRanges}
 use Rattle.blocked_list.specs.Waiting.{Taken, AreNamed, waiters_by}
 use Rattle.lock_state.specs.declared.unsettled.Unsettled.{Unsettled}
@@ -32,9 +32,9 @@ AreWaitersShown (x ∷ waiters) = IsShown x.request.owner × AreWaitersShown wai
 -- each waiter's number is in use, each call has its place, every owner can be shown, whoever waits, waits for a range, and is
 -- ready nowhere but where it is said
 pub record IsWhole (settings : List Setting) (names : List (Option Owner)) (slots : Taken) (calls : List Outgoing) (quotas : Quotas) (unsettled : Unsettled) : Type 0 where
-  pub in_use : AreNamed (named names) slots.waiters
+  pub in_use : AreNamed (names_of_owners names) slots.waiters
   pub counted : slots.calls ≡ length calls
   pub shown : AreShown settings
-  pub waiters_shown : AreWaitersShown (waiters_by (named names) slots.waiters)
-  pub ranges : AreRanges (waiters_by (named names) slots.waiters)
-  pub ready : IsReadyAt unsettled quotas settings (waiters_by (named names) slots.waiters)
+  pub waiters_shown : AreWaitersShown (waiters_by (names_of_owners names) slots.waiters)
+  pub ranges : AreRanges (waiters_by (names_of_owners names) slots.waiters)
+  pub ready : IsReadyAt unsettled quotas settings (waiters_by (names_of_owners names) slots.waiters)

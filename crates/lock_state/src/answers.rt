@@ -17,7 +17,7 @@ use crate::quotas::{Stored, is_refused};
 use crate::unsettled::{Unsettled, set_on};
 use crate::world::World;
 use blocked_list::Quotas;
-use callbacks::Lock;
+use callbacks::OwnedLock;
 use held_locks::{Locks, NewSetting};
 use hosts_db::{HostStore, StoreError};
 use out_calls::{OutCall, OutCalls};
@@ -98,7 +98,7 @@ fn host_of(calls: &OutCalls, xid: u32) -> Option<&[u8]>
 }
 
 // The lock that the grant of an answer is for.
-fn lock_of<'a>(calls: &'a OutCalls, key: AnswerKey<'_>) -> Option<&'a Lock>
+fn lock_of<'a>(calls: &'a OutCalls, key: AnswerKey<'_>) -> Option<&'a OwnedLock>
     ensures { view_of_found_lock result ≡ lock_at (call_at key.entry calls.now) }
 {
     match find(calls, key) {
@@ -112,7 +112,7 @@ fn give_up<R: RangeTable, Q: Quotas>(
     locks: &mut Locks<R>,
     unsettled: &mut Unsettled,
     quotas: &Q,
-    lock: &Lock,
+    lock: &OwnedLock,
 ) -> bool
     ensures unlocked { IsUnlocked (Q.by_host quotas.now) (Some (view_of_told_lock lock.now)) result locks.old.settings locks.new.settings }
     ensures names { locks.new.names ≡ locks.old.names }
@@ -122,8 +122,7 @@ fn give_up<R: RangeTable, Q: Quotas>(
     let change = NewSetting {
         file: lock.file(),
         owner: lock.caller.owner(),
-        first: lock.l_offset,
-        last: lock.last(),
+        range: lock.range(),
         mode: None,
     };
     if is_refused(locks, quotas, &change) {

@@ -3,7 +3,7 @@ ghost use Rattle.std.specs.Prelude.{◌≡◌};
 ghost use Rattle.definitions.specs.World.{closed_by};
 ghost use Rattle.owner_ids.specs.Views.{view_of_owner};
 ghost use Rattle.definitions.specs.Waits.{without_waiters_on};
-ghost use Rattle.owner_ids.specs.Names.{named};
+ghost use Rattle.owner_ids.specs.Names.{names_of_owners};
 ghost use Rattle.blocked_list.specs.Waiting.{AreKnown, AreNamed, waiters_by};
 ghost use Rattle.lock_state.specs.Seen.{KeepsKnown};
 
@@ -35,9 +35,9 @@ impl<R: RangeTable, S: HostStore> World<R, S> {
 
 // Takes out the waiters of an owner on a file. Who has no number doesn't wait.
 fn drop_waiters(slots: &mut Slots, owners: &Owners, file: &FileId, owner: &Owner)
-    requires { AreKnown (named owners.now) slots.old.waiters }
-    ensures by { waiters_by (named owners.now) slots.new.waiters ≡ without_waiters_on file.now (view_of_owner owner.now) (waiters_by (named owners.now) slots.old.waiters) }
-    ensures named { AreNamed (named owners.now) slots.new.waiters }
+    requires { AreKnown (names_of_owners owners.now) slots.old.waiters }
+    ensures by { waiters_by (names_of_owners owners.now) slots.new.waiters ≡ without_waiters_on file.now (view_of_owner owner.now) (waiters_by (names_of_owners owners.now) slots.old.waiters) }
+    ensures named { AreNamed (names_of_owners owners.now) slots.new.waiters }
     ensures calls { slots.new.calls ≡ slots.old.calls }
 {
     let Some(number) = owners.number(owner) else {

@@ -9,7 +9,7 @@ ghost use Rattle.hosts_db.specs.Calls.{Counts, Makes, IsPastLimit, IsNotStarved}
 use crate::unsettled::Unsettled;
 use crate::world::World;
 use callbacks::{Callback, Destination, Message, ShortBytes};
-use hosts_db::{HostRow, HostStore, MyId, StoreError, Watch};
+use hosts_db::{HostRow, HostStore, MyIdRef, StoreError, Watch};
 use owner_ids::Starved;
 use range_table::RangeTable;
 use std::alloc::{AllocError, Global};
@@ -107,7 +107,7 @@ impl<R: RangeTable, S: HostStore> World<R, S> {
     pub fn watch(
         &mut self,
         mon_name: &[u8],
-        my_id: &MyId<'_>,
+        my_id: &MyIdRef<'_>,
         private_bytes: &[u8; 16],
     ) -> Result<(), StoreError>
         requires { length mon_name.now ≤ 1024 }
@@ -122,7 +122,11 @@ impl<R: RangeTable, S: HostStore> World<R, S> {
 
     /// Drops the watches of a watcher: of one host (XNFS, SM_UNMON), or of all (SM_UNMON_ALL). Where the store answers an
     /// error the world stays.
-    pub fn unwatch(&mut self, mon_name: Option<&[u8]>, my_id: &MyId<'_>) -> Result<(), StoreError>
+    pub fn unwatch(
+        &mut self,
+        mon_name: Option<&[u8]>,
+        my_id: &MyIdRef<'_>,
+    ) -> Result<(), StoreError>
         ensures world { self.new.world ≡ with_hosts self.old.world self.new.world.hosts }
         ensures makes { Makes result self.old.world.hosts self.new.world.hosts (after_store self.old.world.hosts (Unwatched (option_copied mon_name.entry) my_id.now)) }
         ensures counts { Counts result self.old.refusals self.new.refusals }
@@ -141,7 +145,7 @@ fn status(alloc: Global, watch: &Watch, state: i32) -> Result<Callback, AllocErr
     let my_name = ShortBytes::copy_of(alloc, my_id.my_name())?;
     let mon_name = ShortBytes::copy_of(alloc, watch.mon_name())?;
     let message = Message::Status {
-        my_id: callbacks::MyId {
+        my_id: callbacks::OwnedMyId {
             my_name,
             prog: my_id.prog(),
             vers: my_id.vers(),

@@ -17,5 +17,6 @@ mod world;
 
 pub use answers::AnswerKey;
 pub use blocked_list::NotWaiting;
+pub use out_calls::OutCalls;
 pub use owner_ids::Starved;
 pub use world::World;

@@ -9,13 +9,13 @@ ghost use Rattle.lock_state.specs.Whole.{IsShown};
 
 use crate::quotas::{Stored, is_refused, lacks_room};
 use crate::world::World;
-use held_locks::{Holder, NewSetting, Request};
+use held_locks::{NewSetting, Request, RunHolder};
 use hosts_db::HostStore;
 use range_table::RangeTable;
 
 impl<R: RangeTable, S: HostStore> World<R, S> {
     /// The lock of another owner that is first in the way: of the least first byte, then of the least owner.
-    pub fn first_conflict(&self, wanted: &Request<'_>) -> Option<Holder<'_>>
+    pub fn first_conflict(&self, wanted: &Request<'_>) -> Option<RunHolder<'_>>
         ensures found { view_of_found_holder result ≡ first_conflict self.now.world.settings (view_of_request wanted.now) }
         ensures shown { IfSome result (λ found. IsShown (view_of_owner found.owner.now) × (found.last < 2 ^ 63)) }
     {

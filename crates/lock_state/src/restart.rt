@@ -2,7 +2,7 @@
 ghost use Rattle.std.specs.Prelude.{◌≡◌, ℕ, ◌+◌, ◌<◌, ◌≤◌, [], length, map, pos, OnOk, OnErr, IfOk};
 ghost use Rattle.definitions.specs.Hosts.{Begin, after_store, next_own};
 ghost use Rattle.definitions.specs.Outgoing.{ToHost, Notify};
-ghost use Rattle.definitions.specs.World.{opening, restarted, restart_callback, with_due, with_all_due, with_hosts, slots_free, the_limits};
+ghost use Rattle.definitions.specs.World.{opening, restarted_world, restart_callback, with_due, with_all_due, with_hosts, slots_free, the_limits};
 ghost use Rattle.hosts_db.specs.Calls.{Counts, Makes, IsNotStarved};
 
 use crate::unsettled::Unsettled;
@@ -36,7 +36,7 @@ impl<R: RangeTable, S: HostStore> World<R, S> {
     pub fn restart(&mut self, notices: Vec<Callback>) -> Result<(), StoreError>
         requires few { length notices.items ≤ 4096 }
         requires notices { notices.items ≡ map (restart_callback self.old.world.own_name (next_own self.old.world.hosts.own)) self.old.world.hosts.rows }
-        ensures ok { OnOk result (self.new.world ≡ restarted self.old.world (after_store self.old.world.hosts Begin)) }
+        ensures ok { OnOk result (self.new.world ≡ restarted_world self.old.world (after_store self.old.world.hosts Begin)) }
         ensures err { OnErr result (self.new.world ≡ self.old.world) }
         ensures counts { Counts result self.old.refusals self.new.refusals }
         ensures not_starved { IsNotStarved result }

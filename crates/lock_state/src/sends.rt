@@ -6,7 +6,7 @@ ghost use Rattle.out_calls.specs.Found.{found};
 
 use crate::world::World;
 use hosts_db::HostStore;
-use out_calls::OutCall;
+use out_calls::{OutCall, OutCalls};
 use range_table::RangeTable;
 
 impl<R: RangeTable, S: HostStore> World<R, S> {
@@ -15,6 +15,13 @@ impl<R: RangeTable, S: HostStore> World<R, S> {
         ensures { result ≡ slots_free the_limits self.now.world }
     {
         self.slots.free()
+    }
+
+    /// The server's own calls that are not done, the one that became due last at the end.
+    pub fn calls(&self) -> &OutCalls
+        ensures { result.now ≡ self.now.world.calls }
+    {
+        &self.calls
     }
 
     /// The call that is to be sent next.

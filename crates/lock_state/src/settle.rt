@@ -1,6 +1,6 @@
 //! Who waits is granted once nothing is in the way.
 ghost use Rattle.std.specs.Prelude.{◌≡◌, ◌<◌, length, IfSome};
-ghost use Rattle.definitions.specs.World.{settled, the_limits, is_ready_in};
+ghost use Rattle.definitions.specs.World.{settled_world, the_limits, is_ready_in};
 ghost use Rattle.definitions.specs.First.{IsFirstPlace};
 ghost use Rattle.definitions.specs.Owners.{Owner as SaidOwner};
 ghost use Rattle.lock_state.specs.Seen.{IsIdle};
@@ -17,7 +17,7 @@ impl<R: RangeTable, S: HostStore> World<R, S> {
     /// Grants the first waiter that can be granted, and again from the front, until none can be. Each grant's call
     /// becomes due.
     pub fn settle(&mut self)
-        ensures world { self.new.world ≡ settled the_limits self.old.world }
+        ensures world { self.new.world ≡ settled_world the_limits self.old.world }
         ensures refusals { self.new.refusals ≡ self.old.refusals }
         ensures names { self.new.names ≡ self.old.names }
         ensures idle { (x : SaidOwner) → IsIdle self.new.world x → IsIdle self.old.world x }

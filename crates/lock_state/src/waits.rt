@@ -1,9 +1,10 @@
 //! Who waits for a lock.
-ghost use Rattle.std.specs.Prelude.{◌≡◌, ◌↔◌, ◌<◌, false, IsErr, OnOk, OnErr};
+ghost use Rattle.std.specs.Prelude.{◌≡◌, ◌↔◌, ◌<◌, false, length, map, slice_get, Some, IsErr, OnOk, OnErr};
 ghost use Rattle.definitions.specs.Waits.{is_waiting, without_waiter, closes_cycle};
 ghost use Rattle.definitions.specs.World.{with_waiter, slots_free, the_limits};
 ghost use Rattle.owner_ids.specs.Views.{view_of_owner};
 ghost use Rattle.held_locks.specs.Asked.{view_of_request};
+ghost use Rattle.lock_state.specs.Listed.{request_wanted};
 ghost use Rattle.lock_state.specs.Seen.{Knows};
 ghost use Rattle.lock_state.specs.Whole.{IsShown};
 
@@ -12,9 +13,34 @@ use blocked_list::{NotWaiting, Waiter};
 use callbacks::Callback;
 use held_locks::Request;
 use hosts_db::HostStore;
-use range_table::RangeTable;
+use range_table::{ByteRange, RangeTable};
 
 impl<R: RangeTable, S: HostStore> World<R, S> {
+    /// How many wait.
+    #[tactic(auto, using(crate::proofs::Listed::waiters_count))]
+    pub fn waiting(&self) -> usize
+        ensures { result ≡ length self.now.world.waiters }
+    {
+        self.slots.waiters().len()
+    }
+
+    /// What the waiter at this place of the order of waiting waits for.
+    pub fn wanted_at(&self, place: usize) -> Request<'_>
+        requires { place < length self.now.world.waiters }
+        ensures { slice_get (map request_wanted self.now.world.waiters) place ≡ Some (view_of_request result) }
+    {
+        let wanted = self.slots.waiters()[place].wanted();
+        Request {
+            file: wanted.file,
+            owner: self.locks.owner(wanted.owner),
+            range: ByteRange {
+                first: wanted.first,
+                last: wanted.last,
+            },
+            mode: wanted.mode,
+        }
+    }
+
     /// Whether its owner waits for just this lock.
     pub fn is_waiting(&self, wanted: &Request<'_>) -> bool
         ensures { result ≡ is_waiting (view_of_request wanted.now) self.now.world.waiters }

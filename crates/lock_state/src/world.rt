@@ -33,7 +33,7 @@ pub struct World<R: RangeTable, S: HostStore> {
 }
 
 impl<R: RangeTable, S: HostStore> Model for World<R, S> {
-    ghost use Rattle.owner_ids.specs.Names.{named};
+    ghost use Rattle.owner_ids.specs.Names.{names_of_owners};
     ghost use Rattle.definitions.specs.Quotas.{quotas_of};
     ghost use Rattle.blocked_list.specs.Waiting.{waiters_by};
     ghost use Rattle.grace.specs.Meanings.{view_of_phase};
@@ -46,7 +46,7 @@ impl<R: RangeTable, S: HostStore> Model for World<R, S> {
       world = record {
         own_name = w.own_name;
         settings = w.locks.settings;
-        waiters = waiters_by (named w.locks.names) w.slots.waiters;
+        waiters = waiters_by (names_of_owners w.locks.names) w.slots.waiters;
         shares = w.shares;
         phase = view_of_phase w.phase;
         hosts = S.rows w.store;

@@ -2,7 +2,7 @@
 ghost use Rattle.std.specs.Prelude.{◌≡◌, ◌≤◌, IfOk, IfErr};
 ghost use Rattle.lockd_serving.specs.Ran.{IsStatus};
 
-use crate::notes::{Note, tell};
+use crate::notes::{StartFailure, tell};
 use crate::sockets::ServeFault;
 use config::{ServeConfig, StreamConfig};
 use pipe_loops::StreamFault;
@@ -33,7 +33,7 @@ pub(crate) fn end_stream(
 {
     if let (Some(path), Err(StreamFault::StoreRefused)) = (&asked.db, ended) {
         let path = path.as_str();
-        tell(rt, Note::NotBegun { path });
+        tell(rt, StartFailure::NotBegun { path });
     }
     end(rt, ended)
 }
@@ -65,7 +65,7 @@ fn tell_why(rt: &HostRuntime, asked: &ServeConfig, fault: &ServeFault) {
     let ServeFault::Server(fault) = fault else {
         return;
     };
-    if let Some(note) = Note::of_server(asked.db.as_str(), fault) {
+    if let Some(note) = StartFailure::of_server(asked.db.as_str(), fault) {
         tell(rt, note);
     }
 }

@@ -9,6 +9,6 @@ mod streams;
 mod work;
 
 pub use ends::end;
-pub use notes::Note;
+pub use notes::StartFailure;
 pub use streams::Console;
 pub use work::serve_asked;

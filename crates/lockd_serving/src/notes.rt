@@ -6,7 +6,7 @@ use thiserror::Error;
 
 /// Why a start failed: which file, line, address or database it was, and what the system says of it.
 #[derive(Clone, Copy, Debug, Error)]
-pub enum Note<'a> {
+pub enum StartFailure<'a> {
     /// The file of peers can't be read.
     #[error("{path}: {error}")]
     Unread {
@@ -48,20 +48,20 @@ pub enum Note<'a> {
     NoThread,
 }
 
-impl<'a> Note<'a> {
+impl<'a> StartFailure<'a> {
     /// Why a server over this database didn't start. None where its fault says all, or comes behind the start.
-    pub(crate) fn of_server(path: &'a str, fault: &ServerFault) -> Option<Note<'a>> {
+    pub(crate) fn of_server(path: &'a str, fault: &ServerFault) -> Option<StartFailure<'a>> {
         match fault {
-            ServerFault::ReadFault(refused) => Some(Note::NoListener(*refused)),
-            ServerFault::NoSender(error) => Some(Note::NoSender(*error)),
-            ServerFault::NoThread => Some(Note::NoThread),
-            ServerFault::StoreRefused => Some(Note::NotBegun { path }),
+            ServerFault::ReadFault(refused) => Some(StartFailure::NoListener(*refused)),
+            ServerFault::NoSender(error) => Some(StartFailure::NoSender(*error)),
+            ServerFault::NoThread => Some(StartFailure::NoThread),
+            ServerFault::StoreRefused => Some(StartFailure::NotBegun { path }),
             ServerFault::Starved | ServerFault::AuditMismatch | ServerFault::WriteFault => None,
         }
     }
 }
 
 /// Tells it on standard error. A note that can't be written is dropped.
-pub(crate) fn tell(rt: &HostRuntime, note: Note<'_>) {
+pub(crate) fn tell(rt: &HostRuntime, note: StartFailure<'_>) {
     let _ = eprintln!(rt; "lockd: note: {note}");
 }

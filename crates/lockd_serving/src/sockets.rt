@@ -3,7 +3,7 @@ ghost use Rattle.std.specs.Prelude.{◌≡◌, IfOk};
 ghost use Rattle.std.specs.Net.Socket.{socket_ip, socket_port};
 ghost use Rattle.lockd_serving.specs.Times.{Lasts};
 
-use crate::notes::{Note, tell};
+use crate::notes::{StartFailure, tell};
 use crate::streams::own_name;
 use config::ServeConfig;
 use hosts_db::HostStore;
@@ -50,7 +50,7 @@ pub(crate) fn read_peers(host: &HostRuntime, path: &str) -> Result<Peers, ServeF
     match fs::read(host, path) {
         Ok(bytes) => peers_of(host, path, bytes.as_slice()),
         Err(error) => {
-            tell(host, Note::Unread { path, error });
+            tell(host, StartFailure::Unread { path, error });
             Err(ServeFault::ReadFault)
         }
     }
@@ -61,7 +61,7 @@ fn peers_of(host: &HostRuntime, path: &str, bytes: &[u8]) -> Result<Peers, Serve
         Ok(peers) => Ok(peers),
         Err(PeersFault::Starved) => Err(ServeFault::Starved),
         Err(PeersFault::BadLine(number)) => {
-            tell(host, Note::BadLine { path, number });
+            tell(host, StartFailure::BadLine { path, number });
             Err(ServeFault::BadLine)
         }
     }

@@ -4,7 +4,7 @@ ghost use Rattle.hosts_db.specs.KeptHosts.{IsStored};
 ghost use Rattle.hosts_sql.specs.Refused.{refusal_of};
 ghost use Rattle.lockd_serving.specs.Ran.{AreStored};
 
-use crate::notes::{Note, tell};
+use crate::notes::{StartFailure, tell};
 use config::FilePath;
 use hosts_db::{HostStore, KeptHosts, MemHosts, StoreError};
 use hosts_sql::{AdoptError, SqlHosts};
@@ -17,7 +17,7 @@ pub(crate) type Hosts<S> = KeptHosts<MemHosts, SqlHosts<S>>;
 
 /// A database, and what came of opening it.
 #[derive(Drop)]
-pub(crate) struct Opened<'a, S: Alter> {
+pub(crate) struct OpenedDatabase<'a, S: Alter> {
     /// Where it is.
     pub(crate) path: &'a FilePath,
     pub(crate) tried: Result<Connection<S>, sqlite::Error>,
@@ -50,7 +50,7 @@ fn refused(host: &HostRuntime, path: &FilePath, why: &AdoptError) -> StreamFault
     let refusal = why.refusal();
     if refusal == StoreError::StoreRefused {
         let path = path.as_str();
-        tell(host, Note::NoHosts { path, why });
+        tell(host, StartFailure::NoHosts { path, why });
     }
     fault_of(refusal)
 }
@@ -58,13 +58,13 @@ fn refused(host: &HostRuntime, path: &FilePath, why: &AdoptError) -> StreamFault
 // The hosts that a database stores, where it could be opened. What is no database of hosts is left as it was, and a note says why.
 fn stored_hosts<S: Alter + Drop>(
     host: &HostRuntime,
-    opened: Opened<'_, S>,
+    opened: OpenedDatabase<'_, S>,
 ) -> Result<Hosts<S>, StreamFault>
     ensures refused { IfErr opened.entry.tried (λ _. result ≡ Err StreamFault.StoreRefused) }
     ensures stored { IfOk result (λ hosts. IsStored hosts) }
     ensures refusals { IfOk result (λ hosts. ⟦<Hosts<S> as HostStore>⟧.refusals hosts ≡ 0) }
 {
-    let Opened { path, tried } = opened;
+    let OpenedDatabase { path, tried } = opened;
     match SqlHosts::adopt_opened(host.alloc(), tried) {
         Ok(store) => Ok(KeptHosts::Stored(store)),
         Err(why) => Err(refused(host, path, &why)),
@@ -74,7 +74,7 @@ fn stored_hosts<S: Alter + Drop>(
 /// The hosts of a database, where one was opened, and else none, in memory. Where there is no such database a note says why.
 pub(crate) fn hosts_of<S: Alter + Drop>(
     host: &HostRuntime,
-    opened: Option<Opened<'_, S>>,
+    opened: Option<OpenedDatabase<'_, S>>,
 ) -> Result<Hosts<S>, StreamFault>
     ensures rows { IfOk result (λ hosts. AreStored (option_map (λ opened. opened.path.now) opened.entry) (⟦<Hosts<S> as HostStore>⟧.rows hosts)) }
     ensures refusals { IfOk result (λ hosts. ⟦<Hosts<S> as HostStore>⟧.refusals hosts ≡ 0) }

@@ -6,7 +6,7 @@ ghost use Rattle.pipe_loops.specs.Pipe.{beginning};
 
 use byte_io::MOST_READS;
 use callbacks::ShortBytes;
-use config::{Name, StreamConfig};
+use config::{OwnName, StreamConfig};
 use hosts_db::HostStore;
 use pipe_loops::{Server, StreamFault, pipe_loop, table_loop};
 use range_arena::ArenaTable;
@@ -31,7 +31,7 @@ pub struct Console<I, O> {
 }
 
 /// A copy of the server's own name.
-pub(crate) fn own_name(alloc: Global, name: &Name) -> Result<ShortBytes, StreamFault>
+pub(crate) fn own_name(alloc: Global, name: &OwnName) -> Result<ShortBytes, StreamFault>
     ensures { IfOk result (λ copy. copy ≡ name.now) }
 {
     match ShortBytes::copy_of(alloc, name.as_str().as_bytes()) {

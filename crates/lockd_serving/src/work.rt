@@ -4,7 +4,7 @@ ghost use Rattle.lockd_serving.specs.Ran.{Fails, Ran, RanOver, RanServer, Runs, 
 
 use crate::ends::{end, end_server, end_stream};
 use crate::sockets::{ServeFault, read_peers, serve_sockets};
-use crate::stores::{Opened, hosts_of};
+use crate::stores::{OpenedDatabase, hosts_of};
 use crate::streams::{Console, Output, serve_stream};
 use config::{Config, FilePath, ServeConfig, StreamConfig};
 use hosts_db::{HostStore, KeptHosts, Lasting};
@@ -86,7 +86,7 @@ fn serve_database<S, R, I, O>(
     rt: &R,
     console: &mut Console<I, O>,
     work: Work<'_>,
-    opened: Option<Opened<'_, S>>,
+    opened: Option<OpenedDatabase<'_, S>>,
 ) -> ExitCode
 where
     S: Alter + Drop + Send,
@@ -113,7 +113,7 @@ fn serve_file<R: Runtime, I: Read, O: Write>(
     ensures most { result.status ≤ 1 }
 {
     let opened = match path {
-        Some(path) => Some(Opened {
+        Some(path) => Some(OpenedDatabase {
             path,
             tried: Connection::open(host, path.as_str()),
         }),

@@ -4,7 +4,7 @@ use Rattle.xdr_core.specs.Codec.{Codec}
 use Rattle.xdr_core.specs.Formats.{◌&◌, fields, signed, opaque}
 use Rattle.definitions.specs.Nlm.{Lock}
 use Rattle.nlm4_types.specs.declared.lock.Lock as declared
-use Rattle.nlm4_types.specs.Offset.{offset, clamped}
+use Rattle.nlm4_types.specs.Offset.{offset, clamped_number}
 
 abbrev pub netobj : Codec (List ℕ)
 netobj = opaque 1024
@@ -24,7 +24,7 @@ view_of_lock v = record {
 
 -- the lock with an offset and a length that have a spelling
 abbrev pub clamped_lock : Bool → Lock → Lock
-clamped_lock wide v = record v { l_offset = clamped wide v.l_offset; l_len = clamped wide v.l_len }
+clamped_lock wide v = record v { l_offset = clamped_number wide v.l_offset; l_len = clamped_number wide v.l_len }
 
 unfoldable pub lock : Bool → Codec Lock
 lock wide =

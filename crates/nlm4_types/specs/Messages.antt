@@ -2,7 +2,7 @@
 use Rattle.std.specs.Prelude.{ℕ, Bool, List}
 use Rattle.definitions.specs.Nlm.{Version, Lock, TestArgs, TestRes}
 use Rattle.definitions.specs.Outgoing.{granted_args}
-use Rattle.nlm4_types.specs.declared.messages.Grant as grant_declared
+use Rattle.nlm4_types.specs.declared.messages.GrantedArgs as grant_declared
 use Rattle.nlm4_types.specs.declared.messages.NlmMessage.{NlmMessage}
 use Rattle.nlm4_types.specs.declared.messages.NlmMessage.TheVariants as message
 use Rattle.nlm4_types.specs.Version.{is_wide}
@@ -35,7 +35,7 @@ testres_bytes version r = (testres (is_wide version)).written (clamped_testres (
 
 -- ---- the calls that the server makes
 
-abbrev pub bytes_of_grant : Version → grant_declared.Grant → List ℕ
+abbrev pub bytes_of_grant : Version → grant_declared.GrantedArgs → List ℕ
 bytes_of_grant version g = grant_bytes version g.number g.exclusive (view_of_lock g.alock)
 
 abbrev pub procedure_of : NlmMessage → ℕ
@@ -55,7 +55,7 @@ message_bytes version (message.CancelRes r) = res.written (view_of_res r)
 message_bytes version (message.UnlockRes r) = res.written (view_of_res r)
 
 -- what the bytes of a message are a spelling of
-abbrev pub SpellsGrant : Version → List ℕ → grant_declared.Grant → Type 0
+abbrev pub SpellsGrant : Version → List ℕ → grant_declared.GrantedArgs → Type 0
 SpellsGrant version text g = (testargs (is_wide version)).Spells text (shown_grant version g.number g.exclusive (view_of_lock g.alock))
 
 abbrev pub SpellsTestRes : Version → List ℕ → TestRes → Type 0

@@ -9,6 +9,6 @@ offset true = hyper
 offset false = word
 
 -- the number, or the greatest one of 4 bytes where it passes them
-abbrev pub clamped : Bool → ℕ → ℕ
-clamped true n = n
-clamped false n = min n narrow_top
+abbrev pub clamped_number : Bool → ℕ → ℕ
+clamped_number true n = n
+clamped_number false n = min n narrow_top

@@ -7,7 +7,7 @@ use Rattle.definitions.specs.Nlm.{Stat, Res, Holder, TestRes, is_denial}
 use Rattle.nlm4_types.specs.declared.results.Res as res_declared
 use Rattle.nlm4_types.specs.declared.results.Holder as holder_declared
 use Rattle.nlm4_types.specs.declared.results.TestRes as testres_declared
-use Rattle.nlm4_types.specs.Offset.{offset, clamped}
+use Rattle.nlm4_types.specs.Offset.{offset, clamped_number}
 use Rattle.nlm4_types.specs.Stat.{view_of_stat, stat}
 use Rattle.nlm4_types.specs.Lock.{netobj}
 
@@ -27,7 +27,7 @@ view_of_holder v = record { exclusive = v.exclusive; svid = v.svid; oh = v.oh.by
 
 -- the holder with an offset and a length that have a spelling
 abbrev pub clamped_holder : Bool → Holder → Holder
-clamped_holder wide v = record v { l_offset = clamped wide v.l_offset; l_len = clamped wide v.l_len }
+clamped_holder wide v = record v { l_offset = clamped_number wide v.l_offset; l_len = clamped_number wide v.l_len }
 
 unfoldable pub holder : Bool → Codec Holder
 holder wide =

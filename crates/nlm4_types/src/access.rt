@@ -10,7 +10,7 @@ pub enum Access {
 }
 
 /// What a share denies the others.
-pub type Mode = Access;
+pub type DenyMode = Access;
 
 // Each at the place of its word.
 const ACCESSES: [Access; 4] = [Access::None, Access::Read, Access::Write, Access::Both];

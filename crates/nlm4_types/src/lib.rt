@@ -14,11 +14,11 @@ mod shown;
 mod stat;
 mod version;
 
-pub use access::{Access, Mode};
+pub use access::{Access, DenyMode};
 pub use arguments::{CancelArgs, LockArgs, TestArgs, UnlockArgs};
 pub use call::{NlmCall, is_known, one_call};
 pub use lock::{Lock, Name, Netobj};
-pub use messages::{Grant, NlmMessage};
+pub use messages::{GrantedArgs, NlmMessage};
 pub use notify::Notify;
 pub use offset::{NARROW, WIDE};
 pub use results::{Holder, Res, TestRes};

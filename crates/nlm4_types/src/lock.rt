@@ -1,5 +1,5 @@
 ghost use Rattle.std.specs.Prelude.{◌≡◌, ◌==◌};
-ghost use Rattle.nlm4_types.specs.Offset.{clamped};
+ghost use Rattle.nlm4_types.specs.Offset.{clamped_number};
 
 use crate::offset::Offset;
 use xdr_core::{Cursor, Frame, FrameFull, Opaque, Wire, XdrError, pairs};
@@ -19,8 +19,8 @@ pub struct Lock<'r, const BYTES: u32> {
     pub svid: i32,
     pub l_offset: u64,
     pub l_len: u64,
-    pub ghost offset_within: { clamped (BYTES == 8) l_offset ≡ l_offset },
-    pub ghost len_within: { clamped (BYTES == 8) l_len ≡ l_len },
+    pub ghost offset_within: { clamped_number (BYTES == 8) l_offset ≡ l_offset },
+    pub ghost len_within: { clamped_number (BYTES == 8) l_len ≡ l_len },
 }
 
 #[tactic(auto, unfolding(crate::specs::Lock::lock))]

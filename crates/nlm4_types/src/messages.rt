@@ -63,14 +63,14 @@ impl<'r> TestRes<'r, WIDE> {
 
 /// A lock that is granted to a waiter (nlm4_testargs of GRANTED and GRANTED_MSG).
 #[derive(Clone, Copy)]
-pub struct Grant<'r> {
+pub struct GrantedArgs<'r> {
     /// The number of the call, whose 8 bytes are the cookie.
     pub number: u64,
     pub exclusive: bool,
     pub alock: Lock<'r, WIDE>,
 }
 
-impl<'r> Grant<'r> {
+impl<'r> GrantedArgs<'r> {
     /// Writes the arguments in the version. An offset or a length of versions 1 and 3 that passes 4 bytes, which no call
     /// of these versions asks for, is written as the greatest of 4 bytes. It fits behind a header of 64 bytes.
     #[tactic(auto, using(crate::proofs::Fits::grant_fits, crate::proofs::Eight::eight_bytes_written))]
@@ -96,8 +96,8 @@ impl<'r> Grant<'r> {
 /// A call that the server makes of a client's lock manager.
 #[derive(Clone, Copy)]
 pub enum NlmMessage<'r> {
-    Granted(Grant<'r>),
-    GrantedMsg(Grant<'r>),
+    Granted(GrantedArgs<'r>),
+    GrantedMsg(GrantedArgs<'r>),
     TestRes(TestRes<'r, WIDE>),
     LockRes(Res<'r>),
     CancelRes(Res<'r>),

@@ -1,7 +1,7 @@
 //! Offsets and lengths: 8 bytes in version 4, 4 bytes in versions 1 and 3.
 
 ghost use Rattle.std.specs.Prelude.{◌≡◌, ◌==◌};
-ghost use Rattle.nlm4_types.specs.Offset.{clamped};
+ghost use Rattle.nlm4_types.specs.Offset.{clamped_number};
 
 use xdr_core::{Cursor, Frame, FrameFull, Wire, XdrError};
 
@@ -15,15 +15,15 @@ pub const NARROW: u32 = 4;
 #[derive(Clone, Copy)]
 pub(crate) struct Offset<const BYTES: u32> {
     pub number: u64,
-    pub ghost within: { clamped (BYTES == 8) number ≡ number },
+    pub ghost within: { clamped_number (BYTES == 8) number ≡ number },
 }
 
 impl<const BYTES: u32> Offset<BYTES> {
-    ghost use Rattle.nlm4_types.specs.Offset.{clamped};
+    ghost use Rattle.nlm4_types.specs.Offset.{clamped_number};
 
     /// The number, or the greatest one that has a spelling.
     pub(crate) fn new(number: u64) -> Self
-        ensures { result.number ≡ clamped (BYTES == 8) number }
+        ensures { result.number ≡ clamped_number (BYTES == 8) number }
     {
         let number = if BYTES == WIDE {
             number

@@ -1,6 +1,6 @@
 ghost use Rattle.std.specs.Prelude.{◌≡◌, ◌==◌, is_some};
 ghost use Rattle.definitions.specs.Nlm.{is_denial};
-ghost use Rattle.nlm4_types.specs.Offset.{clamped};
+ghost use Rattle.nlm4_types.specs.Offset.{clamped_number};
 ghost use Rattle.nlm4_types.specs.Stat.{view_of_stat};
 
 use crate::lock::Netobj;
@@ -44,8 +44,8 @@ pub struct Holder<'r, const BYTES: u32> {
     pub oh: Netobj<'r>,
     pub l_offset: u64,
     pub l_len: u64,
-    pub ghost offset_within: { clamped (BYTES == 8) l_offset ≡ l_offset },
-    pub ghost len_within: { clamped (BYTES == 8) l_len ≡ l_len },
+    pub ghost offset_within: { clamped_number (BYTES == 8) l_offset ≡ l_offset },
+    pub ghost len_within: { clamped_number (BYTES == 8) l_len ≡ l_len },
 }
 
 #[tactic(auto, unfolding(crate::specs::Results::holder))]

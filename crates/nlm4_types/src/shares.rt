@@ -1,6 +1,6 @@
 ghost use Rattle.std.specs.Prelude.{◌≡◌};
 
-use crate::access::{Access, Mode};
+use crate::access::{Access, DenyMode};
 use crate::lock::{Name, Netobj};
 use crate::stat::Stat;
 use xdr_core::{Cursor, Frame, FrameFull, Wire, XdrError, get_record, put_record};
@@ -13,7 +13,7 @@ pub struct ShareArgs<'r> {
     pub fh: Netobj<'r>,
     pub oh: Netobj<'r>,
     /// What the share denies the others.
-    pub mode: Mode,
+    pub mode: DenyMode,
     /// What its owner does.
     pub access: Access,
     pub reclaim: bool,

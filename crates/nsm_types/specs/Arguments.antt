@@ -1,7 +1,7 @@
 -- What is monitored, and who watches it (XNFS, the status monitor).
 use Rattle.std.specs.Prelude.{ℕ, ℤ, List, refl}
 use Rattle.xdr_core.specs.Codec.{Codec}
-use Rattle.xdr_core.specs.Formats.{◌&◌, fields, signed, opaque, padded}
+use Rattle.xdr_core.specs.Formats.{◌&◌, fields, signed, opaque, padded_codec}
 use Rattle.definitions.specs.Nsm.{MyId}
 use Rattle.nsm_types.specs.declared.arguments.MyId as my_id_declared
 use Rattle.nsm_types.specs.declared.arguments.MonId as mon_id_declared
@@ -57,7 +57,7 @@ mon =
     fields
     (λ p. record { mon_name = p.0; my_id = p.1.0; private_bytes = p.1.1 })
     (λ v. (v.mon_name, (v.my_id, v.private_bytes)))
-    (name & my_id & padded 16)
+    (name & my_id & padded_codec 16)
     (λ _. refl) (λ _. refl)
 
 -- ---- stat_chge
@@ -92,5 +92,5 @@ status =
     fields
     (λ p. record { mon_name = p.0; state = p.1.0; private_bytes = p.1.1 })
     (λ v. (v.mon_name, (v.state, v.private_bytes)))
-    (name & signed & padded 16)
+    (name & signed & padded_codec 16)
     (λ _. refl) (λ _. refl)

@@ -3,12 +3,12 @@ ghost use Rattle.std.specs.Prelude.{◌≡◌};
 use xdr_core::{Cursor, Fixed, Frame, FrameFull, Opaque, Wire, XdrError, get_record, put_record};
 
 /// The name of a host, of any bytes.
-pub type Name<'r> = Opaque<'r, 1024>;
+pub type SmName<'r> = Opaque<'r, 1024>;
 
 /// Whom to call when a monitored host has restarted (my_id).
 #[derive(Clone, Copy)]
 pub struct MyId<'r> {
-    pub my_name: Name<'r>,
+    pub my_name: SmName<'r>,
     pub prog: i32,
     pub vers: i32,
     pub proc: i32,
@@ -37,7 +37,7 @@ impl<'r> Wire<'r> for MyId<'r> {
 /// A host, and who watches it (mon_id): the arguments of SM_UNMON.
 #[derive(Clone, Copy)]
 pub struct MonId<'r> {
-    pub mon_name: Name<'r>,
+    pub mon_name: SmName<'r>,
     pub my_id: MyId<'r>,
 }
 
@@ -63,7 +63,7 @@ impl<'r> Wire<'r> for MonId<'r> {
 /// The arguments of SM_MON (mon): a host to watch, who watches it, and 16 bytes that are handed back.
 #[derive(Clone, Copy)]
 pub struct Mon<'r> {
-    pub mon_name: Name<'r>,
+    pub mon_name: SmName<'r>,
     pub my_id: MyId<'r>,
     pub private_bytes: Fixed<'r, 16>,
 }
@@ -90,7 +90,7 @@ impl<'r> Wire<'r> for Mon<'r> {
 /// A host and its state (stat_chge): the arguments of SM_NOTIFY.
 #[derive(Clone, Copy)]
 pub struct StatChge<'r> {
-    pub mon_name: Name<'r>,
+    pub mon_name: SmName<'r>,
     pub state: i32,
 }
 
@@ -116,7 +116,7 @@ impl<'r> Wire<'r> for StatChge<'r> {
 /// The arguments of the call to a watcher (status).
 #[derive(Clone, Copy)]
 pub struct Status<'r> {
-    pub mon_name: Name<'r>,
+    pub mon_name: SmName<'r>,
     pub state: i32,
     pub private_bytes: Fixed<'r, 16>,
 }

@@ -4,7 +4,7 @@ ghost use Rattle.xdr_core.specs.Codec.{Front, Gives};
 ghost use Rattle.xdr_core.specs.declared.error.CallError.TheVariants.{Starved, NoSuchProc, GarbageArgs};
 ghost use Rattle.nsm_types.specs.Call.{view_of_call, is_known_number, arguments_of, call};
 
-use crate::arguments::{Mon, MonId, MyId, Name, StatChge};
+use crate::arguments::{Mon, MonId, MyId, SmName, StatChge};
 use xdr_core::{CallError, Cursor, Wire, XdrError};
 
 /// The status monitor's program (XNFS).
@@ -17,7 +17,7 @@ pub const VERSION: u32 = 1;
 #[derive(Clone, Copy)]
 pub enum NsmCall<'r> {
     Null,
-    Stat(Name<'r>),
+    Stat(SmName<'r>),
     Mon(Mon<'r>),
     Unmon(MonId<'r>),
     UnmonAll(MyId<'r>),
@@ -65,7 +65,7 @@ fn arguments<'r>(procedure: u32, c: &mut Cursor<'r>) -> Result<NsmCall<'r>, XdrE
 {
     Ok(match procedure {
         0 => NsmCall::Null,
-        1 => NsmCall::Stat(Name::get(c)?),
+        1 => NsmCall::Stat(SmName::get(c)?),
         2 => NsmCall::Mon(Mon::get(c)?),
         3 => NsmCall::Unmon(MonId::get(c)?),
         4 => NsmCall::UnmonAll(MyId::get(c)?),

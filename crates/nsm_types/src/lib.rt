@@ -6,7 +6,7 @@ mod call;
 mod messages;
 mod results;
 
-pub use arguments::{Mon, MonId, MyId, Name, StatChge, Status};
+pub use arguments::{Mon, MonId, MyId, SmName, StatChge, Status};
 pub use call::{NsmCall, PROGRAM, VERSION, is_known, one_call};
 pub use messages::{NsmMessage, NsmResult};
 pub use results::{MonitorRes, SmStat, SmStatRes};

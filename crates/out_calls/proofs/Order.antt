@@ -5,7 +5,7 @@ use Rattle.std.proofs.lemmas.List.Sums.{prefix_len-le-length}
 use Rattle.std.proofs.lemmas.Bool.Decides.{nat_tests}
 use Rattle.std.proofs.lemmas.Bool.{false≢true}
 use Rattle.std.specs.List.{position_or_len, remove}
-use Rattle.definitions.specs.Bytes.{is_any, without}
+use Rattle.definitions.specs.Bytes.{is_any, list_without}
 use Rattle.definitions.specs.Outgoing.{Outgoing}
 use Rattle.definitions.specs.First.{IsFirstAt}
 use Rattle.definitions.proofs.Firsts.{first_within}
@@ -97,11 +97,11 @@ place-more c calls e =
 front : (c : Outgoing) (calls : List Outgoing) (i n : ℕ) → i ≡ suc n → c.is_due ≡ false → IsInOrder n calls → IsInOrder i (c ∷ calls)
 front c calls i n e d h = rw e (d, h)
 
-all_due : (test : Outgoing → Bool) (calls : List Outgoing) → IsInOrder 0 calls → IsInOrder 0 (without test calls)
+all_due : (test : Outgoing → Bool) (calls : List Outgoing) → IsInOrder 0 calls → IsInOrder 0 (list_without test calls)
 all_due test [] o = refl
 all_due test (c ∷ calls) o = go (test c) (all_due test calls o.1)
   where
-    go : (b : Bool) → IsInOrder 0 (without test calls) → IsInOrder 0 (cond b (without test calls) (c ∷ without test calls))
+    go : (b : Bool) → IsInOrder 0 (list_without test calls) → IsInOrder 0 (cond b (list_without test calls) (c ∷ list_without test calls))
     go true h = h
     go false h = (o.0, h)
 
@@ -109,17 +109,17 @@ none_sent : (calls : List Outgoing) → IsInOrder 0 calls → position_or_len du
 none_sent [] o = refl
 none_sent (c ∷ calls) o = ap (λ (b : Bool). cond (not b) (1 + position_or_len due calls) 0) o.0
 
-without-order : (test : Outgoing → Bool) (sent : ℕ) (calls : List Outgoing) → IsInOrder sent calls → IsInOrder (position_or_len due (without test calls)) (without test calls)
+without-order : (test : Outgoing → Bool) (sent : ℕ) (calls : List Outgoing) → IsInOrder sent calls → IsInOrder (position_or_len due (list_without test calls)) (list_without test calls)
 without-order test sent [] o = refl
-without-order test zero (c ∷ calls) o = let h = all_due test (c ∷ calls) o in rw (none_sent (without test (c ∷ calls)) h) h
+without-order test zero (c ∷ calls) o = let h = all_due test (c ∷ calls) o in rw (none_sent (list_without test (c ∷ calls)) h) h
 without-order test (suc sent) (c ∷ calls) o = go (test c) (without-order test sent calls o.1)
   where
-    go : (b : Bool) → IsInOrder (position_or_len due (without test calls)) (without test calls) → IsInOrder (position_or_len due (cond b (without test calls) (c ∷ without test calls))) (cond b (without test calls) (c ∷ without test calls))
+    go : (b : Bool) → IsInOrder (position_or_len due (list_without test calls)) (list_without test calls) → IsInOrder (position_or_len due (cond b (list_without test calls) (c ∷ list_without test calls))) (cond b (list_without test calls) (c ∷ list_without test calls))
     go true h = h
-    go false h = front c (without test calls) _ (position_or_len due (without test calls)) (place-more c (without test calls) o.0) o.0 h
+    go false h = front c (list_without test calls) _ (position_or_len due (list_without test calls)) (place-more c (list_without test calls) o.0) o.0 h
 
 -- where some are taken out, the first due one of the others stands behind those that were sent
-pub in_order-kept : (test : Outgoing → Bool) (sent : ℕ) (calls kept : List Outgoing) (place : ℕ) → kept ≡ without test calls → place ≡ position_or_len due kept → IsInOrder sent calls → IsInOrder place kept
+pub in_order-kept : (test : Outgoing → Bool) (sent : ℕ) (calls kept : List Outgoing) (place : ℕ) → kept ≡ list_without test calls → place ≡ position_or_len due kept → IsInOrder sent calls → IsInOrder place kept
 in_order-kept test sent calls kept place k p o = rw (p, k) (without-order test sent calls o)
 
 -- what a walk for the first due one gives, or else the length

@@ -10,14 +10,14 @@ use Rattle.definitions.proofs.OwnerLaws.{same_owner-Decides}
 use Rattle.slab.specs.Slab.{Slab, get, Updates}
 use Rattle.owner_ids.specs.declared.owner.Owner.{Owner as HeldOwner}
 use Rattle.owner_ids.specs.Views.{view_of_owner, view_of_slot, same_held}
-use Rattle.owner_ids.specs.Names.{Names, Renames, named}
+use Rattle.owner_ids.specs.Names.{Names, Renames, names_of_owners}
 
-pub named_slot : (s : Slab HeldOwner) (n : ℕ) → named (map view_of_slot s.slots) n ≡ view_of_slot (get s n)
+pub named_slot : (s : Slab HeldOwner) (n : ℕ) → names_of_owners (map view_of_slot s.slots) n ≡ view_of_slot (get s n)
 named_slot s n = get_or-map view_of_slot s.slots n None
 
-pub renames_from : (xs : List (Option HeldOwner)) (old new : Slab HeldOwner) (key : ℕ) (slot : Option HeldOwner) → old.slots ≡ xs → Updates old new key slot → Renames (named (map view_of_slot xs)) (named (map view_of_slot new.slots)) key (view_of_slot slot)
+pub renames_from : (xs : List (Option HeldOwner)) (old new : Slab HeldOwner) (key : ℕ) (slot : Option HeldOwner) → old.slots ≡ xs → Updates old new key slot → Renames (names_of_owners (map view_of_slot xs)) (names_of_owners (map view_of_slot new.slots)) key (view_of_slot slot)
 renames_from xs old new key slot e u =
-    subst (λ ys. Renames (named (map view_of_slot ys)) (named (map view_of_slot new.slots)) key (view_of_slot slot)) e (record {
+    subst (λ ys. Renames (names_of_owners (map view_of_slot ys)) (names_of_owners (map view_of_slot new.slots)) key (view_of_slot slot)) e (record {
       there = named_slot new key ∙ ap view_of_slot u.changed;
       others = λ k o. named_slot new k ∙ ap view_of_slot (u.others k o) ∙ sym (named_slot old k);
     })

@@ -24,8 +24,8 @@ abbrev pub number_cmp : Names → ℕ → ℕ → Ordering
 number_cmp names n k = ordering_then (option_cmp owner_cmp (names n) (names k)) (nat_cmp n k)
 
 -- an owner at each number, or none
-abbrev pub named : List (Option Owner) → Names
-named owners n = slice_index_or owners n None
+abbrev pub names_of_owners : List (Option Owner) → Names
+names_of_owners owners n = slice_index_or owners n None
 
 -- n is the owner's number, or it is not in use and the owner has none
 abbrev pub IsNumberFor : Names → ℕ → Owner → Type 0

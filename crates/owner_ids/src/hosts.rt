@@ -1,6 +1,6 @@
 //! The owners of a host, and one owner alone.
 ghost use Rattle.std.specs.Prelude.{◌==◌};
-ghost use Rattle.owner_ids.specs.Names.{named, is_owned_by};
+ghost use Rattle.owner_ids.specs.Names.{names_of_owners, is_owned_by};
 
 use crate::order::Host;
 use crate::owners::{OwnerId, Owners};
@@ -13,7 +13,7 @@ pub struct HostOf<'a> {
 }
 
 impl<'a> Host for HostOf<'a> {
-    ghost has = { λ host. is_owned_by (named host.owners.now) host.name.now };
+    ghost has = { λ host. is_owned_by (names_of_owners host.owners.now) host.name.now };
 
     fn has(&self, owner: OwnerId) -> bool {
         match self.owners.find(owner) {

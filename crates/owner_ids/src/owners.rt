@@ -2,7 +2,7 @@
 ghost use Rattle.std.specs.Prelude.{◌≡◌, ◌≢◌, ◌<◌, ◌^◌, ℕ, [], Some, None, Ok, IfOk, OnErr, IfSome, IfNone, IsSome, true};
 ghost use Rattle.definitions.specs.Owners.{owner_cmp};
 ghost use Rattle.owner_ids.specs.Views.{view_of_owner, view_of_slot, view_of_found};
-ghost use Rattle.owner_ids.specs.Names.{named, number_cmp, Renames, IsNumberFor};
+ghost use Rattle.owner_ids.specs.Names.{names_of_owners, number_cmp, Renames, IsNumberFor};
 ghost use Rattle.owner_ids.specs.Orders.{number_total, number_exact};
 
 use crate::order::OwnerOrder;
@@ -71,9 +71,9 @@ impl Owners {
     /// The number of an owner, which gets one where it has none. An owner in use keeps its number, and takes no memory.
     /// Starved: the owners in use and their numbers are as before.
     pub fn intern(&mut self, owner: &Owner) -> Result<OwnerId, Starved>
-        ensures known { (n : ℕ) → named self.old n ≡ Some (view_of_owner owner.now) → result ≡ Ok n }
-        ensures named { IfOk result (λ n. Renames (named self.old) (named self.new) n (Some (view_of_owner owner.now))) }
-        ensures was { IfOk result (λ n. IsNumberFor (named self.old) n (view_of_owner owner.now)) }
+        ensures known { (n : ℕ) → names_of_owners self.old n ≡ Some (view_of_owner owner.now) → result ≡ Ok n }
+        ensures named { IfOk result (λ n. Renames (names_of_owners self.old) (names_of_owners self.new) n (Some (view_of_owner owner.now))) }
+        ensures was { IfOk result (λ n. IsNumberFor (names_of_owners self.old) n (view_of_owner owner.now)) }
         ensures err { OnErr result (self.new ≡ self.old) }
     {
         if let Some(number) = self.number(owner) {
@@ -88,9 +88,9 @@ impl Owners {
 
     /// The number of an owner in use.
     pub fn number(&self, owner: &Owner) -> Option<OwnerId>
-        ensures nobody { named self.now 4294967295 ≡ None }
-        ensures found { IfSome result (λ n. named self.now n ≡ Some (view_of_owner owner.now)) }
-        ensures known { (n : ℕ) → named self.now n ≡ Some (view_of_owner owner.now) → result ≡ Some n }
+        ensures nobody { names_of_owners self.now 4294967295 ≡ None }
+        ensures found { IfSome result (λ n. names_of_owners self.now n ≡ Some (view_of_owner owner.now)) }
+        ensures known { (n : ℕ) → names_of_owners self.now n ≡ Some (view_of_owner owner.now) → result ≡ Some n }
     {
         let recent = self.recent.load(Relaxed);
         if self.is_at(recent, owner) {
@@ -103,7 +103,7 @@ impl Owners {
 
     // Whether this number is the owner's.
     fn is_at(&self, number: OwnerId, owner: &Owner) -> bool
-        ensures { result ≡ true → named self.now number ≡ Some (view_of_owner owner.now) }
+        ensures { result ≡ true → names_of_owners self.now number ≡ Some (view_of_owner owner.now) }
     {
         match self.find(number) {
             Some(known) => known == owner,
@@ -114,9 +114,9 @@ impl Owners {
     // A number for an owner who has none, of which these are two copies.
     fn add(&mut self, owner: Owner, key: Owner) -> Result<OwnerId, Starved>
         requires copies { view_of_owner key ≡ view_of_owner owner }
-        requires absent { (n : ℕ) → named self.old n ≢ Some (view_of_owner owner) }
-        ensures named { IfOk result (λ n. Renames (named self.old) (named self.new) n (Some (view_of_owner owner))) }
-        ensures free { IfOk result (λ n. named self.old n ≡ None) }
+        requires absent { (n : ℕ) → names_of_owners self.old n ≢ Some (view_of_owner owner) }
+        ensures named { IfOk result (λ n. Renames (names_of_owners self.old) (names_of_owners self.new) n (Some (view_of_owner owner))) }
+        ensures free { IfOk result (λ n. names_of_owners self.old n ≡ None) }
         ensures err { OnErr result (self.new ≡ self.old) }
     {
         self.slots.reserve(1)?;
@@ -134,23 +134,23 @@ impl Owners {
 
     /// The owner of a number in use.
     pub fn get(&self, number: OwnerId) -> &Owner
-        requires { IsSome (named self.now number) }
-        ensures { named self.now number ≡ Some (view_of_owner result.now) }
+        requires { IsSome (names_of_owners self.now number) }
+        ensures { names_of_owners self.now number ≡ Some (view_of_owner result.now) }
     {
         &self.slots[number as usize]
     }
 
     /// The owner of a number, if it is in use.
     pub fn find(&self, number: OwnerId) -> Option<&Owner>
-        ensures { named self.now number ≡ view_of_found result }
+        ensures { names_of_owners self.now number ≡ view_of_found result }
     {
         self.slots.get(number as usize)
     }
 
     /// Takes a number out of use. From now on it may be another owner's.
     pub fn release(&mut self, number: OwnerId)
-        requires { IsSome (named self.old number) }
-        ensures { Renames (named self.old) (named self.new) number None }
+        requires { IsSome (names_of_owners self.old number) }
+        ensures { Renames (names_of_owners self.old) (names_of_owners self.new) number None }
     {
         let owner = self.slots.remove(number as usize);
         let _ = self.numbers.remove(&owner);
@@ -159,7 +159,7 @@ impl Owners {
 
 /// Numbers in use stand as their owners.
 impl OwnerOrder for Owners {
-    ghost order = { λ owners. number_cmp (named owners) };
+    ghost order = { λ owners. number_cmp (names_of_owners owners) };
 
     fn compare(&self, a: OwnerId, b: OwnerId) -> Ordering {
         match (self.find(a), self.find(b)) {
@@ -170,7 +170,7 @@ impl OwnerOrder for Owners {
         }
     }
 
-    ghost total = { λ owners. number_total (named owners) };
+    ghost total = { λ owners. number_total (names_of_owners owners) };
 
-    ghost exact = { λ owners. number_exact (named owners) };
+    ghost exact = { λ owners. number_exact (names_of_owners owners) };
 }

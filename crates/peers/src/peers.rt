@@ -15,12 +15,12 @@ const MOST_LINES: usize = 4_096;
 
 /// A host, and where it is.
 #[derive(Drop)]
-struct Peer {
+struct PeerLine {
     name: Vec<u8>,
     address: IpAddr,
 }
 
-impl Model for Peer {
+impl Model for PeerLine {
     ghost Value = { SaidPeer };
 
     ghost view = { λ p. record { name = p.name.items; address = p.address } };
@@ -29,7 +29,7 @@ impl Model for Peer {
 /// The hosts that the server calls, with their addresses. Contracts see them in the order of their lines.
 #[derive(Drop)]
 pub struct Peers {
-    peers: Vec<Peer>,
+    peers: Vec<PeerLine>,
 }
 
 impl Model for Peers {
@@ -79,7 +79,7 @@ impl Peers {
             return Err(PeersFault::BadLine(number));
         }
         let name = Vec::from_slice(alloc, name)?;
-        match self.peers.push(Peer { name, address }) {
+        match self.peers.push(PeerLine { name, address }) {
             Ok(()) => Ok(()),
             Err(_) => Err(PeersFault::Starved),
         }

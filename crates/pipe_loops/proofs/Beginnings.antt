@@ -9,19 +9,19 @@ use Rattle.book.specs.Notes.{JournalEvent, GraceEnds, BeginsAnew}
 use Rattle.daemon_core.specs.declared.event.Event.{Event}
 use Rattle.daemon_core.specs.declared.event.Event.TheVariants.{Connect, GraceOver, Restart}
 use Rattle.daemon_core.specs.declared.outputs.Outputs.{Outputs}
-use Rattle.daemon_core.specs.declared.event.Refusal.{Refusal}
+use Rattle.daemon_core.specs.declared.event.EventRefusal.{EventRefusal}
 use Rattle.kept_replies.specs.declared.key.Peer.{Peer}
-use Rattle.daemon_core.specs.Outputs.{told, refusal_of}
+use Rattle.daemon_core.specs.Outputs.{outputs_of, refusal_of}
 use Rattle.daemon_core.specs.DaemonState.{DaemonState, place_of, Connects, Happens, DaemonStep}
 use Rattle.pipe_loops.specs.declared.fault.StreamFault.{StreamFault}
 use Rattle.pipe_loops.specs.Pipe.{beginning, Passes, Begins, refusals}
 
-abbrev more : Option Refusal → List Refusal → List Refusal
+abbrev more : Option EventRefusal → List EventRefusal → List EventRefusal
 more r rest = option_to_list r ++ rest
 
 -- no event of the beginning brings a record
 
-told-short : (given : Given) → refusal_of given ≡ Some Refusal.RecordTooLong → ⊥
+told-short : (given : Given) → refusal_of given ≡ Some EventRefusal.RecordTooLong → ⊥
 told-short IsStarved e = cc
 told-short IsRefused e = cc
 told-short Nothing e = cc
@@ -29,14 +29,14 @@ told-short (Replies xid outcome) e = cc
 told-short (Says line) e = cc
 told-short (Sends call callback) e = cc
 
-happens-short : (event : JournalEvent) (old new : DaemonState) (out : Outputs) (why : Refusal) → Happens told event old out new → out.refusal ≡ Some why → why ≡ Refusal.RecordTooLong → ⊥
+happens-short : (event : JournalEvent) (old new : DaemonState) (out : Outputs) (why : EventRefusal) → Happens outputs_of event old out new → out.refusal ≡ Some why → why ≡ EventRefusal.RecordTooLong → ⊥
 happens-short event old new out why h met is =
     told-short h.given (sym (ap (λ (o : Outputs). o.refusal) h.outputs) ∙ met ∙ ap (λ r. Some r) is)
 
-connect-short : (place : Option ℕ) (o : EventOutcome) (number : ℕ) (peer : Peer) (old new : DaemonState) (out : Outputs) (why : Refusal) → Connects place o number peer old out new → out.refusal ≡ Some why → why ≡ Refusal.RecordTooLong → ⊥
+connect-short : (place : Option ℕ) (o : EventOutcome) (number : ℕ) (peer : Peer) (old new : DaemonState) (out : Outputs) (why : EventRefusal) → Connects place o number peer old out new → out.refusal ≡ Some why → why ≡ EventRefusal.RecordTooLong → ⊥
 connect-short (Some place) o number peer old new out why h met is = let e : None ≡ Some why = sym (ap (λ (x : Outputs). x.refusal) h.1) ∙ met in cc
 connect-short None Applied number peer old new out why h met is = let e : None ≡ Some why = sym (ap (λ (x : Outputs). x.refusal) h.1) ∙ met in cc
-connect-short None Starved number peer old new out why h met is = let e : Some Refusal.Starved ≡ Some Refusal.RecordTooLong = sym (ap (λ (x : Outputs). x.refusal) h.1) ∙ met ∙ ap (λ r. Some r) is in cc
+connect-short None Starved number peer old new out why h met is = let e : Some EventRefusal.Starved ≡ Some EventRefusal.RecordTooLong = sym (ap (λ (x : Outputs). x.refusal) h.1) ∙ met ∙ ap (λ r. Some r) is in cc
 connect-short None NoSegment number peer old new out why h met is = absurd h
 
 -- an event of a beginning
@@ -46,7 +46,7 @@ Opens GraceOver = Unit {0}
 Opens (Connect number peer) = Unit {0}
 Opens _ = ⊥
 
-opens-short : (event : Event) → Opens event → (old new : DaemonState) (out : Outputs) (why : Refusal) → DaemonStep old event out new → out.refusal ≡ Some why → why ≡ Refusal.RecordTooLong → ⊥
+opens-short : (event : Event) → Opens event → (old new : DaemonState) (out : Outputs) (why : EventRefusal) → DaemonStep old event out new → out.refusal ≡ Some why → why ≡ EventRefusal.RecordTooLong → ⊥
 opens-short Restart o old new out why h = happens-short BeginsAnew old new out why h
 opens-short GraceOver o old new out why h = happens-short GraceEnds old new out why h
 opens-short (Connect number peer) o old new out why h = connect-short (place_of number old.links) out.outcome number peer old new out why h

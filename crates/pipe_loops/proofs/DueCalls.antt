@@ -3,7 +3,7 @@ use Rattle.std.proofs.Common.{◌≡◌, ℕ, suc, ◌<◌, ◌⊎◌, inl, inr,
 use Rattle.std.specs.Prelude.{IsSome}
 use Rattle.definitions.specs.Hosts.{StoreAnswer, NotAsked, Yes, Refused}
 use Rattle.definitions.specs.Outgoing.{Outgoing, next_due, after_sending, ends_when_sent, once_more}
-use Rattle.definitions.specs.Step.{State, Event, Send, Completion, Applied, Starved, Given, Nothing, Sends as Gives, IsStarved, sent}
+use Rattle.definitions.specs.Step.{State, Event, Send, Completion, Applied, Starved, Given, Nothing, Sends as Gives, IsStarved, sent_step}
 use Rattle.book.specs.Given.{comes_to}
 use Rattle.book.specs.Notes.{IsStep}
 use Rattle.call_plans.specs.Planned.{view_of_stored}
@@ -46,7 +46,7 @@ send_ends : (s : State) (completion : Completion) (store : StoreAnswer) (given :
 send_ends s Starved store given new h = inl (sym h.gives, refl)
 send_ends s Applied store given new h = inr (go (next_due s.world.calls) refl h.gives h.leaves)
   where
-    go : (o : Option Outgoing) → next_due s.world.calls ≡ o → (sent s o).given ≡ given → (sent s o).state ≡ new
+    go : (o : Option Outgoing) → next_due s.world.calls ≡ o → (sent_step s o).given ≡ given → (sent_step s o).state ≡ new
         → ((given ≡ Nothing) × (next_due s.world.calls ≡ None) × (new ≡ s) × (store ≡ NotAsked))
         ⊎ ((c : Outgoing) × (given ≡ Gives c.number c.callback) × (suc (due_count new.world.calls) ≡ due_count s.world.calls))
     go None n gives leaves = inl (sym gives, n, sym leaves, not_asked s store given new h)

@@ -12,7 +12,7 @@ use Rattle.daemon_core.specs.declared.event.Event.TheVariants.{Piece, Connect}
 use Rattle.daemon_core.specs.declared.event_outcome.EventOutcome.{EventOutcome}
 use Rattle.daemon_core.specs.declared.event_outcome.EventOutcome.TheVariants.{Applied, Starved, NoSegment}
 use Rattle.daemon_core.specs.declared.outputs.Outputs.{Outputs}
-use Rattle.daemon_core.specs.declared.event.Refusal.{Refusal}
+use Rattle.daemon_core.specs.declared.event.EventRefusal.{EventRefusal}
 use Rattle.daemon_core.specs.Sending.{Sending}
 use Rattle.kept_replies.specs.declared.key.Peer.{Peer}
 use Rattle.kept_replies.specs.declared.key.TheConstants.Peer.{PIPE}
@@ -23,7 +23,7 @@ use Rattle.pipe_loops.specs.declared.fault.StreamFault.{StreamFault}
 use Rattle.pipe_loops.specs.FaultOf.{fault_of}
 use Rattle.byte_io.specs.Written.{WroteFront}
 use Rattle.pipe_loops.specs.Answered.{in_order, Breaks}
-use Rattle.pipe_loops.specs.Pipe.{IsPiece, Hears, Turn, Turns, met_by, beginning, PipeRun, joined, IsShort, AnswersAll, AnswersSome, WholeTurn, BrokenTurn, TurnEnds, BeginsAll, BeginsSome, EndsAt, BrokenPipe, StreamEnds}
+use Rattle.pipe_loops.specs.Pipe.{IsPiece, Hears, Turn, Turns, met_by, beginning, PipeRun, concatenation, IsShort, AnswersAll, AnswersSome, WholeTurn, BrokenTurn, TurnEnds, BeginsAll, BeginsSome, EndsAt, BrokenPipe, StreamEnds}
 use Rattle.byte_io.proofs.Appending.{WroteFront-whole, WroteFront-after}
 
 pub bytes-append : (outs more : List Outputs) → all_bytes_sent (outs ++ more) ≡ all_bytes_sent outs ++ all_bytes_sent more
@@ -121,46 +121,46 @@ module _ (old mid new : DaemonState) (piece : Event) (bytes : List ℕ) (heard :
     breaks = Breaks-heard StreamFault.WriteFault new new before later heard (in_order a.answers ++ []) (piece-sends old mid piece bytes heard is step) (let P : List Outputs → Type 0 = λ os. WroteFront before later (all_bytes_sent os) in (refl, subst P (sym (append-nil (in_order a.answers))) (Front-kept before after later _ (WroteFront-whole before after _ a.wrote) kept)));
   }
 
-  pub whole : (met : Option Refusal) → heard.refusal ≡ met → AnswersAll mid new before after → WholeTurn old new bytes before later (option_to_list met)
+  pub whole : (met : Option EventRefusal) → heard.refusal ≡ met → AnswersAll mid new before after → WholeTurn old new bytes before later (option_to_list met)
   whole met e a = record {
     outs = heard ∷ in_order a.answers;
     turn = record { heard = heard; mid = mid; answers = a.answers; hears = hears (length a.answers) a.waits; each = a.each; all = refl };
     wrote = let P : List ℕ → Type 0 = λ b. Appends before later b in
         subst P (sym (heard-bytes heard (in_order a.answers) (piece-sends old mid piece bytes heard is step))) (Appends-kept before after later _ a.wrote kept);
-    met_is = ap (λ (r : Option Refusal). option_to_list r) e;
+    met_is = ap (λ (r : Option EventRefusal). option_to_list r) e;
   }
 
 -- a piece asks no store
 
-marked-agreed : (fault : Bool) → (marked_by fault).refusal ≡ Some Refusal.StoreRefused → ⊥
+marked-agreed : (fault : Bool) → (marked_by fault).refusal ≡ Some EventRefusal.StoreRefused → ⊥
 marked-agreed false e = cc
 marked-agreed true e = cc
 
-hears-agreed : (o : EventOutcome) (old new : Link) (bytes : List ℕ) (out : Outputs) → HearsOn o old bytes out new → out.refusal ≡ Some Refusal.StoreRefused → ⊥
+hears-agreed : (o : EventOutcome) (old new : Link) (bytes : List ℕ) (out : Outputs) → HearsOn o old bytes out new → out.refusal ≡ Some EventRefusal.StoreRefused → ⊥
 hears-agreed Applied old new bytes out h e = marked-agreed h.1.1 (sym (ap (λ (o : Outputs). o.refusal) h.1.3) ∙ e)
 hears-agreed Starved old new bytes out h e = cc
 hears-agreed NoSegment old new bytes out h e = absurd h
 
-receives-agreed : (receives : Bool) (old new : Link) (bytes : List ℕ) (out : Outputs) → Receives receives old bytes out new → out.refusal ≡ Some Refusal.StoreRefused → ⊥
+receives-agreed : (receives : Bool) (old new : Link) (bytes : List ℕ) (out : Outputs) → Receives receives old bytes out new → out.refusal ≡ Some EventRefusal.StoreRefused → ⊥
 receives-agreed true old new bytes out h e = hears-agreed out.outcome old new bytes out h e
 receives-agreed false old new bytes out h e = cc
 
-pieces-at-agreed : (place : Option ℕ) (bytes : List ℕ) (old new : DaemonState) (out : Outputs) → Pieces place bytes old out new → out.refusal ≡ Some Refusal.StoreRefused → ⊥
+pieces-at-agreed : (place : Option ℕ) (bytes : List ℕ) (old new : DaemonState) (out : Outputs) → Pieces place bytes old out new → out.refusal ≡ Some EventRefusal.StoreRefused → ⊥
 pieces-at-agreed None bytes old new out h e = cc
 pieces-at-agreed (Some place) bytes old new out h e = receives-agreed h.link.receives h.link h.link' bytes out h.receives e
 
-pieces-agreed : (old new : DaemonState) (event : Event) (bytes : List ℕ) (out : Outputs) → IsPiece event bytes → DaemonStep old event out new → out.refusal ≡ Some Refusal.StoreRefused → ⊥
+pieces-agreed : (old new : DaemonState) (event : Event) (bytes : List ℕ) (out : Outputs) → IsPiece event bytes → DaemonStep old event out new → out.refusal ≡ Some EventRefusal.StoreRefused → ⊥
 pieces-agreed old new (Piece number v) bytes out is h e = pieces-at-agreed (place_of number old.links) v.items old new out h e
 pieces-agreed old new _ bytes out is h e = absurd is
 
 -- a piece that was refused
-pub refused-turn : (old mid new : DaemonState) (piece : Event) (bytes : List ℕ) (heard : Outputs) → IsPiece piece bytes → DaemonStep old piece heard mid → (before after later : Option (List ℕ)) → Keeps after later → (r : Refusal) → heard.refusal ≡ Some r
+pub refused-turn : (old mid new : DaemonState) (piece : Event) (bytes : List ℕ) (heard : Outputs) → IsPiece piece bytes → DaemonStep old piece heard mid → (before after later : Option (List ℕ)) → Keeps after later → (r : EventRefusal) → heard.refusal ≡ Some r
     → AnswersAll mid new before after → TurnEnds (Err (fault_of r)) old new bytes before later
-refused-turn old mid new piece bytes heard is step before after later kept Refusal.Starved e a = inl (whole old mid new piece bytes heard is step before after later kept (Some Refusal.Starved) e a)
-refused-turn old mid new piece bytes heard is step before after later kept Refusal.StoreRefused e a = absurd (pieces-agreed old mid piece bytes heard is step e)
-refused-turn old mid new piece bytes heard is step before after later kept Refusal.RecordTooLong e a = whole old mid new piece bytes heard is step before after later kept (Some Refusal.RecordTooLong) e a
+refused-turn old mid new piece bytes heard is step before after later kept EventRefusal.Starved e a = inl (whole old mid new piece bytes heard is step before after later kept (Some EventRefusal.Starved) e a)
+refused-turn old mid new piece bytes heard is step before after later kept EventRefusal.StoreRefused e a = absurd (pieces-agreed old mid piece bytes heard is step e)
+refused-turn old mid new piece bytes heard is step before after later kept EventRefusal.RecordTooLong e a = whole old mid new piece bytes heard is step before after later kept (Some EventRefusal.RecordTooLong) e a
 
-first-turn : (old mid new : DaemonState) (outs more : List Outputs) (met : List Refusal) (piece : List ℕ) → mid ≡ old → outs ≡ [] → met ≡ [] → (t : Turn mid piece more new)
+first-turn : (old mid new : DaemonState) (outs more : List Outputs) (met : List EventRefusal) (piece : List ℕ) → mid ≡ old → outs ≡ [] → met ≡ [] → (t : Turn mid piece more new)
     → Turns old (piece ∷ []) (outs ++ more) (met ++ met_by t.heard) new
 first-turn old mid new outs more met piece h o m t =
     let P : DaemonState → Type 0 = λ q. (u : Turn q piece more new) × (met_by u.heard ≡ met_by t.heard) in
@@ -172,10 +172,10 @@ first-turn old mid new outs more met piece h o m t =
       moved.0,
       (refl, refl, refl),
       ap (λ (os : List Outputs). os ++ more) o ∙ sym (append-nil more),
-      ap (λ (rs : List Refusal). rs ++ met_by t.heard) m ∙ sym moved.1 ∙ sym (append-nil (met_by moved.0.heard)),
+      ap (λ (rs : List EventRefusal). rs ++ met_by t.heard) m ∙ sym moved.1 ∙ sym (append-nil (met_by moved.0.heard)),
     )
 
-pub Turns-more : (old mid new : DaemonState) (pieces : List (List ℕ)) (outs more : List Outputs) (met : List Refusal) (piece : List ℕ) → Turns old pieces outs met mid → (t : Turn mid piece more new)
+pub Turns-more : (old mid new : DaemonState) (pieces : List (List ℕ)) (outs more : List Outputs) (met : List EventRefusal) (piece : List ℕ) → Turns old pieces outs met mid → (t : Turn mid piece more new)
     → Turns old (pieces ++ piece ∷ []) (outs ++ more) (met ++ met_by t.heard) new
 Turns-more old mid new [] outs more met piece h t = first-turn old mid new outs more met piece h.0 h.1 h.2 t
 Turns-more old mid new (p ∷ pieces) outs more met piece h t =
@@ -187,10 +187,10 @@ Turns-more old mid new (p ∷ pieces) outs more met piece h t =
       h.4,
       rest,
       ap (λ (os : List Outputs). os ++ more) h.6 ∙ append_assoc h.1 h.2 more,
-      ap (λ (rs : List Refusal). rs ++ met_by t.heard) h.7 ∙ append_assoc (met_by h.4.heard) h.3 (met_by t.heard),
+      ap (λ (rs : List EventRefusal). rs ++ met_by t.heard) h.7 ∙ append_assoc (met_by h.4.heard) h.3 (met_by t.heard),
     )
 
-pub PipeRun-more : (events : List Event) (start : DaemonState) (pieces : List (List ℕ)) (outs more : List Outputs) (met : List Refusal) (mid new : DaemonState) (piece : List ℕ) → PipeRun events start pieces outs met mid → (t : Turn mid piece more new)
+pub PipeRun-more : (events : List Event) (start : DaemonState) (pieces : List (List ℕ)) (outs more : List Outputs) (met : List EventRefusal) (mid new : DaemonState) (piece : List ℕ) → PipeRun events start pieces outs met mid → (t : Turn mid piece more new)
     → PipeRun events start (pieces ++ piece ∷ []) (outs ++ more) (met ++ met_by t.heard) new
 PipeRun-more events start pieces outs more met mid new piece r t = record {
   begun = r.begun;
@@ -202,8 +202,8 @@ PipeRun-more events start pieces outs more met mid new piece r t = record {
   all = ap (λ (os : List Outputs). os ++ more) r.all ∙ append_assoc r.firsts r.rest more;
 }
 
-pub joined-more : (pieces : List (List ℕ)) (piece : List ℕ) → joined (pieces ++ piece ∷ []) ≡ joined pieces ++ piece
-joined-more pieces piece = flat_map-append (λ p. p) pieces (piece ∷ []) ∙ ap (λ x. joined pieces ++ x) (append-nil piece)
+pub joined-more : (pieces : List (List ℕ)) (piece : List ℕ) → concatenation (pieces ++ piece ∷ []) ≡ concatenation pieces ++ piece
+joined-more pieces piece = flat_map-append (λ p. p) pieces (piece ∷ []) ∙ ap (λ x. concatenation pieces ++ x) (append-nil piece)
 
 -- ---- the whole loop
 
@@ -229,18 +229,18 @@ module _ (events : List Event) (start : DaemonState) (most next : ℕ) (one_more
     outs = so_far.outs;
     run = so_far.run;
     read = let P : List ℕ → Type 0 = λ x. Consumes unread later x in
-        subst P (append-nil (joined so_far.pieces)) (Consumes-trans unread left later (joined so_far.pieces) [] so_far.read (let Q : List ℕ → Type 0 = λ x. Consumes left later x in subst Q e read));
+        subst P (append-nil (concatenation so_far.pieces)) (Consumes-trans unread left later (concatenation so_far.pieces) [] so_far.read (let Q : List ℕ → Type 0 = λ x. Consumes left later x in subst Q e read));
     wrote = so_far.wrote;
   }
 
   module _ (later : Option (List ℕ)) (piece : List ℕ) (short : IsShort piece) (read : Consumes left later piece) (new : DaemonState) (written : Option (List ℕ)) where
-    pub turn-more : (met : List Refusal) → WholeTurn mid new piece after written met → EndsAt events start next unread later before written met new
+    pub turn-more : (met : List EventRefusal) → WholeTurn mid new piece after written met → EndsAt events start next unread later before written met new
     turn-more met t = record {
       pieces = so_far.pieces ++ piece ∷ [];
       few = let longer = length-append so_far.pieces (piece ∷ []) in omega (arith, longer);
       short = All-push IsShort so_far.pieces piece so_far.short short;
       outs = so_far.outs ++ t.outs;
-      run = let P : List Refusal → Type 0 = λ rs. PipeRun events start (so_far.pieces ++ piece ∷ []) (so_far.outs ++ t.outs) rs new in
+      run = let P : List EventRefusal → Type 0 = λ rs. PipeRun events start (so_far.pieces ++ piece ∷ []) (so_far.outs ++ t.outs) rs new in
           subst P t.met_is (PipeRun-more events start so_far.pieces so_far.outs t.outs [] mid new piece so_far.run t.turn);
       read = let P : List ℕ → Type 0 = λ x. Consumes unread later x in subst P (sym (joined-more so_far.pieces piece)) (Consumes-trans unread left later _ piece so_far.read read);
       wrote = let P : List ℕ → Type 0 = λ x. Appends before written x in subst P (sym (bytes-append so_far.outs t.outs)) (Appends-trans before after written _ _ so_far.wrote t.wrote);
@@ -264,13 +264,13 @@ module _ (events : List Event) (start : DaemonState) (most next : ℕ) (one_more
       breaks = Breaks-after fault t.mid new before after written so_far.outs t.outs so_far.wrote t.breaks;
     }
 
-    turn-starved : WholeTurn mid new piece after written (Refusal.Starved ∷ []) ⊎ BrokenTurn StreamFault.Starved mid new piece after written → (end : DaemonState) → StreamEnds events start next (Err StreamFault.Starved) unread later before written end
-    turn-starved (inl t) end = inr (inl (inr (new, turn-more (Refusal.Starved ∷ []) t)))
+    turn-starved : WholeTurn mid new piece after written (EventRefusal.Starved ∷ []) ⊎ BrokenTurn StreamFault.Starved mid new piece after written → (end : DaemonState) → StreamEnds events start next (Err StreamFault.Starved) unread later before written end
+    turn-starved (inl t) end = inr (inl (inr (new, turn-more (EventRefusal.Starved ∷ []) t)))
     turn-starved (inr t) end = inr (inr (turn-broken StreamFault.Starved t))
 
     pub turn-failed : (f : StreamFault) → TurnEnds (Err f) mid new piece after written → (end : DaemonState) → StreamEnds events start next (Err f) unread later before written end
     turn-failed StreamFault.Starved t end = turn-starved t end
-    turn-failed StreamFault.RecordTooLong t end = (new, turn-more (Refusal.RecordTooLong ∷ []) t)
+    turn-failed StreamFault.RecordTooLong t end = (new, turn-more (EventRefusal.RecordTooLong ∷ []) t)
     turn-failed StreamFault.WriteFault t end = turn-broken StreamFault.WriteFault t
     turn-failed StreamFault.ReadFault t end = absurd t
     turn-failed StreamFault.StoreRefused t end = absurd t
@@ -307,7 +307,7 @@ at-start grace start daemon_state unread before b = record {
   wrote = let P : List ℕ → Type 0 = λ x. Appends before before x in subst P (sym (begins-quietly grace start daemon_state b.outs b.run)) (Appends-nil before);
 }
 
-pub unbegun : (events : List Event) (start daemon_state : DaemonState) (bound : ℕ) (why : Refusal) (unread before : Option (List ℕ)) (end : DaemonState) → BeginsSome events why start daemon_state → (why ≡ Refusal.RecordTooLong → ⊥) → StreamEnds events start bound (Err (fault_of why)) unread unread before before end
-unbegun events start daemon_state bound Refusal.Starved unread before end some short = inl (inr (record { end = daemon_state; some = some; untouched = record { read = Keeps-refl unread; wrote = Keeps-refl before } }))
-unbegun events start daemon_state bound Refusal.RecordTooLong unread before end some short = absurd (short refl)
-unbegun events start daemon_state bound Refusal.StoreRefused unread before end some short = record { end = daemon_state; some = some; untouched = record { read = Keeps-refl unread; wrote = Keeps-refl before } }
+pub unbegun : (events : List Event) (start daemon_state : DaemonState) (bound : ℕ) (why : EventRefusal) (unread before : Option (List ℕ)) (end : DaemonState) → BeginsSome events why start daemon_state → (why ≡ EventRefusal.RecordTooLong → ⊥) → StreamEnds events start bound (Err (fault_of why)) unread unread before before end
+unbegun events start daemon_state bound EventRefusal.Starved unread before end some short = inl (inr (record { end = daemon_state; some = some; untouched = record { read = Keeps-refl unread; wrote = Keeps-refl before } }))
+unbegun events start daemon_state bound EventRefusal.RecordTooLong unread before end some short = absurd (short refl)
+unbegun events start daemon_state bound EventRefusal.StoreRefused unread before end some short = record { end = daemon_state; some = some; untouched = record { read = Keeps-refl unread; wrote = Keeps-refl before } }

@@ -6,7 +6,7 @@ use Rattle.std.specs.Io.KnownBytes.{Appends, Keeps, Consumes, IsAtEnd}
 use Rattle.daemon_core.specs.declared.event.Event.{Event}
 use Rattle.daemon_core.specs.declared.event.Event.TheVariants.{Connect, Piece, GraceOver, Restart}
 use Rattle.daemon_core.specs.declared.outputs.Outputs.{Outputs}
-use Rattle.daemon_core.specs.declared.event.Refusal.{Refusal}
+use Rattle.daemon_core.specs.declared.event.EventRefusal.{EventRefusal}
 use Rattle.kept_replies.specs.declared.key.TheConstants.Peer.{PIPE}
 use Rattle.daemon_core.specs.DaemonState.{DaemonState, place_of, Waits, DaemonStep, Run, all_bytes_sent}
 use Rattle.pipe_loops.specs.declared.fault.StreamFault.{StreamFault}
@@ -51,13 +51,13 @@ pub record SomeTurn (old : DaemonState) (bytes : List ℕ) (outs : List Outputs)
   pub all : outs ≡ heard ∷ (in_order answers ++ last)
 
 -- what the piece was refused
-abbrev pub met_by : Outputs → List Refusal
+abbrev pub met_by : Outputs → List EventRefusal
 met_by out = option_to_list out.refusal
 
-abbrev pub Turns : DaemonState → List (List ℕ) → List Outputs → List Refusal → DaemonState → Type 0
+abbrev pub Turns : DaemonState → List (List ℕ) → List Outputs → List EventRefusal → DaemonState → Type 0
 Turns old [] outs met new = (new ≡ old) × (outs ≡ []) × (met ≡ [])
 Turns old (piece ∷ pieces) outs met new =
-    (mid : DaemonState) × (first : List Outputs) × (rest : List Outputs) × (later : List Refusal) × (turn : Turn old piece first mid) × Turns mid pieces rest later new
+    (mid : DaemonState) × (first : List Outputs) × (rest : List Outputs) × (later : List EventRefusal) × (turn : Turn old piece first mid) × Turns mid pieces rest later new
     × (outs ≡ first ++ rest) × (met ≡ met_by turn.heard ++ later)
 
 -- the server begins anew, its grace period is over, unless it is to go on, and the stream's connection begins
@@ -66,11 +66,11 @@ beginning true = Restart ∷ Connect 0 PIPE ∷ []
 beginning false = Restart ∷ GraceOver ∷ Connect 0 PIPE ∷ []
 
 -- what the events were refused
-abbrev pub refusals : List Outputs → List Refusal
+abbrev pub refusals : List Outputs → List EventRefusal
 refusals outs = flat_map (λ (o : Outputs). option_to_list o.refusal) outs
 
 -- it begins with these events, and then come these pieces
-pub record PipeRun (events : List Event) (start : DaemonState) (pieces : List (List ℕ)) (outs : List Outputs) (met : List Refusal) (end : DaemonState) : Type 0 where
+pub record PipeRun (events : List Event) (start : DaemonState) (pieces : List (List ℕ)) (outs : List Outputs) (met : List EventRefusal) (end : DaemonState) : Type 0 where
   pub begun : DaemonState
   pub firsts : List Outputs
   pub begins : Run start events firsts begun
@@ -79,8 +79,8 @@ pub record PipeRun (events : List Event) (start : DaemonState) (pieces : List (L
   pub turns : Turns begun pieces rest met end
   pub all : outs ≡ firsts ++ rest
 
-abbrev pub joined : List (List ℕ) → List ℕ
-joined pieces = flat_map (λ p. p) pieces
+abbrev pub concatenation : List (List ℕ) → List ℕ
+concatenation pieces = flat_map (λ p. p) pieces
 
 -- no more bytes than one read brings
 abbrev pub IsShort : List ℕ → Type 0
@@ -113,7 +113,7 @@ AnswersWaiting (Err fault) old new before after = AnswersSome fault old new befo
 -- ---- a piece and the records after it
 
 -- all that is sent was written
-pub record WholeTurn (old new : DaemonState) (bytes : List ℕ) (before after : Option (List ℕ)) (met : List Refusal) : Type 0 where
+pub record WholeTurn (old new : DaemonState) (bytes : List ℕ) (before after : Option (List ℕ)) (met : List EventRefusal) : Type 0 where
   pub outs : List Outputs
   pub turn : Turn old bytes outs new
   pub wrote : Appends before after (all_bytes_sent outs)
@@ -128,8 +128,8 @@ pub record BrokenTurn (fault : StreamFault) (old new : DaemonState) (bytes : Lis
 -- where memory is wanting it was for the piece or for a sending
 abbrev pub TurnEnds : Result (Unit {0}) StreamFault → DaemonState → DaemonState → List ℕ → Option (List ℕ) → Option (List ℕ) → Type 0
 TurnEnds (Ok done) old new bytes before after = WholeTurn old new bytes before after []
-TurnEnds (Err Starved) old new bytes before after = WholeTurn old new bytes before after (Refusal.Starved ∷ []) ⊎ BrokenTurn Starved old new bytes before after
-TurnEnds (Err RecordTooLong) old new bytes before after = WholeTurn old new bytes before after (Refusal.RecordTooLong ∷ [])
+TurnEnds (Err Starved) old new bytes before after = WholeTurn old new bytes before after (EventRefusal.Starved ∷ []) ⊎ BrokenTurn Starved old new bytes before after
+TurnEnds (Err RecordTooLong) old new bytes before after = WholeTurn old new bytes before after (EventRefusal.RecordTooLong ∷ [])
 TurnEnds (Err StoreRefused) old new bytes before after = ⊥
 TurnEnds (Err WriteFault) old new bytes before after = BrokenTurn WriteFault old new bytes before after
 TurnEnds (Err ReadFault) old new bytes before after = ⊥
@@ -139,7 +139,7 @@ TurnEnds (Err ReadFault) old new bytes before after = ⊥
 -- an event that sends nothing and is not refused; or it is, and that is the fault
 abbrev pub Passes : Result (Unit {0}) StreamFault → Event → DaemonState → DaemonState → Type 0
 Passes (Ok done) event old new = (out : Outputs) × DaemonStep old event out new × (out.refusal ≡ None)
-Passes (Err fault) event old new = (out : Outputs) × DaemonStep old event out new × (why : Refusal) × (out.refusal ≡ Some why) × (fault ≡ fault_of why)
+Passes (Err fault) event old new = (out : Outputs) × DaemonStep old event out new × (why : EventRefusal) × (out.refusal ≡ Some why) × (fault ≡ fault_of why)
 
 pub record BeginsAll (events : List Event) (old new : DaemonState) : Type 0 where
   pub outs : List Outputs
@@ -147,7 +147,7 @@ pub record BeginsAll (events : List Event) (old new : DaemonState) : Type 0 wher
   pub agreed : refusals outs ≡ []
 
 -- an event of the beginning is refused, and nothing comes after it
-pub record BeginsSome (events : List Event) (why : Refusal) (old new : DaemonState) : Type 0 where
+pub record BeginsSome (events : List Event) (why : EventRefusal) (old new : DaemonState) : Type 0 where
   pub count : ℕ
   pub outs : List Outputs
   pub run : Run old (take count events) outs new
@@ -155,21 +155,21 @@ pub record BeginsSome (events : List Event) (why : Refusal) (old new : DaemonSta
 
 abbrev pub Begins : List Event → Result (Unit {0}) StreamFault → DaemonState → DaemonState → Type 0
 Begins events (Ok done) old new = BeginsAll events old new
-Begins events (Err fault) old new = (why : Refusal) × (fault ≡ fault_of why) × BeginsSome events why old new × (why ≡ Refusal.RecordTooLong → ⊥)
+Begins events (Err fault) old new = (why : EventRefusal) × (fault ≡ fault_of why) × BeginsSome events why old new × (why ≡ EventRefusal.RecordTooLong → ⊥)
 
 -- ---- the whole loop
 
 -- what was read came as these pieces, at most so many, all that is sent for them was written, and nothing else
-pub record EndsAt (events : List Event) (start : DaemonState) (most : ℕ) (unread left before after : Option (List ℕ)) (met : List Refusal) (daemon_state : DaemonState) : Type 0 where
+pub record EndsAt (events : List Event) (start : DaemonState) (most : ℕ) (unread left before after : Option (List ℕ)) (met : List EventRefusal) (daemon_state : DaemonState) : Type 0 where
   pub pieces : List (List ℕ)
   pub few : length pieces ≤ most
   pub short : All IsShort pieces
   pub outs : List Outputs
   pub run : PipeRun events start pieces outs met daemon_state
-  pub read : Consumes unread left (joined pieces)
+  pub read : Consumes unread left (concatenation pieces)
   pub wrote : Appends before after (all_bytes_sent outs)
 
-abbrev pub WholePipe : List Event → DaemonState → ℕ → Option (List ℕ) → Option (List ℕ) → Option (List ℕ) → Option (List ℕ) → List Refusal → Type 0
+abbrev pub WholePipe : List Event → DaemonState → ℕ → Option (List ℕ) → Option (List ℕ) → Option (List ℕ) → Option (List ℕ) → List EventRefusal → Type 0
 WholePipe events start most unread left before after met = (daemon_state : DaemonState) × EndsAt events start most unread left before after met daemon_state
 
 -- it ended within the turn of the last piece
@@ -186,7 +186,7 @@ pub record BrokenPipe (fault : StreamFault) (events : List Event) (start : Daemo
   pub next : DaemonState
   pub turn : SomeTurn mid last more next
   pub end : DaemonState
-  pub read : Consumes unread left (joined pieces ++ last)
+  pub read : Consumes unread left (concatenation pieces ++ last)
   pub breaks : Breaks fault next end before after (outs ++ more)
 
 -- nothing was read or written
@@ -195,7 +195,7 @@ pub record Untouched (unread left before after : Option (List ℕ)) : Type 0 whe
   pub wrote : Keeps before after
 
 -- the beginning was refused
-pub record Unbegun (events : List Event) (start : DaemonState) (why : Refusal) (unread left before after : Option (List ℕ)) : Type 0 where
+pub record Unbegun (events : List Event) (start : DaemonState) (why : EventRefusal) (unread left before after : Option (List ℕ)) : Type 0 where
   pub end : DaemonState
   pub some : BeginsSome events why start end
   pub untouched : Untouched unread left before after
@@ -204,8 +204,8 @@ pub record Unbegun (events : List Event) (start : DaemonState) (why : Refusal) (
 -- of a sending. No contract can name that there was none for the daemon or for the place
 abbrev pub PipeStarves : List Event → DaemonState → ℕ → Option (List ℕ) → Option (List ℕ) → Option (List ℕ) → Option (List ℕ) → Type 0
 PipeStarves events start bound unread left before after =
-    (Untouched unread left before after ⊎ Unbegun events start Refusal.Starved unread left before after)
-    ⊎ ((WholePipe events start 0 unread left before after [] ⊎ WholePipe events start bound unread left before after (Refusal.Starved ∷ []))
+    (Untouched unread left before after ⊎ Unbegun events start EventRefusal.Starved unread left before after)
+    ⊎ ((WholePipe events start 0 unread left before after [] ⊎ WholePipe events start bound unread left before after (EventRefusal.Starved ∷ []))
     ⊎ BrokenPipe Starved events start bound unread left before after)
 
 -- at most `bound` pieces are read, and the end is a piece of no bytes; `end` is the state then. A ReadFault comes after `bound`
@@ -216,9 +216,9 @@ StreamEnds events start bound (Ok done) unread left before after end =
     ((most : ℕ) × (most < bound) × EndsAt events start most unread left before after [] end) × IsAtEnd left
 StreamEnds events start bound (Err ReadFault) unread left before after end = WholePipe events start bound unread left before after []
 StreamEnds events start bound (Err RecordTooLong) unread left before after end =
-    WholePipe events start bound unread left before after (Refusal.RecordTooLong ∷ [])
+    WholePipe events start bound unread left before after (EventRefusal.RecordTooLong ∷ [])
 StreamEnds events start bound (Err Starved) unread left before after end = PipeStarves events start bound unread left before after
-StreamEnds events start bound (Err StoreRefused) unread left before after end = Unbegun events start Refusal.StoreRefused unread left before after
+StreamEnds events start bound (Err StoreRefused) unread left before after end = Unbegun events start EventRefusal.StoreRefused unread left before after
 StreamEnds events start bound (Err WriteFault) unread left before after end = BrokenPipe WriteFault events start bound unread left before after
 
 -- whatever began it, a stream of which no piece came yet is served to its end
@@ -232,7 +232,7 @@ PipeEnds events start bound result unread left before after = (end : DaemonState
 
 -- what was read came as so many pieces at most, none longer than one read brings
 abbrev pub ComesWithin : ℕ → Option (List ℕ) → Option (List ℕ) → Type 0
-ComesWithin bound unread left = (pieces : List (List ℕ)) × (length pieces ≤ bound) × All IsShort pieces × Consumes unread left (joined pieces)
+ComesWithin bound unread left = (pieces : List (List ℕ)) × (length pieces ≤ bound) × All IsShort pieces × Consumes unread left (concatenation pieces)
 
 -- however a stream ends, it came as at most `bound` such pieces, so that no more than `bound` times `PIECE` bytes of it were taken
 abbrev pub ReadsAreBounded : Type 0

@@ -3,7 +3,7 @@
 ghost use Rattle.std.specs.Prelude.{◌≡◌};
 
 use byte_io::{FailedRead, WriteFault};
-use daemon_core::Refusal;
+use daemon_core::EventRefusal;
 use owner_ids::Starved;
 use thiserror::Error;
 
@@ -27,16 +27,16 @@ pub enum StreamFault {
     WriteFault,
 }
 
-impl From<Refusal> for StreamFault {
+impl From<EventRefusal> for StreamFault {
     ghost use Rattle.pipe_loops.specs.FaultOf.{fault_of};
 
     ghost from_gives = { λ r f. f ≡ fault_of r };
 
-    fn from(refusal: Refusal) -> StreamFault {
+    fn from(refusal: EventRefusal) -> StreamFault {
         match refusal {
-            Refusal::Starved => StreamFault::Starved,
-            Refusal::RecordTooLong => StreamFault::RecordTooLong,
-            Refusal::StoreRefused => StreamFault::StoreRefused,
+            EventRefusal::Starved => StreamFault::Starved,
+            EventRefusal::RecordTooLong => StreamFault::RecordTooLong,
+            EventRefusal::StoreRefused => StreamFault::StoreRefused,
         }
     }
 }
@@ -62,9 +62,9 @@ impl From<FailedRead> for StreamFault {
 }
 
 impl From<Starved> for StreamFault {
-    ghost use Rattle.pipe_loops.specs.FaultOf.{starved};
+    ghost use Rattle.pipe_loops.specs.FaultOf.{starved_fault};
 
-    ghost from_gives = { λ s f. f ≡ starved };
+    ghost from_gives = { λ s f. f ≡ starved_fault };
 
     fn from(_starved: Starved) -> StreamFault {
         StreamFault::Starved

@@ -1,7 +1,7 @@
 -- Where the last run up to a range's end starts with the range and ends in it, the range meets that run alone.
 use Rattle.std.proofs.Common.{◌≡◌, ℕ, zero, suc, ◌+◌, ◌<◌, ◌≤◌, ◌&&◌, true, false, List, [], ◌∷◌, Some, None, length, get_or, refl, sym, ap, ◌∙◌, subst, arith, ltb, leb}
 use Rattle.std.specs.List.{AllByRecursion, remove}
-use Rattle.range_table.specs.Runs.{is_of, starts_in, trim, kept, outlasts, rest_of, insert_some, cut, Follows, IsRunList}
+use Rattle.range_table.specs.Runs.{is_of, starts_in, trim, kept_runs, outlasts, rest_of, insert_some, runs_without, Follows, IsRunList}
 use Rattle.range_table.specs.Parts.{starts_before, last_started}
 use Rattle.range_table.specs.declared.run.Run.{Run}
 use Rattle.range_table.specs.declared.run.Setting.{Setting}
@@ -55,17 +55,17 @@ module _ (c : Setting) (x : Run) (of : is_of x c.file c.owner ≡ true) (first :
       let b : is_of x r.file r.owner ≡ true = grind (arith, file_tests) in
       let a = f.apart b in omega arith))) (omega arith)
 
-  kept_one : (r : Run) (rs : List Run) → Stays r → kept c (r ∷ rs) ≡ r ∷ kept c rs
-  kept_one r rs s = let o = s.outside in rw o (ap (λ y. y ∷ kept c rs) s.whole)
+  kept_one : (r : Run) (rs : List Run) → Stays r → kept_runs c (r ∷ rs) ≡ r ∷ kept_runs c rs
+  kept_one r rs s = let o = s.outside in rw o (ap (λ y. y ∷ kept_runs c rs) s.whole)
 
-  kept_behind : (rs : List Run) → x.first ≤ x.last → AllByRecursion (Follows x) rs → AllByRecursion IsUpto rs → rs ≡ kept c rs
+  kept_behind : (rs : List Run) → x.first ≤ x.last → AllByRecursion (Follows x) rs → AllByRecursion IsUpto rs → rs ≡ kept_runs c rs
   kept_behind [] l h a = refl
   kept_behind (r ∷ rs) l h a = ap (λ ys. r ∷ ys) (kept_behind rs l h.1 a.1) ∙ sym (kept_one r rs (later r l h.0 a.0))
 
   in_range : x.first ≤ x.last → starts_in c x ≡ true
   in_range l = grind (arith, file_tests)
 
-  kept_but : (rs : List Run) (at : ℕ) → IsRunList rs → at < length rs → x ≡ get_or rs at x → AllByRecursion IsUpto rs → remove rs at ≡ kept c rs
+  kept_but : (rs : List Run) (at : ℕ) → IsRunList rs → at < length rs → x ≡ get_or rs at x → AllByRecursion IsUpto rs → remove rs at ≡ kept_runs c rs
   kept_but [] at h l e a = absurd (omega arith)
   kept_but (r ∷ rs) zero h l e a =
       let w : x.first ≤ x.last = subst (λ (y : Run). y.first ≤ y.last) (sym e) h.0 in
@@ -78,8 +78,8 @@ module _ (c : Setting) (x : Run) (of : is_of x c.file c.owner ≡ true) (first :
   no_rest : rest_of c x ≡ None
   no_rest = by_test (outlasts c x) (λ t. absurd (let l : c.last < x.last = grind (arith, file_tests) in omega arith)) (λ t. rw t refl)
 
-pub cut_filled : (c : Setting) (rs : List Run) (at : ℕ) (x : Run) → IsRunList rs → last_started c (c.last + 1) rs ≡ Some x → at < length rs → x ≡ get_or rs at x → x.first ≡ c.first → x.last ≤ c.last → remove rs at ≡ cut c rs
+pub cut_filled : (c : Setting) (rs : List Run) (at : ℕ) (x : Run) → IsRunList rs → last_started c (c.last + 1) rs ≡ Some x → at < length rs → x ≡ get_or rs at x → x.first ≡ c.first → x.last ≤ c.last → remove rs at ≡ runs_without c rs
 cut_filled c rs at x h f l e first last =
     let of = (starts c (c.last + 1) x (last_is c (c.last + 1) rs x f)).of in
     kept_but c x of first last rs at h l e (last_most c (c.last + 1) rs x h f)
-    ∙ sym (ap (λ o. insert_some o (kept c rs)) (right_last c rs h ∙ ap (rest_from c) f ∙ no_rest c x of first last))
+    ∙ sym (ap (λ o. insert_some o (kept_runs c rs)) (right_last c rs h ∙ ap (rest_from c) f ∙ no_rest c x of first last))

@@ -2,7 +2,7 @@
 use Rattle.std.proofs.Common.{◌≡◌, ℕ, zero, suc, ◌+◌, ◌<◌, ◌≤◌, ◌&&◌, Bool, true, false, not, inl, inr, List, [], ◌∷◌, Option, Some, None, length, get_or, set, map, refl, sym, ap, ◌∙◌, subst, arith, ltb, leb}
 use Rattle.std.specs.List.{AllByRecursion, filter, remove}
 use Rattle.range_table.specs.Settings.{IsIn}
-use Rattle.range_table.specs.Runs.{is_of, starts_in, trim, kept, run_before, Follows, IsRunList}
+use Rattle.range_table.specs.Runs.{is_of, starts_in, trim, kept_runs, run_before, Follows, IsRunList}
 use Rattle.range_table.specs.Parts.{starts_before, last_index, last_started, later_run}
 use Rattle.range_table.specs.declared.run.Run.{Run}
 use Rattle.range_table.specs.declared.run.Setting.{Setting}
@@ -174,7 +174,7 @@ IsRunList-end (r ∷ rs) zero x last l e f u h =
     (f, (follow_end x last rs u k.1.0, k.1.1))
 IsRunList-end (r ∷ rs) (suc at) x last l e f u h = (h.0, (ends_follow r x last rs at (omega arith) e h.1.0, IsRunList-end rs at x last (omega arith) e f u h.1.1))
 
-pub kept_by : (c : Setting) (rs : List Run) → map (trim c) (filter (stays c) rs) ≡ kept c rs
+pub kept_by : (c : Setting) (rs : List Run) → map (trim c) (filter (stays c) rs) ≡ kept_runs c rs
 kept_by c [] = refl
 kept_by c (r ∷ rs) =
     by_test (starts_in c r)

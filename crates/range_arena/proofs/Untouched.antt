@@ -1,7 +1,7 @@
 -- Where an owner has no run that starts up to a range's end, the range meets none of its runs.
 use Rattle.std.proofs.Common.{◌≡◌, ℕ, ◌+◌, ◌<◌, ◌≤◌, Bool, true, false, List, [], ◌∷◌, Option, Some, None, refl, sym, ap, ◌∙◌, arith}
 use Rattle.std.specs.List.{AllByRecursion}
-use Rattle.range_table.specs.Runs.{starts_in, trim, kept, outlasts, right, insert_run, insert_some, cut, joins_low, low, joins_high, high, widened, run_of, joined}
+use Rattle.range_table.specs.Runs.{starts_in, trim, kept_runs, outlasts, right, insert_run, insert_some, runs_without, joins_low, low, joins_high, high, widened_setting, run_of, runs_with}
 use Rattle.range_table.specs.Parts.{starts_before, last_started, later_run}
 use Rattle.range_table.specs.declared.run.Mode.{Mode}
 use Rattle.range_table.specs.declared.run.Run.{Run}
@@ -30,18 +30,18 @@ module _ (c : Setting) (byte : ℕ) (ordered : c.first ≤ c.last) (behind : c.l
   no_rest : (r : Run) → starts_before c byte r ≡ false → outlasts c r ≡ false
   no_rest r h = by_test (outlasts c r) (λ t. absurd (let z : starts_before c byte r ≡ true = grind (arith, file_tests) in cc)) (λ t. t)
 
-  all_kept : (rs : List Run) → NoneUpto c byte rs → kept c rs ≡ rs
+  all_kept : (rs : List Run) → NoneUpto c byte rs → kept_runs c rs ≡ rs
   all_kept [] h = refl
-  all_kept (r ∷ rs) h = let a = no_start r h.0 in let b = no_trim r h.0 in let m = all_kept rs h.1 in rw a (ap (λ x. x ∷ kept c rs) b ∙ ap (λ xs. r ∷ xs) m)
+  all_kept (r ∷ rs) h = let a = no_start r h.0 in let b = no_trim r h.0 in let m = all_kept rs h.1 in rw a (ap (λ x. x ∷ kept_runs c rs) b ∙ ap (λ xs. r ∷ xs) m)
 
   none_right : (rs : List Run) → NoneUpto c byte rs → right c rs ≡ None
   none_right [] h = refl
   none_right (r ∷ rs) h = let a = no_rest r h.0 in rw a (none_right rs h.1)
 
-  uncut : (rs : List Run) → NoneUpto c byte rs → rs ≡ cut c rs
-  uncut rs h = sym (ap (λ o. insert_some o (kept c rs)) (none_right rs h) ∙ all_kept rs h)
+  uncut : (rs : List Run) → NoneUpto c byte rs → rs ≡ runs_without c rs
+  uncut rs h = sym (ap (λ o. insert_some o (kept_runs c rs)) (none_right rs h) ∙ all_kept rs h)
 
-pub cut_nothing : (c : Setting) (rs : List Run) → c.first ≤ c.last → last_started c (c.last + 1) rs ≡ None → rs ≡ cut c rs
+pub cut_nothing : (c : Setting) (rs : List Run) → c.first ≤ c.last → last_started c (c.last + 1) rs ≡ None → rs ≡ runs_without c rs
 cut_nothing c rs o h = uncut c (c.last + 1) o (omega arith) rs (none_start c (c.last + 1) rs h)
 
 module _ (c : Setting) (m : Mode) (ordered : c.first ≤ c.last) where
@@ -59,10 +59,10 @@ module _ (c : Setting) (m : Mode) (ordered : c.first ≤ c.last) where
   same_high [] h = refl
   same_high (r ∷ rs) h = let a = no_high r h.0 in rw a (same_high rs h.1)
 
-  same_range : (rs : List Run) → NoneUpto c (c.last + 2) rs → widened c m rs ≡ c
+  same_range : (rs : List Run) → NoneUpto c (c.last + 2) rs → widened_setting c m rs ≡ c
   same_range rs h = let a = same_low rs h in let b = same_high rs h in λ i. record c { first = a i; last = b i }
 
-  pub joined_alone : (rs : List Run) → last_started c (c.last + 2) rs ≡ None → joined c m rs ≡ insert_run (run_of c m) rs
+  pub joined_alone : (rs : List Run) → last_started c (c.last + 2) rs ≡ None → runs_with c m rs ≡ insert_run (run_of c m) rs
   joined_alone rs h =
       let n = none_start c (c.last + 2) rs h in
-      ap (λ (w : Setting). insert_run (run_of w m) (cut w rs)) (same_range rs n) ∙ ap (insert_run (run_of c m)) (sym (uncut c (c.last + 2) ordered (omega arith) rs n))
+      ap (λ (w : Setting). insert_run (run_of w m) (runs_without w rs)) (same_range rs n) ∙ ap (insert_run (run_of c m)) (sym (uncut c (c.last + 2) ordered (omega arith) rs n))

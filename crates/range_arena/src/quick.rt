@@ -2,7 +2,7 @@
 ghost use Rattle.std.specs.Prelude.{OnOk, OnErr, IsErr, IsTrue, IfSome, ◌↔◌, ◌≡◌, ◌+◌, ◌≤◌, length, map, not, Some};
 ghost use Rattle.std.specs.List.{filter};
 ghost use Rattle.range_table.specs.Settings.{IsIn};
-ghost use Rattle.range_table.specs.Runs.{starts_in, trim, kept, right, cut, low, high, widened, joined, set_runs, is_split, is_full};
+ghost use Rattle.range_table.specs.Runs.{starts_in, trim, kept_runs, right, runs_without, low, high, widened_setting, runs_with, set_runs, is_split, is_full};
 ghost use Rattle.range_table.specs.Parts.{last_started};
 ghost use Rattle.range_arena.specs.Quick.{HoldsAll, AreSet};
 
@@ -49,7 +49,7 @@ fn high(runs: &Indexed, range: &Ranged, mode: Mode) -> u64
 
 // The range with the runs of the mode that it meets.
 fn widened(runs: &Indexed, range: &Ranged, mode: Mode) -> Setting
-    ensures { result ≡ widened range.now.setting mode runs.now.list }
+    ensures { result ≡ widened_setting range.now.setting mode runs.now.list }
 {
     Setting {
         first: low(runs, &range.setting, mode),
@@ -98,7 +98,7 @@ fn take_started(runs: &mut Indexed, range: &Setting)
 }
 
 fn keep(runs: &mut Indexed, range: &Setting)
-    ensures { runs.new.list ≡ kept range.now runs.old.list }
+    ensures { runs.new.list ≡ kept_runs range.now runs.old.list }
 {
     take_started(runs, range);
     trim(runs, range);
@@ -108,8 +108,8 @@ fn keep(runs: &mut Indexed, range: &Setting)
 fn cut_to(runs: &mut Indexed, range: &Setting, rest: Option<Run>)
     requires ordered { range.now.first ≤ range.now.last }
     requires rest { rest ≡ right range.now runs.old.list }
-    requires room { length (cut range.now runs.old.list) ≤ MOST_RUNS }
-    ensures { runs.new.list ≡ cut range.now runs.old.list }
+    requires room { length (runs_without range.now runs.old.list) ≤ MOST_RUNS }
+    ensures { runs.new.list ≡ runs_without range.now runs.old.list }
 {
     keep(runs, range);
     if let Some(run) = rest {
@@ -119,8 +119,8 @@ fn cut_to(runs: &mut Indexed, range: &Setting, rest: Option<Run>)
 
 fn cut(runs: &mut Indexed, range: &Setting)
     requires ordered { range.now.first ≤ range.now.last }
-    requires room { length (cut range.now runs.old.list) ≤ MOST_RUNS }
-    ensures { runs.new.list ≡ cut range.now runs.old.list }
+    requires room { length (runs_without range.now runs.old.list) ≤ MOST_RUNS }
+    ensures { runs.new.list ≡ runs_without range.now runs.old.list }
 {
     // Where the owner has nothing up to the range's end, nothing more is searched.
     let Some(run) = runs.last_upto(range, range.last) else {
@@ -136,8 +136,8 @@ fn cut(runs: &mut Indexed, range: &Setting)
 
 // Where the owner may have runs beside the range.
 fn join_beside(runs: &mut Indexed, range: &Ranged, mode: Mode)
-    requires room { length (joined range.now.setting mode runs.old.list) ≤ MOST_RUNS }
-    ensures { runs.new.list ≡ joined range.now.setting mode runs.old.list }
+    requires room { length (runs_with range.now.setting mode runs.old.list) ≤ MOST_RUNS }
+    ensures { runs.new.list ≡ runs_with range.now.setting mode runs.old.list }
 {
     let wide = widened(runs, range, mode);
     cut(runs, &wide);
@@ -148,7 +148,7 @@ fn join_beside(runs: &mut Indexed, range: &Ranged, mode: Mode)
 fn join_last(runs: &mut Indexed, range: &Ranged, mode: Mode, last: &Run)
     requires mode { range.now.setting.mode ≡ Some mode }
     requires few { length runs.old.list ≤ MOST_RUNS }
-    requires room { length (joined range.now.setting mode runs.old.list) ≤ MOST_RUNS }
+    requires room { length (runs_with range.now.setting mode runs.old.list) ≤ MOST_RUNS }
     requires stands { IsIn last.now runs.old.list }
     ensures { AreSet (Some mode) range.now.setting runs.old.list runs.new.list }
 {
@@ -161,7 +161,7 @@ fn join_last(runs: &mut Indexed, range: &Ranged, mode: Mode, last: &Run)
 fn join(runs: &mut Indexed, range: &Ranged, mode: Mode)
     requires mode { range.now.setting.mode ≡ Some mode }
     requires few { length runs.old.list ≤ MOST_RUNS }
-    requires room { length (joined range.now.setting mode runs.old.list) ≤ MOST_RUNS }
+    requires room { length (runs_with range.now.setting mode runs.old.list) ≤ MOST_RUNS }
     ensures { AreSet (Some mode) range.now.setting runs.old.list runs.new.list }
 {
     match runs.last_upto(&range.setting, range.setting.last + 1) {
@@ -218,7 +218,7 @@ fn used_beside(runs: &Indexed, range: &Setting) -> u32
 // How many there are without the range.
 fn used_cut(runs: &Indexed, range: &Setting) -> u32
     requires few { length runs.now.list ≤ MOST_RUNS }
-    ensures count { result ≡ length (cut range.now runs.now.list) }
+    ensures count { result ≡ length (runs_without range.now runs.now.list) }
     ensures few { result ≤ MOST_RUNS + 1 }
 {
     sorted::used_with(used_beside(runs, range), rest(runs, range))

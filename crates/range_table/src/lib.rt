@@ -2,6 +2,7 @@
 #![tactic(auto)]
 
 mod alike;
+mod byte_range;
 mod file;
 mod flat;
 pub mod ordered;
@@ -17,6 +18,7 @@ mod wanted;
 mod words;
 
 pub use alike::{first_conflict_in_both, runs_in_both, used_in_both};
+pub use byte_range::ByteRange;
 pub use file::FileId;
 pub use flat::FlatTable;
 pub use ranged::Ranged;

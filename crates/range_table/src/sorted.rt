@@ -1,7 +1,7 @@
 //! A sorted list of runs, set and asked in place.
 ghost use Rattle.std.specs.Prelude.{OnOk, OnErr, IsErr, IsTrue, ◌↔◌, ◌≡◌, ◌+◌, ◌-◌, ◌<◌, ◌≤◌, length, map, not, take, drop, List};
 ghost use Rattle.std.specs.List.{filter, list_any, position_or_len};
-ghost use Rattle.range_table.specs.Runs.{starts_in, trim, kept, right, insert_run, cut, low, high, widened, joined, set_runs, is_split, is_full, run_before, before_place, IsPlace, IsRunList, is_better, best_from};
+ghost use Rattle.range_table.specs.Runs.{starts_in, trim, kept_runs, right, insert_run, runs_without, low, high, widened_setting, runs_with, set_runs, is_split, is_full, run_before, before_place, IsPlace, IsRunList, is_better, best_from};
 ghost use Rattle.range_table.specs.Settings.{conflicts, is_against};
 ghost use Rattle.range_table.specs.Parts.{IsPart};
 
@@ -50,7 +50,7 @@ fn high(runs: &SortedRuns, part: Part, range: &Ranged, mode: Mode) -> u64
 // The range with the runs of the mode that it meets.
 fn widened(runs: &SortedRuns, part: Part, range: &Ranged, mode: Mode) -> Setting
     requires part { IsPart range.now.setting.file runs.now.list part.begin part.end }
-    ensures { result ≡ widened range.now.setting mode runs.now.list }
+    ensures { result ≡ widened_setting range.now.setting mode runs.now.list }
 {
     Setting {
         first: low(runs, part, &range.setting, mode),
@@ -87,7 +87,7 @@ fn trim_last(runs: &mut SortedRuns, part: Part, range: &Setting, place: usize)
 fn keep(runs: &mut SortedRuns, part: Part, range: &Setting)
     requires part { IsPart range.now.file runs.old.list part.begin part.end }
     requires ordered { range.now.first ≤ range.now.last }
-    ensures { runs.new.list ≡ kept range.now runs.old.list }
+    ensures { runs.new.list ≡ kept_runs range.now runs.old.list }
 {
     let from = place_of(runs, part, &range.file, range.first);
     let past = place_past(runs, part, &range.file, range.last);
@@ -117,8 +117,8 @@ fn insert(runs: &mut SortedRuns, run: Run)
 fn cut(runs: &mut SortedRuns, part: Part, range: &Setting)
     requires part { IsPart range.now.file runs.old.list part.begin part.end }
     requires ordered { range.now.first ≤ range.now.last }
-    requires room { length (cut range.now runs.old.list) ≤ MOST_RUNS }
-    ensures { runs.new.list ≡ cut range.now runs.old.list }
+    requires room { length (runs_without range.now runs.old.list) ≤ MOST_RUNS }
+    ensures { runs.new.list ≡ runs_without range.now runs.old.list }
 {
     let rest = right(runs, part, range);
     keep(runs, part, range);
@@ -129,8 +129,8 @@ fn cut(runs: &mut SortedRuns, part: Part, range: &Setting)
 
 fn join(runs: &mut SortedRuns, part: Part, range: &Ranged, mode: Mode)
     requires part { IsPart range.now.setting.file runs.old.list part.begin part.end }
-    requires room { length (joined range.now.setting mode runs.old.list) ≤ MOST_RUNS }
-    ensures { runs.new.list ≡ joined range.now.setting mode runs.old.list }
+    requires room { length (runs_with range.now.setting mode runs.old.list) ≤ MOST_RUNS }
+    ensures { runs.new.list ≡ runs_with range.now.setting mode runs.old.list }
 {
     let wide = widened(runs, part, range, mode);
     cut(runs, part, &wide);
@@ -289,7 +289,7 @@ fn used_beside(runs: &RunList, range: &Setting) -> u32
 /// How many runs there are without a range: those that start beside it, and what is left of one behind it.
 pub fn used_with(beside: u32, rest: Option<Run>) -> u32
     requires { beside ≤ MOST_RUNS }
-    ensures count { (range : Setting) (runs : List Run) → beside ≡ length (filter (λ r. not (starts_in range r)) runs) → rest ≡ right range runs → result ≡ length (cut range runs) }
+    ensures count { (range : Setting) (runs : List Run) → beside ≡ length (filter (λ r. not (starts_in range r)) runs) → rest ≡ right range runs → result ≡ length (runs_without range runs) }
     ensures few { result ≤ MOST_RUNS + 1 }
 {
     match rest {
@@ -302,7 +302,7 @@ pub fn used_with(beside: u32, rest: Option<Run>) -> u32
 fn used_cut(runs: &SortedRuns, part: Part, range: &Setting) -> u32
     requires part { IsPart range.now.file runs.now.list part.begin part.end }
     requires few { length runs.now.list ≤ MOST_RUNS }
-    ensures count { result ≡ length (cut range.now runs.now.list) }
+    ensures count { result ≡ length (runs_without range.now runs.now.list) }
     ensures few { result ≤ MOST_RUNS + 1 }
 {
     used_with(used_beside(&runs.list, range), right(runs, part, range))

@@ -1,7 +1,7 @@
 -- A stream has one reading.
 use Rattle.std.proofs.Common.{◌≡◌, ℕ, zero, suc, ◌+◌, ◌%◌, ◌^◌, ◌≤◌, inl, inr, Bool, true, false, List, [], ◌∷◌, ◌++◌, length, flat_map, refl, sym, ◌∙◌, ap, subst, append_assoc, arith, length-append}
 use Rattle.std.specs.List.{All}
-use Rattle.record_mark.specs.Stream.{size_of, IsFragment, begun_with, ended_by, joined, begun_after, Fit, IsEnding, Splits}
+use Rattle.record_mark.specs.Stream.{size_of, IsFragment, begun_with, ended_by, joined_records, begun_after, Fit, IsEnding, Splits}
 use Rattle.record_mark.specs.declared.TheConstants.{MOST_RECORD_BYTES}
 use Rattle.record_mark.proofs.StreamLemmas.{word-append}
 
@@ -50,7 +50,7 @@ same_parts (x ∷ f) (y ∷ g) xs ys l e =
     (let first : f ≡ g = parts.0 in cc, parts.1)
 
 one : (begun : List ℕ) (fs gs : List (List ℕ)) (rest rest' : List ℕ) (e e' : Bool) → All IsFragment fs → All IsFragment gs → Fit begun fs → Fit begun gs
-    → IsEnding e (begun_after begun fs) rest → IsEnding e' (begun_after begun gs) rest' → bytes_in fs ++ rest ≡ bytes_in gs ++ rest' → (joined begun fs ≡ joined begun gs) × (e ≡ e')
+    → IsEnding e (begun_after begun fs) rest → IsEnding e' (begun_after begun gs) rest' → bytes_in fs ++ rest ≡ bytes_in gs ++ rest' → (joined_records begun fs ≡ joined_records begun gs) × (e ≡ e')
 one begun [] [] rest rest' e e' a b p q h h' is = (refl, one_ending e e' begun rest h (rw is h'))
 one begun (f ∷ fs) [] rest rest' e e' a b p q h h' is =
     absurd (no_fragment e' begun f (bytes_in fs ++ rest) rest' (head f fs a) p.0 (sym (append_assoc f (bytes_in fs) rest) ∙ is) h')
@@ -67,7 +67,7 @@ one begun (f ∷ fs) (g ∷ gs) rest rest' e e' a b p q h h' is =
     let P : List ℕ → Type 0 = λ g. Fit begun (g ∷ gs) × IsEnding e' (begun_after begun (g ∷ gs)) rest' in
     let moved = subst P (sym parts.0) (q, h') in
     let more = one (begun_with begun f) fs gs rest rest' e e' (tail f fs a) (tail g gs b) p.1 moved.0.1 h moved.1 parts.1 in
-    (ap (λ rs. ended_by begun f ++ rs) more.0 ∙ ap (λ k. joined begun (k ∷ gs)) parts.0, more.1)
+    (ap (λ rs. ended_by begun f ++ rs) more.0 ∙ ap (λ k. joined_records begun (k ∷ gs)) parts.0, more.1)
 
 pub Splits-one : (stream : List ℕ) (records records' : List (List ℕ)) (fault fault' : Bool) → Splits stream records fault → Splits stream records' fault' → (records ≡ records') × (fault ≡ fault')
 Splits-one stream records records' fault fault' s t =

@@ -5,10 +5,10 @@ use Rattle.std.specs.Int.{w32, from_be_bytes}
 use Rattle.std.proofs.lemmas.Grind.{flat_map-append}
 use Rattle.std.proofs.lemmas.List.{append-nil}
 use Rattle.std.proofs.lemmas.List.Elements.{All-append}
-use Rattle.record_mark.specs.Stream.{is_last, size_of, IsFragment, begun_with, ended_by, joined, begun_after, Fit, Reads, IsTooLong, Splits}
+use Rattle.record_mark.specs.Stream.{is_last, size_of, IsFragment, begun_with, ended_by, joined_records, begun_after, Fit, Reads, IsTooLong, Splits}
 use Rattle.record_mark.specs.declared.TheConstants.{MOST_RECORD_BYTES}
 
-pub joined-append : (begun : List ℕ) (fs gs : List (List ℕ)) → joined begun (fs ++ gs) ≡ joined begun fs ++ joined (begun_after begun fs) gs
+pub joined-append : (begun : List ℕ) (fs gs : List (List ℕ)) → joined_records begun (fs ++ gs) ≡ joined_records begun fs ++ joined_records (begun_after begun fs) gs
 joined-append begun [] gs = refl
 joined-append begun (f ∷ fs) gs =
     ap (λ rs. ended_by begun f ++ rs) (joined-append (begun_with begun f) fs gs) ∙ sym (append_assoc (ended_by begun f) _ _)
@@ -44,7 +44,7 @@ Reads-whole stream records begun rest r is fits = record {
   each = All-append IsFragment r.fragments (rest ∷ []) r.each (All-single rest is);
   fit = Fit-append [] r.fragments rest r.fit (rw r.leaves fits);
   whole = append-nil (flat_map (λ f. f) (r.fragments ++ rest ∷ [])) ∙ (flat_map-append (λ f. f) r.fragments (rest ∷ []) ∙ (ap (λ x. flat_map (λ f. f) r.fragments ++ x) (append-nil rest) ∙ r.whole));
-  makes = joined-append [] r.fragments (rest ∷ []) ∙ (ap (λ rs. rs ++ joined (begun_after [] r.fragments) (rest ∷ [])) r.makes ∙ ap (λ o. records ++ joined o (rest ∷ [])) r.leaves) ∙ ap (λ e. records ++ e) (append-nil (ended_by begun rest));
+  makes = joined-append [] r.fragments (rest ∷ []) ∙ (ap (λ rs. rs ++ joined_records (begun_after [] r.fragments) (rest ∷ [])) r.makes ∙ ap (λ o. records ++ joined_records o (rest ∷ [])) r.leaves) ∙ ap (λ e. records ++ e) (append-nil (ended_by begun rest));
   leaves = begun_after-append [] r.fragments (rest ∷ []) ∙ ap (λ o. begun_with o rest) r.leaves;
 }
 

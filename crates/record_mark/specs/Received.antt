@@ -1,7 +1,7 @@
 -- What a contract sees of a `RecordQueue`.
 use Rattle.std.specs.Prelude.{◌≡◌, ℕ, Bool, true, false, List, [], ◌++◌}
 use Rattle.record_mark.specs.Stream.{Splits}
-use Rattle.record_mark.specs.Untaken.{marked}
+use Rattle.record_mark.specs.Untaken.{flags_with}
 use Rattle.record_mark.specs.declared.record_queue.Received.{Received}
 use Rattle.record_mark.specs.declared.record_queue.Received.TheVariants as heard
 
@@ -18,7 +18,7 @@ abbrev pub with_bytes : ReceivedBytes → List ℕ → ReceivedBytes
 with_bytes old bytes = record old { received = old.received ++ bytes }
 
 abbrev pub with_taken : ReceivedBytes → ℕ → ReceivedBytes
-with_taken old i = record old { taken = marked old.taken i }
+with_taken old i = record old { taken = flags_with old.taken i }
 
 -- the bytes came, and it is told whether the stream has a fault; or they starved, and nothing more is received
 abbrev pub Hears : Received → ReceivedBytes → List ℕ → ReceivedBytes → Type 0

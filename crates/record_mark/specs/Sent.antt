@@ -8,9 +8,9 @@ use Rattle.record_mark.specs.Stream.{Splits}
 abbrev pub mark_of_last : ℕ → List ℕ
 mark_of_last len = to_be_bytes w32 (2 ^ 31 + len)
 
-abbrev pub marked : List ℕ → List ℕ
-marked message = mark_of_last (length message) ++ message
+abbrev pub marked_record : List ℕ → List ℕ
+marked_record message = mark_of_last (length message) ++ message
 
 -- what is sent is a stream of just that record
 abbrev pub IsOneRecordWhenSent : Type 0
-IsOneRecordWhenSent = (message : List ℕ) → length message ≤ MOST_RECORD_BYTES → Splits (marked message) (message ∷ []) false
+IsOneRecordWhenSent = (message : List ℕ) → length message ≤ MOST_RECORD_BYTES → Splits (marked_record message) (message ∷ []) false

@@ -25,9 +25,9 @@ abbrev pub ended_by : List ℕ → List ℕ → List (List ℕ)
 ended_by begun fragment = if is_last fragment then (begun ++ drop 4 fragment) ∷ [] else []
 
 -- the records that the fragments make, each the join of its fragments, where there is a part of the first already
-abbrev pub joined : List ℕ → List (List ℕ) → List (List ℕ)
-joined begun [] = []
-joined begun (f ∷ fs) = ended_by begun f ++ joined (begun_with begun f) fs
+abbrev pub joined_records : List ℕ → List (List ℕ) → List (List ℕ)
+joined_records begun [] = []
+joined_records begun (f ∷ fs) = ended_by begun f ++ joined_records (begun_with begun f) fs
 
 -- what there is of the record after those
 abbrev pub begun_after : List ℕ → List (List ℕ) → List ℕ
@@ -45,7 +45,7 @@ pub record Reads (stream : List ℕ) (records : List (List ℕ)) (begun rest : L
   pub each : All IsFragment fragments
   pub fit : Fit [] fragments
   pub whole : flat_map (λ f. f) fragments ++ rest ≡ stream
-  pub makes : joined [] fragments ≡ records
+  pub makes : joined_records [] fragments ≡ records
   pub leaves : begun_after [] fragments ≡ begun
 
 -- less than a whole mark, or less than a whole fragment of a record that fits so far

@@ -7,16 +7,16 @@ abbrev pub AreRecords : List ℕ → List (List ℕ) → Type 0
 AreRecords received records = (fault : Bool) × Splits received records fault
 
 -- the records that were not taken, in order. A flag for each of the first records says whether it was
-abbrev pub untaken : List (List ℕ) → List Bool → List (List ℕ)
-untaken [] flags = []
-untaken (r ∷ rs) [] = r ∷ rs
-untaken (r ∷ rs) (true ∷ flags) = untaken rs flags
-untaken (r ∷ rs) (false ∷ flags) = r ∷ untaken rs flags
+abbrev pub untaken_records : List (List ℕ) → List Bool → List (List ℕ)
+untaken_records [] flags = []
+untaken_records (r ∷ rs) [] = r ∷ rs
+untaken_records (r ∷ rs) (true ∷ flags) = untaken_records rs flags
+untaken_records (r ∷ rs) (false ∷ flags) = r ∷ untaken_records rs flags
 
 -- the flags after the i-th of the others is taken
-abbrev pub marked : List Bool → ℕ → List Bool
-marked [] zero = true ∷ []
-marked [] (suc i) = false ∷ marked [] i
-marked (true ∷ flags) i = true ∷ marked flags i
-marked (false ∷ flags) zero = true ∷ flags
-marked (false ∷ flags) (suc i) = false ∷ marked flags i
+abbrev pub flags_with : List Bool → ℕ → List Bool
+flags_with [] zero = true ∷ []
+flags_with [] (suc i) = false ∷ flags_with [] i
+flags_with (true ∷ flags) i = true ∷ flags_with flags i
+flags_with (false ∷ flags) zero = true ∷ flags
+flags_with (false ∷ flags) (suc i) = false ∷ flags_with flags i

@@ -2,7 +2,7 @@
 
 ghost use Rattle.std.specs.Prelude.{◌≡◌, ℕ, ◌≤◌, List, length, slice_get, IfSome, IfNone, Some};
 ghost use Rattle.record_mark.specs.Received.{nothing, Hears, with_taken};
-ghost use Rattle.record_mark.specs.Untaken.{AreRecords, untaken};
+ghost use Rattle.record_mark.specs.Untaken.{AreRecords, untaken_records};
 
 use crate::assembler::{Assembler, MarkError};
 use bytes::Bytes;
@@ -90,7 +90,7 @@ impl RecordQueue {
 
     /// How many whole records there are that were not taken.
     pub fn waiting(&self) -> usize
-        ensures { (records : List (List ℕ)) × AreRecords self.now.received records × (result ≡ length (untaken records self.now.taken)) }
+        ensures { (records : List (List ℕ)) × AreRecords self.now.received records × (result ≡ length (untaken_records records self.now.taken)) }
     {
         self.queue.len()
     }
@@ -98,8 +98,8 @@ impl RecordQueue {
     /// Takes the record of this place among those that were not taken.
     pub fn take(&mut self, index: usize) -> Option<Bytes>
         ensures some { IfSome result (λ r. (records : List (List ℕ)) × AreRecords self.old.received records
-            × (slice_get (untaken records self.old.taken) index ≡ Some r) × (self.new ≡ with_taken self.old index)) }
-        ensures none { IfNone result ((self.new ≡ self.old) × ((records : List (List ℕ)) × AreRecords self.old.received records × (length (untaken records self.old.taken) ≤ index))) }
+            × (slice_get (untaken_records records self.old.taken) index ≡ Some r) × (self.new ≡ with_taken self.old index)) }
+        ensures none { IfNone result ((self.new ≡ self.old) × ((records : List (List ℕ)) × AreRecords self.old.received records × (length (untaken_records records self.old.taken) ≤ index))) }
     {
         if index >= self.queue.len() {
             return None;

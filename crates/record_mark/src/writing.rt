@@ -1,7 +1,7 @@
 //! Records are written behind their marks (RFC 5531, section 11).
 
 ghost use Rattle.std.specs.Prelude.{◌≡◌, []};
-ghost use Rattle.record_mark.specs.Sent.{marked};
+ghost use Rattle.record_mark.specs.Sent.{marked_record};
 ghost use Rattle.byte_io.specs.Written.{Wrote};
 
 use crate::last_mark;
@@ -23,7 +23,7 @@ pub trait Spelled {
 
 /// Writes a record of one fragment. Where a write fails, a front of it was written. It takes no memory.
 pub fn write_record<W: Write>(writer: &mut W, frame: &Frame) -> Result<(), WriteFault>
-    ensures { Wrote (W.contents writer.old) (W.contents writer.new) result (marked frame.now) }
+    ensures { Wrote (W.contents writer.old) (W.contents writer.new) result (marked_record frame.now) }
 {
     write_whole(writer, &last_mark(frame.len() as u32))?;
     write_whole(writer, frame.as_slice())
@@ -36,7 +36,7 @@ pub fn write_spelled<V: Spelled, W: Write>(
     room: &mut Frame,
     writer: &mut W,
 ) -> Result<(), WriteFault>
-    ensures { Wrote (W.contents writer.old) (W.contents writer.new) result (marked (V.spelling value.now)) }
+    ensures { Wrote (W.contents writer.old) (W.contents writer.new) result (marked_record (V.spelling value.now)) }
 {
     room.truncate(0);
     value.put(room);

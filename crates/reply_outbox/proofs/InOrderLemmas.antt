@@ -3,7 +3,7 @@ use Rattle.std.proofs.Common.{◌≡◌, ◌⊎◌, inl, inr, ℕ, ◌+◌, eqb,
 use Rattle.std.proofs.lemmas.List.{append_assoc, append-nil, take-append-drop}
 use Rattle.std.proofs.lemmas.List.Elements.{filter-append}
 use Rattle.std.proofs.Math.Seq.{take-append_seam, take-append-add, take-length}
-use Rattle.record_mark.specs.Sent.{marked}
+use Rattle.record_mark.specs.Sent.{marked_record}
 use Rattle.reply_outbox.specs.Posted.{Sent}
 use Rattle.reply_outbox.specs.Effects.{Effect, Writes, Breaks, Shuts, is_write, writes, bytes_of, loses, is_lost, bytes_to, marked_of, marked_for, GoesInOrder, joined_for, InOrder}
 use Rattle.reply_outbox.specs.Writes.{IsWritten}
@@ -117,13 +117,13 @@ module _ (handed : List Sent) (old : List Effect) (to : ℕ) (joined : List ℕ)
       (λ other. none-for (eqb n to) ∙ sym (ap (λ (b : List ℕ). b ++ []) (none-where (eqb n to) joined other))) refl handed (same-replies n))
 
   -- a reply more is joined
-  pub joins : (reply : List ℕ) → InOrder (handed ++ record { connection = to; reply = reply } ∷ []) old to (joined ++ marked reply)
+  pub joins : (reply : List ℕ) → InOrder (handed ++ record { connection = to; reply = reply } ∷ []) old to (joined ++ marked_record reply)
   joins reply n =
       let s : Sent = record { connection = to; reply = reply } in
       let grown : marked_for n (handed ++ s ∷ []) ≡ marked_for n handed ++ marked_of n s = marked-more n handed s in record {
         prefix = subst (λ (m : List ℕ). take (length (bytes_to n old)) m ≡ bytes_to n old) (sym grown) (longer (bytes_to n old) (marked_for n handed) (marked_of n s) (all n).prefix);
         whole = λ kept.
-            ap (λ (b : List ℕ). bytes_to n old ++ b) (joined-more (eqb n to) joined (marked reply))
+            ap (λ (b : List ℕ). bytes_to n old ++ b) (joined-more (eqb n to) joined (marked_record reply))
             ∙ sym (append_assoc (bytes_to n old) (joined_for n to joined) (marked_of n s))
             ∙ ap (λ (b : List ℕ). b ++ marked_of n s) ((all n).whole kept)
             ∙ sym grown;
@@ -134,7 +134,7 @@ module _ (handed : List Sent) (old : List Effect) (to : ℕ) (joined : List ℕ)
   shuts reply n =
       let s : Sent = record { connection = to; reply = reply } in
       after n handed old (Shuts to) (joined_for n to joined) (joined_for n to []) (marked_of n s) (all n)
-      (λ other. none-for (eqb n to) ∙ sym (ap (λ (b : List ℕ). b ++ marked_of n s) (none-where (eqb n to) joined other) ∙ none-where (eqb n to) (marked reply) other))
+      (λ other. none-for (eqb n to) ∙ sym (ap (λ (b : List ℕ). b ++ marked_of n s) (none-where (eqb n to) joined other) ∙ none-where (eqb n to) (marked_record reply) other))
       refl (handed ++ s ∷ []) (marked-more n handed s)
 
 -- where nothing is joined it is joined for nobody

@@ -1,6 +1,6 @@
 -- What is done to connections, and how it stands to the replies that were handed over for them.
 use Rattle.std.specs.Prelude.{◌≡◌, ℕ, eqb, Bool, true, false, cond, List, [], ◌∷◌, ◌++◌, length, take, filter}
-use Rattle.record_mark.specs.Sent.{marked}
+use Rattle.record_mark.specs.Sent.{marked_record}
 use Rattle.reply_outbox.specs.Posted.{Sent}
 
 -- a connection took these bytes whole; or a write broke, behind which the connection took a prefix at most; or it was shut. One that
@@ -38,7 +38,7 @@ bytes_to n [] = []
 bytes_to n (x ∷ effects) = bytes_of n x ++ cond (loses n x) [] (bytes_to n effects)
 
 abbrev pub marked_of : ℕ → Sent → List ℕ
-marked_of n s = cond (eqb n s.connection) (marked s.reply) []
+marked_of n s = cond (eqb n s.connection) (marked_record s.reply) []
 
 -- the replies for it, each behind its mark, in the order in which they were handed over
 abbrev pub marked_for : ℕ → List Sent → List ℕ

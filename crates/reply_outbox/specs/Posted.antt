@@ -10,10 +10,10 @@ pub record Sent : Type 0 where
   pub reply : Bytes
 
 -- the record of a reply; nothing where there is none
-abbrev pub posted : ℕ → Given → List Sent
-posted connection (Replies xid outcome) = record { connection = connection; reply = reply_bytes xid outcome } ∷ []
-posted connection Nothing = []
-posted connection (Says line) = []
-posted connection (Sends number callback) = []
-posted connection IsStarved = []
-posted connection IsRefused = []
+abbrev pub sent_of_reply : ℕ → Given → List Sent
+sent_of_reply connection (Replies xid outcome) = record { connection = connection; reply = reply_bytes xid outcome } ∷ []
+sent_of_reply connection Nothing = []
+sent_of_reply connection (Says line) = []
+sent_of_reply connection (Sends number callback) = []
+sent_of_reply connection IsStarved = []
+sent_of_reply connection IsRefused = []

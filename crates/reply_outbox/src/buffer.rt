@@ -1,7 +1,7 @@
 //! Replies on their way to their connections.
 ghost use Rattle.std.specs.Prelude.{◌≡◌, List, ℕ, false, [], ◌∷◌, ◌++◌, IfOk};
 ghost use Rattle.std.proofs.Props.{props};
-ghost use Rattle.record_mark.specs.Sent.{marked};
+ghost use Rattle.record_mark.specs.Sent.{marked_record};
 ghost use Rattle.reply_outbox.specs.Effects.{InOrder, bytes_to, is_lost, marked_for, writes};
 ghost use Rattle.reply_outbox.specs.Posted.{Sent};
 ghost use Rattle.reply_outbox.specs.Writes.{is_full, is_written_before};
@@ -9,7 +9,7 @@ ghost use Rattle.reply_outbox.specs.SentReplies.{view_of_sent};
 
 use crate::sockets::ReplySockets;
 use crate::{Outbox, SentReply};
-use book::Reply;
+use book::RecordReply;
 use ghost_list::History;
 use record_mark::last_mark;
 use std::alloc::{AllocError, Global};
@@ -74,7 +74,7 @@ fn write_joined<S: ReplySockets>(sockets: &mut S, to: u64, joined: &mut Vec<u8>,
 
 // The message goes behind its mark and all that is joined.
 fn append(joined: &mut Vec<u8>, message: &Frame) -> Result<(), AllocError>
-    ensures ok { IfOk result (λ _. joined.new.items ≡ joined.old.items ++ marked message.now) }
+    ensures ok { IfOk result (λ _. joined.new.items ≡ joined.old.items ++ marked_record message.now) }
 {
     joined.extend_from_slice(&last_mark(message.len() as u32))?;
     joined.extend_from_slice(message.as_slice())
@@ -155,7 +155,7 @@ impl<S: ReplySockets> Outbox for ReplyBuffer<S> {
 
     ghost writes_before = { λ o n. is_written_before n o.to o.joined.items };
 
-    fn hand(&mut self, connection: u64, reply: &Reply) {
+    fn hand(&mut self, connection: u64, reply: &RecordReply) {
         self.turn(connection);
         self.sent.connection = connection;
         self.sent.record.truncate(0);

@@ -2,14 +2,14 @@
 #![tactic(auto)]
 
 ghost use Rattle.std.specs.Prelude.{◌≡◌, ℕ, Bool, false, List, [], ◌∷◌, ◌++◌};
-ghost use Rattle.book.specs.Given.{view_of_reply, record_of};
+ghost use Rattle.book.specs.Given.{view_of_record_reply, view_of_reply, record_of};
 ghost use Rattle.reply_outbox.specs.Effects.{Effect, writes};
-ghost use Rattle.reply_outbox.specs.Posted.{Sent, posted};
+ghost use Rattle.reply_outbox.specs.Posted.{Sent, sent_of_reply};
 
 mod buffer;
 mod sockets;
 
-use book::Reply;
+use book::{RecordReply, Reply};
 pub use buffer::ReplyBuffer;
 use job_queue::Job;
 pub use sockets::{ReplySockets, SocketEffects};
@@ -35,9 +35,9 @@ pub trait Outbox {
     /// Whether replies are written before, or with, the next one for the connection of this number.
     ghost writes_before: { Self → ℕ → Bool };
 
-    /// A reply that has a record.
-    fn hand(&mut self, connection: u64, reply: &Reply)
-        ensures handed { handed self.new ≡ handed self.old ++ record { connection = connection; reply = record_of (view_of_reply reply.now) } ∷ [] }
+    /// The reply to a call.
+    fn hand(&mut self, connection: u64, reply: &RecordReply)
+        ensures handed { handed self.new ≡ handed self.old ++ record { connection = connection; reply = record_of (view_of_record_reply reply.now) } ∷ [] }
         ensures quiet { writes_before self.old connection ≡ false → writes (effects self.new) ≡ writes (effects self.old) };
 
     /// The next replies are for this connection. Replies that are joined for another are written now, since what comes next may
@@ -61,19 +61,17 @@ pub trait Outbox {
 
 /// Hands over a reply for this connection, once, if it has a record, and nothing else.
 pub fn post<O: Outbox>(outbox: &mut O, connection: u64, reply: &Reply)
-    ensures { O.handed outbox.new ≡ O.handed outbox.old ++ posted connection (view_of_reply reply.now) }
+    ensures { O.handed outbox.new ≡ O.handed outbox.old ++ sent_of_reply connection (view_of_reply reply.now) }
 {
     match reply {
-        Reply::Answers { .. } | Reply::Refuses { .. } | Reply::SystemErr { .. } => {
-            outbox.hand(connection, reply);
-        }
-        Reply::Nothing | Reply::Says(_) | Reply::Starved | Reply::StoreRefused => {}
+        Reply::Record(reply) => outbox.hand(connection, reply),
+        Reply::Line(_) | Reply::Nobody(_) => {}
     }
 }
 
 /// As `post`, of a reply that nobody else needs, which is let go of.
 pub fn post_last<O: Outbox>(outbox: &mut O, connection: u64, reply: Reply)
-    ensures { O.handed outbox.new ≡ O.handed outbox.old ++ posted connection (view_of_reply reply) }
+    ensures { O.handed outbox.new ≡ O.handed outbox.old ++ sent_of_reply connection (view_of_reply reply) }
 {
     post(outbox, connection, &reply);
 }

@@ -17,7 +17,7 @@ use Rattle.definition_laws.proofs.HistoryLaws.{history_grows}
 use Rattle.call_codec.specs.Readings.{OneReading}
 use Rattle.book.specs.Given.{StepResult}
 use Rattle.book.specs.Notes.{Note, JournalEvent, Steps}
-use Rattle.book.specs.Journal.{Journal, AreEntriesOf, IsLegal, begun, next_of, noted}
+use Rattle.book.specs.Journal.{Journal, AreEntriesOf, IsLegal, empty_journal, next_of, noted_journal}
 use Rattle.book.specs.Histories.{IsHistory}
 use Rattle.book.proofs.Journals.{more_entries, as_many}
 use Rattle.book.proofs.Histories.{state_behind}
@@ -107,7 +107,7 @@ module _ (j : Journal) (entries : List Entry) (are : AreEntriesOf j.notes entrie
   entry = record { number = j.first + length entries; done = did; given = (after the_limits j.end did).given }
 
   abbrev more : Journal
-  more = noted j (record { number = next_of j; event = event; step_result = step_result }) new
+  more = noted_journal j (record { number = next_of j; event = event; step_result = step_result }) new
 
   are_more : AreEntriesOf more.notes (entries ++ entry ∷ [])
   are_more = more_entries j.notes entries (record { number = next_of j; event = event; step_result = step_result }) entry are (record {
@@ -123,15 +123,15 @@ module _ (j : Journal) (entries : List Entry) (are : AreEntriesOf j.notes entrie
 
 -- the restart, as the first entry
 pub honest_begins : (list : List Setting) (old new : State) (event : JournalEvent) (step_result : StepResult) (s : Steps old event step_result new) → step_result.completion ≡ Applied → is_beginning s.said step_result.store ≡ true
-    → IsHonestSince list (noted (begun 1 old) (record { number = next_of (begun 1 old); event = event; step_result = step_result }) new)
+    → IsHonestSince list (noted_journal (empty_journal 1 old) (record { number = next_of (empty_journal 1 old); event = event; step_result = step_result }) new)
 honest_begins list old new event step_result s done agreed =
     let nothing : IsLegalFrom the_limits 1 old [] old = record { numbers = refl; given = refl; ends = refl; store = refl } in
     record {
       before = [];
-      begun = entry (begun 1 old) [] refl nothing event step_result new s;
+      begun = entry (empty_journal 1 old) [] refl nothing event step_result new s;
       since = [];
-      are = are_more (begun 1 old) [] refl nothing event step_result new s;
-      legal = legal_more (begun 1 old) [] refl nothing event step_result new s;
+      are = are_more (empty_journal 1 old) [] refl nothing event step_result new s;
+      legal = legal_more (empty_journal 1 old) [] refl nothing event step_result new s;
       done = done;
       agreed = agreed;
       honest = tt;
@@ -143,7 +143,7 @@ honest_more list s (x ∷ xs) d before grace last = (before.0, before.1, honest_
 
 -- an event that finds grace, and reclaims nothing but what is honest
 pub honest_goes_on : (list : List Setting) (j : Journal) (h : IsHonestSince list j) (event : JournalEvent) (step_result : StepResult) (new : State) (s : Steps j.end event step_result new) → j.end.world.phase ≡ Grace → ((r : Request) → IsReclaim s.said r → IsHonest list r)
-    → IsHonestSince list (noted j (record { number = next_of j; event = event; step_result = step_result }) new)
+    → IsHonestSince list (noted_journal j (record { number = next_of j; event = event; step_result = step_result }) new)
 honest_goes_on list j h event step_result new s grace reclaims =
     let entries = h.before ++ h.begun ∷ h.since in
     let e : Entry = entry j entries h.are h.legal event step_result new s in

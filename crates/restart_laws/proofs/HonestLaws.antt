@@ -15,12 +15,12 @@ use Rattle.definitions.specs.Hosts.{StoreCall, StoreAnswer, NotAsked, Yes, Refus
 use Rattle.definitions.specs.Outgoing.{Outgoing, Message, Granted, GrantedMsg, due_now}
 use Rattle.definitions.specs.Replies.{Nlm, Asks, Success, NoResult, ResResult, SystemErr}
 use Rattle.definitions.specs.Shown.{res}
-use Rattle.definitions.specs.World.{World, the_limits, slots_free, settled, with_setting}
-use Rattle.definitions.specs.Rulings.{Response, Ruling, ruled, decided, stays}
+use Rattle.definitions.specs.World.{World, the_limits, slots_free, settled_world, with_setting}
+use Rattle.definitions.specs.Rulings.{Response, Ruling, ruled_answer, decided_ruling, stays}
 use Rattle.definitions.specs.LockRules.{LockAsk, NewHost, row_asked, after_row, free_lock, blocked_lock, lock_rules}
-use Rattle.definitions.specs.Answer.{Answered, gives, replied, sent_back, by_reply, by_call, lock_callback, lock_ask, caller_row, lock_unless, lock_verdict, lock_msg_answer, nlm_answer, ruling}
+use Rattle.definitions.specs.Answer.{Answered, gives, answer_of_response, sent_back, by_reply, by_call, lock_callback, lock_ask, caller_row, lock_unless, lock_verdict, lock_msg_answer, nlm_answer, ruling}
 use Rattle.definitions.specs.Reclaims.{AreCompatible, IsUnder}
-use Rattle.definitions.specs.Step.{Peer, KeptPair, State, Event, Take, Applied, Replies, taken, applied, store_call, asked_unless_kept}
+use Rattle.definitions.specs.Step.{Peer, KeptPair, State, Event, Take, Applied, Replies, taken_step, applied_step, store_call, asked_unless_kept}
 use Rattle.definitions.specs.Replay.{fits}
 use Rattle.definitions.proofs.ReclaimLaws.{honest_meets_no_conflict}
 use Rattle.definition_laws.proofs.AnswerMoves.{admitted}
@@ -92,7 +92,7 @@ module _ (list : List Setting) (compatible : AreCompatible list) (s : State) (un
 
   by_lock_msg : leb 1 (slots_free the_limits w) ≡ true → nlm_answer the_limits w version (LockMsg a) ≡ by_call (lock_callback version a) (grant (caller_row a))
   by_lock_msg p =
-      ap (λ b. cond b (by_call (lock_callback version a) (lock_msg_answer the_limits w version a)) (decided (gives w SystemErr))) p
+      ap (λ b. cond b (by_call (lock_callback version a) (lock_msg_answer the_limits w version a)) (decided_ruling (gives w SystemErr))) p
       ∙ ap (by_call (lock_callback version a)) (verdict (caller_row a) (GrantedMsg version a.exclusive a.alock) (slots_free the_limits w - 1))
 
   abbrev event_of : NlmCall → Event
@@ -102,13 +102,13 @@ module _ (list : List Setting) (compatible : AreCompatible list) (s : State) (un
   Fits c answer = fits the_limits s (record { event = event_of c; completion = Applied; store = answer }) ≡ true
 
   -- the store was asked and agreed, or there was nothing to ask
-  agreed : (c : NlmCall) (r : Ruling Answered) → nlm_answer the_limits w version c ≡ r → (r.asks ≡ None → r.refused ≡ r.agreed) → Fits c store → ruled store (ruling the_limits w peer.local (Nlm version c)) ≡ r.agreed
-  agreed c r is unasked fit = ap (ruled store) is ∙ go store r.asks refl fit h.row
+  agreed : (c : NlmCall) (r : Ruling Answered) → nlm_answer the_limits w version c ≡ r → (r.asks ≡ None → r.refused ≡ r.agreed) → Fits c store → ruled_answer store (ruling the_limits w peer.local (Nlm version c)) ≡ r.agreed
+  agreed c r is unasked fit = ap (ruled_answer store) is ∙ go store r.asks refl fit h.row
     where
       call_is : store_call the_limits s (event_of c) ≡ r.asks
       call_is = ap (asked_unless_kept the_limits s peer (Nlm version c)) h.new ∙ ap (λ (q : Ruling Answered). q.asks) is
 
-      go : (answer : StoreAnswer) (o : Option StoreCall) → r.asks ≡ o → Fits c answer → answer ≢ Refused → ruled answer r ≡ r.agreed
+      go : (answer : StoreAnswer) (o : Option StoreCall) → r.asks ≡ o → Fits c answer → answer ≢ Refused → ruled_answer answer r ≡ r.agreed
       go Yes o e f n = refl
       go Refused o e f n = absurd (n refl)
       go NotAsked None e f n = unasked e
@@ -119,19 +119,19 @@ module _ (list : List Setting) (compatible : AreCompatible list) (s : State) (un
 
   -- the table after it, and what its caller is told
   replied_grant : (c : NlmCall) (row : Option NewHost) → nlm_answer the_limits w version c ≡ by_reply version a.cookie (grant row) → Fits c store
-      → ((taken the_limits s peer asked xid (Nlm version c) store None).state.world.settings ≡ w.settings ++ setting_of request ∷ []) × ((taken the_limits s peer asked xid (Nlm version c) store None).given ≡ Replies xid (Success (ResResult (res version a.cookie GRANTED))))
+      → ((taken_step the_limits s peer asked xid (Nlm version c) store None).state.world.settings ≡ w.settings ++ setting_of request ∷ []) × ((taken_step the_limits s peer asked xid (Nlm version c) store None).given ≡ Replies xid (Success (ResResult (res version a.cookie GRANTED))))
   replied_grant c row is fit =
       let t = (grant row).agreed in
       let g = is_grant row in
-      let same = agreed c (by_reply version a.cookie (grant row)) is (λ e. ap (replied version a.cookie) (row_unasked w (row_asked w row) GRANTED (λ v. with_setting v (setting_of request)) e)) fit in (
-        ap (λ (x : Answered). (settled the_limits x.world).settings) same ∙ ap (λ (v : World). v.settings) (settled_nobody the_limits t.world (g.waiters ∙ under.waiters)) ∙ g.settings,
+      let same = agreed c (by_reply version a.cookie (grant row)) is (λ e. ap (answer_of_response version a.cookie) (row_unasked w (row_asked w row) GRANTED (λ v. with_setting v (setting_of request)) e)) fit in (
+        ap (λ (x : Answered). (settled_world the_limits x.world).settings) same ∙ ap (λ (v : World). v.settings) (settled_nobody the_limits t.world (g.waiters ∙ under.waiters)) ∙ g.settings,
         ap (λ (x : Answered). Replies xid x.outcome) same ∙ ap (λ stat. Replies xid (Success (ResResult (res version a.cookie stat)))) g.says,
       )
 
   called_grant : leb 1 (slots_free the_limits w) ≡ true → Fits (LockMsg a) store
-      → ((taken the_limits s peer asked xid (Nlm version (LockMsg a)) store None).state.world.settings ≡ w.settings ++ setting_of request ∷ [])
-      × ((taken the_limits s peer asked xid (Nlm version (LockMsg a)) store None).given ≡ Replies xid (Success NoResult))
-      × (map (λ (c : Outgoing). c.callback) (taken the_limits s peer asked xid (Nlm version (LockMsg a)) store None).state.world.calls ≡ map (λ (c : Outgoing). c.callback) w.calls ++ lock_callback version a GRANTED ∷ [])
+      → ((taken_step the_limits s peer asked xid (Nlm version (LockMsg a)) store None).state.world.settings ≡ w.settings ++ setting_of request ∷ [])
+      × ((taken_step the_limits s peer asked xid (Nlm version (LockMsg a)) store None).given ≡ Replies xid (Success NoResult))
+      × (map (λ (c : Outgoing). c.callback) (taken_step the_limits s peer asked xid (Nlm version (LockMsg a)) store None).state.world.calls ≡ map (λ (c : Outgoing). c.callback) w.calls ++ lock_callback version a GRANTED ∷ [])
   called_grant p fit =
       let row = caller_row a in
       let t = (grant row).agreed in
@@ -139,9 +139,9 @@ module _ (list : List Setting) (compatible : AreCompatible list) (s : State) (un
       let back : Response Stat → Answered = λ told. sent_back (lock_callback version a told.says) told.world in
       let same = agreed (LockMsg a) (by_call (lock_callback version a) (grant row)) (by_lock_msg p) (λ e. ap back (row_unasked w (row_asked w row) GRANTED (λ v. with_setting v (setting_of request)) e)) fit in
       let rest = settled_nobody the_limits (back t).world (g.waiters ∙ under.waiters) in (
-        ap (λ (x : Answered). (settled the_limits x.world).settings) same ∙ ap (λ (v : World). v.settings) rest ∙ g.settings,
+        ap (λ (x : Answered). (settled_world the_limits x.world).settings) same ∙ ap (λ (v : World). v.settings) rest ∙ g.settings,
         ap (λ (x : Answered). Replies xid x.outcome) same,
-        ap (λ (x : Answered). map (λ (c : Outgoing). c.callback) (settled the_limits x.world).calls) same
+        ap (λ (x : Answered). map (λ (c : Outgoing). c.callback) (settled_world the_limits x.world).calls) same
             ∙ ap (λ (v : World). map (λ (c : Outgoing). c.callback) v.calls) rest
             ∙ map-append (λ (c : Outgoing). c.callback) t.world.calls (due_now t.world.next (lock_callback version a t.says) ∷ [])
             ∙ ap (λ (calls : List Outgoing). map (λ (c : Outgoing). c.callback) calls ++ lock_callback version a t.says ∷ []) g.calls
@@ -149,7 +149,7 @@ module _ (list : List Setting) (compatible : AreCompatible list) (s : State) (un
       )
 
   abbrev Granted_by : NlmCall → Option KeptPair → Type 0
-  Granted_by c o = IsGranted version c a xid s (taken the_limits s peer asked xid (Nlm version c) store o).given (taken the_limits s peer asked xid (Nlm version c) store o).state
+  Granted_by c o = IsGranted version c a xid s (taken_step the_limits s peer asked xid (Nlm version c) store o).given (taken_step the_limits s peer asked xid (Nlm version c) store o).state
 
   fresh_granted : (c : NlmCall) → lock_of c ≡ Some a → has_place s c ≡ true → Fits c store → Granted_by c None
   fresh_granted (Locks b) e p fit = subst (λ (x : LockArgs). Fits (Locks x) store → Granted_by (Locks x) None) (sym (same_Some b a e)) (λ f. let g = replied_grant (Locks a) (caller_row a) by_lock f in record { settings = g.0; told = g.1 }) fit
@@ -167,5 +167,5 @@ module _ (list : List Setting) (compatible : AreCompatible list) (s : State) (un
   fresh_granted (Unshare b) e p fit = absurd (none-some a e)
   fresh_granted (FreeAll name state) e p fit = absurd (none-some a e)
 
-  pub reclaim_granted : Fits call store → IsGranted version call a xid s (applied the_limits s (event_of call) store).given (applied the_limits s (event_of call) store).state
+  pub reclaim_granted : Fits call store → IsGranted version call a xid s (applied_step the_limits s (event_of call) store).given (applied_step the_limits s (event_of call) store).state
   reclaim_granted fit = subst (Granted_by call) (sym h.new) (fresh_granted call h.lock h.place fit)

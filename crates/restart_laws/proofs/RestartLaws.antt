@@ -6,11 +6,11 @@ use Rattle.definitions.specs.Hosts.{Hosts, Begin, StoreAnswer, NotAsked, Yes, Re
 use Rattle.definitions.specs.Nsm.{NsmCall, SmNull, SmStat, SmMon, SmUnmon, SmUnmonAll, SmSimuCrash, SmNotify}
 use Rattle.definitions.specs.Settings.{Setting}
 use Rattle.definitions.specs.Replies.{Call, Nlm, Nsm, Ignored, Turned, Asks}
-use Rattle.definitions.specs.World.{World, the_limits, opening, restart_callback, restarted, settled}
-use Rattle.definitions.specs.Rulings.{ruled}
+use Rattle.definitions.specs.World.{World, the_limits, opening, restart_callback, restarted_world, settled_world}
+use Rattle.definitions.specs.Rulings.{ruled_answer}
 use Rattle.definitions.specs.Answer.{ruling}
 use Rattle.definition_laws.specs.Numbers.{is_beginning}
-use Rattle.definitions.specs.Step.{Peer, KeptPair, State, Event, Take, Send, Answer, Silent, Local, GraceOver, Restart, Applied, look, taken, fresh, applied, kept_after, is_restart}
+use Rattle.definitions.specs.Step.{Peer, KeptPair, State, Event, Take, Send, Answer, Silent, Local, GraceOver, Restart, Applied, look, taken_step, fresh, applied_step, kept_after, is_restart}
 use Rattle.definitions.specs.Replay.{fits}
 use Rattle.definitions.specs.Reclaims.{IsUnder}
 use Rattle.definitions.proofs.WorldLaws.{due_keeps, restart_notices, next_own_law}
@@ -20,7 +20,7 @@ use Rattle.restart_laws.specs.Anew.{IsAnew}
 
 module _ (s : State) where
   abbrev anew_world : World
-  anew_world = restarted s.world (after_store s.world.hosts Begin)
+  anew_world = restarted_world s.world (after_store s.world.hosts Begin)
 
   abbrev anew : State
   anew = record { world = anew_world; kept = [] }
@@ -34,8 +34,8 @@ module _ (s : State) where
   crash_leads : (peer : Peer) (asked : Bytes) (xid : ℕ) → peer.local ≡ true → LeadsAnew (fresh the_limits s peer asked xid (Nsm SmSimuCrash) Yes).state
   crash_leads peer asked xid local =
       let to : Bool → State = λ b. record {
-        world = settled the_limits (ruled Yes (ruling the_limits s.world b (Nsm SmSimuCrash))).world;
-        kept = cond b [] (kept_after the_limits peer asked xid (Nsm SmSimuCrash) (ruled Yes (ruling the_limits s.world b (Nsm SmSimuCrash))) s.kept);
+        world = settled_world the_limits (ruled_answer Yes (ruling the_limits s.world b (Nsm SmSimuCrash))).world;
+        kept = cond b [] (kept_after the_limits peer asked xid (Nsm SmSimuCrash) (ruled_answer Yes (ruling the_limits s.world b (Nsm SmSimuCrash))) s.kept);
       } in
       ap to local ∙ ap (λ (w : World). record { world = w; kept = [] }) (settled_nobody the_limits anew_world nobody)
 
@@ -49,15 +49,15 @@ module _ (s : State) where
           let not_asked : fits the_limits s (record { event = Take peer asked (Asks xid call); completion = Applied; store = Yes }) ≡ false = rw e refl in
           absurd (true≢false (sym fit ∙ not_asked))
 
-  taken_leads : (peer : Peer) (asked : Bytes) (xid : ℕ) → fits the_limits s (record { event = Take peer asked (Asks xid (Nsm SmSimuCrash)); completion = Applied; store = Yes }) ≡ true → peer.local ≡ true → LeadsAnew (applied the_limits s (Take peer asked (Asks xid (Nsm SmSimuCrash))) Yes).state
+  taken_leads : (peer : Peer) (asked : Bytes) (xid : ℕ) → fits the_limits s (record { event = Take peer asked (Asks xid (Nsm SmSimuCrash)); completion = Applied; store = Yes }) ≡ true → peer.local ≡ true → LeadsAnew (applied_step the_limits s (Take peer asked (Asks xid (Nsm SmSimuCrash))) Yes).state
   taken_leads peer asked xid fit local =
-      ap (λ (o : Option KeptPair). (taken the_limits s peer asked xid (Nsm SmSimuCrash) Yes o).state) (unkept peer asked xid (Nsm SmSimuCrash) fit)
+      ap (λ (o : Option KeptPair). (taken_step the_limits s peer asked xid (Nsm SmSimuCrash) Yes o).state) (unkept peer asked xid (Nsm SmSimuCrash) fit)
       ∙ crash_leads peer asked xid local
 
   no_start : {A : Type 0} → false ≡ true → A
   no_start e = absurd (true≢false (sym e))
 
-  nsm_leads : (peer : Peer) (asked : Bytes) (xid : ℕ) (call : NsmCall) (store : StoreAnswer) → fits the_limits s (record { event = Take peer asked (Asks xid (Nsm call)); completion = Applied; store = store }) ≡ true → is_restart peer (Nsm call) store ≡ true → LeadsAnew (applied the_limits s (Take peer asked (Asks xid (Nsm call))) store).state
+  nsm_leads : (peer : Peer) (asked : Bytes) (xid : ℕ) (call : NsmCall) (store : StoreAnswer) → fits the_limits s (record { event = Take peer asked (Asks xid (Nsm call)); completion = Applied; store = store }) ≡ true → is_restart peer (Nsm call) store ≡ true → LeadsAnew (applied_step the_limits s (Take peer asked (Asks xid (Nsm call))) store).state
   nsm_leads peer asked xid SmSimuCrash Yes fit e = taken_leads peer asked xid fit e
   nsm_leads peer asked xid SmSimuCrash NotAsked fit e = no_start e
   nsm_leads peer asked xid SmSimuCrash Refused fit e = no_start e
@@ -68,7 +68,7 @@ module _ (s : State) where
   nsm_leads peer asked xid (SmUnmonAll my) store fit e = no_start e
   nsm_leads peer asked xid (SmNotify name state) store fit e = no_start e
 
-  leads_anew : (event : Event) (store : StoreAnswer) → fits the_limits s (record { event = event; completion = Applied; store = store }) ≡ true → is_beginning event store ≡ true → LeadsAnew (applied the_limits s event store).state
+  leads_anew : (event : Event) (store : StoreAnswer) → fits the_limits s (record { event = event; completion = Applied; store = store }) ≡ true → is_beginning event store ≡ true → LeadsAnew (applied_step the_limits s event store).state
   leads_anew Restart Yes fit e = refl
   leads_anew Restart NotAsked fit e = no_start e
   leads_anew Restart Refused fit e = no_start e
@@ -106,8 +106,8 @@ module _ (s : State) where
         due = told.1;
       }
 
-  pub begins_anew : (event : Event) (store : StoreAnswer) → fits the_limits s (record { event = event; completion = Applied; store = store }) ≡ true → is_beginning event store ≡ true → IsAnew s (applied the_limits s event store).state
+  pub begins_anew : (event : Event) (store : StoreAnswer) → fits the_limits s (record { event = event; completion = Applied; store = store }) ≡ true → is_beginning event store ≡ true → IsAnew s (applied_step the_limits s event store).state
   begins_anew event store fit e = subst (IsAnew s) (sym (leads_anew event store fit e)) is_anew
 
-  pub begins_under : (event : Event) (store : StoreAnswer) → fits the_limits s (record { event = event; completion = Applied; store = store }) ≡ true → is_beginning event store ≡ true → (old : List Setting) → IsUnder old (applied the_limits s event store).state.world
+  pub begins_under : (event : Event) (store : StoreAnswer) → fits the_limits s (record { event = event; completion = Applied; store = store }) ≡ true → is_beginning event store ≡ true → (old : List Setting) → IsUnder old (applied_step the_limits s event store).state.world
   begins_under event store fit e old = subst (λ (t : State). IsUnder old t.world) (sym (leads_anew event store fit e)) (restart_is_under s.world (after_store s.world.hosts Begin) old)

@@ -10,10 +10,10 @@ use Rattle.definition_laws.specs.Monitored.{stands}
 use Rattle.definitions.specs.Shown.{shown_stat}
 use Rattle.definitions.specs.Replies.{Call, Nlm, Nsm, SystemErr, Ignored, Turned, Asks}
 use Rattle.definitions.specs.World.{World, the_limits, slots_free}
-use Rattle.definitions.specs.Rulings.{Response, Ruling, each, decided, ruled}
+use Rattle.definitions.specs.Rulings.{Response, Ruling, each, decided_ruling, ruled_answer}
 use Rattle.definitions.specs.Outgoing.{Outgoing, next_due}
-use Rattle.definitions.specs.Answer.{Answered, gives, replied, sent_back, by_reply, by_call, by_message, lock_callback, lock_answer, lock_msg_answer, ruling}
-use Rattle.definitions.specs.Step.{Peer, KeptPair, State, Event, Take, Send, Answer, Silent, Local, GraceOver, Restart, Completion, Applied, Starved, Stepped, look, is_same_key, is_success, is_kept_kind, is_restart, kept_after, taken, applied, starved, sent, restart, step, store_call, with_row_stored}
+use Rattle.definitions.specs.Answer.{Answered, gives, answer_of_response, sent_back, by_reply, by_call, by_message, lock_callback, lock_answer, lock_msg_answer, ruling}
+use Rattle.definitions.specs.Step.{Peer, KeptPair, State, Event, Take, Send, Answer, Silent, Local, GraceOver, Restart, Completion, Applied, Starved, Stepped, look, is_same_key, is_success, is_kept_kind, is_restart, kept_after, taken_step, applied_step, starved_step, sent_step, restart, step, store_call, with_row_stored}
 use Rattle.definitions.specs.Replay.{fits}
 use Rattle.definition_laws.specs.Asking.{hosts_after}
 use Rattle.definitions.specs.Uses.{new_pair}
@@ -46,12 +46,12 @@ one_side : (a b : Bool) → b ≡ false → (a || b) ≡ true → a ≡ true
 one_side true b e h = refl
 one_side false b e h = absurd (true≢false (sym h ∙ e))
 
-ruled_each : {A B : Type 0} (f : A → B) (store : StoreAnswer) (r : Ruling A) → ruled store (each f r) ≡ f (ruled store r)
+ruled_each : {A B : Type 0} (f : A → B) (store : StoreAnswer) (r : Ruling A) → ruled_answer store (each f r) ≡ f (ruled_answer store r)
 ruled_each f NotAsked r = refl
 ruled_each f Yes r = refl
 ruled_each f Refused r = refl
 
-ruled_decided : {A : Type 0} (x : A) (store : StoreAnswer) → ruled store (decided x) ≡ x
+ruled_decided : {A : Type 0} (x : A) (store : StoreAnswer) → ruled_answer store (decided_ruling x) ≡ x
 ruled_decided x NotAsked = refl
 ruled_decided x Yes = refl
 ruled_decided x Refused = refl
@@ -61,25 +61,25 @@ abbrev HasIfAnswered : Bytes → Answered → Type 0
 HasIfAnswered name a = tells_lock (telling_of a) ≡ true → has_row a.world.hosts name ≡ true
 
 module _ (w : World) (version : Version) (a : LockArgs) (store : StoreAnswer) where
-  replied_has : HasIfAnswered a.alock.caller_name (ruled store (by_reply version a.cookie (lock_answer the_limits w version a)))
+  replied_has : HasIfAnswered a.alock.caller_name (ruled_answer store (by_reply version a.cookie (lock_answer the_limits w version a)))
   replied_has =
       let r = lock_answer the_limits w version a in
-      let t = ruled store r in
-      subst (HasIfAnswered a.alock.caller_name) (sym (ruled_each (replied version a.cookie) store r))
+      let t = ruled_answer store r in
+      subst (HasIfAnswered a.alock.caller_name) (sym (ruled_each (answer_of_response version a.cookie) store r))
       (λ told. (monitored_law the_limits w version a store).0 (sym (shown_law version t.says) ∙ one_side (stands (shown_stat version t.says)) false refl told))
 
-  called_has : HasIfAnswered a.alock.caller_name (ruled store (by_message the_limits w (lock_callback version a) (lock_msg_answer the_limits w version a)))
+  called_has : HasIfAnswered a.alock.caller_name (ruled_answer store (by_message the_limits w (lock_callback version a) (lock_msg_answer the_limits w version a)))
   called_has =
       let r = lock_msg_answer the_limits w version a in
-      let t = ruled store r in
+      let t = ruled_answer store r in
       let back : Response Stat → Answered = λ told. sent_back (lock_callback version a told.says) told.world in
-      by_cond (λ (q : Ruling Answered). HasIfAnswered a.alock.caller_name (ruled store q)) (leb 1 (slots_free the_limits w)) (by_call (lock_callback version a) r) (decided (gives w SystemErr))
+      by_cond (λ (q : Ruling Answered). HasIfAnswered a.alock.caller_name (ruled_answer store q)) (leb 1 (slots_free the_limits w)) (by_call (lock_callback version a) r) (decided_ruling (gives w SystemErr))
       (λ _. subst (HasIfAnswered a.alock.caller_name) (sym (ruled_each back store r)) (λ told. (monitored_law the_limits w version a store).1 (sym (shown_law version t.says) ∙ one_side (stands (shown_stat version t.says)) false refl told)))
       (λ _. subst (HasIfAnswered a.alock.caller_name) (sym (ruled_decided (gives w SystemErr) store)) (λ told. absurd (true≢false (sym told))))
 
-answered_has : (w : World) (local : Bool) (call : Call) (store : StoreAnswer) (name : Bytes) → monitored_by call ≡ Some name → HasIfAnswered name (ruled store (ruling the_limits w local call))
-answered_has w local (Nlm version (Locks a)) store name e = subst (λ (n : Bytes). HasIfAnswered n (ruled store (ruling the_limits w local (Nlm version (Locks a))))) (same_Some a.alock.caller_name name e) (replied_has w version a store)
-answered_has w local (Nlm version (LockMsg a)) store name e = subst (λ (n : Bytes). HasIfAnswered n (ruled store (ruling the_limits w local (Nlm version (LockMsg a))))) (same_Some a.alock.caller_name name e) (called_has w version a store)
+answered_has : (w : World) (local : Bool) (call : Call) (store : StoreAnswer) (name : Bytes) → monitored_by call ≡ Some name → HasIfAnswered name (ruled_answer store (ruling the_limits w local call))
+answered_has w local (Nlm version (Locks a)) store name e = subst (λ (n : Bytes). HasIfAnswered n (ruled_answer store (ruling the_limits w local (Nlm version (Locks a))))) (same_Some a.alock.caller_name name e) (replied_has w version a store)
+answered_has w local (Nlm version (LockMsg a)) store name e = subst (λ (n : Bytes). HasIfAnswered n (ruled_answer store (ruling the_limits w local (Nlm version (LockMsg a))))) (same_Some a.alock.caller_name name e) (called_has w version a store)
 answered_has w local (Nlm version Null) store name e = absurd (none-some name e)
 answered_has w local (Nlm version (Test a)) store name e = absurd (none-some name e)
 answered_has w local (Nlm version (Cancel a)) store name e = absurd (none-some name e)
@@ -95,9 +95,9 @@ answered_has w local (Nlm version (FreeAll host state)) store name e = absurd (n
 answered_has w local (Nsm call) store name e = absurd (none-some name e)
 
 -- the same behind settle
-fresh_has : (s : State) (peer : Peer) (asked : Bytes) (xid : ℕ) (call : Call) (store : StoreAnswer) (name : Bytes) → monitored_by call ≡ Some name → tells_lock (telling s peer call store None) ≡ true → has_row (taken the_limits s peer asked xid call store None).state.world.hosts name ≡ true
+fresh_has : (s : State) (peer : Peer) (asked : Bytes) (xid : ℕ) (call : Call) (store : StoreAnswer) (name : Bytes) → monitored_by call ≡ Some name → tells_lock (telling s peer call store None) ≡ true → has_row (taken_step the_limits s peer asked xid call store None).state.world.hosts name ≡ true
 fresh_has s peer asked xid call store name e told =
-    let a = ruled store (ruling the_limits s.world peer.local call) in
+    let a = ruled_answer store (ruling the_limits s.world peer.local call) in
     subst (λ (hosts : Hosts). has_row hosts name ≡ true) (sym (settle_keeps the_limits a.world).hosts) (answered_has s.world peer.local call store name e told)
 
 -- ---- kept replies
@@ -132,23 +132,23 @@ module _ (P : KeptPair → Type 0) where
   all_of_front (suc n) (j ∷ kept) all k h = all_more j (take n kept) (all j (inl refl)) (all_of_front n kept (λ k h. all k (inr h))) k h
 
   module _ (s : State) (all : All s.kept) where
-    taken_all : (peer : Peer) (asked : Bytes) (xid : ℕ) (call : Call) (store : StoreAnswer) (o : Option KeptPair) → look s peer asked ≡ o → (o ≡ None → P (new_pair peer asked xid (ruled store (ruling the_limits s.world peer.local call)))) → All (taken the_limits s peer asked xid call store o).state.kept
+    taken_all : (peer : Peer) (asked : Bytes) (xid : ℕ) (call : Call) (store : StoreAnswer) (o : Option KeptPair) → look s peer asked ≡ o → (o ≡ None → P (new_pair peer asked xid (ruled_answer store (ruling the_limits s.world peer.local call)))) → All (taken_step the_limits s peer asked xid call store o).state.kept
     taken_all peer asked xid call store (Some k) e new =
         by_cond (λ (t : Stepped). All t.state.kept) (leb (length k.callbacks) (slots_free the_limits s.world)) _ _
         (λ _. all_more k _ (all k (holds_first (is_same_key peer asked) s.kept k e)) (all_but_first (is_same_key k.peer k.asked) s.kept all))
         (λ _. all)
     taken_all peer asked xid call store None e new =
-        let a = ruled store (ruling the_limits s.world peer.local call) in
+        let a = ruled_answer store (ruling the_limits s.world peer.local call) in
         by_cond All (is_restart peer call store) [] (kept_after the_limits peer asked xid call a s.kept) (λ _. λ k h. absurd h)
         (λ _. by_cond All (is_success a.outcome && is_kept_kind call) (take the_limits.kept (new_pair peer asked xid a ∷ s.kept)) s.kept
         (λ _. all_of_front the_limits.kept (new_pair peer asked xid a ∷ s.kept) (all_more (new_pair peer asked xid a) s.kept (new refl) all))
         (λ _. all))
 
     abbrev IsNewKept : Event → StoreAnswer → Type 0
-    IsNewKept (Take peer asked (Asks xid call)) store = look s peer asked ≡ None → P (new_pair peer asked xid (ruled store (ruling the_limits s.world peer.local call)))
+    IsNewKept (Take peer asked (Asks xid call)) store = look s peer asked ≡ None → P (new_pair peer asked xid (ruled_answer store (ruling the_limits s.world peer.local call)))
     IsNewKept _ store = Unit {0}
 
-    sent_all : (o : Option Outgoing) → All (sent s o).state.kept
+    sent_all : (o : Option Outgoing) → All (sent_step s o).state.kept
     sent_all None = all
     sent_all (Some c) = all
 
@@ -157,7 +157,7 @@ module _ (P : KeptPair → Type 0) where
     restart_all NotAsked = all
     restart_all Refused = all
 
-    applied_all : (event : Event) (store : StoreAnswer) → IsNewKept event store → All (applied the_limits s event store).state.kept
+    applied_all : (event : Event) (store : StoreAnswer) → IsNewKept event store → All (applied_step the_limits s event store).state.kept
     applied_all (Take peer asked Ignored) store new = all
     applied_all (Take peer asked (Turned xid refusal)) store new = all
     applied_all (Take peer asked (Asks xid call)) store new = taken_all peer asked xid call store (look s peer asked) refl new
@@ -173,7 +173,7 @@ module _ (P : KeptPair → Type 0) where
     row_all (Nlm version (LockMsg a)) (Some call) Yes = all
     row_all _ _ _ = all
 
-    starved_all : (event : Event) (store : StoreAnswer) → All (starved the_limits s event store).state.kept
+    starved_all : (event : Event) (store : StoreAnswer) → All (starved_step the_limits s event store).state.kept
     starved_all (Take peer asked Ignored) store = all
     starved_all (Take peer asked (Turned xid refusal)) store = all
     starved_all (Take peer asked (Asks xid call)) store = row_all call (store_call the_limits s (Take peer asked (Asks xid call))) store
@@ -192,28 +192,28 @@ same_call : (xid other : ℕ) (call asked : Call) → Asks xid call ≡ Asks oth
 same_call xid other call asked e = cc
 
 module _ (one : OneReading) (s : State) (store : StoreAnswer) where
-  newly_has : (hosts : Hosts) (event : Event) → IsRead event → hosts ≡ (applied the_limits s event store).state.world.hosts → (all : (k : KeptPair) → Holds s.kept k → PairHasRow hosts k) → IsNewKept (PairHasRow hosts) s all event store
+  newly_has : (hosts : Hosts) (event : Event) → IsRead event → hosts ≡ (applied_step the_limits s event store).state.world.hosts → (all : (k : KeptPair) → Holds s.kept k → PairHasRow hosts k) → IsNewKept (PairHasRow hosts) s all event store
   newly_has hosts (Take peer asked Ignored) reads same all = tt
   newly_has hosts (Take peer asked (Turned xid refusal)) reads same all = tt
   newly_has hosts (Take peer asked (Asks xid call)) reads same all = λ none other again name also is told.
       let e : again ≡ call = same_call xid other call again (one asked (Asks xid call) (Asks other again) reads also) in
       subst (λ (h : Hosts). has_row h name ≡ true) (sym same)
-      (subst (λ (o : Option KeptPair). has_row (taken the_limits s peer asked xid call store o).state.world.hosts name ≡ true) (sym none)
+      (subst (λ (o : Option KeptPair). has_row (taken_step the_limits s peer asked xid call store o).state.world.hosts name ≡ true) (sym none)
       (fresh_has s peer asked xid call store name (ap monitored_by (sym e) ∙ is) told))
   newly_has hosts _ reads same all = tt
 
 pub kept_rows : (one : OneReading) (s : State) (event : Event) (completion : Completion) (store : StoreAnswer) → fits the_limits s (record { event = event; completion = completion; store = store }) ≡ true → IsRead event → KeptHaveRows s → KeptHaveRows (step the_limits s event completion store).state
 kept_rows one s event Applied store fit reads old =
-    let hosts = (applied the_limits s event store).state.world.hosts in
+    let hosts = (applied_step the_limits s event store).state.world.hosts in
     let all = still s event Applied store fit old in
     applied_all (PairHasRow hosts) s all event store (newly_has one s store hosts event reads refl all)
-kept_rows one s event Starved store fit reads old = starved_all (PairHasRow (starved the_limits s event store).state.world.hosts) s (still s event Starved store fit old) event store
+kept_rows one s event Starved store fit reads old = starved_all (PairHasRow (starved_step the_limits s event store).state.world.hosts) s (still s event Starved store fit old) event store
 
-pub standing_has : (s : State) (peer : Peer) (asked : Bytes) (xid : ℕ) (call : Call) (store : StoreAnswer) → fits the_limits s (record { event = Take peer asked (Asks xid call); completion = Applied; store = store }) ≡ true → IsReading asked (Asks xid call) → KeptHaveRows s → (name : Bytes) → monitored_by call ≡ Some name → tells_lock (telling s peer call store (look s peer asked)) ≡ true → has_row (applied the_limits s (Take peer asked (Asks xid call)) store).state.world.hosts name ≡ true
+pub standing_has : (s : State) (peer : Peer) (asked : Bytes) (xid : ℕ) (call : Call) (store : StoreAnswer) → fits the_limits s (record { event = Take peer asked (Asks xid call); completion = Applied; store = store }) ≡ true → IsReading asked (Asks xid call) → KeptHaveRows s → (name : Bytes) → monitored_by call ≡ Some name → tells_lock (telling s peer call store (look s peer asked)) ≡ true → has_row (applied_step the_limits s (Take peer asked (Asks xid call)) store).state.world.hosts name ≡ true
 standing_has s peer asked xid call store fit reads old name is told = go (look s peer asked) refl told
   where
-    go : (o : Option KeptPair) → look s peer asked ≡ o → tells_lock (telling s peer call store o) ≡ true → has_row (applied the_limits s (Take peer asked (Asks xid call)) store).state.world.hosts name ≡ true
+    go : (o : Option KeptPair) → look s peer asked ≡ o → tells_lock (telling s peer call store o) ≡ true → has_row (applied_step the_limits s (Take peer asked (Asks xid call)) store).state.world.hosts name ≡ true
     go (Some k) e t =
         let also = subst (λ (bytes : Bytes). IsReading bytes (Asks xid call)) (sym (same_record peer asked s.kept k e)) reads in
         step_keeps s (Take peer asked (Asks xid call)) Applied store fit name (old k (holds_first (is_same_key peer asked) s.kept k e) xid call name also is t)
-    go None e t = subst (λ (o : Option KeptPair). has_row (taken the_limits s peer asked xid call store o).state.world.hosts name ≡ true) (sym e) (fresh_has s peer asked xid call store name is t)
+    go None e t = subst (λ (o : Option KeptPair). has_row (taken_step the_limits s peer asked xid call store o).state.world.hosts name ≡ true) (sym e) (fresh_has s peer asked xid call store name is t)

@@ -15,7 +15,7 @@ use Rattle.kept_replies.specs.Pairs.{view_of_peer}
 use Rattle.call_plans.specs.Planned.{view_of_stored}
 use Rattle.book.specs.Given.{StepResult}
 use Rattle.book.specs.Notes.{JournalEvent, Steps}
-use Rattle.book.specs.Journal.{Journal, begun, next_of, noted}
+use Rattle.book.specs.Journal.{Journal, empty_journal, next_of, noted_journal}
 use Rattle.book.specs.Histories.{Leads}
 use Rattle.daemon_core.specs.declared.event.Event.{Event}
 use Rattle.daemon_core.specs.declared.event.Event.TheVariants.{Connect, Piece, Disconnect, Take, Send, Answer, Local, Silent, GraceOver, Restart}
@@ -93,7 +93,7 @@ module _ (list : List Setting) where
       go : (at : State) → r.history.end ≡ at → (s : Steps at event step_result new) → ((q : Request) → IsReclaim s.said q → IsHonest list q) → at.world.phase ≡ Grace → HasBeenHonest list new
       go at e s reclaims grace =
           let P : State → Type 0 = λ t. (s : Steps t event step_result new) → ((q : Request) → IsReclaim s.said q → IsHonest list q) → t.world.phase ≡ Grace → HasBeenHonest list new in
-          subst P e (λ s reclaims grace. record { history = noted r.history (record { number = next_of r.history; event = event; step_result = step_result }) new; is = honest_goes_on list r.history r.is event step_result new s grace reclaims; ends = refl }) s reclaims grace
+          subst P e (λ s reclaims grace. record { history = noted_journal r.history (record { number = next_of r.history; event = event; step_result = step_result }) new; is = honest_goes_on list r.history r.is event step_result new s grace reclaims; ends = refl }) s reclaims grace
 
   run_honest : (old : DaemonState) (events : List Event) (outs : List Outputs) (new : DaemonState) (run : Run old events outs new) → HasBeenHonest list old.state → AreHonest list old events outs new run → HasBeenHonest list new.state
   run_honest old [] [] new run r honest = subst (λ (x : DaemonState). HasBeenHonest list x.state) (sym run) r
@@ -112,27 +112,27 @@ record BeginningStep (old new : State) : Type 0 where
   agreed : is_beginning step.said step_result.store ≡ true
 
 beginning : (old new : DaemonState) (out : Outputs) → IsBegun old out new → BeginningStep old.state new.state
-beginning old new out begun = go begun.begins
+beginning old new out empty_journal = go empty_journal.begins
   where
     go : Begins old out new → BeginningStep old.state new.state
     go (ByRestart h) = record {
       event = _;
       step_result = _;
       step = h.step;
-      done = begun.done;
-      agreed = ap (λ (e : said.Event). is_beginning e (view_of_stored out.store)) h.step.reads ∙ ap (is_beginning said.Restart) begun.agreed;
+      done = empty_journal.done;
+      agreed = ap (λ (e : said.Event). is_beginning e (view_of_stored out.store)) h.step.reads ∙ ap (is_beginning said.Restart) empty_journal.agreed;
     }
     go (ByCrash taken xid is local) = record {
       event = _;
       step_result = _;
       step = taken.step;
-      done = begun.done;
-      agreed = ap (λ (e : said.Event). is_beginning e (view_of_stored out.store)) is ∙ ap (said.is_restart (view_of_peer taken.link.peer) (Nsm SmSimuCrash)) begun.agreed ∙ local;
+      done = empty_journal.done;
+      agreed = ap (λ (e : said.Event). is_beginning e (view_of_stored out.store)) is ∙ ap (said.is_restart (view_of_peer taken.link.peer) (Nsm SmSimuCrash)) empty_journal.agreed ∙ local;
     }
 
 pub daemon_begins_anew : DaemonBeginsAnew
-daemon_begins_anew old new out begun =
-    let b = beginning old new out begun in
+daemon_begins_anew old new out empty_journal =
+    let b = beginning old new out empty_journal in
     begins_anew_law old.state new.state b.event b.step_result b.step b.done b.agreed
 
 -- since the restart the run has been honest
@@ -140,7 +140,7 @@ honest_run : (list : List Setting) (mid : DaemonState) → ReclaimsAfterRestart 
 honest_run list mid r =
     let b = beginning r.before r.start r.begun r.restart in
     let from : HasBeenHonest list r.start.state = record {
-      history = noted (begun 1 r.before.state) (record { number = next_of (begun 1 r.before.state); event = b.event; step_result = b.step_result }) r.start.state;
+      history = noted_journal (empty_journal 1 r.before.state) (record { number = next_of (empty_journal 1 r.before.state); event = b.event; step_result = b.step_result }) r.start.state;
       is = honest_begins list r.before.state r.start.state b.event b.step_result b.step b.done b.agreed;
       ends = refl;
     } in

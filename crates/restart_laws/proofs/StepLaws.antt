@@ -4,7 +4,7 @@ use Rattle.definitions.specs.Hosts.{has_row}
 use Rattle.definitions.specs.Replies.{Nlm, Asks}
 use Rattle.definitions.specs.World.{the_limits}
 use Rattle.definitions.specs.Reclaims.{IsUnder}
-use Rattle.definitions.specs.Step.{State, Event, Take, Completion, Applied, Given, applied, step}
+use Rattle.definitions.specs.Step.{State, Event, Take, Completion, Applied, Given, applied_step, step}
 use Rattle.definitions.specs.Replay.{fits}
 use Rattle.definition_laws.proofs.StepLaws.{grace_law}
 use Rattle.call_codec.specs.Readings.{OneReading}
@@ -39,21 +39,21 @@ module _ (old new : State) (event : JournalEvent) (step_result : StepResult) (s 
   fits_done : fits the_limits old (record { event = s.said; completion = Applied; store = step_result.store }) ≡ true
   fits_done = subst (λ (d : Completion). fits the_limits old (record { event = s.said; completion = d; store = step_result.store }) ≡ true) done s.step.fits
 
-  leaves_done : (applied the_limits old s.said step_result.store).state ≡ new
+  leaves_done : (applied_step the_limits old s.said step_result.store).state ≡ new
   leaves_done = ap (λ (d : Completion). (step the_limits old s.said d step_result.store).state) (sym done) ∙ s.step.leaves
 
-  gives_done : (applied the_limits old s.said step_result.store).given ≡ step_result.given
+  gives_done : (applied_step the_limits old s.said step_result.store).given ≡ step_result.given
   gives_done = ap (λ (d : Completion). (step the_limits old s.said d step_result.store).given) (sym done) ∙ s.step.gives
 
   module _ (said : Event) (is : s.said ≡ said) where
     fits_said : fits the_limits old (record { event = said; completion = Applied; store = step_result.store }) ≡ true
     fits_said = subst (λ (e : Event). fits the_limits old (record { event = e; completion = Applied; store = step_result.store }) ≡ true) is fits_done
 
-    leaves_said : (applied the_limits old said step_result.store).state ≡ new
-    leaves_said = ap (λ (e : Event). (applied the_limits old e step_result.store).state) (sym is) ∙ leaves_done
+    leaves_said : (applied_step the_limits old said step_result.store).state ≡ new
+    leaves_said = ap (λ (e : Event). (applied_step the_limits old e step_result.store).state) (sym is) ∙ leaves_done
 
-    gives_said : (applied the_limits old said step_result.store).given ≡ step_result.given
-    gives_said = ap (λ (e : Event). (applied the_limits old e step_result.store).given) (sym is) ∙ gives_done
+    gives_said : (applied_step the_limits old said step_result.store).given ≡ step_result.given
+    gives_said = ap (λ (e : Event). (applied_step the_limits old e step_result.store).given) (sym is) ∙ gives_done
 
     read_said : IsRead said
     read_said = subst IsRead is (read_of event s.said s.reads)
@@ -77,5 +77,5 @@ pub reclaim_is_granted : ReclaimIsGranted
 reclaim_is_granted list compatible old new event step_result s under peer asked xid version call a is done h =
     let said = Take peer asked (Asks xid (Nlm version call)) in
     subst (λ (g : Given). IsGranted version call a xid old g new) (gives_said old new event step_result s done said is)
-    (subst (λ (t : State). IsGranted version call a xid old (applied the_limits old said step_result.store).given t) (leaves_said old new event step_result s done said is)
+    (subst (λ (t : State). IsGranted version call a xid old (applied_step the_limits old said step_result.store).given t) (leaves_said old new event step_result s done said is)
     (reclaim_granted list compatible old under peer asked xid version call a step_result.store h (fits_said old new event step_result s done said is)))

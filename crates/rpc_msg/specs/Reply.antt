@@ -5,8 +5,8 @@ use Rattle.xdr_core.specs.Formats.{◌&◌, word}
 use Rattle.rpc_msg.specs.declared.reply.AcceptError.{AcceptError}
 use Rattle.rpc_msg.specs.declared.reply.AcceptError.TheVariants.{ProgUnavail, ProcUnavail, GarbageArgs, SystemErr}
 use Rattle.rpc_msg.specs.declared.reply.Denial.TheVariants.{RpcMismatch, BadCred}
-use Rattle.rpc_msg.specs.declared.reply.Reply.{Reply}
-use Rattle.rpc_msg.specs.declared.reply.Reply.TheVariants.{Success, AcceptFailure, Mismatch, Denied}
+use Rattle.rpc_msg.specs.declared.reply.ReplyStatus.{ReplyStatus}
+use Rattle.rpc_msg.specs.declared.reply.ReplyStatus.TheVariants.{Success, AcceptFailure, Mismatch, Denied}
 use Rattle.rpc_msg.specs.Grammar.{Auth, opaque_auth, auth_none}
 
 -- the xid, the message type and the reply_stat
@@ -29,7 +29,7 @@ abbrev pub accepted_value : ℕ → ℕ → (ℕ × (ℕ × ℕ)) × (Auth × �
 accepted_value xid stat = ((xid, (1, 0)), (auth_none, stat))
 
 -- the bytes of a reply to the call of an xid; the result of a Success follows them
-abbrev pub written_reply : Reply → List ℕ
+abbrev pub written_reply : ReplyStatus → List ℕ
 written_reply (Success xid) = accepted_reply.written (accepted_value xid 0)
 written_reply (AcceptFailure xid e) = accepted_reply.written (accepted_value xid (number_of_accept e))
 written_reply (Mismatch xid low high) = (accepted_reply & (word & word)).written (accepted_value xid 2, (low, high))
@@ -37,7 +37,7 @@ written_reply (Denied xid (RpcMismatch low high)) = (reply_start & (word & (word
 written_reply (Denied xid BadCred) = (reply_start & (word & word)).written ((xid, (1, 1)), (1, 1))
 
 -- how many bytes it has
-abbrev pub size_of_reply : Reply → ℕ
+abbrev pub size_of_reply : ReplyStatus → ℕ
 size_of_reply (Success xid) = 24
 size_of_reply (AcceptFailure xid e) = 24
 size_of_reply (Mismatch xid low high) = 32

@@ -66,7 +66,7 @@ impl<'r> Wire<'r> for CallBody<'r> {
 
 /// A procedure with its arguments, which are not read yet.
 #[derive(Drop)]
-pub struct Call<'r> {
+pub struct ProcedureCall<'r> {
     pub prog: u32,
     pub vers: u32,
     pub proc: u32,

@@ -3,7 +3,7 @@
 ghost use Rattle.std.specs.Prelude.{◌≡◌, IfOk, IfErr};
 ghost use Rattle.rpc_msg.specs.Verdict.{Asks, IsRefusal};
 
-use crate::call::{Call, CallBody, CallStart};
+use crate::call::{CallBody, CallStart, ProcedureCall};
 use crate::{CALL, RPC_VERSION};
 use thiserror::Error;
 use xdr_core::{Cursor, read};
@@ -69,10 +69,10 @@ impl Header {
     }
 
     /// What it asks, with the arguments that stand behind it.
-    pub fn call<'r>(&self, arguments: Cursor<'r>) -> Call<'r>
+    pub fn call<'r>(&self, arguments: Cursor<'r>) -> ProcedureCall<'r>
         ensures { result ≡ record { prog = self.now.prog; vers = self.now.vers; proc = self.now.proc; arguments = arguments.entry } }
     {
-        Call {
+        ProcedureCall {
             prog: self.prog,
             vers: self.vers,
             proc: self.proc,

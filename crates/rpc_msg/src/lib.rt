@@ -11,11 +11,12 @@ mod reply;
 
 pub use answer::{Answer, AnswerOutcome};
 pub use auth::{AuthSys, OpaqueAuth};
-pub use call::{Call, CallBody, CallStart, put_call};
+pub use call::{CallBody, CallStart, ProcedureCall, put_call};
 pub use header::{Header, HeaderError};
 pub use law::{one_answer, one_verdict};
 pub use reply::{
-    AcceptError, Denial, Reply, reply_accept_error, reply_denied, reply_mismatch, reply_success,
+    AcceptError, Denial, ReplyStatus, reply_accept_error, reply_denied, reply_mismatch,
+    reply_success,
 };
 
 /// The only version of the protocol (RFC 5531, section 9).

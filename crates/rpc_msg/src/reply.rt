@@ -2,7 +2,7 @@
 //! exactly where it doesn't fit, and the frame is unchanged then. The verifier is AUTH_NONE.
 
 ghost use Rattle.std.specs.Prelude.{◌≡◌, [], ◌+◌, ◌≤◌, ◌++◌, ◌↔◌, length, IsOk, OnOk, OnErr};
-ghost use Rattle.rpc_msg.specs.declared.reply.Reply.TheVariants.{Success, AcceptFailure, Mismatch, Denied};
+ghost use Rattle.rpc_msg.specs.declared.reply.ReplyStatus.TheVariants.{Success, AcceptFailure, Mismatch, Denied};
 ghost use Rattle.rpc_msg.specs.Reply.{written_reply, size_of_reply};
 
 use crate::auth::OpaqueAuth;
@@ -33,7 +33,7 @@ pub enum Denial {
 
 /// What a server says to the call of an xid, but for the result that follows a `Success`.
 #[derive(Clone, Copy)]
-pub enum Reply {
+pub enum ReplyStatus {
     Success { xid: u32 },
     AcceptFailure { xid: u32, error: AcceptError },
     /// PROG_MISMATCH: the program is served in versions from `low` to `high`.
@@ -41,7 +41,7 @@ pub enum Reply {
     Denied { xid: u32, denial: Denial },
 }
 
-impl Reply {
+impl ReplyStatus {
     /// Writes it, by the function for its kind.
     #[tactic(auto, using(crate::proofs::Fits::reply_bound))]
     pub fn put(&self, f: &mut Frame) -> Result<(), FrameFull>
@@ -51,10 +51,10 @@ impl Reply {
         ensures err { OnErr result (f.new ≡ f.old) }
     {
         match *self {
-            Reply::Success { xid } => reply_success(f, xid),
-            Reply::AcceptFailure { xid, error } => reply_accept_error(f, xid, error),
-            Reply::Mismatch { xid, low, high } => reply_mismatch(f, xid, low, high),
-            Reply::Denied { xid, denial } => reply_denied(f, xid, denial),
+            ReplyStatus::Success { xid } => reply_success(f, xid),
+            ReplyStatus::AcceptFailure { xid, error } => reply_accept_error(f, xid, error),
+            ReplyStatus::Mismatch { xid, low, high } => reply_mismatch(f, xid, low, high),
+            ReplyStatus::Denied { xid, denial } => reply_denied(f, xid, denial),
         }
     }
 }

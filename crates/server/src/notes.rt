@@ -13,11 +13,13 @@ pub(crate) fn caller<R: Log>(rt: &R, from: SocketAddr, ending: workers::Ending) 
 }
 
 /// Notes how the talk with a local program ended.
-pub(crate) fn local<R: Log>(rt: &R, from: SocketAddr, ending: line_loop::Ending) {
+pub(crate) fn local<R: Log>(rt: &R, from: SocketAddr, ending: line_loop::LinesEnding) {
     match ending {
-        line_loop::Ending::Over | line_loop::Ending::Stopped => {}
-        line_loop::Ending::ReadFault => info!(rt; "local program {from} failed: closed"),
-        line_loop::Ending::WriteFault => warn!(rt; "local program {from} takes no bytes: closed"),
-        line_loop::Ending::Starved => error!(rt; "no memory for the connection of {from}: closed"),
+        line_loop::LinesEnding::Over | line_loop::LinesEnding::Stopped => {}
+        line_loop::LinesEnding::ReadFault => info!(rt; "local program {from} failed: closed"),
+        line_loop::LinesEnding::WriteFault =>
+            warn!(rt; "local program {from} takes no bytes: closed"),
+        line_loop::LinesEnding::Starved =>
+            error!(rt; "no memory for the connection of {from}: closed"),
     }
 }

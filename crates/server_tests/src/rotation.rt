@@ -3,7 +3,9 @@ ghost use Rattle.std.specs.Prelude.{◌≡◌, ◌<◌};
 ghost use Rattle.book.specs.Journal.{room_of};
 
 use super::threads::parts::{begun, null};
-use book::{Book, BookEvent, Closed, Peer, Receipt, SEGMENT, Segment, Taken, newest_entered};
+use book::{
+    Book, BookEvent, ClosedSegment, Peer, Receipt, SEGMENT, Segment, Taken, newest_entered,
+};
 use bytes::Bytes;
 use hosts_db::{HostStore, MemHosts};
 use range_arena::ArenaTable;
@@ -14,7 +16,7 @@ use xdr_core::Frame;
 /// A book over memory, and a segment of one.
 pub(crate) type MemBook = Book<ArenaTable, MemHosts>;
 
-pub(crate) type MemSegment = Closed<ArenaTable, MemHosts>;
+pub(crate) type MemSegment = ClosedSegment<ArenaTable, MemHosts>;
 
 // Whether the receipt has a SUCCESS of this xid.
 fn is_success(receipt: &Receipt, xid: u32) -> bool {

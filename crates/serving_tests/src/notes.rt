@@ -1,6 +1,6 @@
 //! The texts of the notes in front of a fault.
 use hosts_sql::AdoptError;
-use lockd_serving::Note;
+use lockd_serving::StartFailure;
 use server::NoListener;
 use sqlite::ErrorCode;
 use std::alloc::AllocError;
@@ -19,22 +19,22 @@ fn no_listener() -> NoListener {
 fn put_files(to: &mut String) -> Result<(), AllocError> {
     let path = "peers";
     let error = io::Error::from_raw_os_error(2);
-    let unread = Note::Unread { path, error };
-    let bad_line = Note::BadLine { path, number: 3 };
+    let unread = StartFailure::Unread { path, error };
+    let bad_line = StartFailure::BadLine { path, number: 3 };
     write!(to, "{unread}\n{bad_line}\n")
 }
 
 // What is said of a database, by its path.
 fn put_databases(to: &mut String, path: &str, why: &AdoptError) -> Result<(), AllocError> {
-    let no_hosts = Note::NoHosts { path, why };
-    let refused = Note::NotBegun { path };
+    let no_hosts = StartFailure::NoHosts { path, why };
+    let refused = StartFailure::NotBegun { path };
     write!(to, "{no_hosts}\n{refused}\n")
 }
 
 fn put_others(to: &mut String) -> Result<(), AllocError> {
-    let listener = Note::NoListener(no_listener());
-    let sender = Note::NoSender(io::Error::from_raw_os_error(24));
-    let thread = Note::NoThread;
+    let listener = StartFailure::NoListener(no_listener());
+    let sender = StartFailure::NoSender(io::Error::from_raw_os_error(24));
+    let thread = StartFailure::NoThread;
     write!(to, "{listener}\n{sender}\n{thread}\n")
 }
 

@@ -12,7 +12,7 @@ use sqlite::types::ValueRef;
 use sqlite::{Alter, Connection, Error, ErrorCode, Transaction};
 
 /// What one transaction does. Where it fails, the last commit stays.
-pub trait Work {
+pub trait TransactionBody {
     ghost works: { Self → Database → Database → Type 0 };
 
     fn run<S: Alter>(&self, tx: &mut Transaction<'_, S>) -> Result<(), Error>
@@ -26,7 +26,7 @@ pub trait Work {
 #[derive(Clone, Copy)]
 pub struct One<'a>(pub &'a str, pub &'a [ValueRef<'a>]);
 
-impl Work for One<'_> {
+impl TransactionBody for One<'_> {
     ghost works = { λ one. Ran one.0.now (bound one.1.now) };
 
     fn run<S: Alter>(&self, tx: &mut Transaction<'_, S>) -> Result<(), Error> {
@@ -41,7 +41,7 @@ impl Work for One<'_> {
 #[derive(Clone, Copy)]
 pub struct Then<A, B>(pub A, pub B);
 
-impl<A: Work, B: Work> Work for Then<A, B> {
+impl<A: TransactionBody, B: TransactionBody> TransactionBody for Then<A, B> {
     ghost works = { λ then from to. (mid : Database) × A.works then.0 from mid × B.works then.1 mid to };
 
     fn run<S: Alter>(&self, tx: &mut Transaction<'_, S>) -> Result<(), Error> {
@@ -51,7 +51,10 @@ impl<A: Work, B: Work> Work for Then<A, B> {
 }
 
 /// Does this work in a transaction of its own.
-pub fn transact<S: Alter, W: Work>(conn: &mut Connection<S>, work: &W) -> Result<(), Error>
+pub fn transact<S: Alter, W: TransactionBody>(
+    conn: &mut Connection<S>,
+    work: &W,
+) -> Result<(), Error>
     ensures ok { HasCleanDisk (state S.Store conn.new) → OnOk result (Committed (W.works work.now) (state S.Store conn.old) (state S.Store conn.new)) }
     ensures err { HasCleanDisk (state S.Store conn.new) → OnErr result (KeepsCommit (state S.Store conn.old) (state S.Store conn.new)) }
     ensures crash { Survives (state S.Store conn.old) (state S.Store conn.new) (MayWork (W.works work.now) (state S.Store conn.old)) }

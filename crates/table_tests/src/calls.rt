@@ -4,7 +4,7 @@ ghost use Rattle.std.specs.Prelude.{◌<◌, IfSome, length};
 use crate::random::next_bits;
 use crate::wrong::{NO_MEMORY, Wrong, all_hold, nowhere};
 use blocked_list::MOST_SLOTS;
-use callbacks::{Callback, Caller, Destination, LocalLock, Lock, Message, ShortBytes};
+use callbacks::{Callback, Caller, Destination, LocalLock, Message, OwnedLock, ShortBytes};
 use nlm4_types::Version;
 use out_calls::{OutCall, OutCalls};
 use owner_ids::Owner;
@@ -23,10 +23,10 @@ enum Kind {
     Line,
 }
 
-fn lock(alloc: Global, name: u8) -> Result<Lock, AllocError> {
+fn lock(alloc: Global, name: u8) -> Result<OwnedLock, AllocError> {
     let fh = ShortBytes::copy_of(alloc, &[1, 2, 3, 4])?;
     let caller = Caller::copy_of(alloc, &[name], 8, b"B")?;
-    Ok(Lock {
+    Ok(OwnedLock {
         caller,
         fh,
         l_offset: 0,

@@ -14,7 +14,7 @@ use crate::row::{Case, Row, Span, Worked, play_each};
 use crate::wrong::Wrong;
 use held_locks::{Locks, NewSetting, Request};
 use owner_ids::Owner;
-use range_table::{FileId, FlatTable, Mode};
+use range_table::{ByteRange, FileId, FlatTable, Mode};
 use std::alloc::Global;
 use std::test::*;
 
@@ -34,8 +34,10 @@ fn set(
     let change = NewSetting {
         file: file(),
         owner,
-        first: span.first,
-        last: span.last,
+        range: ByteRange {
+            first: span.first,
+            last: span.last,
+        },
         mode,
     };
     Some(locks.set(&change).is_ok())
@@ -46,8 +48,10 @@ fn in_the_way(locks: &Locks<FlatTable>, owner: &Owner, mode: Mode) -> Option<(u6
     let wanted = Request {
         file: file(),
         owner,
-        first: 0,
-        last: END,
+        range: ByteRange {
+            first: 0,
+            last: END,
+        },
         mode,
     };
     match locks.first_conflict(&wanted) {

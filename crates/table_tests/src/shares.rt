@@ -1,7 +1,7 @@
 //! Shares of whole files: worked trials, a full table, and a random script beside a plain list.
 use crate::random::next_bits;
 use crate::wrong::{NO_MEMORY, Wrong, all_hold, nowhere, reads};
-use dos_shares::{Access, MOST_SHARES, Share, ShareError, Shares, Starved};
+use dos_shares::{AccessBits, MOST_SHARES, Share, ShareError, Shares, Starved};
 use std::alloc::{AllocError, Global};
 use std::test::*;
 
@@ -38,8 +38,8 @@ impl Plain {
         held.file() == [self.file].as_slice()
             && held.caller_name() == [self.name].as_slice()
             && held.oh() == [self.oh].as_slice()
-            && held.deny() == Access::new(self.deny.0, self.deny.1)
-            && held.access() == Access::new(self.access.0, self.access.1)
+            && held.deny() == AccessBits::new(self.deny.0, self.deny.1)
+            && held.access() == AccessBits::new(self.access.0, self.access.1)
     }
 
     fn is_at_place_of(self, other: Plain) -> bool {
@@ -69,8 +69,8 @@ fn new_share(
         file,
         name,
         oh,
-        Access::new(deny.0, deny.1),
-        Access::new(access.0, access.1),
+        AccessBits::new(deny.0, deny.1),
+        AccessBits::new(access.0, access.1),
     ))
 }
 

@@ -1,11 +1,11 @@
 -- The pieces of a line are the line.
 use Rattle.std.proofs.Common.{◌≡◌, ℕ, List, [], ◌∷◌, ◌++◌, length, append_assoc}
 use Rattle.std.proofs.lemmas.List.{length-map}
-use Rattle.local_ops.specs.Texts.{spaced, line}
+use Rattle.local_ops.specs.Texts.{spaced_fields, line}
 use Rattle.definitions.specs.Settings.{Setting}
 use Rattle.definitions.specs.Starts.{runs, used, starts, run_at}
 
-pub run_pieces : (file mode first last owner : List ℕ) → file ++ (spaced ([] ∷ mode ∷ first ∷ last ∷ [] ∷ []) ++ (owner ++ 10 ∷ [])) ≡ line (file ∷ mode ∷ first ∷ last ∷ owner ∷ [])
+pub run_pieces : (file mode first last owner : List ℕ) → file ++ (spaced_fields ([] ∷ mode ∷ first ∷ last ∷ [] ∷ []) ++ (owner ++ 10 ∷ [])) ≡ line (file ∷ mode ∷ first ∷ last ∷ owner ∷ [])
 run_pieces file mode first last owner = simp append_assoc
 
 pub row_pieces : (name epoch seen quota : List ℕ) → name ++ line ([] ∷ epoch ∷ seen ∷ quota ∷ []) ≡ line (name ∷ epoch ∷ seen ∷ quota ∷ [])

@@ -6,12 +6,12 @@ ghost use Rattle.owner_ids.specs.Views.{view_of_owner};
 ghost use Rattle.range_table.specs.Modes.{view_of_mode};
 ghost use Rattle.definitions.specs.Owners.{Remote};
 ghost use Rattle.held_locks.specs.Asked.{view_of_lock_holder};
-ghost use Rattle.local_ops.specs.Texts.{run_line, host_line, owner_text, mode_text, line, spaced};
+ghost use Rattle.local_ops.specs.Texts.{run_line, host_line, owner_text, mode_text, line, spaced_fields};
 ghost use Rattle.table_text.specs.Blocks.{Passed};
 
 use crate::block::{put_hex, put_parts};
 use byte_io::WriteFault;
-use held_locks::Holder;
+use held_locks::RunHolder;
 use hosts_db::HostRow;
 use itoa::Buffer;
 use owner_ids::Owner;
@@ -23,7 +23,7 @@ use xdr_core::Frame;
 pub(crate) fn put_run<W: Write>(
     block: &mut Frame,
     writer: &mut W,
-    run: &Holder<'_>,
+    run: &RunHolder<'_>,
 ) -> Result<(), WriteFault>
     ensures { Passed (W.contents writer.old) (W.contents writer.new) result block.new (block.old ++ run_line (view_of_lock_holder run.now)) }
 {
@@ -54,7 +54,7 @@ fn put_range<W: Write>(
     last: u64,
 ) -> Result<(), WriteFault>
     ensures { Passed (W.contents writer.old) (W.contents writer.new) result block.new
-        (block.old ++ spaced ([] ∷ mode_text (view_of_mode mode) ∷ decimal first ∷ decimal last ∷ [] ∷ [])) }
+        (block.old ++ spaced_fields ([] ∷ mode_text (view_of_mode mode) ∷ decimal first ∷ decimal last ∷ [] ∷ [])) }
 {
     let mut first_digits = Buffer::new();
     let mut last_digits = Buffer::new();
@@ -114,13 +114,13 @@ fn put_owner<W: Write>(block: &mut Frame, writer: &mut W, owner: &Owner) -> Resu
 fn put_numbered<W: Write>(
     block: &mut Frame,
     writer: &mut W,
-    callback: &[u8],
+    letter: &[u8],
     number: u64,
 ) -> Result<(), WriteFault>
-    ensures { Passed (W.contents writer.old) (W.contents writer.new) result block.new (block.old ++ (callback.now ++ decimal number)) }
+    ensures { Passed (W.contents writer.old) (W.contents writer.new) result block.new (block.old ++ (letter.now ++ decimal number)) }
 {
     let mut digits = Buffer::new();
-    put_parts(block, writer, &[callback, digits.format(number).as_bytes()])
+    put_parts(block, writer, &[letter, digits.format(number).as_bytes()])
 }
 
 fn put_remote<W: Write>(

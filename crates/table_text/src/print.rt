@@ -10,7 +10,7 @@ ghost use Rattle.byte_io.specs.Written.{Wrote};
 
 use crate::lines::{put_host, put_run};
 use byte_io::{WriteFault, write_whole};
-use held_locks::{Holder, Listing, Locks};
+use held_locks::{Listing, Locks, RunHolder};
 use hosts_db::HostRow;
 use range_table::RangeTable;
 use std::io::Write;
@@ -51,7 +51,7 @@ fn print_row<R: RangeTable, W: Write>(
 }
 
 // The i-th of all locks, out of their row where there is one.
-fn holder<'a, R: RangeTable>(locks: &'a Locks<R>, all: &Option<Listing>, i: u32) -> Holder<'a>
+fn holder<'a, R: RangeTable>(locks: &'a Locks<R>, all: &Option<Listing>, i: u32) -> RunHolder<'a>
     requires row { IfSome all.now (IsListing locks.now) }
     requires within { i < used locks.now.settings }
     ensures { slice_get (runs locks.now.settings) i ≡ Some (view_of_lock_holder result) }

@@ -3,7 +3,7 @@
 //! `start`, `monitor NAME STATE`, `seen NAME STATE`, `acked NAME EPOCH`, `quota NAME RUNS`, `watch HOST WATCHER BYTE`
 //! (each of the private bytes), `unwatch HOST WATCHER` and `unwatch * WATCHER`. Behind ` -> ` stands the answer, where
 //! it isn't `ok`.
-use hosts_db::{FULL_QUOTA, HostStore, MOST_NAME_BYTES, MyId, StoreError};
+use hosts_db::{FULL_QUOTA, HostStore, MOST_NAME_BYTES, MyIdRef, StoreError};
 use std::str::SplitWhitespace;
 
 /// The words of a line. One that isn't there is empty.
@@ -68,14 +68,14 @@ fn watch<S: HostStore>(store: &mut S, mon: &[u8], my: &[u8], byte: i32) -> &'sta
         return "a long name";
     }
     let private = [u8::try_from(byte).unwrap_or(0); 16];
-    answer(store.watch(mon, &MyId::new(my, 4, 2, -3), &private))
+    answer(store.watch(mon, &MyIdRef::new(my, 4, 2, -3), &private))
 }
 
 fn unwatch<S: HostStore>(store: &mut S, mon: &str, my: &[u8]) -> &'static str {
     if my.len() > MOST_NAME_BYTES {
         return "a long name";
     }
-    let my_id = MyId::new(my, 4, 2, -3);
+    let my_id = MyIdRef::new(my, 4, 2, -3);
     match mon {
         "*" => answer(store.unwatch(None, &my_id)),
         _ => answer(store.unwatch(Some(mon.as_bytes()), &my_id)),

@@ -3,7 +3,7 @@ use Rattle.std.proofs.Common.{◌≡◌, ◌≢◌, ℕ, suc, ◌+◌, ◌-◌, 
 use Rattle.std.proofs.Math.Seq.{take-add}
 use Rattle.std.proofs.lemmas.List.{length-take-le, length-drop, take_at, drop_at, drop-drop, drop-take, take-take, set_split, drop_more, take-append-le, drop-append-le, length_push}
 use Rattle.std.specs.List.{concat}
-use Rattle.tiered_vec.specs.Moves.{PushedIn, PulledIn, brought, sent}
+use Rattle.tiered_vec.specs.Moves.{PushedIn, PulledIn, brought, numbers_after_move}
 use Rattle.tiered_vec.specs.Tiers.{AreTiers}
 use Rattle.tiered_vec.proofs.Pieces.{Long, inside_tiers, around_tier, tier_of, set_tier, whole_tiers, length_front_tiers, long_at}
 
@@ -214,7 +214,7 @@ pushed_brought xs to from ys y a l h =
     h.around ∙ ap (λ ws. take to xs ++ (ws ++ drop (from + 1) xs)) (sym (last_same (x ∷ part_of xs to from) h.part x y e))
 
 -- the number in front of a part, pulled in behind it
-pub pulled_sent : (xs : List ℕ) (from to : ℕ) (ys : List ℕ) (y : ℕ) → from ≤ to → to < length xs → PulledIn xs from (to + 1) (get_or xs from 0) ys y → ys ≡ sent from to xs
+pub pulled_sent : (xs : List ℕ) (from to : ℕ) (ys : List ℕ) (y : ℕ) → from ≤ to → to < length xs → PulledIn xs from (to + 1) (get_or xs from 0) ys y → ys ≡ numbers_after_move from to xs
 pulled_sent xs from to ys y a l h =
     let x = get_or xs from 0 in
     let p = parts xs from (from + 1) (to + 1) (omega arith) (omega arith) ∙ ap (λ ws. ws ++ part_of xs (from + 1) (to + 1)) (part_one xs from (omega arith)) in

@@ -3,8 +3,8 @@ use Rattle.std.specs.Prelude.{ℕ, ◌≡◌, ◌<◌, ◌++◌, List, length, t
 use Rattle.std.specs.List.{AllByRecursion}
 
 -- the cells from the head on, and then those in front of it
-abbrev pub turned : ℕ → List ℕ → List ℕ
-turned head cells = drop head cells ++ take head cells
+abbrev pub cells_from_head : ℕ → List ℕ → List ℕ
+cells_from_head head cells = drop head cells ++ take head cells
 
 pub record IsRing (head : ℕ) (cells : List ℕ) : Type 0 where
   pub inside : head < 256

@@ -1,7 +1,7 @@
 //! 256 tiers, one behind the other.
 ghost use Rattle.std.specs.Prelude.{◌≡◌, ◌+◌, ◌*◌, ◌<◌, ◌≤◌, IfOk, length, slice_index_or};
 ghost use Rattle.std.specs.List.{range_with_len};
-ghost use Rattle.tiered_vec.specs.Moves.{brought, sent, PushedIn, PulledIn};
+ghost use Rattle.tiered_vec.specs.Moves.{brought, numbers_after_move, PushedIn, PulledIn};
 
 use crate::tier::{TIER, Tier};
 use std::alloc::{AllocError, Global};
@@ -59,7 +59,7 @@ impl TieredList {
     pub fn send(&mut self, from: usize, to: usize)
         requires order { from ≤ to }
         requires within { to < 65536 }
-        ensures { self.new ≡ sent from to self.old }
+        ensures { self.new ≡ numbers_after_move from to self.old }
     {
         let number = self.get(from);
         let _ = self.pull(from, to + 1, number);

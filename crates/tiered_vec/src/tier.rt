@@ -18,11 +18,11 @@ pub(crate) struct Tier {
 
 impl Model for Tier {
     ghost use Rattle.std.specs.Prelude.{List, ℕ};
-    ghost use Rattle.tiered_vec.specs.Tiers.{turned, IsRing};
+    ghost use Rattle.tiered_vec.specs.Tiers.{cells_from_head, IsRing};
 
     ghost Value = { List ℕ };
 
-    ghost view = { λ t. turned t.head t.cells };
+    ghost view = { λ t. cells_from_head t.head t.cells };
 
     ghost invariant = { λ t. IsRing t.head t.cells };
 }

@@ -10,8 +10,8 @@ use Rattle.call_codec.specs.declared.records.dest.Dest.{Dest}
 use Rattle.book.specs.Given.{StepResult, comes_to}
 use Rattle.std.specs.Prelude.{option_map}
 use Rattle.book.specs.Notes.{Note, JournalEvent, Takes, SendsNext, BeginsAnew, Steps, is_take}
-use Rattle.book.specs.Receipts.{Receipt, receipt_of, newest, newest_receipt}
-use Rattle.book.specs.Journal.{Journal, Book, IsLegal, begun, next_of, rotated, Enters, IsNext}
+use Rattle.book.specs.Receipts.{Receipt, receipt_of, newest_note, newest_receipt}
+use Rattle.book.specs.Journal.{Journal, Book, IsLegal, empty_journal, next_of, rotated_book, Enters, IsNext}
 use Rattle.book.specs.Histories.{notes_of, Join, AreLegal, BeginsWithRestart, SegmentsAreLegal}
 use Rattle.workers.specs.Holds.{Held, takes_in, takes_of, IsOneHistory, IsInStep, IsNew, Begins, IsServed, base_of, Rests}
 use Rattle.workers.proofs.Joins.{takes_in_append, takes_of_append, join_last, join_more, legal_last, legal_more, notes_of_append, restart_last, restart_more}
@@ -53,11 +53,11 @@ begins_in_step total closed b b' step_result new enters done agreed none zero le
 -- ---- holds
 
 -- the segment is closed, and the next one begins
-pub turns_in_step : (total : ℕ) (closed closed' : List Journal) (j : Journal) (b b' : Book) → j ≡ b.journal → closed' ≡ closed ++ j ∷ [] → b' ≡ rotated b → IsLegal b'.journal → IsInStep total closed b.journal → IsInStep total closed' b'.journal
+pub turns_in_step : (total : ℕ) (closed closed' : List Journal) (j : Journal) (b b' : Book) → j ≡ b.journal → closed' ≡ closed ++ j ∷ [] → b' ≡ rotated_book b → IsLegal b'.journal → IsInStep total closed b.journal → IsInStep total closed' b'.journal
 turns_in_step total closed closed' j b b' same more turned legal old =
     let now : closed' ≡ closed ++ b.journal ∷ [] = more ∙ ap (λ (k : Journal). closed ++ k ∷ []) same in
     let h = old.history in
-    let begins : IsLegal (begun (next_of b.journal) b.journal.end) = subst (λ (x : Book). IsLegal x.journal) turned legal in
+    let begins : IsLegal (empty_journal (next_of b.journal) b.journal.end) = subst (λ (x : Book). IsLegal x.journal) turned legal in
     subst (λ (x : List Journal × Book). IsInStep total x.0 x.1.journal) (λ i. (sym now i, sym turned i))
     (record {
       counted = let c = old.counted in let t = takes_of_append closed b.journal in omega (arith, c, t);
@@ -65,8 +65,8 @@ turns_in_step total closed closed' j b b' same more turned legal old =
         name = h.name;
         hosts = h.hosts;
         joined = join_more (opening_state h.name h.hosts) 1 closed b.journal h.joined;
-        legal = legal_more (closed ++ b.journal ∷ []) (begun (next_of b.journal) b.journal.end) begins h.legal;
-        restart = restart_more (closed ++ b.journal ∷ []) (begun (next_of b.journal) b.journal.end) h.restart;
+        legal = legal_more (closed ++ b.journal ∷ []) (empty_journal (next_of b.journal) b.journal.end) begins h.legal;
+        restart = restart_more (closed ++ b.journal ∷ []) (empty_journal (next_of b.journal) b.journal.end) h.restart;
       };
     })
 
@@ -141,5 +141,5 @@ abbrev event_or : JournalEvent → Option Receipt → JournalEvent
 event_or e None = e
 event_or e (Some r) = r.event
 
-pub told_event : (r : Receipt) (n : Note) (notes : List Note) → Some r ≡ newest_receipt notes → newest notes ≡ Some n → r.event ≡ n.event
+pub told_event : (r : Receipt) (n : Note) (notes : List Note) → Some r ≡ newest_receipt notes → newest_note notes ≡ Some n → r.event ≡ n.event
 told_event r n notes is last = ap (event_or n.event) (is ∙ ap (option_map receipt_of) last)

@@ -3,7 +3,7 @@ use Rattle.std.proofs.Common.{◌≡◌, ℕ, ◌+◌, List, [], ◌∷◌, ◌+
 use Rattle.std.proofs.lemmas.List.{append-nil}
 use Rattle.definitions.specs.Step.{State}
 use Rattle.book.specs.Notes.{Note, is_take}
-use Rattle.book.specs.Journal.{Journal, IsLegal, next_of, begun}
+use Rattle.book.specs.Journal.{Journal, IsLegal, next_of, empty_journal}
 use Rattle.book.specs.Histories.{notes_of, Join, AreLegal, BeginsWithRestart}
 use Rattle.workers.specs.Holds.{takes_in, takes_of}
 
@@ -21,7 +21,7 @@ join_last s n [] j k b f h = (b ∙ h.0, f ∙ h.1, tt)
 join_last s n (x ∷ xs) j k b f h = (h.0, h.1, join_last x.end (next_of x) xs j k b f h.2)
 
 -- and one more may begin where the last one ends
-pub join_more : (s : State) (n : ℕ) (xs : List Journal) (j : Journal) → Join s n (xs ++ j ∷ []) → Join s n ((xs ++ j ∷ []) ++ begun (next_of j) j.end ∷ [])
+pub join_more : (s : State) (n : ℕ) (xs : List Journal) (j : Journal) → Join s n (xs ++ j ∷ []) → Join s n ((xs ++ j ∷ []) ++ empty_journal (next_of j) j.end ∷ [])
 join_more s n [] j h = (h.0, h.1, (refl, refl, tt))
 join_more s n (x ∷ xs) j h = (h.0, h.1, join_more x.end (next_of x) xs j h.2)
 

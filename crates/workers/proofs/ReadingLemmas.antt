@@ -15,33 +15,33 @@ use Rattle.record_mark.specs.declared.intake.ending.Ending.TheVariants.{Over, Fa
 use Rattle.record_mark.specs.Intakes.{EndsSo, Fed, Cuts}
 use Rattle.workers.specs.declared.reading.Origin.{Origin}
 use Rattle.reply_outbox.specs.Posted.{Sent}
-use Rattle.workers.specs.Answers.{sent_for, listed, Answer, AreMet, all_sent, all_receipts, Worker, with_seat, Worked}
-use Rattle.workers.specs.Reading.{job_of, counted, jobs_of, Serves, HavePut, Puts, EndsBy, IsRead}
+use Rattle.workers.specs.Answers.{sent_for, receipt_list, Answer, AreMet, all_sent, all_receipts, Worker, with_seat, Worked}
+use Rattle.workers.specs.Reading.{job_of, origin_after, jobs_of, Serves, HavePut, Puts, EndsBy, IsRead}
 
 -- ---- jobs of records
 
-counted-twice : (o : Origin) (m n k : ℕ) → m + n ≡ k → counted (counted o m) n ≡ counted o k
+counted-twice : (o : Origin) (m n k : ℕ) → m + n ≡ k → origin_after (origin_after o m) n ≡ origin_after o k
 counted-twice o m n k e = ap (λ p. record { connection = o.connection; peer = o.peer; put = p }) (omega (arith, e))
 
-counted-none : (o : Origin) → counted o 0 ≡ o
+counted-none : (o : Origin) → origin_after o 0 ≡ o
 counted-none o = ap (λ p. record { connection = o.connection; peer = o.peer; put = p }) (omega arith)
 
-pub jobs_of-append : (o : Origin) (xs ys : List Bytes) → jobs_of o (xs ++ ys) ≡ jobs_of o xs ++ jobs_of (counted o (length xs)) ys
+pub jobs_of-append : (o : Origin) (xs ys : List Bytes) → jobs_of o (xs ++ ys) ≡ jobs_of o xs ++ jobs_of (origin_after o (length xs)) ys
 jobs_of-append o [] ys = ap (λ (p : Origin). jobs_of p ys) (sym (counted-none o))
 jobs_of-append o (x ∷ xs) ys =
-    ap (λ l. job_of o x ∷ l) (jobs_of-append (counted o 1) xs ys ∙ ap (λ (p : Origin). jobs_of (counted o 1) xs ++ jobs_of p ys) (counted-twice o 1 (length xs) (suc (length xs)) (omega arith)))
+    ap (λ l. job_of o x ∷ l) (jobs_of-append (origin_after o 1) xs ys ∙ ap (λ (p : Origin). jobs_of (origin_after o 1) xs ++ jobs_of p ys) (counted-twice o 1 (length xs) (suc (length xs)) (omega arith)))
 
 -- ---- records are put
 
 abbrev with_puts : Worker → List Task → Worker
 with_puts w l = with_seat w (with_hand w.seat (record { put = l; taken = w.seat.hand.taken }))
 
-pub HavePut-next : (xs : List Bytes) (asked : Bytes) (o p q : Origin) (v w x : Worker) → HavePut xs o p v w → x ≡ with_seat w (with_put w.seat (job_of p asked)) → q ≡ counted p 1 → HavePut (xs ++ asked ∷ []) o q v x
+pub HavePut-next : (xs : List Bytes) (asked : Bytes) (o p q : Origin) (v w x : Worker) → HavePut xs o p v w → x ≡ with_seat w (with_put w.seat (job_of p asked)) → q ≡ origin_after p 1 → HavePut (xs ++ asked ∷ []) o q v x
 HavePut-next xs asked o p q v w x before put number = record {
-  numbered = number ∙ ap (λ (r : Origin). counted r 1) before.numbered ∙ counted-twice o (length xs) 1 (length (xs ++ asked ∷ [])) (sym (length-append xs (asked ∷ [])));
+  numbered = number ∙ ap (λ (r : Origin). origin_after r 1) before.numbered ∙ counted-twice o (length xs) 1 (length (xs ++ asked ∷ [])) (sym (length-append xs (asked ∷ [])));
   put = put
       ∙ (λ i. with_seat (before.put i) (with_put (before.put i).seat (job_of (before.numbered i) asked)))
-      ∙ ap (with_puts v) (append_assoc v.seat.hand.put (jobs_of o xs) (job_of (counted o (length xs)) asked ∷ []) ∙ ap (λ l. v.seat.hand.put ++ l) (sym (jobs_of-append o xs (asked ∷ []))));
+      ∙ ap (with_puts v) (append_assoc v.seat.hand.put (jobs_of o xs) (job_of (origin_after o (length xs)) asked ∷ []) ∙ ap (λ l. v.seat.hand.put ++ l) (sym (jobs_of-append o xs (asked ∷ []))));
 }
 
 -- ---- and jobs are taken and answered
@@ -52,7 +52,7 @@ all_sent-all (x ∷ xs) ys = ap (λ l. sent_for x ++ l) (all_sent-all xs ys) ∙
 
 all_receipts-all : (xs ys : List Answer) → all_receipts (xs ++ ys) ≡ all_receipts xs ++ all_receipts ys
 all_receipts-all [] ys = refl
-all_receipts-all (x ∷ xs) ys = ap (λ l. listed x.receipt ++ l) (all_receipts-all xs ys) ∙ sym (append_assoc (listed x.receipt) (all_receipts xs) (all_receipts ys))
+all_receipts-all (x ∷ xs) ys = ap (λ l. receipt_list x.receipt ++ l) (all_receipts-all xs ys) ∙ sym (append_assoc (receipt_list x.receipt) (all_receipts xs) (all_receipts ys))
 
 met-all : (xs ys : List Answer) → AreMet xs → AreMet ys → AreMet (xs ++ ys)
 met-all [] ys before after = after
@@ -98,7 +98,7 @@ pub record SoFar (o p : Origin) (before after : Option (List ℕ)) (a : Assemble
   pub split : IsSplit a
   pub going : a.failed ≡ false
   pub consumed : Consumes before after a.received
-  pub numbered : p ≡ counted o (length a.given)
+  pub numbered : p ≡ origin_after o (length a.given)
   pub serves : Serves (jobs_of o a.given) old new sent sent'
 
 pub SoFar-none : (o : Origin) (before : Option (List ℕ)) (a : Assembled) (w : Worker) (s : List Sent) → a ≡ record { received = []; given = []; failed = false } → IsSplit a → SoFar o o before before a w w s s
@@ -106,7 +106,7 @@ SoFar-none o before a w s new split = record {
   split = split;
   going = ap (λ (b : Assembled). b.failed) new;
   consumed = subst (λ (b : Assembled). Consumes before before b.received) (sym new) (Consumes-nil before);
-  numbered = sym (ap (λ (b : Assembled). counted o (length b.given)) new ∙ counted-none o);
+  numbered = sym (ap (λ (b : Assembled). origin_after o (length b.given)) new ∙ counted-none o);
   serves = subst (λ (b : Assembled). Serves (jobs_of o b.given) w w s s) (sym new) (Serves-none w s);
 }
 
@@ -141,9 +141,9 @@ module _ (o p : Origin) (before mid after : Option (List ℕ)) (a : Assembled) (
     taken = Consumes-trans before mid after a.received piece so_far.consumed heard
 
     -- so many of the records were put
-    puts_on : (xs : List Bytes) → HavePut xs p q w x → (q ≡ counted o (length a.given + length xs)) × Serves (jobs_of o (a.given ++ xs)) v y s s''
+    puts_on : (xs : List Bytes) → HavePut xs p q w x → (q ≡ origin_after o (length a.given + length xs)) × Serves (jobs_of o (a.given ++ xs)) v y s s''
     puts_on xs put = (
-      put.numbered ∙ ap (λ (r : Origin). counted r (length xs)) so_far.numbered ∙ counted-twice o (length a.given) (length xs) _ refl,
+      put.numbered ∙ ap (λ (r : Origin). origin_after r (length xs)) so_far.numbered ∙ counted-twice o (length a.given) (length xs) _ refl,
       subst (λ l. Serves l v y s s'') (ap (λ (r : Origin). jobs_of o a.given ++ jobs_of r xs) so_far.numbered ∙ sym (jobs_of-append o a.given xs))
           (Serves-more (jobs_of o a.given) xs p q v w x y s s' s'' so_far.serves put worked),
     )
@@ -170,14 +170,14 @@ module _ (o p : Origin) (before mid after : Option (List ℕ)) (a : Assembled) (
             splits = splits_now;
             count = length a.given + count;
             ends = (omega (arith, size, few), refl);
-            numbered = on.0 ∙ ap (counted o) sum;
+            numbered = on.0 ∙ ap (origin_after o) sum;
             serves = subst (λ l. Serves (jobs_of o l) v y s s'') these on.1;
           }
 
-      all_put : HavePut records p q w x → (q ≡ counted o (length a'.given)) × Serves (jobs_of o a'.given) v y s s''
+      all_put : HavePut records p q w x → (q ≡ origin_after o (length a'.given)) × Serves (jobs_of o a'.given) v y s s''
       all_put put =
           let on = puts_on records put in (
-            on.0 ∙ ap (counted o) (sym (ap length fed.given ∙ length-append a.given records)),
+            on.0 ∙ ap (origin_after o) (sym (ap length fed.given ∙ length-append a.given records)),
             subst (λ l. Serves (jobs_of o l) v y s s'') (sym fed.given) on.1,
           )
 
@@ -215,7 +215,7 @@ module _ (o p : Origin) (before mid after : Option (List ℕ)) (a : Assembled) (
           splits = whole;
           count = length a.given;
           ends = (refl, refl, λ e. absurd (some e));
-          numbered = on.0 ∙ ap (counted o) (sym (length-append a.given records) ∙ ap length same);
+          numbered = on.0 ∙ ap (origin_after o) (sym (length-append a.given records) ∙ ap length same);
           serves = subst (λ l. Serves (jobs_of o l) v y s s'') (same ∙ sym (take-length a.given)) on.1;
         }
 

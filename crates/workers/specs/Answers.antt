@@ -10,7 +10,7 @@ use Rattle.kept_replies.specs.Pairs.{view_of_peer}
 use Rattle.job_queue.specs.Task.{Task}
 use Rattle.job_queue.specs.declared.passes.View.{View}
 use Rattle.job_queue.specs.Passes.{with_hand}
-use Rattle.reply_outbox.specs.Posted.{Sent, posted}
+use Rattle.reply_outbox.specs.Posted.{Sent, sent_of_reply}
 
 abbrev pub asks : Task → JournalEvent
 asks job = Takes job.peer job.asked
@@ -30,7 +30,7 @@ with_receipt papers receipt = record papers { receipts = papers.receipts ++ rece
 abbrev pub TakesCall : Taken → ℕ → Papers → Papers → List Sent → List Sent → Type 0
 TakesCall taken connection papers papers' sent sent' =
     (receipt : Receipt) × (given : Given) × (receipt.event ≡ view_of_taken taken) × (record_of given ≡ receipt.reply)
-    × (papers' ≡ with_receipt papers receipt) × (sent' ≡ sent ++ posted connection given)
+    × (papers' ≡ with_receipt papers receipt) × (sent' ≡ sent ++ sent_of_reply connection given)
 
 -- what an event gives that met want of memory before it began: a call SYSTEM_ERR, or nothing where its record is ignored
 abbrev pub StarvesAs : JournalEvent → Given → Type 0
@@ -38,7 +38,7 @@ StarvesAs event given = (s : State) → Steps s event (comes_to Starved NotAsked
 
 -- that is what is handed over
 abbrev pub TurnsBack : Taken → ℕ → List Sent → List Sent → Type 0
-TurnsBack taken connection sent sent' = (given : Given) × StarvesAs (view_of_taken taken) given × (sent' ≡ sent ++ posted connection given)
+TurnsBack taken connection sent sent' = (given : Given) × StarvesAs (view_of_taken taken) given × (sent' ≡ sent ++ sent_of_reply connection given)
 
 -- a job that was taken, the receipt of its entry, if there is one, and what it was given
 pub record Answer : Type 0 where
@@ -56,19 +56,19 @@ AreMet [] = Unit {0}
 AreMet (a ∷ rest) = IsMet a a.receipt × AreMet rest
 
 abbrev pub sent_for : Answer → List Sent
-sent_for a = posted a.job.connection a.given
+sent_for a = sent_of_reply a.job.connection a.given
 
 abbrev pub all_sent : List Answer → List Sent
 all_sent [] = []
 all_sent (a ∷ rest) = sent_for a ++ all_sent rest
 
-abbrev pub listed : Option Receipt → List Receipt
-listed (Some r) = r ∷ []
-listed None = []
+abbrev pub receipt_list : Option Receipt → List Receipt
+receipt_list (Some r) = r ∷ []
+receipt_list None = []
 
 abbrev pub all_receipts : List Answer → List Receipt
 all_receipts [] = []
-all_receipts (a ∷ rest) = listed a.receipt ++ all_receipts rest
+all_receipts (a ∷ rest) = receipt_list a.receipt ++ all_receipts rest
 
 -- what its seat knows, all receipts that it was given, and whether they are kept
 pub record Worker : Type 0 where

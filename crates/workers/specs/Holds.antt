@@ -5,9 +5,9 @@ use Rattle.definitions.specs.Hosts.{Hosts, StoreAnswer, Yes}
 use Rattle.definitions.specs.Step.{State, Completion, Applied, Starved, Nothing, opening_state}
 use Rattle.book.specs.Given.{StepResult, comes_to}
 use Rattle.book.specs.Notes.{JournalEvent, BeginsAnew, Note, is_take}
-use Rattle.book.specs.Receipts.{newest}
-use Rattle.book.specs.Journal.{Journal, Book, begun, room_of, rotated, Enters}
-use Rattle.book.specs.Histories.{notes_of, Join, AreLegal, joined, IsHistory, BeginsWithRestart}
+use Rattle.book.specs.Receipts.{newest_note}
+use Rattle.book.specs.Journal.{Journal, Book, empty_journal, room_of, rotated_book, Enters}
+use Rattle.book.specs.Histories.{notes_of, Join, AreLegal, joined_journal, IsHistory, BeginsWithRestart}
 use Rattle.workers.specs.declared.beginning.NotBegun.{NotBegun}
 use Rattle.workers.specs.declared.beginning.NotBegun.TheVariants as not_begun
 
@@ -41,8 +41,8 @@ pub record IsInStep (total : ℕ) (closed : List Journal) (last : Journal) : Typ
   pub history : IsOneHistory (closed ++ last ∷ [])
 
 -- the open segment is closed, and a fresh one begins where it ends
-abbrev pub turned : Held → Held
-turned h = record { closed = h.closed ++ h.book.journal ∷ []; book = rotated h.book; keeps = h.keeps }
+abbrev pub rotated_held : Held → Held
+rotated_held h = record { closed = h.closed ++ h.book.journal ∷ []; book = rotated_book h.book; keeps = h.keeps }
 
 -- the state before the first entry
 abbrev pub base_of : List Journal → Journal → State
@@ -51,7 +51,7 @@ base_of (j ∷ journals) last = j.base
 
 -- all that the book went through, closed segments and the open one, as one journal
 abbrev pub history_of : Held → Journal
-history_of held = joined (base_of held.closed held.book.journal) 1 held.closed held.book.journal
+history_of held = joined_journal (base_of held.closed held.book.journal) 1 held.closed held.book.journal
 
 -- it is a history from the opening state of a name and of the store's rows, and its first entry is a restart that the store agreed to
 pub record IsServed (held : Held) : Type 0 where
@@ -64,7 +64,7 @@ pub record IsServed (held : Held) : Type 0 where
 
 -- an empty journal whose first number is 1, in the opening state of a name and of the store's rows
 abbrev pub IsNew : Journal → Type 0
-IsNew j = j ≡ begun 1 (opening_state j.base.world.own_name j.base.world.hosts)
+IsNew j = j ≡ empty_journal 1 (opening_state j.base.world.own_name j.base.world.hosts)
 
 -- the book has one entry more: a restart that the store agreed to
 pub record Begins (book : Book) (is_kept : Bool) (new : Held) : Type 0 where
@@ -86,7 +86,7 @@ BeginsNot book why = (step_result : StepResult) × ((new : Book) × (Enters book
 
 -- nothing happened, but perhaps a segment that was full was closed
 abbrev pub Rests : Held → Held → Type 0
-Rests old new = (new ≡ old) ⊎ ((room_of old.book.journal ≡ 0) × (new ≡ turned old))
+Rests old new = (new ≡ old) ⊎ ((room_of old.book.journal ≡ 0) × (new ≡ rotated_held old))
 
 -- one event was one entry, the newest, and nothing else happened, but perhaps that a full segment was closed before it
 pub record Notes (old : Held) (event : JournalEvent) (step_result : StepResult) (new : Held) : Type 0 where
@@ -101,5 +101,5 @@ entry_of number event step_result = record { number = number; event = event; ste
 
 -- this entry is the journal's newest, and a trace has it behind those that it had, and no other
 pub record Adds (held : Held) (entry : Note) (old new : List Note) : Type 0 where
-  pub is_newest : newest held.book.journal.notes ≡ Some entry
+  pub is_newest : newest_note held.book.journal.notes ≡ Some entry
   pub added : new ≡ old ++ entry ∷ []

@@ -17,13 +17,13 @@ abbrev pub job_of : Origin → Bytes → Task
 job_of o asked = record { connection = o.connection; peer = view_of_peer o.peer; number = o.put; asked = asked }
 
 -- so many more were put
-abbrev pub counted : Origin → ℕ → Origin
-counted o count = record { connection = o.connection; peer = o.peer; put = o.put + count }
+abbrev pub origin_after : Origin → ℕ → Origin
+origin_after o count = record { connection = o.connection; peer = o.peer; put = o.put + count }
 
 -- the jobs of these records, numbered on
 abbrev pub jobs_of : Origin → List Bytes → List Task
 jobs_of o [] = []
-jobs_of o (asked ∷ rest) = job_of o asked ∷ jobs_of (counted o 1) rest
+jobs_of o (asked ∷ rest) = job_of o asked ∷ jobs_of (origin_after o 1) rest
 
 -- these jobs were put, and some were taken and answered, in order: each receipt and each record is that of its job
 pub record Serves (jobs : List Task) (old new : Worker) (sent sent' : List Sent) : Type 0 where
@@ -36,7 +36,7 @@ pub record Serves (jobs : List Task) (old new : Worker) (sent sent' : List Sent)
 
 -- these were put, numbered on, and nothing else happened
 pub record HavePut (records : List Bytes) (o o' : Origin) (old new : Worker) : Type 0 where
-  pub numbered : o' ≡ counted o (length records)
+  pub numbered : o' ≡ origin_after o (length records)
   pub put : new ≡ with_seat old (with_hand old.seat (record { put = old.seat.hand.put ++ jobs_of o records; taken = old.seat.hand.taken }))
 
 -- all were put, or those before one that came back
@@ -64,5 +64,5 @@ pub record IsRead (ending : Ending) (o o' : Origin) (before after : Option (List
   pub splits : Splits bytes records fault
   pub count : ℕ
   pub ends : EndsBy ending bytes records fault count lost after
-  pub numbered : o' ≡ counted o count
+  pub numbered : o' ≡ origin_after o count
   pub serves : Serves (jobs_of o (take count records)) old new sent sent'

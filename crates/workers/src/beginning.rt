@@ -19,9 +19,9 @@ pub enum NotBegun {
 pub(crate) fn why_not(step_result: &StepResult) -> Option<NotBegun>
     ensures { IsWhy result step_result.now }
 {
-    match step_result.completion {
+    match step_result.status.completion {
         Completion::Starved => Some(NotBegun::Starved),
-        Completion::Applied => match step_result.store {
+        Completion::Applied => match step_result.status.store {
             StoreAnswer::Yes => None,
             StoreAnswer::NotAsked | StoreAnswer::Refused => Some(NotBegun::StoreRefused),
         },

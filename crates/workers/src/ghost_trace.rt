@@ -2,7 +2,7 @@
 ghost use Rattle.std.specs.Prelude.{◌≡◌, List, [], ◌++◌};
 ghost use Rattle.std.specs.Option.{option_to_list};
 ghost use Rattle.book.specs.Notes.{Note};
-ghost use Rattle.book.specs.Receipts.{newest};
+ghost use Rattle.book.specs.Receipts.{newest_note};
 
 use book::{Book, Entry};
 use ghost_list::History;
@@ -61,7 +61,7 @@ impl GhostTrace {
 
     /// The journal's newest entry more, if it has one.
     pub(crate) fn add<R: RangeTable, S: HostStore>(&mut self, book: &Book<R, S>)
-        ensures { self.new ≡ self.old ++ option_to_list (newest book.now.journal.notes) }
+        ensures { self.new ≡ self.old ++ option_to_list (newest_note book.now.journal.notes) }
     {
         self.after(book);
     }

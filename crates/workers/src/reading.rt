@@ -3,7 +3,7 @@ ghost use Rattle.std.specs.Prelude.{◌≡◌, ◌*◌, true, false, cond, Some}
 ghost use Rattle.job_queue.specs.Passes.{with_put};
 ghost use Rattle.byte_io.specs.Reads.{TakesAtMost};
 ghost use Rattle.workers.specs.Answers.{with_seat};
-ghost use Rattle.workers.specs.Reading.{Puts, job_of, counted, IsRead};
+ghost use Rattle.workers.specs.Reading.{Puts, job_of, origin_after, IsRead};
 
 use crate::shared::Shared;
 use crate::worker::Worker;
@@ -113,7 +113,7 @@ impl<P: Place, L: Ledger> Worker<P, L> {
         origin: &mut Origin,
         asked: Bytes,
     ) -> bool
-        ensures put { result ≡ true → (self.new ≡ with_seat self.old (with_put self.old.seat (job_of origin.old asked))) × (origin.new ≡ counted origin.old 1) }
+        ensures put { result ≡ true → (self.new ≡ with_seat self.old (with_put self.old.seat (job_of origin.old asked))) × (origin.new ≡ origin_after origin.old 1) }
         ensures back { result ≡ false → (self.new ≡ self.old) × (origin.new ≡ origin.old) }
     {
         let Some(next) = origin.put.checked_add(1) else {

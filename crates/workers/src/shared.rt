@@ -13,7 +13,7 @@ use crate::archive::Archive;
 use crate::beginning::{NotBegun, why_not};
 use crate::ghost_trace::GhostTrace;
 use book::{
-    Book, BookEvent, Closed, NoRoom, Receipt, Starved, StepResult, Taken, newest_entered,
+    Book, BookEvent, ClosedSegment, NoRoom, Receipt, Starved, StepResult, Taken, newest_entered,
     segments_are_one_history,
 };
 use bytes::Bytes;
@@ -31,10 +31,10 @@ use xdr_core::Frame;
 pub struct Shared<R: RangeTable, S: HostStore, L: Ledger> {
     alloc: Global,
     book: Book<R, S>,
-    archive: Archive<Closed<R, S>>,
+    archive: Archive<ClosedSegment<R, S>>,
     total: Total<L>,
     // A segment that is over and isn't kept, until whoever takes the next call takes it along.
-    over: Option<Closed<R, S>>,
+    over: Option<ClosedSegment<R, S>>,
 }
 
 impl<R: RangeTable, S: HostStore, L: Ledger> Model for Shared<R, S, L> {
@@ -65,7 +65,7 @@ impl<R: RangeTable + Drop, S: HostStore + Drop, L: Ledger> Drop for Shared<R, S,
 #[derive(Drop)]
 pub struct Ends<R: RangeTable, S: HostStore> {
     /// The segments in order, where they were kept.
-    pub segments: Option<Vec<Closed<R, S>>>,
+    pub segments: Option<Vec<ClosedSegment<R, S>>>,
 }
 
 /// What a hold gives that took a call.
@@ -76,7 +76,7 @@ pub struct Entered<R: RangeTable, S: HostStore> {
     /// Whether a call of the server's own is due behind it.
     pub is_due: bool,
     /// A segment that is over and isn't kept, to be dropped behind the hold: that takes longer than many holds.
-    pub over: Option<Closed<R, S>>,
+    pub over: Option<ClosedSegment<R, S>>,
 }
 
 /// What is sent next.
@@ -198,6 +198,13 @@ impl<R: RangeTable, S: HostStore, L: Ledger> Shared<R, S, L> {
         ensures { result ≡ is_some (next_due self.now.book.journal.end.world.calls) }
     {
         self.book.has_due()
+    }
+
+    /// The book, to be read.
+    pub fn book(&self) -> &Book<R, S>
+        ensures { result.now ≡ self.now.book }
+    {
+        &self.book
     }
 
     /// The store of hosts, to be read: its rows are the hosts of the state.

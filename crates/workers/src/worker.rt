@@ -1,8 +1,8 @@
 //! What a worker does.
 ghost use Rattle.std.specs.Prelude.{◌≡◌, ◌+◌, ◌<◌, [], ◌∷◌, ◌++◌, is_some, IfOk, IfSome, IfNone, Some, None, length, MatchResult};
 ghost use Rattle.job_queue.specs.Passes.{with_put, with_taken};
-ghost use Rattle.reply_outbox.specs.Posted.{posted};
-ghost use Rattle.workers.specs.Answers.{Answer, Worked, IsMet, listed, with_seat};
+ghost use Rattle.reply_outbox.specs.Posted.{sent_of_reply};
+ghost use Rattle.workers.specs.Answers.{Answer, Worked, IsMet, receipt_list, with_seat};
 
 use crate::call_handler::{AtBook, CallHandler};
 use crate::entering::answer_call;
@@ -190,8 +190,8 @@ impl<P: Place, L: Ledger> Worker<P, L> {
         job: Job,
     )
         ensures answered { (a : Answer) × (a.job ≡ job) × IsMet a a.receipt
-            × (O.handed outbox.new ≡ O.handed outbox.old ++ posted job.connection a.given)
-            × (self.new.receipts ≡ self.old.receipts ++ listed a.receipt) }
+            × (O.handed outbox.new ≡ O.handed outbox.old ++ sent_of_reply job.connection a.given)
+            × (self.new.receipts ≡ self.old.receipts ++ receipt_list a.receipt) }
         ensures seat { self.new.seat ≡ self.old.seat }
         ensures keeps { self.new.keeps ≡ self.old.keeps }
     {
@@ -211,8 +211,8 @@ impl<P: Place, L: Ledger> Worker<P, L> {
         job: Job,
     ) -> bool
         ensures answered { (a : Answer) × (a.job ≡ job) × IsMet a a.receipt
-            × (O.handed outbox.new ≡ O.handed outbox.old ++ posted job.connection a.given)
-            × (self.new.receipts ≡ self.old.receipts ++ listed a.receipt) }
+            × (O.handed outbox.new ≡ O.handed outbox.old ++ sent_of_reply job.connection a.given)
+            × (self.new.receipts ≡ self.old.receipts ++ receipt_list a.receipt) }
         ensures seat { self.new.seat ≡ self.old.seat }
         ensures keeps { self.new.keeps ≡ self.old.keeps }
     {

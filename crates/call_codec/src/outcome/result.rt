@@ -4,14 +4,14 @@ ghost use Rattle.nlm4_types.specs.Share.{view_of_shareres};
 ghost use Rattle.call_codec.specs.OutcomeValues.{view_of_result, view_of_told_share_res};
 ghost use Rattle.call_codec.specs.Replies.{result_bytes};
 
-use callbacks::{Res, ShortBytes, TestRes};
+use callbacks::{OwnedRes, OwnedTestRes, ShortBytes};
 use nlm4_types::{Stat, Version};
 use nsm_types::{NsmResult, SmStat, SmStatRes};
 use xdr_core::{Frame, FrameFull};
 
 /// The result of SHARE and UNSHARE (RFC 1813, appendix II, nlm4_shareres).
 #[derive(Drop)]
-pub struct ShareRes {
+pub struct OwnedShareRes {
     pub cookie: ShortBytes,
     pub stat: Stat,
     pub sequence: i32,
@@ -24,11 +24,11 @@ pub enum CallResult {
     /// SM_NOTIFY.
     Nothing,
     /// Of LOCK, NM_LOCK, CANCEL and UNLOCK.
-    Res(Res),
+    Res(OwnedRes),
     /// Of TEST. It is spelled as the version of its call shows it.
-    TestRes(Version, TestRes),
+    TestRes(Version, OwnedTestRes),
     /// Of SHARE and UNSHARE.
-    ShareRes(ShareRes),
+    ShareRes(OwnedShareRes),
     /// Of SM_STAT and SM_MON.
     Monitor(SmStatRes),
     /// Of SM_UNMON and SM_UNMON_ALL.
@@ -54,7 +54,7 @@ impl CallResult {
     }
 }
 
-fn lent_share_res(res: &ShareRes) -> nlm4_types::ShareRes<'_>
+fn lent_share_res(res: &OwnedShareRes) -> nlm4_types::ShareRes<'_>
     ensures { view_of_shareres result ≡ view_of_told_share_res res.now }
 {
     nlm4_types::ShareRes {

@@ -5,7 +5,7 @@ ghost use Rattle.callbacks.specs.Meanings.{view_of_told_my_id};
 ghost use Rattle.call_codec.specs.Records.{lock_manager, record_to, status_monitor, watcher};
 ghost use Rattle.call_codec.specs.Parts.{arguments_bytes};
 
-use callbacks::MyId;
+use callbacks::OwnedMyId;
 use nlm4_types::{NlmMessage, PROGRAM as NLM_PROGRAM, Version};
 use nsm_types::{NsmMessage, PROGRAM as NSM_PROGRAM, VERSION as NSM_VERSION};
 use rpc_msg::put_call;
@@ -46,7 +46,7 @@ impl Callee {
     }
 
     /// What a watcher named, each number as the word of its two's complement.
-    pub(crate) fn watcher(named: &MyId) -> Callee
+    pub(crate) fn watcher(named: &OwnedMyId) -> Callee
         ensures { result ≡ watcher (view_of_told_my_id named.now) }
     {
         Callee {

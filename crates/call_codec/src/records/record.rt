@@ -7,9 +7,9 @@ ghost use Rattle.nlm4_types.specs.Version.{view_of_version};
 ghost use Rattle.call_codec.specs.Records.{call_record, lock_manager, record_to};
 
 use crate::records::callee::{Arguments, Callee};
-use callbacks::{Lock, Message};
+use callbacks::{Message, OwnedLock};
 use local_ops::put_granted;
-use nlm4_types::{Grant, NlmMessage, Version};
+use nlm4_types::{GrantedArgs, NlmMessage, Version};
 use nsm_types::{NsmMessage, StatChge, Status};
 use xdr_core::{Fixed, Frame, FrameFull};
 
@@ -76,12 +76,12 @@ pub fn put_record(number: u64, message: &Message, f: &mut Frame) -> Result<(), F
     }
 }
 
-fn grant_of(number: u64, exclusive: bool, lock: &Lock) -> Grant<'_>
+fn grant_of(number: u64, exclusive: bool, lock: &OwnedLock) -> GrantedArgs<'_>
     ensures number { result.number ≡ number }
     ensures exclusive { result.exclusive ≡ exclusive }
     ensures lock { view_of_lock result.alock ≡ view_of_told_lock lock.now }
 {
-    Grant {
+    GrantedArgs {
         number,
         exclusive,
         alock: lock.lent(),

@@ -1,6 +1,6 @@
 //! Worked rows, each as the contract of a function that does nothing.
 ghost use Rattle.std.specs.Prelude.{◌≡◌};
-ghost use Rattle.definition_laws.specs.RowsOfAnswers.{EpochRefusedEnds, EpochRefusedRows, GrantCookie, four_runs, grant_ended_gives, grant_garbled, grant_taken, grant_taken_gives, grant_turned, message_turned, message_turned_gives, result_first, result_first_gives, status_first, status_first_gives, unlock_refused, unlock_refused_gives, unmonitored, unmonitored_gives};
+ghost use Rattle.definition_laws.specs.RowsOfAnswers.{EpochRefusedEnds, EpochRefusedRows, GrantCookie, four_runs, grant_ended_gives, grant_garbled, grant_taken, grant_taken_gives, grant_turned, message_turned, message_turned_gives, result_first, result_first_gives, status_first, status_first_gives, unlock_refused, unlock_refused_gives, unmonitored_events, unmonitored_gives};
 ghost use Rattle.definition_laws.specs.ShortForms.{row, row_within};
 
 /// Status 4 counts as a silence, and status 0 ends the call.
@@ -55,5 +55,5 @@ pub fn row_status_first()
 
 /// SM_UNMON_ALL, and peers that aren't local.
 pub fn row_unmonitored()
-    ensures { row unmonitored ≡ unmonitored_gives }
+    ensures { row unmonitored_events ≡ unmonitored_gives }
 {}

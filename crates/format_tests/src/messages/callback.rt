@@ -1,6 +1,6 @@
 //! Callbacks: each kind of message, once on its happy path.
 use super::memory::{Memory, granted_line};
-use callbacks::{Callback, Destination, Lock};
+use callbacks::{Callback, Destination, OwnedLock};
 use std::alloc::Global;
 
 // Whether it is a grant, whether it is one to the host `b`, a GRANTED_MSG, and done when it is sent.
@@ -61,18 +61,18 @@ fn a_granted_msg(rt: HostRuntime) {
 }
 
 // Whether the same lock from byte 5 on, with no length, goes to the end of the file.
-fn ends_with_the_file(mut some: Lock) -> bool {
+fn ends_with_the_file(mut some: OwnedLock) -> bool {
     some.l_offset = 5;
     some.l_len = 0;
-    some.last() == 0x7fff_ffff_ffff_ffff
+    some.range().last == 0x7fff_ffff_ffff_ffff
 }
 
-fn is_of_b(some: &Lock) -> bool {
+fn is_of_b(some: &OwnedLock) -> bool {
     some.caller.name() == b"b".as_slice()
         && some.caller.svid() == 8
         && some.caller.owner().is_of_host(b"b")
         && some.file().as_bytes() == [1, 2, 3, 4].as_slice()
-        && some.last() == 9
+        && some.range().last == 9
 }
 
 #[test]

@@ -1,7 +1,10 @@
 //! One message of each kind, and what they are made of.
 ghost use Rattle.std.specs.Prelude.{◌≤◌, length};
 
-use callbacks::{Caller, Holder, LocalLock, Lock, Message, MyId, Res, ShortBytes, TestRes};
+use callbacks::{
+    Caller, LocalLock, Message, OwnedHolder, OwnedLock, OwnedMyId, OwnedRes, OwnedTestRes,
+    ShortBytes,
+};
 use nlm4_types::{Stat, Version};
 use owner_ids::Owner;
 use range_table::{FileId, Mode};
@@ -27,10 +30,10 @@ impl<'a, R: Abort> Memory<'a, R> {
     }
 
     /// A lock of svid 8 at the host `b` on the bytes 0 to 9.
-    pub(crate) fn lock(&self) -> Lock {
+    pub(crate) fn lock(&self) -> OwnedLock {
         let caller = Caller::copy_of(self.alloc, b"b", 8, b"B");
         let fh = ShortBytes::copy_of(self.alloc, &[1, 2, 3, 4]);
-        Lock {
+        OwnedLock {
             caller: caller.expect(self.rt, "memory"),
             fh: fh.expect(self.rt, "memory"),
             l_offset: 0,
@@ -39,8 +42,8 @@ impl<'a, R: Abort> Memory<'a, R> {
     }
 
     /// An exclusive lock of svid 7.
-    pub(crate) fn holder(&self, l_offset: u64, l_len: u64) -> Holder {
-        Holder {
+    pub(crate) fn holder(&self, l_offset: u64, l_len: u64) -> OwnedHolder {
+        OwnedHolder {
             exclusive: true,
             svid: 7,
             oh: self.short(b"A"),
@@ -49,21 +52,21 @@ impl<'a, R: Abort> Memory<'a, R> {
         }
     }
 
-    pub(crate) fn res(&self, cookie: u32, stat: Stat) -> Res {
-        Res {
+    pub(crate) fn res(&self, cookie: u32, stat: Stat) -> OwnedRes {
+        OwnedRes {
             cookie: self.short(&cookie.to_be_bytes()),
             stat,
         }
     }
 
     /// What a test answers under the cookie 3.
-    pub(crate) fn test_res(&self, holder: Option<Holder>) -> TestRes {
+    pub(crate) fn test_res(&self, holder: Option<OwnedHolder>) -> OwnedTestRes {
         let stat = if holder.is_some() {
             Stat::Denied
         } else {
             Stat::Granted
         };
-        TestRes {
+        OwnedTestRes {
             cookie: self.short(&[0, 0, 0, 3]),
             stat,
             holder,
@@ -108,7 +111,7 @@ impl<'a, R: Abort> Memory<'a, R> {
     }
 
     pub(crate) fn status_of_a(&self) -> Message {
-        let my_id = MyId {
+        let my_id = OwnedMyId {
             my_name: self.short(b"server"),
             prog: 200_000,
             vers: 1,

@@ -3,8 +3,8 @@ ghost use Rattle.std.specs.Prelude.{◌≤◌, length};
 
 use super::memory::Memory;
 use crate::words::is_words;
-use call_codec::{CallResult, Outcome, Refusal, ShareRes};
-use callbacks::Holder;
+use call_codec::{CallResult, Outcome, OwnedShareRes, Refusal};
+use callbacks::OwnedHolder;
 use nlm4_types::{Stat, Version};
 use nsm_types::{MonitorRes, SmStat, SmStatRes};
 use std::process::Abort;
@@ -26,7 +26,7 @@ impl<R: Abort> Memory<'_, R> {
         CallResult::Res(self.res(xid, stat))
     }
 
-    fn tested(&self, version: Version, holder: Option<Holder>) -> CallResult {
+    fn tested(&self, version: Version, holder: Option<OwnedHolder>) -> CallResult {
         CallResult::TestRes(version, self.test_res(holder))
     }
 
@@ -40,7 +40,7 @@ impl<R: Abort> Memory<'_, R> {
     }
 
     fn shared(&self) -> CallResult {
-        CallResult::ShareRes(ShareRes {
+        CallResult::ShareRes(OwnedShareRes {
             cookie: self.short(&[0, 0, 0, 61]),
             stat: Stat::Granted,
             sequence: 0,

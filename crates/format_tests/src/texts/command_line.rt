@@ -66,9 +66,9 @@ fn check(alloc: Global, front: &str, script: &'static str) -> Result<(), &'stati
 }
 
 const STREAMS: &str =
-    "pipe = 0 Pipe(StreamConfig { grace: false, name: Name { text: \"server\" }, db: None })
-pipe --grace = 0 Pipe(StreamConfig { grace: true, name: Name { text: \"server\" }, db: None })
-table --db F --name a.b --grace = 0 Table(StreamConfig { grace: true, name: Name { text: \"a.b\" }, db: Some(FilePath { text: \"F\" }) })";
+    "pipe = 0 Pipe(StreamConfig { grace: false, name: OwnName { text: \"server\" }, db: None })
+pipe --grace = 0 Pipe(StreamConfig { grace: true, name: OwnName { text: \"server\" }, db: None })
+table --db F --name a.b --grace = 0 Table(StreamConfig { grace: true, name: OwnName { text: \"a.b\" }, db: Some(FilePath { text: \"F\" }) })";
 
 #[test]
 fn streams(rt: HostRuntime) -> Result<(), &'static str> {
@@ -83,7 +83,7 @@ const DEFAULTS: &str =
 --watch-port 65535 = 0 Serve(ServeConfig { ports: Ports { rpc: Port { number: 1 }, local: Port { number: 2 }, \
 peer_nlm: Port { number: 3 }, peer_nsm: Port { number: 4 }, watch: Port { number: 65535 } }, \
 times: Times { grace: Seconds { number: 45 }, silence: Seconds { number: 5 }, idle: Seconds { number: 600 } }, \
-workers: Workers { number: 4 }, name: Name { text: \"server\" }, db: FilePath { text: \"hosts.db\" }, \
+workers: Workers { number: 4 }, name: OwnName { text: \"server\" }, db: FilePath { text: \"hosts.db\" }, \
 peers: FilePath { text: \"peers\" }, bind: 0.0.0.0, audit: false })";
 
 #[test]

@@ -4,7 +4,7 @@
 //! 97/7/65` is a write lock of svid 7 at the host `a` with the owner handle `A`. `p42` is a process, `d7` a description.
 use held_locks::{Locks, NewSetting};
 use owner_ids::Owner;
-use range_table::{FileId, FlatTable, Mode};
+use range_table::{ByteRange, FileId, FlatTable, Mode};
 use std::alloc::Global;
 
 const END: u64 = 9_223_372_036_854_775_807;
@@ -81,8 +81,10 @@ fn is_set(
     let setting = NewSetting {
         file: FileId::new(file),
         owner,
-        first: number(first).min(last),
-        last,
+        range: ByteRange {
+            first: number(first).min(last),
+            last,
+        },
         mode,
     };
     locks.set(&setting).is_ok()

@@ -1,7 +1,7 @@
 //! Headers, replies, calls and answers of ONC RPC (RFC 5531).
 use crate::words::{is_words, words};
 use rpc_msg::{
-    AcceptError, Answer, AnswerOutcome, Denial, Header, HeaderError, Reply, one_answer,
+    AcceptError, Answer, AnswerOutcome, Denial, Header, HeaderError, ReplyStatus, one_answer,
     one_verdict, put_call,
 };
 use xdr_core::Frame;
@@ -69,20 +69,20 @@ fn told(text: &str) -> Option<(u32, Option<usize>)> {
 }
 
 // Whether the reply is these words. It is an answer, and succeeds exactly where it is a Success.
-fn is_reply(reply: Reply, text: &str, rest: Option<usize>) -> bool {
+fn is_reply(reply: ReplyStatus, text: &str, rest: Option<usize>) -> bool {
     let mut f = Frame::new();
     reply.put(&mut f).is_ok() && is_words(&f, text) && told(text) == Some((1, rest))
 }
 
-const fn error(error: AcceptError) -> Reply {
-    Reply::AcceptFailure { xid: 1, error }
+const fn error(error: AcceptError) -> ReplyStatus {
+    ReplyStatus::AcceptFailure { xid: 1, error }
 }
 
-const fn denied(denial: Denial) -> Reply {
-    Reply::Denied { xid: 1, denial }
+const fn denied(denial: Denial) -> ReplyStatus {
+    ReplyStatus::Denied { xid: 1, denial }
 }
 
-const MISMATCH: Reply = Reply::Mismatch {
+const MISMATCH: ReplyStatus = ReplyStatus::Mismatch {
     xid: 1,
     low: 4,
     high: 4,
@@ -93,7 +93,7 @@ const RPC_MISMATCH: Denial = Denial::RpcMismatch { low: 2, high: 2 };
 #[test]
 fn replies() -> Result<(), &'static str> {
     for (reply, text, rest) in [
-        (Reply::Success { xid: 1 }, "1 1 0 0 0 0", Some(0)),
+        (ReplyStatus::Success { xid: 1 }, "1 1 0 0 0 0", Some(0)),
         (error(AcceptError::ProgUnavail), "1 1 0 0 0 1", None),
         (MISMATCH, "1 1 0 0 0 2 4 4", None),
         (error(AcceptError::ProcUnavail), "1 1 0 0 0 3", None),

@@ -4,7 +4,7 @@ ghost use Rattle.definitions.specs.Conflict.{conflicts, conflicts_with};
 ghost use Rattle.definitions.specs.Owners.{is_of_host};
 ghost use Rattle.definitions.specs.Quotas.{is_past};
 ghost use Rattle.definitions.specs.Starts.{is_short, used, used_of};
-ghost use Rattle.owner_ids.specs.Names.{named};
+ghost use Rattle.owner_ids.specs.Names.{names_of_owners};
 ghost use Rattle.held_locks.specs.Stands.{WhereStands, WhereSets, WhereAsks, WhereMeets};
 
 use crate::owners::allowance::Allowance;
@@ -13,7 +13,7 @@ use range_table::{RangeTable, Ranged, Wanted};
 
 // How many runs the owners have.
 fn used<T: RangeTable>(table: &T, owners: &Owners) -> u32
-    ensures { WhereStands (named owners.now) (T.settings table.now) (λ settings. result ≡ used settings) }
+    ensures { WhereStands (names_of_owners owners.now) (T.settings table.now) (λ settings. result ≡ used settings) }
 {
     let _owners = owners;
     table.used()
@@ -21,14 +21,14 @@ fn used<T: RangeTable>(table: &T, owners: &Owners) -> u32
 
 /// How many runs the owners of a host have.
 pub fn used_of<T: RangeTable>(table: &T, owners: &Owners, host: &[u8]) -> u32
-    ensures { WhereStands (named owners.now) (T.settings table.now) (λ settings. result ≡ used_of host.now settings) }
+    ensures { WhereStands (names_of_owners owners.now) (T.settings table.now) (λ settings. result ≡ used_of host.now settings) }
 {
     table.used_of(&HostOf { owners, name: host })
 }
 
 // How many runs the owners would have after a setting.
 fn used_after<T: RangeTable>(table: &T, owners: &Owners, range: &Ranged) -> u32
-    ensures { WhereSets (named owners.now) (T.settings table.now) range.now.setting (λ settings t. result ≡ used (settings ++ t ∷ [])) }
+    ensures { WhereSets (names_of_owners owners.now) (T.settings table.now) range.now.setting (λ settings t. result ≡ used (settings ++ t ∷ [])) }
 {
     let _owners = owners;
     let setting = &range.setting;
@@ -50,7 +50,7 @@ pub fn is_past<T: RangeTable>(
     allowance: Allowance,
     range: &Ranged,
 ) -> bool
-    ensures { WhereSets (named owners.now) (T.settings table.now) range.now.setting (λ settings t. allowance.used ≡ used_of host.now settings → is_of_host host.now t.owner ≡ true → result ≡ is_past settings t host.now allowance.quota) }
+    ensures { WhereSets (names_of_owners owners.now) (T.settings table.now) range.now.setting (λ settings t. allowance.used ≡ used_of host.now settings → is_of_host host.now t.owner ≡ true → result ≡ is_past settings t host.now allowance.quota) }
 {
     let _host = host;
     if !allowance.is_near() {
@@ -61,7 +61,7 @@ pub fn is_past<T: RangeTable>(
 
 /// Whether another owner's mode is in the way of a lock.
 pub fn conflicts<T: RangeTable>(table: &T, owners: &Owners, wanted: &Wanted) -> bool
-    ensures { WhereAsks (named owners.now) (T.settings table.now) wanted.now (λ settings r. result ≡ conflicts settings r) }
+    ensures { WhereAsks (names_of_owners owners.now) (T.settings table.now) wanted.now (λ settings r. result ≡ conflicts settings r) }
 {
     let _owners = owners;
     let _run = wanted.run();
@@ -75,7 +75,7 @@ pub fn conflicts_with<T: RangeTable>(
     wanted: &Wanted,
     owner: OwnerId,
 ) -> bool
-    ensures { WhereMeets (named owners.now) (T.settings table.now) wanted.now owner (λ settings r y. result ≡ conflicts_with settings r y) }
+    ensures { WhereMeets (names_of_owners owners.now) (T.settings table.now) wanted.now owner (λ settings r y. result ≡ conflicts_with settings r y) }
 {
     let _owners = owners;
     let _run = wanted.run();
@@ -84,7 +84,7 @@ pub fn conflicts_with<T: RangeTable>(
 
 /// Whether fewer than 2 of 65,536 runs are free.
 pub fn is_short<T: RangeTable>(table: &T, owners: &Owners) -> bool
-    ensures { WhereStands (named owners.now) (T.settings table.now) (λ settings. result ≡ is_short 65536 settings) }
+    ensures { WhereStands (names_of_owners owners.now) (T.settings table.now) (λ settings. result ≡ is_short 65536 settings) }
 {
     used(table, owners) > 65_534
 }

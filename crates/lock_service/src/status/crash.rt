@@ -7,7 +7,7 @@ ghost use Rattle.call_plans.specs.Planned.{IsPlan};
 
 use super::stat;
 use call_codec::{CallResult, Outcome};
-use call_plans::{Answer, Asked, Change, Plan, Response, World};
+use call_plans::{Asked, Change, Plan, PlannedAnswer, Response, World};
 use hosts_db::HostStore;
 use owner_ids::Starved;
 use range_table::RangeTable;
@@ -27,7 +27,7 @@ pub(crate) fn plan<R: RangeTable, S: HostStore>(
     let refused = Response::reply(alloc, Outcome::SystemErr)?;
     Ok(Plan::AfterStore {
         asked: Asked::Begin,
-        agreed: Answer {
+        agreed: PlannedAnswer {
             told,
             change: Change::Restart(notices),
         },

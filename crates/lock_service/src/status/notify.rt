@@ -8,10 +8,10 @@ ghost use Rattle.lock_service.specs.Dropping.{dropped_if_room};
 
 use super::stat;
 use call_codec::{CallResult, Outcome};
-use call_plans::{Answer, Asked, Change, Plan, Response, SharedOutcome, World};
+use call_plans::{Asked, Change, Plan, PlannedAnswer, Response, SharedOutcome, World};
 use callbacks::ShortBytes;
 use hosts_db::HostStore;
-use nsm_types::{Name, StatChge};
+use nsm_types::{SmName, StatChge};
 use owner_ids::Starved;
 use range_table::RangeTable;
 use std::alloc::Global;
@@ -33,7 +33,7 @@ pub(crate) fn plan<R: RangeTable, S: HostStore>(
 // is deepest to drop is got last, or dropped by a call: in place, each of its parts is proved here.
 fn dropped<R: RangeTable, S: HostStore>(
     world: &World<R, S>,
-    name: &Name<'_>,
+    name: &SmName<'_>,
     state: i32,
 ) -> Result<Plan, Starved>
     ensures { IfOk result (λ made. IsPlan (dropped_if_room world.now.world name.now.bytes.now state) world.now.world made) }
@@ -45,7 +45,7 @@ fn dropped<R: RangeTable, S: HostStore>(
     let gone = Vec::from_slice(alloc, name.bytes)?;
     let due = world.status_callbacks(name.bytes, state)?;
     let outcome = SharedOutcome::of(alloc, Outcome::Success(CallResult::Nothing))?;
-    let agreed = Answer {
+    let agreed = PlannedAnswer {
         told: Response { outcome, due },
         change: Change::DropHost(gone),
     };
@@ -65,7 +65,7 @@ fn dropped<R: RangeTable, S: HostStore>(
     })
 }
 
-fn seen(alloc: Global, name: &Name<'_>, state: i32) -> Result<Asked, Starved>
+fn seen(alloc: Global, name: &SmName<'_>, state: i32) -> Result<Asked, Starved>
     ensures asked { IfOk result (λ asked. view_of_asked asked ≡ Seen name.now.bytes.now state) }
     ensures asks { IfOk result (λ asked. (w : SaidWorld) → CanAskFor asked w) }
 {

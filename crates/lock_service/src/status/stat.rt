@@ -2,13 +2,13 @@
 ghost use Rattle.std.specs.Prelude.{◌≡◌, pos, IfOk};
 ghost use Rattle.definitions.specs.World.{World as SaidWorld};
 ghost use Rattle.definitions.specs.Replies.{Success, SystemErr, NoResult, MonitorResult};
-ghost use Rattle.definitions.specs.Rulings.{decided};
+ghost use Rattle.definitions.specs.Rulings.{decided_ruling};
 ghost use Rattle.definitions.specs.Answer.{gives, gives_state, own_state, says};
 ghost use Rattle.nsm_types.specs.Results.{view_of_monitor_res};
 ghost use Rattle.call_plans.specs.Planned.{told_in, FitsDue, IsPlan};
 
 use call_codec::{CallResult, Outcome};
-use call_plans::{Answer, Change, Plan, Response, World};
+use call_plans::{Change, Plan, PlannedAnswer, Response, World};
 use hosts_db::HostStore;
 use nsm_types::{MonitorRes, SmStat, SmStatRes};
 use owner_ids::Starved;
@@ -23,7 +23,7 @@ pub(crate) fn nothing<R: RangeTable, S: HostStore>(world: &World<R, S>) -> Resul
 
 /// SYSTEM_ERR, and nothing changes.
 pub(crate) fn failed<R: RangeTable, S: HostStore>(world: &World<R, S>) -> Result<Plan, Starved>
-    ensures { IfOk result (λ made. IsPlan (decided (gives world.now.world SystemErr)) world.now.world made) }
+    ensures { IfOk result (λ made. IsPlan (decided_ruling (gives world.now.world SystemErr)) world.now.world made) }
 {
     Ok(unchanged(Response::reply(world.alloc(), Outcome::SystemErr)?))
 }
@@ -40,7 +40,7 @@ pub(crate) fn plan<R: RangeTable, S: HostStore>(
 
 /// The own state, and nothing changes.
 pub(crate) fn state<R: RangeTable, S: HostStore>(world: &World<R, S>) -> Result<Plan, Starved>
-    ensures { IfOk result (λ made. IsPlan (decided (gives_state world.now.world)) world.now.world made) }
+    ensures { IfOk result (λ made. IsPlan (decided_ruling (gives_state world.now.world)) world.now.world made) }
 {
     Ok(unchanged(own(world)?))
 }
@@ -73,9 +73,9 @@ pub(crate) fn own<R: RangeTable, S: HostStore>(world: &World<R, S>) -> Result<Re
 }
 
 fn unchanged(told: Response) -> Plan
-    ensures { (w : SaidWorld) → FitsDue told w → IsPlan (decided (told_in told w)) w result }
+    ensures { (w : SaidWorld) → FitsDue told w → IsPlan (decided_ruling (told_in told w)) w result }
 {
-    Plan::Decided(Answer {
+    Plan::Decided(PlannedAnswer {
         told,
         change: Change::Nothing,
     })

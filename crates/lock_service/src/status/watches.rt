@@ -4,14 +4,14 @@ ghost use Rattle.definitions.specs.Hosts.{Unwatched, Watched};
 ghost use Rattle.definitions.specs.Nsm.{SmMon, SmUnmon, SmUnmonAll};
 ghost use Rattle.definitions.specs.Replies.{SystemErr};
 ghost use Rattle.definitions.specs.World.{World as SaidWorld, the_limits};
-ghost use Rattle.definitions.specs.Answer.{gives, gives_state, nsm_answer, stored};
+ghost use Rattle.definitions.specs.Answer.{gives, gives_state, nsm_answer, ruling_after_store};
 ghost use Rattle.callbacks.specs.Meanings.{view_of_told_my_id};
 ghost use Rattle.nsm_types.specs.Arguments.{view_of_my_id};
 ghost use Rattle.call_plans.specs.Planned.{view_of_asked, CanAskFor, IsPlan};
 
 use super::stat;
 use call_codec::Outcome;
-use call_plans::{Answer, Asked, Change, Plan, Response, World};
+use call_plans::{Asked, Change, Plan, PlannedAnswer, Response, World};
 use callbacks::{self, ShortBytes};
 use hosts_db::HostStore;
 use nsm_types::{Mon, MonId, MonitorRes, MyId};
@@ -42,7 +42,7 @@ pub(crate) fn mon<R: RangeTable, S: HostStore>(
     };
     Ok(Plan::AfterStore {
         asked,
-        agreed: Answer {
+        agreed: PlannedAnswer {
             told,
             change: Change::Nothing,
         },
@@ -101,7 +101,7 @@ fn unwatched<R: RangeTable, S: HostStore>(
     mon_name: Option<ShortBytes>,
     my_id: &MyId<'_>,
 ) -> Result<Plan, Starved>
-    ensures { IfOk result (λ made. IsPlan (stored world.now.world (Unwatched mon_name (view_of_my_id my_id.now)) gives_state (gives world.now.world SystemErr)) world.now.world made) }
+    ensures { IfOk result (λ made. IsPlan (ruling_after_store world.now.world (Unwatched mon_name (view_of_my_id my_id.now)) gives_state (gives world.now.world SystemErr)) world.now.world made) }
 {
     let Ok(my_id) = copy_of(world.alloc(), my_id) else {
         drop(mon_name);
@@ -119,7 +119,7 @@ fn unwatched<R: RangeTable, S: HostStore>(
     };
     Ok(Plan::AfterStore {
         asked,
-        agreed: Answer {
+        agreed: PlannedAnswer {
             told,
             change: Change::Nothing,
         },
@@ -127,10 +127,10 @@ fn unwatched<R: RangeTable, S: HostStore>(
     })
 }
 
-fn copy_of(alloc: Global, my_id: &MyId<'_>) -> Result<callbacks::MyId, Starved>
+fn copy_of(alloc: Global, my_id: &MyId<'_>) -> Result<callbacks::OwnedMyId, Starved>
     ensures { IfOk result (λ copy. view_of_told_my_id copy ≡ view_of_my_id my_id.now) }
 {
-    Ok(callbacks::MyId {
+    Ok(callbacks::OwnedMyId {
         my_name: ShortBytes::copy_of(alloc, my_id.my_name.bytes)?,
         prog: my_id.prog,
         vers: my_id.vers,

@@ -1,7 +1,7 @@
 //! Replies are joined, and written to connections in memory.
 ghost use Rattle.std.specs.Prelude.{◌≡◌, []};
 
-use book::Reply;
+use book::RecordReply;
 use reply_outbox::{Outbox, ReplyBuffer, ReplySockets, SocketEffects};
 use std::alloc::{AllocError, Global};
 use std::test::*;
@@ -127,7 +127,7 @@ impl Row {
         for number in 0..self.replies {
             let connection = self.connection(number);
             outbox.turn_to(connection);
-            outbox.hand(connection, &Reply::SystemErr { xid: number });
+            outbox.hand(connection, &RecordReply::SystemErr { xid: number });
             outbox.done(connection, true);
         }
         outbox.into_sockets()

@@ -4,7 +4,7 @@ use super::rounds::{Crew, Turn, audited};
 use super::sending::{NOTHING, Sent};
 use super::stop_signals::StopSignals;
 use callback_sender::Due;
-use line_loop::{Ending, serve_lines};
+use line_loop::{LinesEnding, serve_lines};
 use std::alloc::{AllocError, Global};
 use std::fmt::Write;
 use std::sync::atomic::Ordering;
@@ -26,7 +26,7 @@ pub(crate) struct Talk<'a> {
     /// For how many bytes of the answers there is room.
     room: usize,
     answers: &'a str,
-    ending: Ending,
+    ending: LinesEnding,
     /// How many calls are due.
     due: u64,
     sent: Sent<'a>,
@@ -59,7 +59,7 @@ impl Talk<'_> {
         let ending = served.ending;
         ending == self.ending
             && output.held.as_slice() == self.answers.as_bytes()
-            && stop_signals.is_stopping.load(Ordering::SeqCst) == (ending == Ending::Stopped)
+            && stop_signals.is_stopping.load(Ordering::SeqCst) == (ending == LinesEnding::Stopped)
             && stop_signals.due.load(Ordering::SeqCst) == self.due
             && self.sent.is_handed(rt, alloc, shared)
     }
@@ -82,7 +82,7 @@ const SILENT: Talk<'static> = Talk {
     bound: u64::MAX,
     room: usize::MAX,
     answers: "",
-    ending: Ending::Over,
+    ending: LinesEnding::Over,
     due: 0,
     sent: NOTHING,
 };
@@ -151,7 +151,7 @@ const STOP: Talk<'static> = Talk {
     name: "stop",
     lines: b"setlk p1 aa w 0 1\nstop\ngetlk d1 aa w 0 1\n",
     answers: "ok\nok\n",
-    ending: Ending::Stopped,
+    ending: LinesEnding::Stopped,
     ..SILENT
 };
 
@@ -181,7 +181,7 @@ const RESET: Talk<'static> = Talk {
         reads: 0,
         ..AT_ONCE
     },
-    ending: Ending::ReadFault,
+    ending: LinesEnding::ReadFault,
     ..SILENT
 };
 
@@ -191,7 +191,7 @@ const BOUNDED: Talk<'static> = Talk {
     pace: Pace { most: 1, ..AT_ONCE },
     bound: 11,
     answers: "end\n",
-    ending: Ending::ReadFault,
+    ending: LinesEnding::ReadFault,
     ..TWO_LISTS
 };
 
@@ -201,7 +201,7 @@ const NO_ROOM: Talk<'static> = Talk {
     pace: Pace { most: 1, ..AT_ONCE },
     room: 0,
     answers: "",
-    ending: Ending::WriteFault,
+    ending: LinesEnding::WriteFault,
     ..TWO_LISTS
 };
 
@@ -335,7 +335,7 @@ fn are_granted<R: Threads + Wait + Clock + Sync>(
                 bound: u64::MAX,
                 room: usize::MAX,
                 answers: waiters.answers.as_str(),
-                ending: Ending::Over,
+                ending: LinesEnding::Over,
                 due: 1,
                 sent: Sent {
                     turns,

@@ -1,7 +1,7 @@
 //! Where replies and the server's own calls are handed to in memory.
 ghost use Rattle.std.specs.Prelude.{◌≡◌, []};
 
-use book::{Dest, Reply};
+use book::{Dest, RecordReply};
 use callback_sender::{CallSink, SentCall};
 use ghost_list::History;
 use reply_outbox::{Outbox, SentReply};
@@ -41,7 +41,7 @@ impl Outbox for MemoryOutbox {
 
     ghost writes_before = { λ _ _. false };
 
-    fn hand(&mut self, connection: u64, reply: &Reply) {
+    fn hand(&mut self, connection: u64, reply: &RecordReply) {
         let mut record = Frame::new();
         // An empty frame has room for each reply.
         let _ = reply.put(&mut record);

@@ -4,7 +4,7 @@ use Rattle.sql_transactions.proofs.Transactions.{Transacts, transacts, clean_end
 use Rattle.sql_transactions.proofs.transact.Goals as goal
 use Rattle.sql_transactions.proofs.transact.Goals.{After-conn-2-1}
 
-transaction : (g : _) (c : After-conn-2-1 g) → Transacts g.S.Store (g.W.Work.works c.args.work.now) c.args.conn.now c.run.new.tx.conn.now c.commit.new.self.0 c.conn-2-1.given.0
+transaction : (g : _) (c : After-conn-2-1 g) → Transacts g.S.Store (g.W.TransactionBody.works c.args.work.now) c.args.conn.now c.run.new.tx.conn.now c.commit.new.self.0 c.conn-2-1.given.0
 transaction g c =
     let auto : IsTrue c.is_autocommit.result = search rules in
     let same : c.commit.new.self.0 ≡ c.conn-2-1.given.0 = search rules in

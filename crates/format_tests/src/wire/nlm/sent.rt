@@ -2,8 +2,8 @@
 use super::{GRANTED_CALL, TEST_REPLY};
 use crate::words::is_words;
 use nlm4_types::{
-    Grant, Holder, Lock, NARROW, NlmMessage, Res, ShareRes, Stat, TOP, TestRes, Version, WIDE,
-    shown_holder_is_spelled,
+    GrantedArgs, Holder, Lock, NARROW, NlmMessage, Res, ShareRes, Stat, TOP, TestRes, Version,
+    WIDE, shown_holder_is_spelled,
 };
 use xdr_core::{Frame, Opaque};
 
@@ -124,7 +124,7 @@ const GRANTED_LOCK: Lock<'static, WIDE> = Lock::<WIDE> {
 
 #[test]
 fn grants_are_sent(rt: HostRuntime) {
-    let grant = Grant {
+    let grant = GrantedArgs {
         number: 0x1_0000_0001,
         exclusive: true,
         alock: GRANTED_LOCK,

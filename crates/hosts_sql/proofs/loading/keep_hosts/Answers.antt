@@ -1,7 +1,7 @@
 use Rattle.std.proofs.Common.{◌≡◌, ◌≤◌, [], false, length, map, sym, ap, ◌∙◌, rules}
 use Rattle.std.specs.FinMap.{FinMap, entries, empty, insert}
 use Rattle.std.specs.Cmp.Lexicographic.{nat_list_cmp_total}
-use Rattle.definitions.specs.Bytes.{bytes_cmp, put}
+use Rattle.definitions.specs.Bytes.{bytes_cmp, list_with}
 use Rattle.definitions.specs.Hosts.{Hosts, HostRow, row_cmp, has_row}
 use Rattle.hosts_sql.specs.Maps.{Host, host_row}
 use Rattle.hosts_sql.specs.Shown.{host_of}
@@ -26,7 +26,7 @@ loop-at-preserved c =
     let seen : has_row (record c.args.kept.now { rows = map host_row (entries m) }) e.0 ≡ false = ap (λ (h : Hosts). has_row h e.0) (sym kept) ∙ ap (λ (x : HostRow). has_row c.loop-at.kept x.name) (sym is) ∙ has in
     let absent = no_host m e.0 seen in (
       insert m e.0 e.1,
-      c.put_host.ensures ∙ ap (λ (h : Hosts). record h { rows = put row_cmp c.in_ok-host.host h.rows }) kept ∙ ap (λ (x : HostRow). record c.args.kept.now { rows = put row_cmp x (map host_row (entries m)) }) is
+      c.put_host.ensures ∙ ap (λ (h : Hosts). record h { rows = list_with row_cmp c.in_ok-host.host h.rows }) kept ∙ ap (λ (x : HostRow). record c.args.kept.now { rows = list_with row_cmp x (map host_row (entries m)) }) is
           ∙ ap (λ rows. record c.args.kept.now { rows = rows }) (sym (host_put m e.0 e.1)),
       keeps_next host_of c.args.rows.now c.loop-at.at m c.loop-at.invariant.2 row c.loop-at-test.true c.index-rows-at.is absent,
       fit_next has_host_numbers c.args.rows.now c.loop-at.at c.loop-at.invariant.3 row c.loop-at-test.true c.index-rows-at.is c.in_ok-host.ensures.numbers,

@@ -1,7 +1,7 @@
 use Rattle.std.proofs.Common.{◌≡◌, ◌≤◌, [], false, Some, length, map, sym, ap, ◌∙◌, rules}
 use Rattle.std.specs.FinMap.{FinMap, entries, empty, insert}
 use Rattle.hosts_sql.proofs.Watch.{watch_total, watch_exact}
-use Rattle.definitions.specs.Bytes.{Bytes, is_any, put}
+use Rattle.definitions.specs.Bytes.{Bytes, is_any, list_with}
 use Rattle.definitions.specs.Hosts.{Hosts, Watch, watch_cmp, is_watch}
 use Rattle.hosts_sql.specs.Maps.{key_cmp, watch_row}
 use Rattle.hosts_sql.specs.Shown.{watch_of}
@@ -25,7 +25,7 @@ loop-at-preserved c =
     let seen : is_any (is_watch (Some e.0.mon) e.0.my) (map watch_row (entries m)) ≡ false = ap (λ (h : Hosts). is_any (is_watch (Some e.0.mon) e.0.my) h.watches) (sym kept) ∙ ap (λ (x : Watch). is_any (is_watch (Some x.mon_name) x.my_id) c.loop-at.kept.watches) (sym is) ∙ has in
     let absent = no_watch m e.0 seen in (
       insert m e.0 e.1,
-      c.put_watch.ensures ∙ ap (λ (h : Hosts). record h { watches = put watch_cmp c.in_ok-watch.watch h.watches }) kept ∙ ap (λ (x : Watch). record c.args.kept.now { watches = put watch_cmp x (map watch_row (entries m)) }) is
+      c.put_watch.ensures ∙ ap (λ (h : Hosts). record h { watches = list_with watch_cmp c.in_ok-watch.watch h.watches }) kept ∙ ap (λ (x : Watch). record c.args.kept.now { watches = list_with watch_cmp x (map watch_row (entries m)) }) is
           ∙ ap (λ rows. record c.args.kept.now { watches = rows }) (sym (watch_put m e.0 e.1)),
       keeps_next watch_of c.args.rows.now c.loop-at.at m c.loop-at.invariant.2 row c.loop-at-test.true c.index-rows-at.is absent,
     )

@@ -7,7 +7,7 @@ use Rattle.sqlite.specs.State.{HasCleanDisk, IsUnchanged}
 use Rattle.sqlite.specs.Held.{state}
 use Rattle.hosts_sql.specs.Tables.{watches_name}
 use Rattle.hosts_sql.specs.Wrote.{rows_of, hosts_of}
-use Rattle.hosts_sql.specs.Maps.{listed}
+use Rattle.hosts_sql.specs.Maps.{hosts_of_rows}
 use Rattle.hosts_sql.specs.Reading.{hosts_of_tree, watches_of_tree}
 use Rattle.hosts_sql.proofs.Reading.{all_shown}
 use Rattle.hosts_sql.proofs.loading.load.Goals as goal
@@ -29,7 +29,7 @@ returns-clause-rows g c clean =
     let open_now = same.2.0.was_open in
     let own = c.in_ok-own.ensures.state same.0 in
     let hosts = c.in_ok-read_hosts.ensures.ok same.1 ∙ ap (λ (d : Database). record c.args.kept.now { rows = hosts_of_tree (hosts_of c.args.version d) }) committed in
-    let shown = ap listed (all_shown c.args.version old.committed (c.requires.tables open_now) (c.requires.live open_now).1 (c.in_ok-own.ensures.row same.0) c.in_ok-own.own own) in
+    let shown = ap hosts_of_rows (all_shown c.args.version old.committed (c.requires.tables open_now) (c.requires.live open_now).1 (c.in_ok-own.ensures.row same.0) c.in_ok-own.own own) in
     let both = c.set_own.ensures ∙ ap (λ (h : Hosts). record h { own = c.in_ok-own.own }) (hosts ∙ ap (λ (h : Hosts). record h { rows = hosts_of_tree (hosts_of c.args.version old.committed) }) c.requires.none) in
     on_then c.read_watches.result (c.read_watches.ensures.ok clean) (λ read.
     let watches = read ∙ ap (λ (d : Database). record c.set_own.new.self { watches = watches_of_tree (rows_of watches_name d) }) (same.3.0.committed_is ∙ committed) in

@@ -3,7 +3,7 @@ use Rattle.std.specs.Fmt.{decimal}
 use Rattle.std.specs.Prelude.{codes}
 use Rattle.owner_ids.specs.Views.{view_of_owner}
 use Rattle.range_table.specs.Modes.{view_of_mode}
-use Rattle.local_ops.specs.Texts.{spaced, owner_text, mode_text}
+use Rattle.local_ops.specs.Texts.{spaced_fields, owner_text, mode_text}
 use Rattle.byte_io.specs.Written.{Wrote}
 use Rattle.byte_io.proofs.Appending.{Wrote-after}
 use Rattle.local_ops.proofs.Writing.{failed-first, failed-then, held_text}
@@ -19,7 +19,7 @@ returns-in_err-write_range g c =
 pub returns-in_err-write_owner : goal.returns-in_err-write_owner
 returns-in_err-write_owner g c =
     let mode = mode_text (view_of_mode c.args.mode) in
-    let range = spaced (codes "held" ∷ mode ∷ decimal c.args.first ∷ decimal c.args.len ∷ [] ∷ []) in
+    let range = spaced_fields (codes "held" ∷ mode ∷ decimal c.args.first ∷ decimal c.args.len ∷ [] ∷ []) in
     let owner = owner_text (view_of_owner c.args.owner.now) in
     failed-then _ _ _ _ range owner (10 ∷ []) _ (held_text mode (decimal c.args.first) (decimal c.args.len) owner)
     c.from_residual-in_err-write_owner.ensures.0 c.in_ok-write_range.ensures c.in_err-write_owner.ensures
@@ -27,7 +27,7 @@ returns-in_err-write_owner g c =
 pub returns : goal.returns
 returns g c =
     let mode = mode_text (view_of_mode c.args.mode) in
-    let range = spaced (codes "held" ∷ mode ∷ decimal c.args.first ∷ decimal c.args.len ∷ [] ∷ []) in
+    let range = spaced_fields (codes "held" ∷ mode ∷ decimal c.args.first ∷ decimal c.args.len ∷ [] ∷ []) in
     let owner = owner_text (view_of_owner c.args.owner.now) in
     let P : List ℕ → Type 0 = λ s. Wrote (g.W.Write.contents c.args.writer.now) (g.W.Write.contents c.write_parts.new.writer) c.write_parts.result s in
     subst P (held_text mode (decimal c.args.first) (decimal c.args.len) owner)

@@ -7,10 +7,9 @@ use Rattle.lock_state.proofs.answers.give_up.Goals as goal
 
 pub returns-clause-shown : goal.returns-clause-shown
 returns-clause-shown g c = λ old.
-    let lock = c.args.lock.now in
-    let s : Setting = record { file = c.file.result; owner = view_of_owner c.owner.result.now; first = lock.l_offset; last = c.last.result; mode = None } in
+    let s : Setting = record { file = c.file.result; owner = view_of_owner c.owner.result.now; first = c.range.result.first; last = c.range.result.last; mode = None } in
     let owner = subst IsShown (sym c.owner.ensures.owner) c.owner.ensures.most in
-    let inside = c.last.ensures.inside in
-    let ordered = c.last.ensures.ordered in
-    let first : lock.l_offset < 2 ^ 63 = omega arith in
+    let inside = c.range.result.inside in
+    let ordered = c.range.result.ordered in
+    let first : c.range.result.first < 2 ^ 63 = omega arith in
     shown_set c.set_on.result c.args.locks.now.settings c.set_on.new.locks.settings s c.set_on.ensures.ok c.set_on.ensures.err old (owner, first, inside)

@@ -1,5 +1,5 @@
 use Rattle.std.proofs.Common.{◌≡◌, ◌≤◌, ◌+◌, ◌∙◌, List, None, Some, ap, arith, length, subst, sym}
-use Rattle.range_table.specs.Runs.{IsRunList, insert_run, joined, run_of}
+use Rattle.range_table.specs.Runs.{IsRunList, insert_run, runs_with, run_of}
 use Rattle.range_table.specs.Parts.{last_started}
 use Rattle.range_table.specs.declared.run.Mode.{Mode}
 use Rattle.range_table.specs.declared.run.Run.{Run}
@@ -11,7 +11,7 @@ use Rattle.range_arena.proofs.Settled.{set_anew}
 use Rattle.range_arena.proofs.quick.join.Goals as goal
 
 -- the owner has nothing up to the byte behind the range, as a search said
-alone : (c : Setting) (m : Mode) (rs : List Run) (x : Run) → c.first ≤ c.last → last_started c (c.last + 1 + 1) rs ≡ None → x ≡ run_of c m → insert_run x rs ≡ joined c m rs
+alone : (c : Setting) (m : Mode) (rs : List Run) (x : Run) → c.first ≤ c.last → last_started c (c.last + 1 + 1) rs ≡ None → x ≡ run_of c m → insert_run x rs ≡ runs_with c m rs
 alone c m rs x o h e =
     let two : c.last + 1 + 1 ≡ c.last + 2 = omega arith in
     ap (λ (r : Run). insert_run r rs) e ∙ sym (joined_alone c m o rs (ap (λ n. last_started c n rs) (sym two) ∙ h))

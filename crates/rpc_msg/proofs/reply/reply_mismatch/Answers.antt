@@ -1,4 +1,4 @@
-use Rattle.rpc_msg.specs.declared.reply.Reply.TheVariants.{Mismatch}
+use Rattle.rpc_msg.specs.declared.reply.ReplyStatus.TheVariants.{Mismatch}
 use Rattle.rpc_msg.proofs.Fits.{reply_fits}
 use Rattle.rpc_msg.proofs.reply.reply_mismatch.Goals as goal
 

@@ -4,8 +4,8 @@ use Rattle.hex.specs.Hex.{encode_lower}
 use Rattle.owner_ids.specs.Views.{view_of_owner}
 use Rattle.range_table.specs.Modes.{view_of_mode}
 use Rattle.held_locks.specs.Asked.{view_of_lock_holder}
-use Rattle.held_locks.specs.declared.asked.Holder.{Holder}
-use Rattle.local_ops.specs.Texts.{spaced, owner_text, mode_text, run_line}
+use Rattle.held_locks.specs.declared.asked.RunHolder.{RunHolder}
+use Rattle.local_ops.specs.Texts.{spaced_fields, owner_text, mode_text, run_line}
 use Rattle.byte_io.specs.Written.{WroteFront}
 use Rattle.table_text.specs.Blocks.{WroteAllBut}
 use Rattle.table_text.proofs.Passing.{WroteAllBut-then, Passed-last, failed-first, failed-then}
@@ -13,16 +13,16 @@ use Rattle.table_text.proofs.Pieces.{run_pieces}
 use Rattle.table_text.proofs.lines.put_run.Goals as goal
 
 -- the pieces that are put one behind the other
-abbrev file : Holder → List ℕ
+abbrev file : RunHolder → List ℕ
 file run = encode_lower run.file
 
-abbrev range : Holder → List ℕ
-range run = spaced ([] ∷ mode_text (view_of_mode run.mode) ∷ decimal run.first ∷ decimal run.last ∷ [] ∷ [])
+abbrev range : RunHolder → List ℕ
+range run = spaced_fields ([] ∷ mode_text (view_of_mode run.mode) ∷ decimal run.first ∷ decimal run.last ∷ [] ∷ [])
 
-abbrev owner : Holder → List ℕ
+abbrev owner : RunHolder → List ℕ
 owner run = owner_text (view_of_owner run.owner.now)
 
-run_is : (run : Holder) → file run ++ (range run ++ (owner run ++ 10 ∷ [])) ≡ run_line (view_of_lock_holder run)
+run_is : (run : RunHolder) → file run ++ (range run ++ (owner run ++ 10 ∷ [])) ≡ run_line (view_of_lock_holder run)
 run_is run = run_pieces (file run) (mode_text (view_of_mode run.mode)) (decimal run.first) (decimal run.last) (owner run)
 
 pub returns-in_err-put_hex : goal.returns-in_err-put_hex

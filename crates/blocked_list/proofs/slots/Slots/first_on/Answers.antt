@@ -1,5 +1,5 @@
 use Rattle.std.proofs.Common.{◌∙◌, ◌≡◌, sym, ap, subst, get_or, length, arith}
-use Rattle.owner_ids.specs.Names.{named}
+use Rattle.owner_ids.specs.Names.{names_of_owners}
 use Rattle.blocked_list.specs.ByFile.{file_at}
 use Rattle.blocked_list.specs.Waiting.{Taken, waiters_by}
 use Rattle.blocked_list.proofs.Parts.{part_inside, part_seen, none_on_file, first_on_file, next_on_file}
@@ -7,7 +7,7 @@ use Rattle.blocked_list.proofs.Ready.{short_none_on}
 use Rattle.blocked_list.proofs.slots.Slots.first_on.Goals as goal
 
 pub returns-then-is_short-clause-first : goal.returns-then-is_short-clause-first
-returns-then-is_short-clause-first g c = λ settings h known counts. short_none_on c.args.file.now (g.Q.Quotas.by_host c.args.quotas.now) settings (sym (c.is_short.ensures settings h) ∙ c.if-is_short.true) (waiters_by (named c.args.owners.now) c.args.self.now.waiters)
+returns-then-is_short-clause-first g c = λ settings h known counts. short_none_on c.args.file.now (g.Q.Quotas.by_host c.args.quotas.now) settings (sym (c.is_short.ensures settings h) ∙ c.if-is_short.true) (waiters_by (names_of_owners c.args.owners.now) c.args.self.now.waiters)
 
 pub index-requires : goal.index-requires
 index-requires g c =
@@ -26,17 +26,17 @@ pub returns-then-is_free-clause-first : goal.returns-then-is_free-clause-first
 returns-then-is_free-clause-first g c = λ settings h known counts.
     let is = part_seen c.args.file.now _ c.args.self.now.waiters _ (c.deref.ensures.value ∙ ap (λ (s : Taken). s.waiters) c.self.view_is) c.part-place-items.ensures in
     let at = subst (λ (s : Taken). c.index.result.now ≡ get_or s.waiters c.from-place.result c.index.result.now) c.self.view_is c.index.ensures in
-    first_on_file (named c.args.owners.now) (g.Q.Quotas.by_host c.args.quotas.now) settings c.args.file.now c.args.self.now.waiters c.part-place-items.result.now is c.loop-place.place-index c.from-place.result c.index.result.now c.loop-place-test.true c.from-place.ensures at known.named (c.loop-place.invariant settings h known counts)
+    first_on_file (names_of_owners c.args.owners.now) (g.Q.Quotas.by_host c.args.quotas.now) settings c.args.file.now c.args.self.now.waiters c.part-place-items.result.now is c.loop-place.place-index c.from-place.result c.index.result.now c.loop-place-test.true c.from-place.ensures at known.named (c.loop-place.invariant settings h known counts)
     (λ used. sym c.if-is_free.true ∙ c.is_free.ensures settings h used (sym (c.is_short.ensures settings h) ∙ c.if-is_short.false) counts)
 
 pub loop-place-preserved : goal.loop-place-preserved
 loop-place-preserved g c = λ settings h known counts.
     let is = part_seen c.args.file.now _ c.args.self.now.waiters _ (c.deref.ensures.value ∙ ap (λ (s : Taken). s.waiters) c.self.view_is) c.part-place-items.ensures in
     let at = subst (λ (s : Taken). c.index.result.now ≡ get_or s.waiters c.from-place.result c.index.result.now) c.self.view_is c.index.ensures in
-    next_on_file (named c.args.owners.now) (g.Q.Quotas.by_host c.args.quotas.now) settings c.args.file.now c.args.self.now.waiters c.part-place-items.result.now is c.loop-place.place-index c.from-place.result c.index.result.now c.loop-place-test.true c.from-place.ensures at known.named (c.loop-place.invariant settings h known counts)
+    next_on_file (names_of_owners c.args.owners.now) (g.Q.Quotas.by_host c.args.quotas.now) settings c.args.file.now c.args.self.now.waiters c.part-place-items.result.now is c.loop-place.place-index c.from-place.result c.index.result.now c.loop-place-test.true c.from-place.ensures at known.named (c.loop-place.invariant settings h known counts)
     (λ used. sym c.if-is_free.false ∙ c.is_free.ensures settings h used (sym (c.is_short.ensures settings h) ∙ c.if-is_short.false) counts)
 
 pub returns-clause-first : goal.returns-clause-first
 returns-clause-first g c = λ settings h known counts.
     let is = part_seen c.args.file.now _ c.args.self.now.waiters _ (c.deref.ensures.value ∙ ap (λ (s : Taken). s.waiters) c.self.view_is) c.part-place-items.ensures in
-    none_on_file (named c.args.owners.now) (g.Q.Quotas.by_host c.args.quotas.now) settings c.args.file.now c.args.self.now.waiters c.part-place-items.result.now is c.loop-place.place-index c.loop-place-test.false (c.loop-place.invariant settings h known counts)
+    none_on_file (names_of_owners c.args.owners.now) (g.Q.Quotas.by_host c.args.quotas.now) settings c.args.file.now c.args.self.now.waiters c.part-place-items.result.now is c.loop-place.place-index c.loop-place-test.false (c.loop-place.invariant settings h known counts)

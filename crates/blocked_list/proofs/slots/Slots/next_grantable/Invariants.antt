@@ -2,7 +2,7 @@ use Rattle.std.proofs.Common.{◌≡◌, false, List, take}
 use Rattle.definitions.specs.Bytes.{is_any}
 use Rattle.definitions.specs.Settings.{Setting}
 use Rattle.definitions.specs.World.{is_ready, the_limits}
-use Rattle.owner_ids.specs.Names.{named}
+use Rattle.owner_ids.specs.Names.{names_of_owners}
 use Rattle.held_locks.specs.Stands.{Stands}
 use Rattle.range_table.specs.Settings.{mode_at}
 use Rattle.blocked_list.specs.Standing.{AreRunsOf}
@@ -10,4 +10,4 @@ use Rattle.blocked_list.specs.Waiting.{AreKnown, waiters_by}
 use Rattle.blocked_list.proofs.slots.Slots.next_grantable.Given as goal
 
 abbrev pub invariant-loop-place : goal.invariant-loop-place
-invariant-loop-place g l = (settings : List Setting) → Stands (named l.owners) (mode_at (g.T.RangeTable.settings l.table)) settings → AreKnown (named l.owners) l.self.waiters → AreRunsOf (g.H.RunsOfHosts.runs l.hosts) settings → is_any (is_ready the_limits (g.Q.Quotas.by_host l.quotas) settings) (take l.place (waiters_by (named l.owners) l.self.waiters)) ≡ false
+invariant-loop-place g l = (settings : List Setting) → Stands (names_of_owners l.owners) (mode_at (g.T.RangeTable.settings l.table)) settings → AreKnown (names_of_owners l.owners) l.self.waiters → AreRunsOf (g.H.RunsOfHosts.runs l.hosts) settings → is_any (is_ready the_limits (g.Q.Quotas.by_host l.quotas) settings) (take l.place (waiters_by (names_of_owners l.owners) l.self.waiters)) ≡ false

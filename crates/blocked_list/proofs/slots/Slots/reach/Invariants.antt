@@ -2,7 +2,7 @@ use Rattle.std.proofs.Common.{◌≡◌, ◌<◌, ◌≤◌, ℕ, false, ◌||�
 use Rattle.std.specs.Prelude.{slice_get, slice_index_or, IsSome}
 use Rattle.definitions.specs.Settings.{Setting}
 use Rattle.definitions.specs.Waits.{Waiter}
-use Rattle.owner_ids.specs.Names.{named}
+use Rattle.owner_ids.specs.Names.{names_of_owners}
 use Rattle.held_locks.specs.Stands.{Stands}
 use Rattle.range_table.specs.Settings.{mode_at}
 use Rattle.blocked_list.specs.Reach.{leads}
@@ -13,5 +13,5 @@ abbrev pub invariant-loop-place : goal.invariant-loop-place
 invariant-loop-place g l = record {
   wide : length l.reached ≡ 8192;
   behind : (k : ℕ) → l.place ≤ k → slice_index_or l.reached k false ≡ slice_index_or l.fn.reached k false;
-  front : (settings : List Setting) → Stands (named l.owners) (mode_at (g.T.RangeTable.settings l.table)) settings → AreKnown (named l.owners) l.self.waiters → IsSome (named l.owners l.wanted.owner) → (k : ℕ) (x : Waiter) → k < l.place → slice_get (waiters_by (named l.owners) l.self.waiters) k ≡ Some x → slice_index_or l.reached k false ≡ (slice_index_or l.fn.reached k false || leads settings (request_by (named l.owners) l.wanted) x);
+  front : (settings : List Setting) → Stands (names_of_owners l.owners) (mode_at (g.T.RangeTable.settings l.table)) settings → AreKnown (names_of_owners l.owners) l.self.waiters → IsSome (names_of_owners l.owners l.wanted.owner) → (k : ℕ) (x : Waiter) → k < l.place → slice_get (waiters_by (names_of_owners l.owners) l.self.waiters) k ≡ Some x → slice_index_or l.reached k false ≡ (slice_index_or l.fn.reached k false || leads settings (request_by (names_of_owners l.owners) l.wanted) x);
 }

@@ -9,13 +9,13 @@ use Rattle.book.proofs.state.BookState.take.Goals as goal
 pub returns-in-Ignored-clause-step : goal.returns-in-Ignored-clause-step
 returns-in-Ignored-clause-step g c =
     let read = subst (λ (bytes : List ℕ). IsReading bytes Ignored) c.deref.ensures c.in-Ignored.ensures in
-    rw c.nothing.ensures.step_result (ignored c.args.self.now.state (view_of_peer c.args.peer) c.args.bytes.now read)
+    rw c.nothing.ensures (ignored c.args.self.now.state (view_of_peer c.args.peer) c.args.bytes.now read)
 
 pub returns-in-Turned-clause-step : goal.returns-in-Turned-clause-step
 returns-in-Turned-clause-step g c =
     let why = view_of_refusal c.in-Turned.refusal in
     let read = subst (λ (bytes : List ℕ). IsReading bytes (Turned c.in-Turned.xid why)) c.deref.ensures c.in-Turned.ensures in
-    rw c.refuses.ensures.step_result (turned c.args.self.now.state (view_of_peer c.args.peer) c.args.bytes.now c.in-Turned.xid why read)
+    rw c.refuses.ensures (turned c.args.self.now.state (view_of_peer c.args.peer) c.args.bytes.now c.in-Turned.xid why read)
 
 pub returns-in-Asks-clause-step : goal.returns-in-Asks-clause-step
 returns-in-Asks-clause-step g c =

@@ -2,7 +2,7 @@ use Rattle.std.proofs.Common.{◌≢◌, ℕ, Some}
 use Rattle.std.proofs.lemmas.Option.{none-some}
 use Rattle.definitions.specs.Settings.{without_owner_on}
 use Rattle.owner_ids.specs.Views.{view_of_owner}
-use Rattle.owner_ids.specs.Names.{named}
+use Rattle.owner_ids.specs.Names.{names_of_owners}
 use Rattle.held_locks.proofs.Ties.{tied_dropped, tied_undropped}
 use Rattle.held_locks.proofs.HostCounts.{hosts_changed, hosts_kept, drop_alike}
 use Rattle.held_locks.proofs.locks.Locks.drop_owner_on_file.Goals as goal
@@ -27,7 +27,7 @@ invariant_of-self g c =
           rw (c.after-self-inside.ensures, w.self-inside-is)
           (record { tied = tied; by_host = hosts_changed settings next x (drop_alike file x settings) ns others counts left names c.self.inside.hosts w.drop_owner_on_file.new.hosts was tied c.self.invariant.by_host done.hosts })
       | in_default w ↦
-          let fresh : (k : ℕ) → named names k ≢ Some x = λ k e. none-some k (w.in_default.ensures.known k e) in
+          let fresh : (k : ℕ) → names_of_owners names k ≢ Some x = λ k e. none-some k (w.in_default.ensures.known k e) in
           let tied = tied_undropped ns counts names settings x file was fresh in
           rw (c.after-self-inside.ensures, w.self-inside-is)
           (record { tied = tied; by_host = hosts_kept ns names settings next c.self.inside.hosts was.stands tied.stands c.self.invariant.by_host })

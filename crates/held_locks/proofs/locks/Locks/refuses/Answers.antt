@@ -3,7 +3,7 @@ use Rattle.std.specs.Cmp.{both_ways}
 use Rattle.std.proofs.lemmas.Option.{none-some}
 use Rattle.definitions.specs.Starts.{refuses}
 use Rattle.owner_ids.specs.Views.{view_of_owner}
-use Rattle.owner_ids.specs.Names.{named}
+use Rattle.owner_ids.specs.Names.{names_of_owners}
 use Rattle.range_table.specs.Settings.{mode_at}
 use Rattle.definitions.proofs.Lists.{none_from_is_some}
 use Rattle.held_locks.proofs.OwnerCounting.{refusal_over}
@@ -14,7 +14,7 @@ use Rattle.held_locks.proofs.locks.Locks.refuses.Goals as goal
 
 pub returns-in-Some : goal.returns-in-Some
 returns-in-Some g c =
-    let names = named c.self.inside.owners in
+    let names = names_of_owners c.self.inside.owners in
     let n = c.in-Some.number in
     let setting = c.args.setting.now in
     let settings = c.self.inside.settings.items in
@@ -24,7 +24,7 @@ returns-in-Some g c =
 pub returns-else-is_some : goal.returns-else-is_some
 returns-else-is_some g c =
     let setting = c.args.setting.now in
-    let names = named c.self.inside.owners in
+    let names = names_of_owners c.self.inside.owners in
     let fresh : (k : ℕ) → names k ≢ Some (view_of_owner setting.owner.now) = λ k e. none-some k (c.in-None.ensures.known k e) in
     let none = none_from_is_some setting.mode (sym c.is_some.ensures ∙ c.if-is_some.false) in
     let held = mode_at (g.R.RangeTable.settings c.self.inside.table) in

@@ -2,7 +2,7 @@ use Rattle.std.proofs.Common.{◌≡◌, ◌≢◌, ◌++◌, ◌∷◌, [], ℕ
 use Rattle.std.proofs.lemmas.Option.{none-some}
 use Rattle.std.proofs.lemmas.Bool.{false≢true}
 use Rattle.owner_ids.specs.Views.{view_of_owner}
-use Rattle.owner_ids.specs.Names.{named}
+use Rattle.owner_ids.specs.Names.{names_of_owners}
 use Rattle.range_table.specs.Settings.{mode_at}
 use Rattle.held_locks.proofs.OwnerCounting.{refusal_over}
 use Rattle.range_table.specs.Modes.{view_of_held_mode}
@@ -19,7 +19,7 @@ returns-in_err-set-clause-refused g c =
     let n = c.in-Some.number in
     let setting = c.args.setting.now in
     let held = mode_at (g.R.RangeTable.settings c.self.inside.table) in
-    let over = refusal_over (named names) held c.self.inside.settings.items (new_setting_by_number n setting) (view_of_new_setting setting) c.self.invariant.tied.stands (same_new_setting names n setting c.in-Some.ensures.found) in
+    let over = refusal_over (names_of_owners names) held c.self.inside.settings.items (new_setting_by_number n setting) (view_of_new_setting setting) c.self.invariant.tied.stands (same_new_setting names n setting c.in-Some.ensures.found) in
     rw (← c.self.view_is) ((λ e. over.0 (c.in_err-set.ensures.refused.0 refl)), λ t. c.from_residual.ensures.0)
 
 pub invariant_of-self-2 : goal.invariant_of-self-2
@@ -43,7 +43,7 @@ invariant_of-self-2 g c =
             by_host = hosts_changed settings next (view_of_owner setting.owner.now) (set_alike settings (view_of_new_setting setting)) ns others counts left names c.self.inside.hosts w.set.new.hosts was tied c.self.invariant.by_host done.hosts;
           })
       | in_default w ↦
-          let fresh : (k : ℕ) → named names k ≢ Some (view_of_owner setting.owner.now) = λ k e. none-some k (w.in_default.ensures.known k e) in
+          let fresh : (k : ℕ) → names_of_owners names k ≢ Some (view_of_owner setting.owner.now) = λ k e. none-some k (w.in_default.ensures.known k e) in
           let known = subst (λ h. (setting.mode ≡ None) ⊎ IsKnown h (view_of_owner setting.owner.now)) (sym c.self.view_is) c.requires.known in
           let tied = tied_stranger ns counts names settings setting was fresh (stranger_mode names setting known fresh) in
           rw (c.after-self-inside.ensures, w.self-inside-is)
@@ -57,11 +57,11 @@ returns-clause-refused g c = elim c.match-number.branch [
       let n = w.in-Some.number in
       let setting = c.args.setting.now in
       let held = mode_at (g.R.RangeTable.settings c.self.inside.table) in
-      let over = refusal_over (named names) held c.self.inside.settings.items (new_setting_by_number n setting) (view_of_new_setting setting) c.self.invariant.tied.stands (same_new_setting names n setting w.in-Some.ensures.found) in
+      let over = refusal_over (names_of_owners names) held c.self.inside.settings.items (new_setting_by_number n setting) (view_of_new_setting setting) c.self.invariant.tied.stands (same_new_setting names n setting w.in-Some.ensures.found) in
       rw (← c.self.view_is) ((λ e. absurd (false≢true e)), λ t. w.in_ok-set.ensures.refused.1 (over.1 t))
   | in_default w ↦
       let setting = c.args.setting.now in
-      let names = named c.self.inside.owners in
+      let names = names_of_owners c.self.inside.owners in
       let fresh : (k : ℕ) → names k ≢ Some (view_of_owner setting.owner.now) = λ k e. none-some k (w.in_default.ensures.known k e) in
       let known = subst (λ h. (setting.mode ≡ None) ⊎ IsKnown h (view_of_owner setting.owner.now)) (sym c.self.view_is) c.requires.known in
       let none = stranger_mode c.self.inside.owners setting known fresh in

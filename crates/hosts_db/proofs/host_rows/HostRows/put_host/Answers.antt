@@ -1,5 +1,5 @@
 use Rattle.std.proofs.Common.{length, sym, ap, subst, ◌∙◌, arith}
-use Rattle.definitions.specs.Bytes.{put, IsAscending}
+use Rattle.definitions.specs.Bytes.{list_with, IsAscending}
 use Rattle.definitions.specs.Hosts.{Hosts, row_cmp}
 use Rattle.definitions.proofs.Orders.{put_ascends}
 use Rattle.definitions.proofs.HostLaws.{row_total}
@@ -38,4 +38,4 @@ returns c =
     let place = rw (c.deref.ensures.value, c.name.ensures.value) at c.place_of_host-place.ensures in
     let facts = put_row c.self.inside.hosts.items c.args.row _ _ counted c.self.invariant.few_hosts c.self.invariant.host_places c.self.invariant.in_order.rows fits _ place in
     ap (λ rows. record { own = c.self.inside.own; rows = rows; watches = c.self.inside.watches.items }) (c.put_in.ensures.items ∙ facts.items)
-    ∙ ap (λ (h : Hosts). record h { rows = put row_cmp c.args.row h.rows }) c.self.view_is
+    ∙ ap (λ (h : Hosts). record h { rows = list_with row_cmp c.args.row h.rows }) c.self.view_is

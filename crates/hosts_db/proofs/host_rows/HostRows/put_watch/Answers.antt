@@ -1,5 +1,5 @@
 use Rattle.std.proofs.Common.{length, sym, ap, subst, ◌∙◌, arith}
-use Rattle.definitions.specs.Bytes.{put, IsAscending}
+use Rattle.definitions.specs.Bytes.{list_with, IsAscending}
 use Rattle.definitions.specs.Hosts.{Hosts, watch_cmp}
 use Rattle.definitions.proofs.Orders.{put_ascends}
 use Rattle.definitions.proofs.HostLaws.{watch_total}
@@ -38,4 +38,4 @@ returns c =
     let place = rw (c.deref.ensures.value, c.mon_name.ensures.value, c.my_id.ensures) at c.place_of_watch-place.ensures in
     let facts = put_watch c.self.inside.watches.items c.args.watch _ _ counted c.self.invariant.few_watches c.self.invariant.watch_places c.self.invariant.in_order.watches fits _ place in
     ap (λ watches. record { own = c.self.inside.own; rows = c.self.inside.hosts.items; watches = watches }) (c.put_in.ensures.items ∙ facts.items)
-    ∙ ap (λ (h : Hosts). record h { watches = put watch_cmp c.args.watch h.watches }) c.self.view_is
+    ∙ ap (λ (h : Hosts). record h { watches = list_with watch_cmp c.args.watch h.watches }) c.self.view_is

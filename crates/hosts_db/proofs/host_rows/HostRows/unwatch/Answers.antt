@@ -1,13 +1,13 @@
 use Rattle.std.proofs.Common.{◌≡◌, not, sym, ap, subst, ◌∙◌, arith, rules}
 use Rattle.std.proofs.lemmas.Fn.{filter_same}
 use Rattle.std.specs.Option.{option_copied}
-use Rattle.definitions.specs.Bytes.{without, IsAscending}
+use Rattle.definitions.specs.Bytes.{list_without, IsAscending}
 use Rattle.definitions.specs.Hosts.{Hosts, Watch, watch_cmp, is_watch, Unwatched, after_store}
 use Rattle.definitions.proofs.HostLaws.{hosts_law}
 use Rattle.definitions.proofs.Lists.{filter-not}
 use Rattle.hosts_db.proofs.host_rows.HostRows.unwatch.Goals as goal
 
-left : (c : goal.After-retain) → c.retain.new.self.items ≡ without (is_watch (option_copied c.args.mon_name) c.args.my_id.now) c.self.inside.watches.items
+left : (c : goal.After-retain) → c.retain.new.self.items ≡ list_without (is_watch (option_copied c.args.mon_name) c.args.my_id.now) c.self.inside.watches.items
 left c =
     filter_same _ (λ (w : Watch). not (is_watch (option_copied c.args.mon_name) c.args.my_id.now w)) _ (λ x b f' k. search rules) _ _ c.retain.ensures.filtered
     ∙ filter-not (is_watch (option_copied c.args.mon_name) c.args.my_id.now) c.self.inside.watches.items

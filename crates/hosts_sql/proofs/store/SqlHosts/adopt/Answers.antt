@@ -1,6 +1,6 @@
 use Rattle.std.proofs.Common.{◌≡◌, sym, ap, subst, ◌∙◌, rules}
 use Rattle.sqlite.specs.Held.{state}
-use Rattle.hosts_sql.specs.Maps.{listed}
+use Rattle.hosts_sql.specs.Maps.{hosts_of_rows}
 use Rattle.hosts_sql.specs.Tables.{no_schema}
 use Rattle.hosts_sql.specs.Wrote.{IsWhole}
 use Rattle.hosts_sql.proofs.Create.{shown_fresh}
@@ -11,7 +11,7 @@ pub invariant_of-result : goal.invariant_of-result
 invariant_of-result g c = record {
   kept = λ clean is_open.
       let none : (state g.S.Store c.args.conn).committed.schema ≡ no_schema = search rules in
-      ap listed (shown_fresh (state g.S.Store c.args.conn).committed none (c.schema.ensures.live is_open).1) ∙ none_listed ∙ sym c.in-Ok.ensures;
+      ap hosts_of_rows (shown_fresh (state g.S.Store c.args.conn).committed none (c.schema.ensures.live is_open).1) ∙ none_listed ∙ sym c.in-Ok.ensures;
   holds = search rules;
 }
 

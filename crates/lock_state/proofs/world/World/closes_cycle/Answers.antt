@@ -3,7 +3,7 @@ use Rattle.std.proofs.lemmas.Option.{none-some}
 use Rattle.definitions.specs.Settings.{Request}
 use Rattle.definitions.specs.Waits.{closes_cycle}
 use Rattle.range_table.specs.Settings.{mode_at}
-use Rattle.owner_ids.specs.Names.{named}
+use Rattle.owner_ids.specs.Names.{names_of_owners}
 use Rattle.owner_ids.specs.Views.{view_of_owner}
 use Rattle.held_locks.specs.Asked.{view_of_request}
 use Rattle.blocked_list.specs.Waiting.{AreNamed, AreKnown, waiters_by}
@@ -19,15 +19,15 @@ returns-in-Some g c =
     let ws = c.self.inside.slots.waiters in
     let r = c.args.wanted.now in
     let n = c.in-Some.number in
-    let named_there = subst (λ ns. AreNamed (named ns) ws) (sym c.parts.ensures.names) c.self.invariant.in_use in
-    let known : AreKnown (named owners) ws = record { distinct = c.parts.ensures.stands.distinct; named = named_there } in
+    let named_there = subst (λ ns. AreNamed (names_of_owners ns) ws) (sym c.parts.ensures.names) c.self.invariant.in_use in
+    let known : AreKnown (names_of_owners owners) ws = record { distinct = c.parts.ensures.stands.distinct; named = named_there } in
     let found = c.in-Some.ensures.found in
-    let one = is_known (named owners) n r c.by_number.result c.by_number.ensures found in
-    let is = request_is (named owners) n r c.by_number.result c.by_number.ensures found in
+    let one = is_known (names_of_owners owners) n r c.by_number.result c.by_number.ensures found in
+    let is = request_is (names_of_owners owners) n r c.by_number.result c.by_number.ensures found in
     subst (λ (s : Seen). c.closes_cycle.result ≡ closes_cycle s.world.settings s.world.waiters (view_of_request r)) c.self.view_is
     (c.closes_cycle.ensures settings c.parts.ensures.stands known one
-    ∙ ap (λ (q : Request). closes_cycle settings (waiters_by (named owners) ws) q) is
-    ∙ ap (λ ns. closes_cycle settings (waiters_by (named ns) ws) (view_of_request r)) c.parts.ensures.names)
+    ∙ ap (λ (q : Request). closes_cycle settings (waiters_by (names_of_owners owners) ws) q) is
+    ∙ ap (λ ns. closes_cycle settings (waiters_by (names_of_owners ns) ws) (view_of_request r)) c.parts.ensures.names)
 
 pub returns-in-None : goal.returns-in-None
 returns-in-None g c =
@@ -35,6 +35,6 @@ returns-in-None g c =
     let held = mode_at (g.R.RangeTable.settings c.parts.result.0.now) in
     let settings = c.self.inside.locks.settings in
     let ws = c.self.inside.slots.waiters in
-    let nobody : (n : ℕ) → named owners n ≢ Some (view_of_owner c.args.wanted.now.owner.now) = λ n e. none-some n (c.in-None.ensures.known n e) in
+    let nobody : (n : ℕ) → names_of_owners owners n ≢ Some (view_of_owner c.args.wanted.now.owner.now) = λ n e. none-some n (c.in-None.ensures.known n e) in
     subst (λ (s : Seen). false ≡ closes_cycle s.world.settings s.world.waiters (view_of_request c.args.wanted.now)) c.self.view_is
-    (sym (stranger_closes (named owners) held settings c.parts.ensures.stands (view_of_request c.args.wanted.now) nobody (waiters_by (named c.self.inside.locks.names) ws)))
+    (sym (stranger_closes (names_of_owners owners) held settings c.parts.ensures.stands (view_of_request c.args.wanted.now) nobody (waiters_by (names_of_owners c.self.inside.locks.names) ws)))

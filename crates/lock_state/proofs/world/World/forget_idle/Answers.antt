@@ -1,6 +1,6 @@
 use Rattle.std.proofs.Common.{◌≡◌, ℕ, Bool, true, false, Some, refl, sym, ◌∙◌, subst}
 use Rattle.owner_ids.specs.Views.{view_of_owner}
-use Rattle.owner_ids.specs.Names.{named, AreDistinct}
+use Rattle.owner_ids.specs.Names.{names_of_owners, AreDistinct}
 use Rattle.definitions.specs.Bytes.{is_any}
 use Rattle.definitions.specs.Owners.{same_owner}
 use Rattle.definitions.specs.Waits.{Waiter}
@@ -15,8 +15,8 @@ kept : (g : Over) (c : goal.After-forget_idle g) → KeepsWaiters c.self.inside.
 kept g c =
     let n = c.in-Some.number in
     let x = view_of_owner c.args.owner.now in
-    let distinct = subst (λ ns. AreDistinct (named ns)) c.parts.ensures.names c.parts.ensures.stands.distinct in
-    let found = subst (λ ns. named ns n ≡ Some x) c.parts.ensures.names c.in-Some.ensures.found in
+    let distinct = subst (λ ns. AreDistinct (names_of_owners ns)) c.parts.ensures.names c.parts.ensures.stands.distinct in
+    let found = subst (λ ns. names_of_owners ns n ≡ Some x) c.parts.ensures.names c.in-Some.ensures.found in
     let nobody = sym c.has_owner.ensures ∙ c.if-not-has_owner.true in
     kept_others c.self.inside.locks.names c.forget_idle.new.self.names n x distinct found c.forget_idle.ensures.names c.self.inside.slots.waiters c.self.invariant.in_use nobody
 
@@ -31,7 +31,7 @@ returns-in-Some-clause-world g c =
     rw (← c.self.view_is) (rw (c.forget_idle.ensures.settings, waiters) refl)
 
 pub returns-in-Some-clause-others : goal.returns-in-Some-clause-others
-returns-in-Some-clause-others g c = λ x other known. c.forget_idle.ensures.others x other (subst (λ s. (n : ℕ) × (named s.names n ≡ Some x)) (sym c.self.view_is) known)
+returns-in-Some-clause-others g c = λ x other known. c.forget_idle.ensures.others x other (subst (λ s. (n : ℕ) × (names_of_owners s.names n ≡ Some x)) (sym c.self.view_is) known)
 
 pub returns-in-Some-clause-forgotten : goal.returns-in-Some-clause-forgotten
 returns-in-Some-clause-forgotten g c = λ idle known.
@@ -49,6 +49,6 @@ returns-else-not-has_owner-clause-forgotten g c = λ idle known.
     let ws = c.self.inside.slots.waiters in
     let n = c.in-Some.number in
     let here = subst (λ s. IsIdle s.world x) (sym c.self.view_is) idle in
-    let found = subst (λ ns. named ns n ≡ Some x) c.parts.ensures.names c.in-Some.ensures.found in
+    let found = subst (λ ns. names_of_owners ns n ≡ Some x) c.parts.ensures.names c.in-Some.ensures.found in
     let waits = waits_by names n x found ws (sym c.has_owner.ensures ∙ c.if-not-has_owner.false) in
-    true_false (is_any (λ (y : Waiter). same_owner y.request.owner x) (waiters_by (named names) ws)) waits here.waits_not
+    true_false (is_any (λ (y : Waiter). same_owner y.request.owner x) (waiters_by (names_of_owners names) ws)) waits here.waits_not

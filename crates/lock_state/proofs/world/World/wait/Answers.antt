@@ -2,7 +2,7 @@ use Rattle.std.proofs.Common.{◌≡◌, ◌<◌, ◌++◌, ◌∷◌, [], Some,
 use Rattle.definitions.specs.Quotas.{quotas_of}
 use Rattle.definitions.specs.Settings.{Request}
 use Rattle.definitions.specs.World.{the_limits, slots_free}
-use Rattle.owner_ids.specs.Names.{named}
+use Rattle.owner_ids.specs.Names.{names_of_owners}
 use Rattle.owner_ids.specs.Views.{view_of_owner}
 use Rattle.held_locks.specs.Asked.{view_of_request}
 use Rattle.blocked_list.specs.Waiting.{Taken, waiter_by, waiters_by}
@@ -17,12 +17,12 @@ free g c =
     has_room c.block.result c.self.inside.locks.names c.self.inside.locks.settings c.self.inside.slots c.block.new.self c.self.inside.calls (quotas_of (g.S.HostStore.rows c.self.inside.store)) c.self.inside.unsettled c.self.invariant
     (subst (λ (s : Seen). 0 < slots_free the_limits s.world) (sym c.self.view_is) c.requires.room) c.block.ensures.full.0
 
-found : (g : Over) (c : goal.After-block g) → named c.self.inside.locks.names c.in-Some.number ≡ Some (view_of_owner c.args.wanted.now.owner.now)
-found g c = subst (λ ns. named ns c.in-Some.number ≡ Some (view_of_owner c.args.wanted.now.owner.now)) c.parts.ensures.names c.in-Some.ensures.found
+found : (g : Over) (c : goal.After-block g) → names_of_owners c.self.inside.locks.names c.in-Some.number ≡ Some (view_of_owner c.args.wanted.now.owner.now)
+found g c = subst (λ ns. names_of_owners ns c.in-Some.number ≡ Some (view_of_owner c.args.wanted.now.owner.now)) c.parts.ensures.names c.in-Some.ensures.found
 
-by : (g : Over) (c : goal.After-block g) → waiters_by (named c.self.inside.locks.names) c.block.new.self.waiters ≡ waiters_by (named c.self.inside.locks.names) c.self.inside.slots.waiters ++ record { request = view_of_request c.args.wanted.now; callback = c.args.callback } ∷ []
+by : (g : Over) (c : goal.After-block g) → waiters_by (names_of_owners c.self.inside.locks.names) c.block.new.self.waiters ≡ waiters_by (names_of_owners c.self.inside.locks.names) c.self.inside.slots.waiters ++ record { request = view_of_request c.args.wanted.now; callback = c.args.callback } ∷ []
 by g c =
-    let names = named c.self.inside.locks.names in
+    let names = names_of_owners c.self.inside.locks.names in
     let ws = waiters_by names c.self.inside.slots.waiters in
     let is = request_is names c.in-Some.number c.args.wanted.now c.by_number.result c.by_number.ensures (found g c) in
     on_ok c.block.result (free g c) c.block.ensures.by names
@@ -31,13 +31,13 @@ by g c =
 
 pub invariant_of-self : goal.invariant_of-self
 invariant_of-self g c =
-    let names = named c.self.inside.locks.names in
+    let names = names_of_owners c.self.inside.locks.names in
     let one = is_known names c.in-Some.number c.args.wanted.now c.by_number.result c.by_number.ensures (found g c) in
     let there = on_ok c.block.result (free g c) c.block.ensures.named names c.self.invariant.in_use (rw c.new-waiter.ensures one) in
     let calls = ap (λ (t : Taken). t.calls) (on_ok c.block.result (free g c) c.block.ensures.ok) in
     rw c.with_file-self-inside.ensures
     (whole_waiting c.block.result c.self.inside.locks.names c.self.inside.locks.settings c.self.inside.slots c.block.new.self c.self.inside.calls (quotas_of (g.S.HostStore.rows c.self.inside.store)) c.self.inside.unsettled c.self.invariant
-    (record { request = view_of_request c.args.wanted.now; callback = c.args.callback }) (by g c) there calls c.requires.shown c.args.wanted.now.ordered)
+    (record { request = view_of_request c.args.wanted.now; callback = c.args.callback }) (by g c) there calls c.requires.shown c.args.wanted.now.range.ordered)
 
 pub returns : goal.returns
 returns g c = rw (← c.self.view_is) (rw (by g c) refl)

@@ -1,6 +1,6 @@
 use Rattle.std.proofs.Common.{rules, not, ap, ◌∙◌}
 use Rattle.std.proofs.lemmas.Fn.{filter_same}
-use Rattle.definitions.specs.Bytes.{without}
+use Rattle.definitions.specs.Bytes.{list_without}
 use Rattle.definitions.specs.Outgoing.{Outgoing, is_grant_to}
 use Rattle.definitions.proofs.Lists.{filter-not}
 use Rattle.std.specs.List.{position_or_len}
@@ -22,4 +22,4 @@ pub returns : goal.returns
 returns c =
     filter_same _ (λ (d : Outgoing). not (is_grant_to c.args.name.now d)) _ (λ x b f' k. search rules) _ _ c.retain.ensures.filtered
     ∙ filter-not (is_grant_to c.args.name.now) c.self.inside.calls.items
-    ∙ ap (without (is_grant_to c.args.name.now)) c.self.view_is
+    ∙ ap (list_without (is_grant_to c.args.name.now)) c.self.view_is

@@ -1,6 +1,6 @@
 use Rattle.std.proofs.Common.{ap, ◌∙◌, ◌++◌}
 use Rattle.job_queue.specs.Passes.{with_taken}
-use Rattle.workers.specs.Answers.{Worker, listed}
+use Rattle.workers.specs.Answers.{Worker, receipt_list}
 use Rattle.workers.proofs.Answering.{Worked-none, Worked-more}
 use Rattle.workers.proofs.worker.Worker.help.Goals as goal
 
@@ -13,6 +13,6 @@ loop-preserved g c =
     Worked-more _ _ _ _ _ _ _ _ c.loop.invariant
     (c.in-Some.ensures.taken ∙ ap (λ (w : Worker). with_taken w.seat c.in-Some.job) c.self.view_is)
     a.0 a.1 a.2 a.3
-    (a.4 ∙ ap (λ (w : Worker). w.receipts ++ listed a.0.receipt) c.self.view_is)
+    (a.4 ∙ ap (λ (w : Worker). w.receipts ++ receipt_list a.0.receipt) c.self.view_is)
     c.serve.ensures.seat
     (c.serve.ensures.keeps ∙ ap (λ (w : Worker). w.keeps) c.self.view_is)

@@ -1,6 +1,6 @@
 use Rattle.std.proofs.Common.{ap, ◌∙◌, ◌++◌}
-use Rattle.reply_outbox.specs.Posted.{posted}
-use Rattle.workers.specs.Answers.{Worker, listed}
+use Rattle.reply_outbox.specs.Posted.{sent_of_reply}
+use Rattle.workers.specs.Answers.{Worker, receipt_list}
 use Rattle.workers.proofs.Answering.{Worked-none, Worked-more}
 use Rattle.workers.proofs.worker.Worker.work.Goals as goal
 
@@ -14,7 +14,7 @@ loop-preserved g c =
     Worked-more _ _ _ _ _ _ _ _ c.loop.invariant
     (ap (λ (w : Worker). w.seat) taken)
     a.0 a.1 a.2
-    (a.3 ∙ ap (λ l. l ++ posted c.in-Some-next_job.job.connection a.0.given) c.in-Some-next_job.ensures.handed)
-    (a.4 ∙ ap (λ (w : Worker). w.receipts ++ listed a.0.receipt) taken)
+    (a.3 ∙ ap (λ l. l ++ sent_of_reply c.in-Some-next_job.job.connection a.0.given) c.in-Some-next_job.ensures.handed)
+    (a.4 ∙ ap (λ (w : Worker). w.receipts ++ receipt_list a.0.receipt) taken)
     c.serve.ensures.seat
     (c.serve.ensures.keeps ∙ ap (λ (w : Worker). w.keeps) taken)

@@ -1,7 +1,7 @@
 use Rattle.sqlite.specs.Held.{state}
 use Rattle.sqlite.specs.Values.{bound}
 use Rattle.sql_transactions.proofs.Ran.{ran_of}
-use Rattle.sql_transactions.proofs.OneWork.run.Goals as goal
+use Rattle.sql_transactions.proofs.OneTransactionBody.run.Goals as goal
 
 pub returns-in-Ok-clause-ok : goal.returns-in-Ok-clause-ok
 returns-in-Ok-clause-ok g c clean inside =

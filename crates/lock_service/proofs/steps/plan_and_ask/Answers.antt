@@ -3,7 +3,7 @@ use Rattle.definitions.specs.Answer.{ruling}
 use Rattle.definitions.specs.World.{World, the_limits}
 use Rattle.call_codec.specs.CallValues.{view_of_call}
 use Rattle.call_plans.specs.Planned.{IsPlan}
-use Rattle.lock_service.proofs.steps.agreed.Goals as goal
+use Rattle.lock_service.proofs.steps.plan_and_ask.Goals as goal
 
 pub returns-in_default-clause-forgotten : goal.returns-in_default-clause-forgotten
 returns-in_default-clause-forgotten g c =

@@ -1,6 +1,6 @@
 use Rattle.sqlite.specs.Held.{state}
 use Rattle.hosts_sql.proofs.Create.{create_step}
-use Rattle.hosts_sql.proofs.making.MakeWork.run.Goals as goal
+use Rattle.hosts_sql.proofs.making.MakeTransactionBody.run.Goals as goal
 
 pub returns-in-Ok-clause-ok : goal.returns-in-Ok-clause-ok
 returns-in-Ok-clause-ok g c clean inside =

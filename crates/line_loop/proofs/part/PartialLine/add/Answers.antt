@@ -1,7 +1,7 @@
 use Rattle.std.proofs.Common.{take, sym, ap, ◌∙◌, arith}
 use Rattle.std.proofs.lemmas.Grind.{common_steps}
 use Rattle.line_loop.proofs.PartLemmas.{kept_more, open_more}
-use Rattle.line_loop.proofs.part.Part.add.Goals as goal
+use Rattle.line_loop.proofs.part.PartialLine.add.Goals as goal
 
 pub invariant_of-self : goal.invariant_of-self
 invariant_of-self c = (

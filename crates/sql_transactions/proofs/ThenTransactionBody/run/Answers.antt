@@ -2,7 +2,7 @@ use Rattle.std.proofs.Common.{◌∙◌, arith}
 use Rattle.sqlite.specs.State.{HasCleanDisk}
 use Rattle.sqlite.specs.Held.{state}
 use Rattle.sql_transactions.proofs.Results.{on_then}
-use Rattle.sql_transactions.proofs.ThenWork.run.Goals as goal
+use Rattle.sql_transactions.proofs.ThenTransactionBody.run.Goals as goal
 
 pub returns-clause-ok : goal.returns-clause-ok
 returns-clause-ok g c clean inside =
