@@ -1,0 +1,3 @@
+pub mod Mappings
+pub mod Calls
+pub mod Replies
