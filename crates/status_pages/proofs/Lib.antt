@@ -1,0 +1,3 @@
+pub mod Escaping
+pub mod Fields
+pub mod Joins

@@ -1,0 +1,5 @@
+use Rattle.std.proofs.Common.{arith}
+use Rattle.status_pages.proofs.json.waiters_page.Goals as goal
+
+pub returns : goal.returns
+returns c = (c.loop-waiter.values.items, omega arith, c.in_ok-page.ensures)

@@ -1,0 +1,8 @@
+use Rattle.std.proofs.Common.{◌≡◌, false, map, take}
+use Rattle.std.specs.List.{list_any}
+use Rattle.httparse.specs.Borrowed.{header_parts}
+use Rattle.status_pages.specs.Requests.{is_host}
+use Rattle.status_pages.proofs.request.any_host.Given as goal
+
+abbrev pub invariant-loop-field : goal.invariant-loop-field
+invariant-loop-field l = list_any is_host (map header_parts (take l.field-index l.fields)) ≡ false

@@ -1,0 +1,104 @@
+-- Numbers in the text format 0.0.4 of Prometheus ("Exposition formats").
+use Rattle.std.specs.Prelude.{ℕ, List, [], ◌∷◌, ◌++◌, map, codes, decimal}
+use Rattle.std.specs.List.{flat_map}
+use Rattle.status_pages.specs.declared.metrics.Numbers.{Numbers}
+use Rattle.status_pages.specs.declared.metrics.Number.{Number}
+use Rattle.status_pages.specs.declared.metrics.Number.TheVariants.{Runs, Waiters, CallsDue, CallsUnanswered, SlotsFree, Shares, Hosts, Watches, KeptReplies, Grace, GraceLeft, OwnState, Entries, CallConnections, LocalConnections, StatusConnections, Started, Limit}
+use Rattle.status_pages.specs.declared.metrics.Kind.{Kind}
+use Rattle.status_pages.specs.declared.metrics.Kind.TheVariants.{Counter, Gauge}
+use Rattle.status_pages.specs.declared.metrics.Sample.{Sample as CodedSample}
+use Rattle.status_pages.specs.declared.metrics.Metric.{Metric as CodedMetric}
+
+abbrev pub Text : Type 0
+Text = List ℕ
+
+abbrev pub number_of : Numbers → Number → ℕ
+number_of n Runs = n.runs
+number_of n Waiters = n.waiters
+number_of n CallsDue = n.calls_due
+number_of n CallsUnanswered = n.calls_unanswered
+number_of n SlotsFree = n.slots_free
+number_of n Shares = n.shares
+number_of n Hosts = n.hosts
+number_of n Watches = n.watches
+number_of n KeptReplies = n.kept_replies
+number_of n Grace = n.grace
+number_of n GraceLeft = n.grace_left
+number_of n OwnState = n.own_state
+number_of n Entries = n.entries
+number_of n CallConnections = n.call_connections
+number_of n LocalConnections = n.local_connections
+number_of n StatusConnections = n.status_connections
+number_of n Started = n.started
+number_of n (Limit most) = most
+
+abbrev pub kind_text : Kind → Text
+kind_text Counter = codes "counter"
+kind_text Gauge = codes "gauge"
+
+-- the lines HELP and TYPE of a metric
+abbrev pub head_text : Text → Text → Kind → Text
+head_text name help kind =
+    codes "# HELP " ++ (name ++ (codes " " ++ (help ++ (codes "\n# TYPE " ++ (name ++ (codes " " ++ (kind_text kind ++ codes "\n")))))))
+
+-- a sample: its labels with their braces, its key in `/status.json`, and which number it is
+pub record Sample : Type 0 where
+  pub labels : Text
+  pub key : Text
+  pub number : Number
+
+pub record Metric : Type 0 where
+  pub name : Text
+  pub help : Text
+  pub kind : Kind
+  pub samples : List Sample
+
+abbrev pub sample : Text → Text → Number → Sample
+sample labels key number = record { labels = labels; key = key; number = number }
+
+abbrev pub metric : Text → Text → Kind → List Sample → Metric
+metric name help kind samples = record { name = name; help = help; kind = kind; samples = samples }
+
+-- a line of a metric of this name
+abbrev pub sample_text : Numbers → Text → Sample → Text
+sample_text numbers name s = name ++ (s.labels ++ (codes " " ++ (decimal (number_of numbers s.number) ++ codes "\n")))
+
+abbrev pub metric_text : Numbers → Metric → Text
+metric_text numbers m = head_text m.name m.help m.kind ++ flat_map (sample_text numbers m.name) m.samples
+
+abbrev pub metrics_text : Numbers → List Metric → Text
+metrics_text numbers ms = flat_map (metric_text numbers) ms
+
+abbrev pub build_text : Text → Text
+build_text version =
+    codes "# HELP lockd_build_info The version of the program.\n# TYPE lockd_build_info gauge\nlockd_build_info{version=\"" ++ (version ++ codes "\"} 1\n")
+
+abbrev pub all_metrics : List Metric
+all_metrics =
+    metric (codes "lockd_runs") (codes "Runs of bytes that owners hold.") Gauge (sample (codes "") (codes "runs") Runs ∷ [])
+    ∷ metric (codes "lockd_runs_limit") (codes "The most runs that there may be.") Gauge (sample (codes "") (codes "runs_limit") (Limit 65536) ∷ [])
+    ∷ metric (codes "lockd_waiters") (codes "Locks that are waited for.") Gauge (sample (codes "") (codes "waiters") Waiters ∷ [])
+    ∷ metric (codes "lockd_callbacks") (codes "Calls of the server's own that are not done, by state.") Gauge (sample (codes "{state=\"due\"}") (codes "callbacks_due") CallsDue ∷ sample (codes "{state=\"unanswered\"}") (codes "callbacks_unanswered") CallsUnanswered ∷ [])
+    ∷ metric (codes "lockd_slots_free") (codes "Places left for waiters and callbacks.") Gauge (sample (codes "") (codes "slots_free") SlotsFree ∷ [])
+    ∷ metric (codes "lockd_slots_limit") (codes "The most waiters and callbacks together.") Gauge (sample (codes "") (codes "slots_limit") (Limit 8192) ∷ [])
+    ∷ metric (codes "lockd_shares") (codes "DOS shares.") Gauge (sample (codes "") (codes "shares") Shares ∷ [])
+    ∷ metric (codes "lockd_shares_limit") (codes "The most shares that there may be.") Gauge (sample (codes "") (codes "shares_limit") (Limit 16384) ∷ [])
+    ∷ metric (codes "lockd_hosts") (codes "Hosts with a row in the database.") Gauge (sample (codes "") (codes "hosts") Hosts ∷ [])
+    ∷ metric (codes "lockd_hosts_limit") (codes "The most hosts that may have a row.") Gauge (sample (codes "") (codes "hosts_limit") (Limit 4096) ∷ [])
+    ∷ metric (codes "lockd_watches") (codes "Watches in the database.") Gauge (sample (codes "") (codes "watches") Watches ∷ [])
+    ∷ metric (codes "lockd_watches_limit") (codes "The most watches that there may be.") Gauge (sample (codes "") (codes "watches_limit") (Limit 1024) ∷ [])
+    ∷ metric (codes "lockd_kept_replies") (codes "Replies that are kept for repeated calls.") Gauge (sample (codes "") (codes "kept_replies") KeptReplies ∷ [])
+    ∷ metric (codes "lockd_grace") (codes "Whether the server is in its grace period.") Gauge (sample (codes "") (codes "grace") Grace ∷ [])
+    ∷ metric (codes "lockd_grace_left_seconds") (codes "How long the grace period goes on.") Gauge (sample (codes "") (codes "grace_left_seconds") GraceLeft ∷ [])
+    ∷ metric (codes "lockd_own_state") (codes "The own state of the status monitor.") Gauge (sample (codes "") (codes "own_state") OwnState ∷ [])
+    ∷ metric (codes "lockd_journal_entries_total") (codes "Entries of the journal.") Counter (sample (codes "") (codes "journal_entries") Entries ∷ [])
+    ∷ metric (codes "lockd_connections") (codes "Open connections, by kind.") Gauge (sample (codes "{kind=\"calls\"}") (codes "connections_calls") CallConnections ∷ sample (codes "{kind=\"local\"}") (codes "connections_local") LocalConnections ∷ sample (codes "{kind=\"status\"}") (codes "connections_status") StatusConnections ∷ [])
+    ∷ metric (codes "lockd_start_time_seconds") (codes "When the server started, in seconds since 1970.") Gauge (sample (codes "") (codes "start_time_seconds") Started ∷ []) ∷ []
+
+-- ---- the code's metrics
+
+abbrev pub view_of_sample : CodedSample → Sample
+view_of_sample s = sample s.labels.now s.key.now s.number
+
+abbrev pub view_of_metric : CodedMetric → Metric
+view_of_metric m = metric m.name.now m.help.now m.kind (map view_of_sample m.samples.now)

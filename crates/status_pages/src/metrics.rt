@@ -1,0 +1,198 @@
+//! Numbers, in the text format 0.0.4 of Prometheus.
+ghost use Rattle.std.specs.Prelude.{◌≡◌, ◌++◌, IfOk, OnOk, map};
+ghost use Rattle.std.specs.List.{flat_map};
+ghost use Rattle.status_pages.specs.Metrics.{number_of, head_text, sample_text, metric_text, metrics_text, build_text, kind_text, view_of_sample, view_of_metric, all_metrics};
+
+mod table;
+
+use crate::starved::Starved;
+use crate::text::{put_number, put_parts};
+use std::alloc::Global;
+pub(crate) use table::METRICS;
+
+/// What the state shows at one moment.
+#[derive(Clone, Copy, Debug, PartialEq, Eq)]
+pub struct Numbers {
+    /// Runs of bytes that owners hold.
+    pub runs: u64,
+    /// Locks that are waited for.
+    pub waiters: u64,
+    /// Calls of the server's own that are to be sent.
+    pub calls_due: u64,
+    /// Those that were sent and are not answered.
+    pub calls_unanswered: u64,
+    /// Places left, of those that waiters and the server's own calls share.
+    pub slots_free: u64,
+    pub shares: u64,
+    /// Hosts with a row in the store.
+    pub hosts: u64,
+    pub watches: u64,
+    /// Replies that are kept for repeated calls.
+    pub kept_replies: u64,
+    /// 1 in the grace period, else 0.
+    pub grace: u64,
+    /// How long the grace period goes on, in seconds, rounded up; 0 where it is over.
+    pub grace_left: u64,
+    /// The server's own state (XNFS, NSM).
+    pub own_state: u64,
+    /// Entries of the journal since the start.
+    pub entries: u64,
+    /// Connections for calls by record that are open.
+    pub call_connections: u64,
+    /// Connections of local programs that are open.
+    pub local_connections: u64,
+    /// Connections to the status port that are open.
+    pub status_connections: u64,
+    /// When the server started, in seconds since 1970.
+    pub started: u64,
+}
+
+/// A number that is shown.
+#[derive(Clone, Copy)]
+pub(crate) enum Number {
+    Runs,
+    Waiters,
+    CallsDue,
+    CallsUnanswered,
+    SlotsFree,
+    Shares,
+    Hosts,
+    Watches,
+    KeptReplies,
+    Grace,
+    GraceLeft,
+    OwnState,
+    Entries,
+    CallConnections,
+    LocalConnections,
+    StatusConnections,
+    Started,
+    /// A limit, which never changes.
+    Limit(u64),
+}
+
+/// Whether a number only rises while a server runs.
+#[derive(Clone, Copy)]
+pub(crate) enum Kind {
+    Counter,
+    Gauge,
+}
+
+/// One number of a metric.
+#[derive(Clone, Copy)]
+pub(crate) struct Sample<'a> {
+    /// Its labels with their braces, or nothing.
+    pub(crate) labels: &'a str,
+    /// Its key in `/status.json`.
+    pub(crate) key: &'a str,
+    pub(crate) number: Number,
+}
+
+/// A metric: its name, what it says, and its samples.
+#[derive(Clone, Copy)]
+pub(crate) struct Metric<'a> {
+    pub(crate) name: &'a str,
+    pub(crate) help: &'a str,
+    pub(crate) kind: Kind,
+    pub(crate) samples: &'a [Sample<'a>],
+}
+
+impl Numbers {
+    /// A number of these.
+    pub(crate) fn get(&self, number: Number) -> u64
+        ensures { result ≡ number_of self.now number }
+    {
+        match number {
+            Number::Runs => self.runs,
+            Number::Waiters => self.waiters,
+            Number::CallsDue => self.calls_due,
+            Number::CallsUnanswered => self.calls_unanswered,
+            Number::SlotsFree => self.slots_free,
+            Number::Shares => self.shares,
+            Number::Hosts => self.hosts,
+            Number::Watches => self.watches,
+            Number::KeptReplies => self.kept_replies,
+            Number::Grace => self.grace,
+            Number::GraceLeft => self.grace_left,
+            Number::OwnState => self.own_state,
+            Number::Entries => self.entries,
+            Number::CallConnections => self.call_connections,
+            Number::LocalConnections => self.local_connections,
+            Number::StatusConnections => self.status_connections,
+            Number::Started => self.started,
+            Number::Limit(most) => most,
+        }
+    }
+}
+
+fn kind_text(kind: Kind) -> &'static [u8]
+    ensures { result.now ≡ kind_text kind }
+{
+    match kind {
+        Kind::Counter => b"counter",
+        Kind::Gauge => b"gauge",
+    }
+}
+
+fn put_head(out: &mut Vec<u8>, name: &str, help: &str, kind: Kind) -> Result<(), Starved>
+    ensures { OnOk result (out.new.items ≡ out.old.items ++ head_text name.now help.now kind) }
+{
+    put_parts(out, &[b"# HELP ", name.as_bytes(), b" "])?;
+    put_parts(out, &[help.as_bytes(), b"\n# TYPE "])?;
+    put_parts(out, &[name.as_bytes(), b" "])?;
+    put_parts(out, &[kind_text(kind), b"\n"])
+}
+
+fn put_sample(
+    out: &mut Vec<u8>,
+    numbers: &Numbers,
+    name: &str,
+    sample: &Sample<'_>,
+) -> Result<(), Starved>
+    ensures { OnOk result (out.new.items ≡ out.old.items ++ sample_text numbers.now name.now (view_of_sample sample.now)) }
+{
+    put_parts(out, &[name.as_bytes(), sample.labels.as_bytes(), b" "])?;
+    put_number(out, numbers.get(sample.number))?;
+    put_parts(out, &[b"\n"])
+}
+
+fn put_metric(out: &mut Vec<u8>, numbers: &Numbers, metric: &Metric<'_>) -> Result<(), Starved>
+    ensures { OnOk result (out.new.items ≡ out.old.items ++ metric_text numbers.now (view_of_metric metric.now)) }
+{
+    put_head(out, metric.name, metric.help, metric.kind)?;
+    for sample in metric.samples {
+        put_sample(out, numbers, metric.name, sample)?;
+    }
+    Ok(())
+}
+
+fn put_build(out: &mut Vec<u8>, version: &str) -> Result<(), Starved>
+    ensures { OnOk result (out.new.items ≡ out.old.items ++ build_text version.now) }
+{
+    let parts: [&[u8]; 3] = [
+        b"# HELP lockd_build_info The version of the program.\n# TYPE lockd_build_info gauge\nlockd_build_info{version=\"",
+        version.as_bytes(),
+        b"\"} 1\n",
+    ];
+    put_parts(out, &parts)
+}
+
+fn put_metrics(out: &mut Vec<u8>, numbers: &Numbers, metrics: &[Metric<'_>]) -> Result<(), Starved>
+    ensures { OnOk result (out.new.items ≡ out.old.items ++ metrics_text numbers.now (map view_of_metric metrics.now)) }
+{
+    for metric in metrics {
+        put_metric(out, numbers, metric)?;
+    }
+    Ok(())
+}
+
+/// The page `/metrics`: each metric with its help, its type and its samples, and the version of the program, which has no quote,
+/// backslash or line feed.
+pub fn metrics_page(alloc: Global, numbers: &Numbers, version: &str) -> Result<Vec<u8>, Starved>
+    ensures { IfOk result (λ page. page.items ≡ metrics_text numbers.now all_metrics ++ build_text version.now) }
+{
+    let mut out = Vec::new(alloc);
+    put_metrics(&mut out, numbers, METRICS)?;
+    put_build(&mut out, version)?;
+    Ok(out)
+}
