@@ -4,6 +4,7 @@ import contextlib
 import socket
 import subprocess
 import tempfile
+import time
 from pathlib import Path
 
 from tried import CONTRIB, cases, equal
@@ -176,6 +177,52 @@ def serves_until_it_is_told_to_stop(audit):
         equal((server.returncode, *told), (0, b"audit yes 2\n" if audit else b"", b""))
 
 
+@contextlib.contextmanager
+def served(*more):
+    """The port for calls of a server with these words more, which is told to stop in the end."""
+    with room() as path:
+        (path / "peers").write_text("")
+        port, local_port = free_port(), free_port()
+        words = [*serve_words(path, port=port, local_port=local_port), *more]
+        server = subprocess.Popen([PROGRAM, *words], stdout=subprocess.PIPE, stderr=subprocess.PIPE)
+        try:
+            equal(server.stdout.readline(), b"ready\n")
+            yield port
+            equal(said_by(local_port, b"stop\n"), b"ok\n")
+            server.communicate(timeout=WAIT_SECONDS)
+        finally:
+            server.kill()
+            server.communicate()
+        equal(server.returncode, 0)
+
+
+def called_from(address, port):
+    """A connection from this address, and what a call on it is answered: nothing where the connection is closed."""
+    one = socket.create_connection(("127.0.0.1", port), timeout=WAIT_SECONDS, source_address=(address, 0))
+    try:
+        one.sendall(NULL)
+        return one, one.recv(len(NULL_REPLY))
+    except ConnectionError:
+        return one, b""
+
+
+def two_connections_of_a_peer():
+    with served("--connections-per-peer", "2") as port, contextlib.ExitStack() as ended:
+        first, *others = [called_from("127.0.0.1", port) for _ in range(3)]
+        others += [called_from("127.0.0.2", port) for _ in range(3)]
+        for one, _ in others:
+            ended.enter_context(one)
+        equal([told for _, told in (first, *others)], [NULL_REPLY, NULL_REPLY, b""] * 2)
+        first[0].close()
+        # Its place is free once the server has seen that it ended.
+        until = time.monotonic() + WAIT_SECONDS
+        told = b""
+        while not told and time.monotonic() < until:
+            one, told = called_from("127.0.0.1", port)
+            ended.enter_context(one)
+        equal(told, NULL_REPLY)
+
+
 STREAMS = dict(pipe=(("pipe",),), table=(("table",),))
 SERVER = dict(serve=((),))
 
@@ -193,5 +240,6 @@ if PROGRAM.exists():
     cases(none=())(pipe_of_no_hosts)
     cases(**STREAMS)(record_too_long)
     cases(plain=(False,), audited=(True,))(serves_until_it_is_told_to_stop)
+    cases(none=())(two_connections_of_a_peer)
 else:
     print(f"skipped: how the program starts and ends, since it isn't built ({PROGRAM.relative_to(CONTRIB.parent)})", flush=True)

@@ -16,5 +16,6 @@ mod watch;
 pub use call_sink::{CallSink, SentCall};
 pub use due::{Due, MOST_CALLS, send_due};
 pub use locals::Locals;
+pub use port_registering::Registration;
 pub use run::Sender;
 pub use settings::CallSettings;

@@ -1,102 +1,89 @@
 //! One peer.
 use mio::net::TcpStream;
-use record_mark::{Assembler, MarkError, Records, last_mark};
+use mio::{Registry, Token};
+use port_asking::{Asker, PortAsking};
+use port_mapper::Mapping;
+use record_stream::RecordStream;
 use std::alloc::{AllocError, Global};
-use std::io::{ErrorKind, Read, Write};
 use std::net::SocketAddr;
 use std::time::Instant;
 
-/// The most bytes that are read at once.
-const PIECE: usize = 4_096;
-
-/// The most reads and writes of a turn.
-pub(crate) const TIMES: usize = 16;
-
-/// How far a turn came.
+/// What the port mapper of a peer is asked, and at which port it is.
 #[derive(Clone, Copy, PartialEq, Eq)]
-pub(crate) enum TurnProgress {
-    /// The socket says when it goes on.
-    Waits,
-    /// It may go on now.
-    GoesOn,
-    /// The connection has failed.
-    Lost,
+pub(crate) struct Asks {
+    pub(crate) mapping: Mapping,
+    pub(crate) port: u16,
 }
 
-/// A peer: where it is, its connection, what is to be written to it, and what was read from it.
+/// A peer: where it is, what its port mapper says, its connection, what is to be written to it, and what was read from it.
 #[derive(Drop)]
 pub(crate) struct PeerLink {
     alloc: Global,
+    /// Its address, with the port of calls where no port mapper names one.
     pub(crate) at: SocketAddr,
-    stream: Option<TcpStream>,
+    /// None where no port mapper is asked.
+    pub(crate) asks: Option<Asks>,
+    pub(crate) records: RecordStream,
+    pub(crate) asking: PortAsking,
     since: Instant,
     used: Instant,
-    outgoing: Vec<u8>,
-    incoming: Assembler,
-}
-
-fn written(stream: &TcpStream, bytes: &[u8]) -> Result<usize, TurnProgress> {
-    let mut to = stream;
-    match to.write(bytes) {
-        Ok(count) => Ok(count),
-        Err(error) => match error.kind() {
-            ErrorKind::Interrupted => Err(TurnProgress::GoesOn),
-            // It is still being connected.
-            ErrorKind::WouldBlock | ErrorKind::NotConnected => Err(TurnProgress::Waits),
-            _ => Err(TurnProgress::Lost),
-        },
-    }
-}
-
-fn read(stream: &TcpStream, room: &mut [u8]) -> Result<usize, TurnProgress> {
-    let mut from = stream;
-    match from.read(room) {
-        Ok(0) => Err(TurnProgress::Lost),
-        Ok(count) => Ok(count),
-        Err(error) => match error.kind() {
-            ErrorKind::Interrupted => Err(TurnProgress::GoesOn),
-            ErrorKind::WouldBlock | ErrorKind::NotConnected => Err(TurnProgress::Waits),
-            _ => Err(TurnProgress::Lost),
-        },
-    }
 }
 
 impl PeerLink {
     /// Without a connection.
-    pub(crate) fn new(alloc: Global, at: SocketAddr, now: Instant) -> PeerLink {
+    pub(crate) fn new(alloc: Global, at: SocketAddr, asks: Option<Asks>, now: Instant) -> PeerLink {
         PeerLink {
             alloc,
             at,
-            stream: None,
+            asks,
+            records: RecordStream::new(alloc),
+            asking: PortAsking::new(alloc),
             since: now,
             used: now,
-            outgoing: Vec::new(alloc),
-            incoming: Assembler::new(alloc),
         }
     }
 
-    pub(crate) fn is_connected(&self) -> bool {
-        self.stream.is_some()
+    /// Whether it has a connection, or its port mapper is asked.
+    pub(crate) fn is_open(&self) -> bool {
+        self.records.is_connected() || self.asking.is_asked()
     }
 
-    /// When its connection was made.
+    /// When its connection was begun, which is before its port mapper was asked for it.
     pub(crate) fn since(&self) -> Instant {
         self.since
     }
 
-    /// It has this connection now.
-    pub(crate) fn connect(&mut self, stream: TcpStream, now: Instant) {
-        // A call is to go out at once. Where this fails it goes out later.
-        let _ = stream.set_nodelay(true);
-        self.stream = Some(stream);
+    /// A connection is begun now.
+    pub(crate) fn begin(&mut self, now: Instant) {
         self.since = now;
     }
 
-    /// The connection is closed, and what was not written is dropped.
-    pub(crate) fn close(&mut self) {
-        self.stream = None;
-        self.outgoing = Vec::new(self.alloc);
-        self.incoming = Assembler::new(self.alloc);
+    /// Where its calls go now.
+    pub(crate) fn place(&self) -> SocketAddr {
+        match self.asking.port() {
+            Some(port) => SocketAddr::new(self.at.ip(), port),
+            None => self.at,
+        }
+    }
+
+    /// It has this connection now.
+    pub(crate) fn connect(&mut self, stream: TcpStream) {
+        self.records.connect(stream);
+    }
+
+    /// The connection was refused or lost, or nothing came over it: what was not written is dropped, and its port mapper is asked
+    /// again.
+    pub(crate) fn lose(&mut self) {
+        self.records.close();
+        self.asking.lose();
+    }
+
+    /// Its place is needed: what was not written is dropped, and a question, too. A port that was named stays.
+    pub(crate) fn leave(&mut self) {
+        self.records.close();
+        if self.asking.is_asked() {
+            self.asking = PortAsking::new(self.alloc);
+        }
     }
 
     /// When something was to be written last.
@@ -107,58 +94,30 @@ impl PeerLink {
     /// A record is to be written, behind its mark, if there is memory for it.
     pub(crate) fn put(&mut self, record: &[u8], now: Instant) -> Result<(), AllocError> {
         self.used = now;
-        let Ok(len) = u16::try_from(record.len()) else {
-            return Ok(());
-        };
-        let mark = last_mark(u32::from(len));
-        self.outgoing.reserve(4_104)?;
-        self.outgoing.extend_from_slice(mark.as_slice())?;
-        self.outgoing.extend_from_slice(record)
+        self.records.put(record)
     }
 
-    // Writes once.
-    fn write_some(&mut self) -> TurnProgress {
-        let Some(stream) = &self.stream else {
-            return TurnProgress::Waits;
-        };
-        if self.outgoing.is_empty() {
-            return TurnProgress::Waits;
-        }
-        match written(stream, self.outgoing.as_slice()) {
-            Ok(count) => {
-                let count = count.min(self.outgoing.len());
-                self.outgoing.drain(..count);
-                TurnProgress::GoesOn
-            }
-            Err(progress) => progress,
-        }
+    /// Whether the time of its question is up.
+    pub(crate) fn is_overdue(&self, now: Instant) -> bool {
+        self.asking.until().is_some_and(|until| until <= now)
     }
 
-    /// Writes what the socket takes.
-    pub(crate) fn write_on(&mut self) -> TurnProgress {
-        for _ in 0..TIMES {
-            let progress = self.write_some();
-            if progress != TurnProgress::GoesOn {
-                return progress;
-            }
-        }
-        TurnProgress::GoesOn
-    }
-
-    /// Reads once, and gives the records that end in it.
-    pub(crate) fn read_some(&mut self) -> Result<Records, TurnProgress> {
-        let Some(stream) = &self.stream else {
-            return Err(TurnProgress::Waits);
-        };
-        let mut room = [0u8; PIECE];
-        let count = read(stream, &mut room)?;
-        let Some(piece) = room.get(..count) else {
-            return Err(TurnProgress::Lost);
-        };
-        match self.incoming.feed(piece) {
-            Ok(records) => Ok(records),
-            Err(MarkError::Starved) => Err(TurnProgress::Lost),
-            Err(MarkError::RecordTooLong(_)) => Err(TurnProgress::Lost),
+    /// Who asks its port mapper, under this token. None where it isn't asked.
+    pub(crate) fn asker<'a, R>(
+        &self,
+        rt: &'a R,
+        registry: &'a Registry,
+        token: Token,
+    ) -> Option<Asker<'a, R>> {
+        match self.asks {
+            Some(asks) => Some(Asker {
+                rt,
+                registry,
+                token,
+                at: SocketAddr::new(self.at.ip(), asks.port),
+                mapping: asks.mapping,
+            }),
+            None => None,
         }
     }
 }

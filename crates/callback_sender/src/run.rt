@@ -72,7 +72,10 @@ impl<'a, R: Net + Clock, D: Locals> Sender<'a, R, D> {
     {
         let now = Instant::now(rt)?;
         let pending_calls = PendingCalls::new(alloc)?;
-        let peer_pool = PeerPool::new(rt, alloc)?;
+        let mut peer_pool = PeerPool::new(rt, alloc)?;
+        if let Some(registration) = settings.registration {
+            peer_pool.register(registration, now);
+        }
         Ok(Sender {
             rt,
             locals,
@@ -96,9 +99,9 @@ impl<'a, R: Net + Clock, D: Locals> Sender<'a, R, D> {
         ensures { self.new ≡ self.old }
     {
         let address = self.peers.address(name)?;
-        let port = self.settings.port_of(bytes);
+        let at = SocketAddr::new(address, self.settings.port_of(bytes));
         self.peer_pool
-            .place_of(SocketAddr::new(address, port), self.now)
+            .place_of(at, self.settings.asks_of(bytes), self.now)
     }
 
     // A host that has no address is silent at once.
@@ -114,7 +117,7 @@ impl<'a, R: Net + Clock, D: Locals> Sender<'a, R, D> {
         self.pending_calls
             .add(PendingCall::new(number, bytes, place, self.now, until));
         if let Some(place) = place {
-            self.peer_pool.send(self.rt, place, bytes, self.now);
+            self.peer_pool.send(self.rt, place, bytes, self.now, until);
         }
     }
 

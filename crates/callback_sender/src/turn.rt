@@ -12,6 +12,7 @@ use crate::{Due, MOST_CALLS, send_due};
 use book::BookEvent;
 use hosts_db::HostStore;
 use line_loop::Signals;
+use log::Log;
 use range_table::RangeTable;
 use std::net::Net;
 use std::sync::ledger::Ledger;
@@ -25,6 +26,9 @@ const PAUSE_MILLIS: u64 = 10;
 
 /// How long it waits at most, since the server's own state is looked at now and then, in milliseconds.
 const LONGEST_MILLIS: u64 = 100;
+
+/// How many turns it goes on at the end until the server is registered no more.
+const LEAVING_TURNS: u32 = 100;
 
 /// What is to be told of a call of the server's own: its answer, or that none came. It takes no record.
 #[derive(Drop)]
@@ -106,7 +110,7 @@ fn end_grace<T: RangeTable, S: HostStore, L: Ledger>(
     }
 }
 
-impl<'a, R: Net + Clock + Wait, D: Locals> Sender<'a, R, D> {
+impl<'a, R: Net + Clock + Wait + Log, D: Locals> Sender<'a, R, D> {
     fn tick(&mut self)
         ensures { self.new ≡ self.old }
     {
@@ -247,7 +251,8 @@ impl<'a, R: Net + Clock + Wait, D: Locals> Sender<'a, R, D> {
         }
         let longest = Duration::from_millis(LONGEST_MILLIS);
         let calls = self.pending_calls.next(self.now);
-        let next = [calls, watch.next()].into_iter().flatten().min();
+        let questions = self.peer_pool.next();
+        let next = [calls, questions, watch.next()].into_iter().flatten().min();
         match next {
             Some(at) => at.duration_since(self.now).min(longest),
             None => longest,
@@ -270,7 +275,9 @@ impl<'a, R: Net + Clock + Wait, D: Locals> Sender<'a, R, D> {
     fn exchange(&mut self, due: Due, watch: &GraceWatch)
         ensures { self.new ≡ self.old }
     {
-        self.peer_pool.serve(&mut self.pending_calls);
+        self.peer_pool.serve_registrar(self.rt, self.now);
+        self.peer_pool.pass(self.rt, self.now);
+        self.peer_pool.serve(self.rt, &mut self.pending_calls);
         let rest = self.rest(due, watch);
         if self.peer_pool.wait(rest).is_err() {
             thread::sleep(self.rt, Duration::from_millis(PAUSE_MILLIS));
@@ -288,6 +295,22 @@ impl<'a, R: Net + Clock + Wait, D: Locals> Sender<'a, R, D> {
         let is_room = self.tell_all(shared, watch);
         let due = self.send_if(shared, is_room, ghost_trace);
         self.exchange(due, watch);
+    }
+
+    /// The server stops: what was registered is taken back, for which it waits a second or two at most.
+    pub fn leave(&mut self)
+        ensures { self.new ≡ self.old }
+    {
+        self.tick();
+        self.peer_pool.unregister(self.rt, self.now);
+        for _ in 0..LEAVING_TURNS {
+            if self.peer_pool.is_unregistered() {
+                break;
+            }
+            let _ = self.peer_pool.wait(Duration::from_millis(PAUSE_MILLIS));
+            self.tick();
+            self.peer_pool.serve_registrar(self.rt, self.now);
+        }
     }
 
     /// Makes the server's own calls until the server stops: those that holds of the book's lock gave, in order, and no others. It

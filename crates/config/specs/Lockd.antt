@@ -39,7 +39,9 @@ serve_rules =
     ∷ needed_rule (codes "db") ∷ needed_rule (codes "peers")
     ∷ default_rule (codes "name") (codes "server") ∷ default_rule (codes "bind") (codes "0.0.0.0")
     ∷ default_rule (codes "grace-seconds") (codes "45") ∷ default_rule (codes "silence-seconds") (codes "5") ∷ default_rule (codes "idle-seconds") (codes "600")
-    ∷ default_rule (codes "workers") (codes "4") ∷ flag_rule (codes "audit") ∷ []
+    ∷ default_rule (codes "workers") (codes "4")
+    ∷ default_rule (codes "connections") (codes "256") ∷ value_rule (codes "connections-per-peer")
+    ∷ flag_rule (codes "audit") ∷ flag_rule (codes "ask-port-mapper") ∷ flag_rule (codes "register") ∷ []
 
 -- `lockd pipe`, `lockd table` and `lockd serve`
 abbrev pub pipe_app : App

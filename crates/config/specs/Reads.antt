@@ -4,7 +4,7 @@ use Rattle.std.specs.Net.Grammar.{IsIpText}
 use Rattle.std.specs.declared.net.ip_addr.IpAddr.{IpAddr}
 use Rattle.clap.specs.Words.{Row, Text, first_of}
 use Rattle.local_ops.specs.Reading.{◌>>=◌}
-use Rattle.config.specs.Settings.{setting, flag_in, port_in, seconds_in, workers_in, name_in}
+use Rattle.config.specs.Settings.{setting, flag_in, port_in, seconds_in, workers_in, connections_in, name_in, optional_setting}
 use Rattle.config.specs.declared.settings.StreamConfig.{StreamConfig}
 use Rattle.config.specs.declared.settings.ServeConfig.{ServeConfig}
 use Rattle.config.specs.declared.settings.Ports.{Ports}
@@ -58,10 +58,25 @@ serve_in bind rows = do
   ports ← ports_in rows
   times ← times_in rows
   workers ← setting workers_in (codes "workers") rows
+  connections ← setting connections_in (codes "connections") rows
+  per_peer ← optional_setting connections_in (codes "connections-per-peer") rows
   name ← setting name_in (codes "name") rows
   db ← first_of (codes "db") rows
   peers ← first_of (codes "peers") rows
-  Some (record { ports = ports; times = times; workers = workers; name = name; db = db; peers = peers; bind = bind; audit = flag_in (codes "audit") rows })
+  Some (record {
+    ports = ports;
+    times = times;
+    workers = workers;
+    connections = connections;
+    connections_per_peer = per_peer;
+    name = name;
+    db = db;
+    peers = peers;
+    bind = bind;
+    audit = flag_in (codes "audit") rows;
+    ask_port_mapper = flag_in (codes "ask-port-mapper") rows;
+    register = flag_in (codes "register") rows;
+  })
 
 abbrev pub ReadsAddress : Result IpAddr Unread → Text → List Row → Type 0
 ReadsAddress (Ok address) id rows = IsAddress id rows address

@@ -1,5 +1,5 @@
 -- What a setting's text says, and which text it has.
-use Rattle.std.specs.Prelude.{ℕ, Bool, false, cond, leb, ◌&&◌, List, length, codes, Option, Some, None, bytes_eq}
+use Rattle.std.specs.Prelude.{ℕ, Bool, false, cond, leb, ◌&&◌, List, length, codes, Option, Some, None, option_map, bytes_eq}
 use Rattle.std.specs.Option.{option_and_then, option_map_or}
 use Rattle.clap.specs.Words.{Row, Text, first_of}
 use Rattle.local_ops.specs.Reading.{number_in}
@@ -20,6 +20,9 @@ seconds_in = number_between 1 86400
 abbrev pub workers_in : Text → Option ℕ
 workers_in = number_between 1 16
 
+abbrev pub connections_in : Text → Option ℕ
+connections_in = number_between 1 4096
+
 abbrev pub is_name : Text → Bool
 is_name text = is_between 1 1024 (length text)
 
@@ -31,6 +34,10 @@ name_in text = cond (is_name text) (Some text) None
 -- a setting by its option
 abbrev pub setting : {X : Type 0} → (Text → Option X) → Text → List Row → Option X
 setting read id rows = option_and_then read (first_of id rows)
+
+-- a setting by its option, which need not be given: nothing is wrong where it isn't
+abbrev pub optional_setting : {X : Type 0} → (Text → Option X) → Text → List Row → Option (Option X)
+optional_setting read id rows = elim (first_of id rows) [ None ↦ Some None | Some text ↦ option_map Some (read text) ]
 
 -- whether an option without value was given
 abbrev pub flag_in : Text → List Row → Bool

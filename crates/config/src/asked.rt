@@ -128,9 +128,9 @@ fn read_verb(word: &str) -> Option<Verb>
 }
 
 /// What the words behind the program's name ask. Each setting is what the words give it, else its default, and lies in its
-/// range: a port in 1 to 65535, seconds in 1 to 86400, workers in 1 to 16, a name of 1 to 1,024 bytes. Numbers are decimal,
+/// range: a port in 1 to 65535, seconds in 1 to 86400, workers in 1 to 16, connections in 1 to 4,096, a name of 1 to 1,024 bytes. Numbers are decimal,
 /// without sign or leading zeros. By default the name is `server`, the address 0.0.0.0, the grace period 45 seconds, the wait
-/// for an answer 5 and for a connection's next call 600, and there are 4 workers.
+/// for an answer 5 and for a connection's next call 600, and there are 4 workers and 256 connections, which may all come from one address.
 ///
 /// `Refused` exactly where the words ask nothing, as they do where they ask for help or the version; `Starved` for want of
 /// memory.

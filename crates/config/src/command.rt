@@ -144,9 +144,29 @@ const SERVE_CHOICES: &[Choice<'static>] = &[
         help: "How many workers serve, 1 to 16",
     },
     Choice {
+        name: "connections",
+        takes: OptionValue::Default("N", "256"),
+        help: "How many connections for calls may be open, 1 to 4096",
+    },
+    Choice {
+        name: "connections-per-peer",
+        takes: OptionValue::Value("N"),
+        help: "How many of them may come from one address, 1 to 4096; without it all",
+    },
+    Choice {
         name: "audit",
         takes: OptionValue::Nothing,
         help: "Check the journal at the end",
+    },
+    Choice {
+        name: "ask-port-mapper",
+        takes: OptionValue::Nothing,
+        help: "Ask the peers' port mappers for the ports of 100021 and 100024",
+    },
+    Choice {
+        name: "register",
+        takes: OptionValue::Nothing,
+        help: "Register the port at the port mapper of this machine",
     },
 ];
 

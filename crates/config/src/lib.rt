@@ -12,4 +12,4 @@ pub use asked::config;
 pub use fault::ConfigFault;
 pub use settings::{Config, Ports, ServeConfig, StreamConfig, Times};
 pub use texts::{FilePath, OwnName};
-pub use values::{Port, Seconds, Workers};
+pub use values::{Connections, Port, Seconds, Workers};

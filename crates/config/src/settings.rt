@@ -2,11 +2,11 @@
 
 ghost use Rattle.std.specs.Prelude.{◌≡◌, IfOk};
 ghost use Rattle.clap.specs.Words.{first_of, found_of, rows_of};
-ghost use Rattle.config.specs.Settings.{setting, flag_in, port_in, seconds_in, workers_in, name_in};
+ghost use Rattle.config.specs.Settings.{setting, optional_setting, flag_in, port_in, seconds_in, workers_in, connections_in, name_in};
 ghost use Rattle.config.specs.Reads.{IsWrong, Reads, ReadsAddress, ReadsServe, stream_in, ports_in, times_in};
 
 use crate::texts::{FilePath, OwnName, is_name};
-use crate::values::{Port, Seconds, Workers};
+use crate::values::{Connections, Port, Seconds, Workers};
 use clap::ArgMatches;
 use std::alloc::{AllocError, Global};
 use std::net::IpAddr;
@@ -53,6 +53,10 @@ pub struct ServeConfig {
     pub ports: Ports,
     pub times: Times,
     pub workers: Workers,
+    /// How many connections for calls by record may be open.
+    pub connections: Connections,
+    /// How many of them may come from one address; None: all.
+    pub connections_per_peer: Option<Connections>,
     pub name: OwnName,
     /// Where the hosts are stored.
     pub db: FilePath,
@@ -62,6 +66,11 @@ pub struct ServeConfig {
     pub bind: IpAddr,
     /// Whether the journal is checked at the end.
     pub audit: bool,
+    /// Whether peers' port mappers are asked for the ports of programs 100021 and 100024. The peers' ports are those of peers whose
+    /// port mapper names none.
+    pub ask_port_mapper: bool,
+    /// Whether the port for calls by record is registered at the port mapper of this machine.
+    pub register: bool,
 }
 
 /// What the program is asked to do.
@@ -148,6 +157,42 @@ fn read_workers<'a>(matches: &ArgMatches<'a>, option: &'a str) -> Result<Workers
     match Workers::read(value) {
         Some(workers) => Ok(workers),
         None => Err(refuse(value, option, "workers are 1 to 16")),
+    }
+}
+
+/// The refusal of a value that is no number of connections.
+fn refuse_connections<'a>(value: &'a str, option: &'a str) -> Unread<'a>
+    ensures { IsWrong result }
+{
+    refuse(value, option, "connections are 1 to 4096")
+}
+
+fn read_connections<'a>(
+    matches: &ArgMatches<'a>,
+    option: &'a str,
+) -> Result<Connections, Unread<'a>>
+    ensures { Reads (λ connections. connections) result (setting connections_in option.now (rows_of (found_of matches.now))) }
+{
+    let value = read_text(matches, option)?;
+    match Connections::read(value) {
+        Some(connections) => Ok(connections),
+        None => Err(refuse_connections(value, option)),
+    }
+}
+
+/// The number of connections of an option that need not be given.
+fn read_optional_connections<'a>(
+    matches: &ArgMatches<'a>,
+    option: &'a str,
+) -> Result<Option<Connections>, Unread<'a>>
+    ensures { Reads (λ connections. connections) result (optional_setting connections_in option.now (rows_of (found_of matches.now))) }
+{
+    match matches.get_str(option) {
+        Some(value) => match Connections::read(value) {
+            Some(connections) => Ok(Some(connections)),
+            None => Err(refuse_connections(value, option)),
+        },
+        None => Ok(None),
     }
 }
 
@@ -269,18 +314,26 @@ pub(crate) fn read_serve<'a>(
     let ports = read_ports(matches)?;
     let times = read_times(matches)?;
     let workers = read_workers(matches, "workers")?;
+    let connections = read_connections(matches, "connections")?;
+    let connections_per_peer = read_optional_connections(matches, "connections-per-peer")?;
     let name = read_name(alloc, matches, "name")?;
     let db = read_path(alloc, matches, "db")?;
     let peers = read_path(alloc, matches, "peers")?;
     let audit = is_given(matches, "audit");
+    let ask_port_mapper = is_given(matches, "ask-port-mapper");
+    let register = is_given(matches, "register");
     Ok(ServeConfig {
         ports,
         times,
         workers,
+        connections,
+        connections_per_peer,
         name,
         db,
         peers,
         bind,
         audit,
+        ask_port_mapper,
+        register,
     })
 }

@@ -2,7 +2,7 @@
 
 ghost use Rattle.std.specs.Prelude.{◌≡◌, ◌≤◌};
 ghost use Rattle.local_ops.specs.Reading.{number_in};
-ghost use Rattle.config.specs.Settings.{number_between, port_in, seconds_in, workers_in};
+ghost use Rattle.config.specs.Settings.{number_between, port_in, seconds_in, workers_in, connections_in};
 
 use itoa::Buffer;
 use std::marker::Model;
@@ -146,6 +146,46 @@ impl Workers {
         ensures value { result ≡ self }
         ensures least { 1 ≤ result }
         ensures most { result ≤ 16 }
+    {
+        self.number
+    }
+}
+
+/// How many connections may be open: 1 to 4,096.
+#[derive(Clone, Copy, Debug, PartialEq, Eq)]
+pub struct Connections {
+    number: u16,
+}
+
+impl Model for Connections {
+    ghost use Rattle.std.specs.Prelude.{ℕ, ◌≤◌};
+
+    ghost Value = { ℕ };
+
+    ghost view = { λ c. c.number };
+
+    ghost invariant = { λ c. (1 ≤ c.number) × (c.number ≤ 4096) };
+
+    ghost inverse = { λ n. record { number = n } };
+}
+
+impl Connections {
+    /// Reads a number of connections in decimal, without sign or leading zeros. None where it is none.
+    pub fn read(text: &str) -> Option<Connections>
+        ensures { result ≡ connections_in text.now }
+    {
+        match read_between(text, 1, 4_096) {
+            Some(number) => Some(Connections {
+                number: number as u16,
+            }),
+            None => None,
+        }
+    }
+
+    pub fn get(self) -> u16
+        ensures value { result ≡ self }
+        ensures least { 1 ≤ result }
+        ensures most { result ≤ 4096 }
     {
         self.number
     }

@@ -1,2 +1,3 @@
 pub mod Seating
 pub mod Keeping
+mod Counting

@@ -3,7 +3,7 @@ use Rattle.std.proofs.Common.{◌≡◌, ℕ, ◌+◌, ◌<◌, ◌%◌, ◌⊎�
 use Rattle.std.specs.Prelude.{Option, Some, None, slice_get, slice_set, position, if◌then◌else◌}
 use Rattle.std.proofs.Math.Nat.{zero-mod, add-mod_right, mod-add-mod, mod-eq_of_lt}
 use Rattle.std.proofs.lemmas.List.Quantifiers.{position-Some}
-use Rattle.connections.specs.Seats.{Seat, lends, with_lent, taken_by, left_by, is_of, is_free, with_place, number_at, IsSeated}
+use Rattle.connections.specs.Seats.{Holder, Seat, lends, with_lent, taken_by, left_by, is_of, is_free, number_of, with_place, number_at, IsSeated}
 
 -- the number of a connection at the place of this index
 mod-next : (next len i : ℕ) → next % len ≡ 0 → i < len → (next + i) % len ≡ i
@@ -19,14 +19,14 @@ module _ {K : Type 0} (f : Seat K → Seat K) where
   length-with_place (p ∷ places) (suc i) = rw with_place-suc (ap suc (length-with_place places i))
 
   -- a change that gives no place a number
-  number_at-with_place : ((p : Seat K) (n : ℕ) → (f p).number ≡ Some n → p.number ≡ Some n) → (places : List (Seat K)) (i j n : ℕ) → number_at j (with_place f i places) ≡ Some n → number_at j places ≡ Some n
+  number_at-with_place : ((p : Seat K) (n : ℕ) → number_of (f p) ≡ Some n → number_of p ≡ Some n) → (places : List (Seat K)) (i j n : ℕ) → number_at j (with_place f i places) ≡ Some n → number_at j places ≡ Some n
   number_at-with_place keeps [] i j n e = e
   number_at-with_place keeps (p ∷ places) zero zero n e = keeps p n e
   number_at-with_place keeps (p ∷ places) zero (suc j) n e = e
   number_at-with_place keeps (p ∷ places) (suc i) zero n e = rw with_place-suc at e
   number_at-with_place keeps (p ∷ places) (suc i) (suc j) n e = number_at-with_place keeps places i j n (rw with_place-suc at e)
 
-  IsSeated-with_place : ((p : Seat K) (n : ℕ) → (f p).number ≡ Some n → p.number ≡ Some n) → (next : ℕ) (places : List (Seat K)) (i : ℕ) → IsSeated next places → IsSeated next (with_place f i places)
+  IsSeated-with_place : ((p : Seat K) (n : ℕ) → number_of (f p) ≡ Some n → number_of p ≡ Some n) → (next : ℕ) (places : List (Seat K)) (i : ℕ) → IsSeated next places → IsSeated next (with_place f i places)
   IsSeated-with_place keeps next places i s = record {
     whole = rw length-with_place s.whole;
     seated = λ j n e. rw length-with_place (s.seated j n (number_at-with_place keeps places i j n e));
@@ -39,7 +39,7 @@ module _ {K : Type 0} where
   pub IsSeated-with_lent : (lent : Option K) (next : ℕ) (places : List (Seat K)) (i : ℕ) → IsSeated next places → IsSeated next (with_place (with_lent lent) i places)
   IsSeated-with_lent lent = IsSeated-with_place (with_lent lent) (λ p n e. e)
 
-  left_by-number : (b : Bool) (p : Seat K) (n : ℕ) → (if b then record p { number = None } else p).number ≡ Some n → p.number ≡ Some n
+  left_by-number : (b : Bool) (p : Seat K) (n : ℕ) → number_of (if b then record p { holder = None } else p) ≡ Some n → number_of p ≡ Some n
   left_by-number true p n e = cc
   left_by-number false p n e = e
 
@@ -54,7 +54,7 @@ module _ {K : Type 0} where
   pub IsSeated-lends : (lent : List K) → IsSeated 0 (map lends lent)
   IsSeated-lends lent = record { whole = zero-mod _; seated = λ j n e. absurd (number_at-lends lent j n e) }
 
-  number_at-taken_by : (m : ℕ) (places : List (Seat K)) (i j n : ℕ) → number_at j (with_place (taken_by m) i places) ≡ Some n → ((j ≡ i) × (m ≡ n)) ⊎ (number_at j places ≡ Some n)
+  number_at-taken_by : (m : Holder) (places : List (Seat K)) (i j n : ℕ) → number_at j (with_place (taken_by m) i places) ≡ Some n → ((j ≡ i) × (m.number ≡ n)) ⊎ (number_at j places ≡ Some n)
   number_at-taken_by m [] i j n e = inr e
   number_at-taken_by m (p ∷ places) zero zero n e = inl (refl, cc)
   number_at-taken_by m (p ∷ places) zero (suc j) n e = inr e
@@ -62,7 +62,7 @@ module _ {K : Type 0} where
   number_at-taken_by m (p ∷ places) (suc i) (suc j) n e =
       elim (number_at-taken_by m places i j n (rw (with_place-suc (taken_by m)) at e)) [ inl w ↦ inl (ap suc w.0, w.1) | inr w ↦ inr w ]
 
-  pub number_at-taken_by_same : (m : ℕ) (places : List (Seat K)) (i : ℕ) → i < length places → number_at i (with_place (taken_by m) i places) ≡ Some m
+  pub number_at-taken_by_same : (m : Holder) (places : List (Seat K)) (i : ℕ) → i < length places → number_at i (with_place (taken_by m) i places) ≡ Some m.number
   number_at-taken_by_same m [] i h = absurd (omega arith)
   number_at-taken_by_same m (p ∷ places) zero h = refl
   number_at-taken_by_same m (p ∷ places) (suc i) h = rw (with_place-suc (taken_by m)) (number_at-taken_by_same m places i (omega arith))
@@ -71,19 +71,22 @@ module _ {K : Type 0} where
   number_seated next places i h s j n (inl w) = (ap (λ m. m % length places) (sym w.1) ∙ (mod-next next (length places) i s.whole h ∙ sym w.0), omega arith)
   number_seated next places i h s j n (inr w) = ((s.seated j n w).0, omega (arith, (s.seated j n w).1))
 
-  pub IsSeated-taken_by : (next : ℕ) (places : List (Seat K)) (i : ℕ) → i < length places → IsSeated next places → IsSeated (next + length places) (with_place (taken_by (next + i)) i places)
-  IsSeated-taken_by next places i h s = record {
-    whole = rw length-with_place (add-mod_right next (length places) ∙ s.whole);
-    seated = λ j n e. rw length-with_place (number_seated next places i h s j n (number_at-taken_by (next + i) places i j n e));
-  }
+  -- the connection of this number, whatever its peer's address
+  pub IsSeated-taken_by : (a next : ℕ) (places : List (Seat K)) (i : ℕ) → i < length places → IsSeated next places → IsSeated (next + length places) (with_place (taken_by (record { number = next + i; peer = a })) i places)
+  IsSeated-taken_by a next places i h s =
+      let m : Holder = record { number = next + i; peer = a } in
+      record {
+        whole = rw length-with_place (add-mod_right next (length places) ∙ s.whole);
+        seated = λ j n e. rw length-with_place (number_seated next places i h s j n (number_at-taken_by m places i j n e));
+      }
 
   -- what is left once a connection of this number was taken in at the first place that is free
-  module _ (next later number i : ℕ) (places after : List (Seat K)) (s : IsSeated next places) (free : position is_free places ≡ Some i) (n : number ≡ next + i) (m : later ≡ next + length places) (e : after ≡ with_place (taken_by number) i places) where
+  module _ (a next later number i : ℕ) (places after : List (Seat K)) (s : IsSeated next places) (free : position is_free places ≡ Some i) (n : number ≡ next + i) (m : later ≡ next + length places) (e : after ≡ with_place (taken_by (record { number = number; peer = a })) i places) where
     within : i < length places
-    within = (position-Some is_free places i (record { number = None; lent = None }) free).0
+    within = (position-Some is_free places i (record { holder = None; lent = None }) free).0
 
     pub IsSeated-admitted : IsSeated later after
-    IsSeated-admitted = rw (e, n, m) (IsSeated-taken_by next places i within s)
+    IsSeated-admitted = rw (e, n, m) (IsSeated-taken_by a next places i within s)
 
     pub HasPlace-admitted : number_at (number % length after) after ≡ Some number
-    HasPlace-admitted = rw (e, length-with_place, n, mod-next next (length places) i s.whole within) (number_at-taken_by_same (next + i) places i within)
+    HasPlace-admitted = rw (e, length-with_place, n, mod-next next (length places) i s.whole within) (number_at-taken_by_same (record { number = next + i; peer = a }) places i within)

@@ -1,31 +1,43 @@
 //! The connections that are open.
-ghost use Rattle.std.specs.Prelude.{◌≡◌, ◌≤◌, ◌<◌, ◌+◌, ◌^◌, ◌⊎◌, true, false, length, map, position, IfOk, IfSome, IfNone};
-ghost use Rattle.connections.specs.Seats.{is_free, is_of, lends, with_lent, taken_by, left_by, with_place, lent_at, place_of, HasPlace, with_one, closed, admitted};
+ghost use Rattle.std.specs.Prelude.{◌≡◌, ◌≤◌, ◌<◌, ◌+◌, ◌^◌, ◌⊎◌, true, false, length, map, not, count_by, position, IfOk, IfSome, IfNone};
+ghost use Rattle.connections.specs.Seats.{is_free, is_of, is_from, lends, with_lent, taken_by, left_by, with_place, lent_at, place_of, HasPlace, count_from, is_full_for, with_one, closed, admitted};
 
 use crate::connection::Connection;
+use crate::peer_address::PeerAddress;
 use std::alloc::{AllocError, Global};
 use std::marker::Model;
 use std::net::TcpStream;
 use std::sync::Arc;
 use std::time::Duration;
 
-/// The most connections of a connection table of the server.
-pub const PLACES: usize = 256;
+// A connection that has a place, and the address of its peer.
+#[derive(Drop)]
+struct Held {
+    connection: Arc<Connection, Global>,
+    peer: PeerAddress,
+}
+
+impl Model for Held {
+    ghost use Rattle.connections.specs.Seats.{Holder};
+
+    ghost Value = { Holder };
+
+    ghost view = { λ h. record { number = h.connection.value; peer = h.peer } };
+}
 
 // A place, and what is lent to whoever serves its connection.
 #[derive(Drop)]
 struct ConnectionPlace<K> {
-    connection: Option<Arc<Connection, Global>>,
+    held: Option<Held>,
     lent: Option<K>,
 }
 
 impl<K> Model for ConnectionPlace<K> {
-    ghost use Rattle.std.specs.Prelude.{option_map};
     ghost use Rattle.connections.specs.Seats.{Seat};
 
     ghost Value = { Seat K };
 
-    ghost view = { λ p. record { number = option_map (λ c. c.value) p.connection; lent = p.lent } };
+    ghost view = { λ p. record { holder = p.held; lent = p.lent } };
 }
 
 impl<K> ConnectionPlace<K> {
@@ -33,15 +45,25 @@ impl<K> ConnectionPlace<K> {
     fn is_free(&self) -> bool
         ensures { result ≡ is_free self.now }
     {
-        self.connection.is_none()
+        self.held.is_none()
+    }
+
+    // Whether a connection from this address has it.
+    fn is_from(&self, peer: PeerAddress) -> bool
+        ensures { result ≡ is_from peer self.now }
+    {
+        match &self.held {
+            Some(held) => held.peer.bits() == peer.bits(),
+            None => false,
+        }
     }
 
     // Whether the connection of this number has it.
     fn is_of(&self, number: u64) -> bool
         ensures { result ≡ is_of number self.now }
     {
-        match &self.connection {
-            Some(connection) => connection.number() == number,
+        match &self.held {
+            Some(held) => held.connection.number() == number,
             None => false,
         }
     }
@@ -51,14 +73,15 @@ impl<K> ConnectionPlace<K> {
         ensures { self.new ≡ left_by number self.old }
     {
         if self.is_of(number) {
-            self.connection = None;
+            self.held = None;
         }
     }
 }
 
 /// The connections that are open, each at a place of its own, which lends something to whoever serves it. There are as many
-/// places as it was made with. Contracts see them: the number of the connection that has a place, and what it lends; the least
-/// number that a further connection can have; and whether the connection table is closed.
+/// places as it was made with, and of one address no more connections than it was made with, where that is limited. Contracts see
+/// them: the number of the connection that has a place, the address of its peer, and what the place lends; the least number that a
+/// further connection can have; how many of one address may be open; and whether the connection table is closed.
 #[derive(Drop)]
 pub struct ConnectionTable<K> {
     alloc: Global,
@@ -66,16 +89,17 @@ pub struct ConnectionTable<K> {
     // A multiple of how many places there are. A connection's number is that and the index of its place.
     next: u64,
     is_closed: bool,
+    most_of_one: Option<u16>,
 }
 
 impl<K> Model for ConnectionTable<K> {
-    ghost use Rattle.connections.specs.Seats.{Seats, IsSeated};
+    ghost use Rattle.connections.specs.Seats.{Seats, IsSeated, IsShared};
 
     ghost Value = { Seats K };
 
-    ghost view = { λ r. record { next = r.next; is_closed = r.is_closed; places = r.places.items } };
+    ghost view = { λ r. record { next = r.next; is_closed = r.is_closed; most = r.most_of_one; places = r.places.items } };
 
-    ghost invariant = { λ r. IsSeated r.next r.places.items };
+    ghost invariant = { λ r. IsSeated r.next r.places.items × IsShared r.most_of_one r.places.items };
 }
 
 // The index of the first place that is free.
@@ -83,6 +107,13 @@ fn first_free<K>(places: &[ConnectionPlace<K>]) -> Option<usize>
     ensures { result ≡ position is_free places.now }
 {
     places.iter().position(|place| place.is_free())
+}
+
+// How many connections from this address are open.
+fn count_from<K>(places: &[ConnectionPlace<K>], peer: PeerAddress) -> usize
+    ensures { result ≡ count_from peer places.now }
+{
+    places.iter().filter(|place| place.is_from(peer)).count()
 }
 
 // What the place of this index lends. It lends nothing then.
@@ -118,12 +149,12 @@ fn leave_at<K>(places: &mut [ConnectionPlace<K>], index: usize, number: u64)
 }
 
 // The place of this index is the connection's.
-fn seat_at<K>(places: &mut [ConnectionPlace<K>], index: usize, connection: Arc<Connection, Global>)
-    ensures { places.new ≡ with_place (taken_by connection.value) index places.old }
+fn seat_at<K>(places: &mut [ConnectionPlace<K>], index: usize, held: Held)
+    ensures { places.new ≡ with_place (taken_by held) index places.old }
 {
     if index < places.len() {
         let place = &mut places[index];
-        place.connection = Some(connection);
+        place.held = Some(held);
     }
 }
 
@@ -148,14 +179,19 @@ fn open(
 
 impl<K: Drop> ConnectionTable<K> {
     /// With a place for each of these, which it lends. No place is added later: a connection is found by how many there are.
-    /// Refused: there is no memory for the places.
-    pub fn new(alloc: Global, lent: Vec<K>) -> Result<ConnectionTable<K>, AllocError>
-        ensures { IfOk result (λ connection_table. connection_table ≡ record { next = 0; is_closed = false; places = map lends lent.items }) }
+    /// `most_of_one` is how many connections from one address may be open; with `None` as many as there are places. Refused: there
+    /// is no memory for the places.
+    pub fn new(
+        alloc: Global,
+        lent: Vec<K>,
+        most_of_one: Option<u16>,
+    ) -> Result<ConnectionTable<K>, AllocError>
+        ensures { IfOk result (λ connection_table. connection_table ≡ record { next = 0; is_closed = false; most = most_of_one; places = map lends lent.items }) }
     {
         let mut places = Vec::new(alloc);
         for lent in lent {
             places.push(ConnectionPlace {
-                connection: None,
+                held: None,
                 lent: Some(lent),
             })?;
         }
@@ -164,18 +200,44 @@ impl<K: Drop> ConnectionTable<K> {
             places,
             next: 0,
             is_closed: false,
+            most_of_one,
         })
     }
 
-    // The first place that is free, the number that a connection has there, and the least that a further one can have. `None`
-    // also where numbers are used up.
-    fn find_free(&self) -> Option<(usize, u64, u64)>
+    /// How many places there are.
+    pub fn places(&self) -> usize
+        ensures { result ≡ length self.now.places }
+    {
+        self.places.len()
+    }
+
+    /// How many connections from this address are open.
+    pub fn count_from(&self, peer: PeerAddress) -> usize
+        ensures { result ≡ count_from peer self.now.places }
+    {
+        count_from(&self.places, peer)
+    }
+
+    // Whether as many are open from this address as may be.
+    fn is_full_for(&self, peer: PeerAddress) -> bool
+        ensures { result ≡ is_full_for peer self.now }
+    {
+        match self.most_of_one {
+            Some(most) => self.count_from(peer) >= usize::from(most),
+            None => false,
+        }
+    }
+
+    // The first place that is free, the number that a connection from this address has there, and the least that a further one can
+    // have. `None` also where numbers are used up.
+    fn find_free(&self, peer: PeerAddress) -> Option<(usize, u64, u64)>
         ensures place { IfSome result (λ free. (self.now.is_closed ≡ false) × (position is_free self.now.places ≡ Some free.0)) }
+        ensures shared { IfSome result (λ _. is_full_for peer self.now ≡ false) }
         ensures number { IfSome result (λ free. free.1 ≡ self.now.next + free.0) }
         ensures later { IfSome result (λ free. free.2 ≡ self.now.next + length self.now.places) }
-        ensures none { IfNone result ((admitted self.now ≡ None) ⊎ (2 ^ 64 ≤ self.now.next + length self.now.places)) }
+        ensures none { IfNone result ((admitted peer self.now ≡ None) ⊎ (2 ^ 64 ≤ self.now.next + length self.now.places)) }
     {
-        if self.is_closed {
+        if self.is_closed || self.is_full_for(peer) {
             return None;
         }
         let place = first_free(&self.places)?;
@@ -183,28 +245,30 @@ impl<K: Drop> ConnectionTable<K> {
         Some((place, self.next + place as u64, later))
     }
 
-    /// Takes the stream in, at the first place that is free and under a number that none had before. `None` where no place is
-    /// free, the connection table is closed, the socket fails, memory is wanting, or all numbers below 2^64 are used up; nothing changes,
-    /// and the stream is closed then. `idle` is how long its reads wait.
+    /// Takes the stream of a peer at this address in, at the first place that is free and under a number that none had before.
+    /// `None` where no place is free, as many connections from the address are open as may be, the connection table is closed, the
+    /// socket fails, memory is wanting, or all numbers below 2^64 are used up; nothing changes, and the stream is closed then. `idle`
+    /// is how long its reads wait.
     pub fn admit(
         &mut self,
         stream: TcpStream,
+        peer: PeerAddress,
         idle: Option<Duration>,
     ) -> Option<Arc<Connection, Global>>
-        ensures admitted { IfSome result (λ c. admitted self.old ≡ Some (c.value, self.new)) }
+        ensures admitted { IfSome result (λ c. admitted peer self.old ≡ Some (c.value, self.new)) }
         ensures refused { IfNone result (self.new ≡ self.old) }
         ensures seated { IfSome result (λ c. HasPlace c.value self.new) }
         ensures fresh { IfSome result (λ c. (self.old.next ≤ c.value) × (c.value < self.new.next)) }
         ensures later { self.old.next ≤ self.new.next }
     {
-        let Some((place, number, later)) = self.find_free() else {
+        let Some((place, number, later)) = self.find_free(peer) else {
             drop(stream);
             return None;
         };
         match open(self.alloc, number, stream, idle) {
-            Some((ours, theirs)) => {
+            Some((connection, theirs)) => {
                 self.next = later;
-                seat_at(&mut self.places, place, ours);
+                seat_at(&mut self.places, place, Held { connection, peer });
                 Some(theirs)
             }
             None => None,
@@ -229,9 +293,9 @@ impl<K: Drop> ConnectionTable<K> {
     {
         let index = self.place_of(number);
         let place = self.places.get(index)?;
-        let found = place.connection.as_ref()?;
-        if found.number() == number {
-            Some(found)
+        let found = place.held.as_ref()?;
+        if found.connection.number() == number {
+            Some(&found.connection)
         } else {
             None
         }
@@ -243,6 +307,13 @@ impl<K: Drop> ConnectionTable<K> {
         ensures seated { IfSome result (λ _. HasPlace number self.now) }
     {
         Arc::try_clone(self.held(number)?).ok()
+    }
+
+    /// How many connections have a place.
+    pub fn count(&self) -> usize
+        ensures { result ≡ count_by (λ s. not (is_free s)) self.now.places }
+    {
+        self.places.iter().filter(|place| !place.is_free()).count()
     }
 
     /// Lends what the place of the connection of this number lends, until that is given back: it lends nothing then.
@@ -277,8 +348,8 @@ impl<K: Drop> ConnectionTable<K> {
     {
         self.is_closed = true;
         for place in self.places.iter() {
-            if let Some(connection) = &place.connection {
-                connection.end_reading();
+            if let Some(held) = &place.held {
+                held.connection.end_reading();
             }
         }
     }

@@ -6,13 +6,15 @@ mod connection;
 mod connection_table;
 mod law;
 mod listener;
+mod peer_address;
 mod threads;
 mod writer;
 
 pub use connection::{Connection, Lost};
-pub use connection_table::{ConnectionTable, PLACES};
-pub use law::{left_place_is_free, place_is_kept};
+pub use connection_table::ConnectionTable;
+pub use law::{connections_are_counted, left_place_is_free, place_is_kept};
 pub use listener::{Listener, ShutdownHandle};
+pub use peer_address::PeerAddress;
 pub use threads::{Accepted, MainLoop, NoThread, Service, Side, WorkerPool, run};
 pub use writer::Writer;
 

@@ -2,6 +2,7 @@
 //! status monitor's protocol.
 mod nlm;
 mod nsm;
+mod port_mapping;
 mod rpc;
 mod streams;
 mod xdr;

@@ -1,7 +1,7 @@
 //! A server on sockets.
-ghost use Rattle.std.specs.Prelude.{◌≡◌, IfOk};
+ghost use Rattle.std.specs.Prelude.{◌≡◌, if◌then◌else◌, Some, None, IfOk};
 ghost use Rattle.std.specs.Net.Socket.{socket_ip, socket_port};
-ghost use Rattle.lockd_serving.specs.Times.{Lasts};
+ghost use Rattle.lockd_serving.specs.Times.{Lasts, IsRegistered};
 
 use crate::notes::{StartFailure, tell};
 use crate::streams::own_name;
@@ -9,8 +9,9 @@ use config::ServeConfig;
 use hosts_db::HostStore;
 use job_queue::Job;
 use peers::{Peers, PeersFault};
+use port_mapper::PORT as PORT_MAPPER;
 use reply_outbox::Gate;
-use server::{Backing, CallSettings, Runtime, ServerSettings, serve};
+use server::{Backing, CallSettings, Registration, Runtime, ServerSettings, serve};
 use std::alloc::Global;
 use std::fs;
 use std::net::SocketAddr;
@@ -67,13 +68,42 @@ fn peers_of(host: &HostRuntime, path: &str, bytes: &[u8]) -> Result<Peers, Serve
     }
 }
 
+// The port at which port mappers are asked, where they are.
+fn port_mapper_of(asked: &ServeConfig) -> Option<u16>
+    ensures { result ≡ (if asked.now.ask_port_mapper then Some 111 else None) }
+{
+    if asked.ask_port_mapper {
+        Some(PORT_MAPPER)
+    } else {
+        None
+    }
+}
+
+// What is registered at the port mapper of this machine, where that is to be.
+fn registration_of(asked: &ServeConfig) -> Option<Registration>
+    ensures { IsRegistered asked.now.register asked.now.ports.rpc result }
+{
+    if asked.register {
+        Some(Registration {
+            port: asked.ports.rpc.get(),
+            mapper: PORT_MAPPER,
+            pause: Duration::from_secs(10),
+        })
+    } else {
+        None
+    }
+}
+
 fn settings_of(asked: &ServeConfig) -> ServerSettings
     ensures calls { (socket_ip result.rpc ≡ asked.now.bind) × (socket_port result.rpc ≡ asked.now.ports.rpc) }
     ensures own { result.local_port ≡ asked.now.ports.local }
     ensures peers { (result.calls.nlm_port ≡ asked.now.ports.peer_nlm) × (result.calls.nsm_port ≡ asked.now.ports.peer_nsm) }
     ensures watchers { result.calls.watch_port ≡ asked.now.ports.watch }
+    ensures registered { IsRegistered asked.now.register asked.now.ports.rpc result.calls.registration }
+    ensures mappers { result.calls.port_mapper ≡ (if asked.now.ask_port_mapper then Some 111 else None) }
     ensures times { Lasts asked.now.times.grace result.calls.grace × Lasts asked.now.times.silence result.calls.silence × Lasts asked.now.times.idle result.idle }
     ensures workers { (result.workers ≡ asked.now.workers) × (result.is_audited ≡ asked.now.audit) }
+    ensures connections { (result.connections ≡ asked.now.connections) × (result.connections_per_peer ≡ asked.now.connections_per_peer) }
 {
     ServerSettings {
         rpc: SocketAddr::new(asked.bind, asked.ports.rpc.get()),
@@ -82,11 +112,18 @@ fn settings_of(asked: &ServeConfig) -> ServerSettings
             nlm_port: asked.ports.peer_nlm.get(),
             nsm_port: asked.ports.peer_nsm.get(),
             watch_port: asked.ports.watch.get(),
+            port_mapper: port_mapper_of(asked),
+            registration: registration_of(asked),
             grace: Duration::from_secs(u64::from(asked.times.grace.get())),
             silence: Duration::from_secs(u64::from(asked.times.silence.get())),
         },
         idle: Duration::from_secs(u64::from(asked.times.idle.get())),
         workers: asked.workers.get() as u16,
+        connections: asked.connections.get(),
+        connections_per_peer: match asked.connections_per_peer {
+            Some(connections) => Some(connections.get()),
+            None => None,
+        },
         is_audited: asked.audit,
     }
 }

@@ -5,7 +5,7 @@ use crate::peer::peer_at;
 use crate::signals::StopSignals;
 use crate::sockets::CallerSockets;
 use byte_io::MOST_READS;
-use connections::{Accepted, ConnectionTable, Service, ShutdownHandle, Side, Writer};
+use connections::{Accepted, ConnectionTable, PeerAddress, Service, ShutdownHandle, Side, Writer};
 use hosts_db::HostStore;
 use job_queue::{Channel, Place};
 use line_loop::{Signals, serve_lines};
@@ -132,13 +132,18 @@ impl<
     R: Wait + Log,
 > Service<R, Worker<P, L>> for Context<'a, P, L, T, S, G> {
     fn admit(&self, rt: &R, side: Side, stream: TcpStream, from: SocketAddr) -> Option<Accepted> {
+        let peer = PeerAddress::new(from.ip());
         let connection = match side {
             Side::Callers => self
                 .connection_tables
                 .callers
                 .lock(rt)
-                .admit(stream, Some(self.idle)),
-            Side::Locals => self.connection_tables.locals.lock(rt).admit(stream, None),
+                .admit(stream, peer, Some(self.idle)),
+            Side::Locals => self
+                .connection_tables
+                .locals
+                .lock(rt)
+                .admit(stream, peer, None),
         };
         Some(Accepted {
             side,

@@ -3,6 +3,7 @@ use crate::signals::StopSignals;
 use callback_sender::{Locals, Sender};
 use connections::MainLoop;
 use hosts_db::HostStore;
+use log::Log;
 use range_table::RangeTable;
 use std::io::Print;
 use std::net::Net;
@@ -42,7 +43,7 @@ impl<'a, R, D, T: RangeTable, S: HostStore, L: Ledger> Sends<'a, R, D, T, S, L> 
 
 impl<'a, R, D, T, S, L> MainLoop<R> for Sends<'a, R, D, T, S, L>
 where
-    R: Net + Wait + Clock + Print,
+    R: Net + Wait + Clock + Print + Log,
     D: Locals,
     T: RangeTable,
     S: HostStore,
@@ -52,6 +53,7 @@ where
         self.is_told = println!(rt; "ready").is_ok();
         if self.is_told {
             drop(self.sender.run(self.shared, self.stop_signals));
+            self.sender.leave();
         }
     }
 }

@@ -1,42 +1,172 @@
-//! What the places of connections lend.
-use crate::fault::ServerFault;
-use crate::worker_pool::{PoolBuilder, PoolShutdown};
-use connections::{ConnectionTable, PLACES};
-use job_queue::{Channel, Place};
-use std::alloc::{AllocError, Global};
-use std::sync::ledger::Ledger;
-use workers::Worker;
+//! What it takes to answer jobs is given to the places of connections and to the workers, and taken back.
+ghost use Rattle.std.specs.Prelude.{◌≡◌};
 
-/// A connection table of callers, whose places lend what it takes to answer jobs.
-pub(crate) fn callers<P: Place, L: Ledger>(
+use crate::context::ConnectionTables;
+use crate::fault::ServerFault;
+use crate::settings::ServerSettings;
+use crate::worker_pool::{PoolBuilder, PoolShutdown};
+use connections::ConnectionTable;
+use hosts_db::HostStore;
+use job_queue::{Channel, Place};
+use range_table::RangeTable;
+use std::alloc::{AllocError, Global};
+use std::marker::PhantomData;
+use std::sync::Mutex;
+use std::sync::ledger::Ledger;
+use workers::{Shared, Worker};
+
+/// How many connections of local programs may be open.
+const LOCAL_PLACES: usize = 256;
+
+/// How many parts the ledger `L` is cut into.
+#[derive(Drop)]
+pub(crate) struct Parts<L: Ledger> {
+    count: u64,
+    of: PhantomData<L>,
+    ghost all: { count ≡ L.parts },
+}
+
+impl<L: Ledger> Parts<L> {
+    /// As many.
+    pub(crate) fn new(count: u64) -> Parts<L>
+        requires { count ≡ L.parts }
+    {
+        Parts {
+            count,
+            of: PhantomData,
+        }
+    }
+
+    fn count(&self) -> u64
+        ensures { result ≡ L.parts }
+    {
+        self.count
+    }
+}
+
+/// A channel and who cuts workers of it, before anything was given out. The ledger is cut into these parts.
+#[derive(Drop)]
+pub(crate) struct Unseated<P: Place, L: Ledger> {
+    pub(crate) alloc: Global,
+    pub(crate) channel: Channel<P>,
+    pub(crate) pool_builder: PoolBuilder<P, L>,
+    pub(crate) parts: Parts<L>,
+}
+
+/// A channel, the connections with what their places lend, and who takes back what was given out. The ledger is cut into these parts.
+#[derive(Drop)]
+pub(crate) struct Seats<P: Place, L: Ledger> {
+    pub(crate) channel: Channel<P>,
+    pub(crate) connection_tables: ConnectionTables<P, L>,
+    pool_shutdown: PoolShutdown<P, L>,
+    parts: Parts<L>,
+}
+
+// A connection table of callers, whose places lend what it takes to answer jobs.
+fn callers<P: Place, L: Ledger>(
     alloc: Global,
     pool_builder: &mut PoolBuilder<P, L>,
     channel: &Channel<P>,
+    settings: &ServerSettings,
 ) -> Result<ConnectionTable<Worker<P, L>>, ServerFault> {
-    let workers = pool_builder.cut_all(channel, PLACES as u16)?;
-    Ok(ConnectionTable::new(alloc, workers)?)
+    let workers = pool_builder.cut_all(channel, settings.connections)?;
+    Ok(ConnectionTable::new(alloc, workers, settings.connections_per_peer)?)
 }
 
-/// A connection table of local programs, whose places lend nothing that they need. Refused: there is no memory for it.
-pub(crate) fn locals(alloc: Global) -> Result<ConnectionTable<()>, AllocError> {
+// A connection table of local programs, whose places lend nothing that they need. Refused: there is no memory for it.
+fn locals(alloc: Global) -> Result<ConnectionTable<()>, AllocError> {
     let mut nothing = Vec::new(alloc);
-    for _ in 0..PLACES {
+    for _ in 0..LOCAL_PLACES {
         nothing.push(())?;
     }
-    ConnectionTable::new(alloc, nothing)
+    ConnectionTable::new(alloc, nothing, None)
 }
 
-/// Takes back what the places lent, once nobody serves.
-pub(crate) fn take_back<P: Place, L: Ledger>(
+// Takes back what the places lent.
+fn take_back<P: Place, L: Ledger>(
     pool_shutdown: &mut PoolShutdown<P, L>,
     channel: &Channel<P>,
     connection_table: &mut ConnectionTable<Worker<P, L>>,
 ) -> Result<(), ServerFault> {
-    for place in 0..PLACES {
+    for place in 0..connection_table.places() {
         let worker = connection_table
             .take(place)
             .ok_or(ServerFault::AuditMismatch)?;
         pool_shutdown.take(channel, worker)?;
     }
     Ok(())
+}
+
+// Takes back what the places lent, and then what the workers had.
+fn gather_all<P: Place, L: Ledger>(
+    pool_shutdown: &mut PoolShutdown<P, L>,
+    channel: &Channel<P>,
+    callers: &mut ConnectionTable<Worker<P, L>>,
+    workers: Vec<Worker<P, L>>,
+) -> Result<(), ServerFault> {
+    match take_back(pool_shutdown, channel, callers) {
+        Ok(()) => Ok(pool_shutdown.take_all(channel, workers)?),
+        Err(fault) => {
+            drop(workers);
+            Err(fault)
+        }
+    }
+}
+
+impl<P: Place, L: Ledger> Unseated<P, L> {
+    /// Gives each place of a caller and then each worker what it takes to answer jobs. The workers come beside. `Starved`: there is
+    /// no memory for it, and nothing is left.
+    pub(crate) fn seat_all(
+        self,
+        settings: &ServerSettings,
+    ) -> Result<(Seats<P, L>, Vec<Worker<P, L>>), ServerFault> {
+        let Unseated {
+            alloc,
+            channel,
+            mut pool_builder,
+            parts,
+        } = self;
+        let callers = callers(alloc, &mut pool_builder, &channel, settings)?;
+        let workers = pool_builder.cut_all(&channel, settings.workers)?;
+        let locals = locals(alloc)?;
+        let seats = Seats {
+            channel,
+            connection_tables: ConnectionTables {
+                callers: Mutex::new(callers),
+                locals: Mutex::new(locals),
+            },
+            pool_shutdown: pool_builder.into_pool_shutdown(),
+            parts,
+        };
+        Ok((seats, workers))
+    }
+}
+
+impl<P: Place, L: Ledger> Seats<P, L> {
+    /// Takes back what was given out, once nobody serves, and checks the journal of the same ledger: how many calls were taken,
+    /// where that was audited, and else 0. `AuditMismatch`: not all came back, or the journal and the receipts don't agree.
+    /// `Starved`: there is no memory to check it.
+    pub(crate) fn settle<T: RangeTable + Drop, S: HostStore + Drop>(
+        self,
+        shared: Shared<T, S, L>,
+        workers: Vec<Worker<P, L>>,
+    ) -> Result<u64, ServerFault> {
+        let Seats {
+            channel,
+            connection_tables,
+            mut pool_shutdown,
+            parts,
+        } = self;
+        let mut callers = connection_tables.callers.into_inner();
+        let gathered = gather_all(&mut pool_shutdown, &channel, &mut callers, workers);
+        drop(callers);
+        match gathered {
+            Ok(()) => Ok(pool_shutdown.settle(&channel, shared, parts.count())?),
+            Err(fault) => {
+                drop(shared);
+                drop(pool_shutdown);
+                Err(fault)
+            }
+        }
+    }
 }

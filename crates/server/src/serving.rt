@@ -1,32 +1,30 @@
 //! A server, from its start to its end.
-ghost use Rattle.std.specs.Prelude.{◌≡◌, ◌+◌, [], IfOk};
+ghost use Rattle.std.specs.Prelude.{◌≡◌, []};
 
-use crate::context::{ConnectionTables, Context, ShutdownHandles};
-use crate::fault::{NoListener, ServerFault};
+use crate::context::{Context, ShutdownHandles};
+use crate::fault::ServerFault;
 use crate::lines::LocalLines;
+use crate::listening::{Listening, listen};
 use crate::main_loop::Sends;
 use crate::runtime::Runtime;
-use crate::seats::{callers, locals, take_back};
+use crate::seats::{Parts, Seats, Unseated};
 use crate::settings::{Backing, ServerSettings};
 use crate::signals::StopSignals;
-use crate::worker_pool::{PoolBuilder, PoolShutdown};
+use crate::unnamed::Unnamed;
+use crate::worker_pool::PoolBuilder;
 use book::Book;
 use callback_sender::Sender;
-use callbacks::ShortBytes;
-use connections::{
-    ConnectionTable, Listener, NoThread, PLACES, Service, ShutdownHandle, WorkerPool, run,
-};
+use connections::{NoThread, WorkerPool, run};
 use hosts_db::HostStore;
-use job_queue::{Channel, Opened, Place};
+use job_queue::Place;
 use peers::Peers;
-use range_arena::ArenaTable;
 use range_table::RangeTable;
 use reply_outbox::Gate;
 use std::alloc::Global;
 use std::io;
 use std::marker::Brand;
-use std::net::{Ipv4Addr, Net, SocketAddr, SocketAddrV4, TcpListener, TcpStream};
-use std::sync::ledger::{Blank, Book as Total, Ledger};
+use std::net::{Net, TcpListener, TcpStream};
+use std::sync::ledger::{Book as Total, Ledger};
 use std::sync::{Mutex, Wait};
 use std::time::Clock;
 use workers::{Shared, Worker};
@@ -34,46 +32,144 @@ use workers::{Shared, Worker};
 /// The bytes of a thread's stack.
 const STACK: usize = 262_144;
 
-// Both listeners, and what shuts them.
+// A server that has begun anew: what its threads share, and what is left behind them. The pool and the journal are of one ledger.
 #[derive(Drop)]
-struct Listening {
-    callers: Listener,
-    locals: Listener,
+struct Server<P: Place, L: Ledger, T: RangeTable, S: HostStore> {
+    alloc: Global,
+    settings: ServerSettings,
+    shared: Mutex<Shared<T, S, L>>,
+    seats: Seats<P, L>,
+}
+
+// What the threads of a server take with them: its listeners with what each worker has, the status port, if there is one, what
+// shuts the listeners, and the peers that are called.
+#[derive(Drop)]
+struct Start<P: Place, L: Ledger> {
+    worker_pool: WorkerPool<Worker<P, L>>,
     shutdown_handles: ShutdownHandles,
+    peers: Peers,
 }
 
-fn loopback(port: u16) -> SocketAddr {
-    SocketAddr::V4(SocketAddrV4::new(Ipv4Addr::LOCALHOST, port))
-}
-
-// A listener at this address, and what shuts it.
-fn open_listener<R>(rt: &R, at: SocketAddr) -> Result<(Listener, ShutdownHandle), NoListener>
-where
-    R: Net<Listener = TcpListener, Stream = TcpStream>,
-{
-    let opened = match TcpListener::bind(rt, at) {
-        Ok(listener) => Listener::new(listener),
-        Err(error) => Err(error),
-    };
-    match opened {
-        Ok(listener) => Ok(listener),
-        Err(error) => Err(NoListener { at, error }),
+impl<P: Place, L: Ledger> Start<P, L> {
+    fn new(
+        alloc: Global,
+        listening: Listening,
+        workers: Vec<Worker<P, L>>,
+        peers: Peers,
+    ) -> Start<P, L> {
+        let Listening {
+            callers,
+            locals,
+            shutdown_handles,
+        } = listening;
+        Start {
+            worker_pool: WorkerPool {
+                alloc,
+                callers,
+                locals,
+                workers,
+                stack: STACK,
+            },
+            shutdown_handles,
+            peers,
+        }
     }
 }
 
-fn listen<R>(rt: &R, settings: &ServerSettings) -> Result<Listening, NoListener>
-where
-    R: Net<Listener = TcpListener, Stream = TcpStream>,
+// What there is once a server has begun anew: a book that all threads share, what they are to be given, and the peers.
+#[derive(Drop)]
+struct Begun<P: Place, L: Ledger, T: RangeTable, S: HostStore> {
+    shared: Shared<T, S, L>,
+    unseated: Unseated<P, L>,
+    peers: Peers,
+}
+
+// A book over the store whose server has begun anew, so that the store has the new own state, and beside it the peers.
+fn shared_over<T: RangeTable + Drop, S: HostStore + Drop, L: Ledger>(
+    alloc: Global,
+    table: T,
+    backing: Backing<S>,
+    total: Total<L>,
+    is_audited: bool,
+) -> Result<(Shared<T, S, L>, Peers), ServerFault>
+    requires empty { T.settings table ≡ [] }
+    requires total { total.total ≡ 0 }
 {
-    let (callers, callers_shutdown_handle) = open_listener(rt, settings.rpc)?;
-    let (locals, locals_shutdown_handle) = open_listener(rt, loopback(settings.local_port))?;
-    Ok(Listening {
-        callers,
-        locals,
-        shutdown_handles: ShutdownHandles {
-            callers: callers_shutdown_handle,
-            locals: locals_shutdown_handle,
-        },
+    let Backing {
+        store,
+        peers,
+        own_name,
+    } = backing;
+    let Ok(book) = Book::new(alloc, table, store, own_name) else {
+        drop(peers);
+        return Err(ServerFault::Starved);
+    };
+    match Shared::new(alloc, book, total, is_audited) {
+        Ok(shared) => Ok((shared, peers)),
+        Err(why) => {
+            drop(peers);
+            Err(ServerFault::from(why))
+        }
+    }
+}
+
+// Names the channel and the ledger, and begins the server anew.
+fn begin<P: Place, L: Ledger, T: RangeTable + Drop, S: HostStore + Drop>(
+    settings: &ServerSettings,
+    backing: Backing<S>,
+    unnamed: Unnamed<T>,
+) -> Result<Begun<P, L, T, S>, ServerFault>
+    requires place { (unnamed.opened.slip.table_id ≡ P.table) × (unnamed.opened.slip.me.0.of ≡ P.key) }
+    requires ledger { (unnamed.blank.name ≡ L.name) × (unnamed.blank.parts ≡ L.parts) }
+{
+    let Unnamed {
+        alloc,
+        table,
+        opened,
+        blank,
+        parts,
+    } = unnamed;
+    let is_audited = settings.is_audited;
+    let (channel, keeper) = opened.named::<P>();
+    let (total, share) = blank.open::<L>();
+    let unseated = Unseated {
+        alloc,
+        channel,
+        pool_builder: PoolBuilder::new(alloc, keeper, share, parts, is_audited),
+        parts: Parts::new(parts),
+    };
+    match shared_over(alloc, table, backing, total, is_audited) {
+        Ok((shared, peers)) => Ok(Begun {
+            shared,
+            unseated,
+            peers,
+        }),
+        Err(fault) => {
+            drop(unseated);
+            Err(fault)
+        }
+    }
+}
+
+// What the server's own calls need.
+#[derive(Drop)]
+struct Calling<'a, R> {
+    sender: Sender<'a, R, LocalLines<'a, R>>,
+    stop_signals: StopSignals,
+}
+
+fn call<'a, R: Net + Clock + Wait>(
+    rt: &'a R,
+    alloc: Global,
+    settings: &ServerSettings,
+    peers: Peers,
+    locals: &'a LocalLines<'a, R>,
+) -> io::Result<Calling<'a, R>> {
+    let sender = Sender::new(alloc, rt, settings.calls, peers, locals)?;
+    let stop_signals = StopSignals::new(sender.waker()?);
+    Ok(Calling {
+        sender,
+        stop_signals,
     })
 }
 
@@ -106,189 +202,119 @@ fn if_told<W: Drop>(ran: Result<Vec<W>, NoThread>, is_told: bool) -> Result<Vec<
     }
 }
 
-// What stands before the threads, and what is left behind them.
-#[derive(Drop)]
-struct Inside<'a, P: Place, L: Ledger, T: RangeTable, S: HostStore> {
-    channel: &'a Channel<P>,
-    shared: Mutex<Shared<T, S, L>>,
-    connection_tables: ConnectionTables<P, L>,
-}
-
-// What the server's own calls need.
-#[derive(Drop)]
-struct Calling<'a, R> {
-    sender: Sender<'a, R, LocalLines<'a, R>>,
-    stop_signals: StopSignals,
-}
-
-fn call<'a, R: Net + Clock + Wait>(
-    rt: &'a R,
-    alloc: Global,
-    settings: &ServerSettings,
-    peers: Peers,
-    locals: &'a LocalLines<'a, R>,
-) -> io::Result<Calling<'a, R>> {
-    let sender = Sender::new(alloc, rt, settings.calls, peers, locals)?;
-    let stop_signals = StopSignals::new(sender.waker()?);
-    Ok(Calling {
-        sender,
-        stop_signals,
-    })
-}
-
-// Opens the listeners, and serves until it is stopped.
-fn serve_inside<P, L, T, S, G, R>(
-    rt: &R,
-    alloc: Global,
-    settings: &ServerSettings,
-    gate: &G,
-    peers: Peers,
-    inside: &Inside<'_, P, L, T, S>,
-    workers: Vec<Worker<P, L>>,
-) -> Result<Vec<Worker<P, L>>, ServerFault>
+impl<P, L, T, S> Server<P, L, T, S>
 where
     P: Place + Send + Sync,
     L: Ledger + Send + Sync,
     T: RangeTable + Drop + Send,
     S: HostStore + Drop + Send,
-    G: Gate + Sync,
-    R: Runtime,
 {
-    let Listening {
-        callers,
-        locals,
-        shutdown_handles,
-    } = match listen(rt, settings) {
-        Ok(listening) => listening,
-        Err(refused) => return Err(ServerFault::ReadFault(refused)),
-    };
-    let lines = LocalLines::new(rt, &inside.connection_tables.locals);
-    let Calling {
-        sender,
-        stop_signals,
-    } = match call(rt, alloc, settings, peers, &lines) {
-        Ok(calling) => calling,
-        Err(error) => return Err(ServerFault::NoSender(error)),
-    };
-    let context = Context {
-        alloc,
-        channel: inside.channel,
-        shared: &inside.shared,
-        connection_tables: &inside.connection_tables,
-        shutdown_handles: &shutdown_handles,
-        stop_signals: &stop_signals,
-        gate,
-        idle: settings.idle,
-    };
-    let worker_pool = WorkerPool {
-        alloc,
-        callers,
-        locals,
-        workers,
-        stack: STACK,
-    };
-    run_threads(rt, &context, worker_pool, sender)
-}
+    // All that can be had before a thread starts. The store has the new own state before a listener opens. Each fault lets go of
+    // what was had: `Starved`, `StoreRefused`, and `ReadFault`, behind which the new own state stays stored.
+    fn open<R>(
+        rt: &R,
+        settings: &ServerSettings,
+        backing: Backing<S>,
+        unnamed: Unnamed<T>,
+    ) -> Result<(Server<P, L, T, S>, Start<P, L>), ServerFault>
+    where
+        R: Net<Listener = TcpListener, Stream = TcpStream>,
+        requires place { (unnamed.opened.slip.table_id ≡ P.table) × (unnamed.opened.slip.me.0.of ≡ P.key) }
+        requires ledger { (unnamed.blank.name ≡ L.name) × (unnamed.blank.parts ≡ L.parts) }
+    {
+        let alloc = unnamed.alloc;
+        let Begun {
+            shared,
+            unseated,
+            peers,
+        } = match begin::<P, L, T, S>(settings, backing, unnamed) {
+            Ok(begun) => begun,
+            Err(fault) => return Err(fault),
+        };
+        let (seats, workers) = match unseated.seat_all(settings) {
+            Ok(seated) => seated,
+            Err(fault) => {
+                drop(shared);
+                drop(peers);
+                return Err(fault);
+            }
+        };
+        let server = Server {
+            alloc,
+            settings: *settings,
+            shared: Mutex::new(shared),
+            seats,
+        };
+        match listen(rt, settings) {
+            Ok(listening) => Ok((server, Start::new(alloc, listening, workers, peers))),
+            Err(refused) => {
+                drop(server);
+                drop(workers);
+                drop(peers);
+                Err(ServerFault::ReadFault(refused))
+            }
+        }
+    }
 
-// What all threads share: a book over the store, whose server has begun anew.
-fn shared_over<T: RangeTable + Drop, S: HostStore + Drop, L: Ledger>(
-    alloc: Global,
-    table: T,
-    store: S,
-    own_name: ShortBytes,
-    total: Total<L>,
-    is_audited: bool,
-) -> Result<Shared<T, S, L>, ServerFault>
-    requires empty { T.settings table ≡ [] }
-    requires total { total.total ≡ 0 }
-{
-    match Book::new(alloc, table, store, own_name) {
-        Ok(book) => Ok(Shared::new(alloc, book, total, is_audited)?),
-        Err(_) => Err(ServerFault::Starved),
+    // Starts the threads, prints `ready`, and comes back with what the workers had once the server was stopped and all threads have
+    // ended. `NoSender`: no thread was started. `NoThread`, `WriteFault`: each that was started has ended.
+    fn run<G, R>(
+        &self,
+        rt: &R,
+        gate: &G,
+        start: Start<P, L>,
+    ) -> Result<Vec<Worker<P, L>>, ServerFault>
+    where
+        G: Gate + Sync,
+        R: Runtime,
+    {
+        let Start {
+            worker_pool,
+            shutdown_handles,
+            peers,
+        } = start;
+        // The sender borrows the connection table through these lines, so it is made here and not by `open`.
+        let lines = LocalLines::new(rt, &self.seats.connection_tables.locals);
+        let Calling {
+            sender,
+            stop_signals,
+        } = match call(rt, self.alloc, &self.settings, peers, &lines) {
+            Ok(calling) => calling,
+            Err(error) => return Err(ServerFault::NoSender(error)),
+        };
+        let context = Context {
+            alloc: self.alloc,
+            channel: &self.seats.channel,
+            shared: &self.shared,
+            connection_tables: &self.seats.connection_tables,
+            shutdown_handles: &shutdown_handles,
+            stop_signals: &stop_signals,
+            gate,
+            idle: self.settings.idle,
+        };
+        run_threads(rt, &context, worker_pool, sender)
+    }
+
+    // Takes back what was given out, and checks the journal: how many calls were taken, where that was audited, and else 0.
+    // `AuditMismatch`: not all came back, or the journal and the receipts don't agree. `Starved`: no memory to check it.
+    fn finish(self, workers: Vec<Worker<P, L>>) -> Result<u64, ServerFault> {
+        let Server {
+            alloc: _,
+            settings: _,
+            shared,
+            seats,
+        } = self;
+        seats.settle(shared.into_inner(), workers)
     }
 }
 
-// What connections and workers have before the first comes.
-#[derive(Drop)]
-struct Seated<P: Place, L: Ledger> {
-    connection_tables: ConnectionTables<P, L>,
-    workers: Vec<Worker<P, L>>,
-}
-
-fn seat_all<P: Place, L: Ledger>(
-    alloc: Global,
-    pool_builder: &mut PoolBuilder<P, L>,
-    channel: &Channel<P>,
-    workers: u16,
-) -> Result<Seated<P, L>, ServerFault> {
-    let callers = callers(alloc, pool_builder, channel)?;
-    let workers = pool_builder.cut_all(channel, workers)?;
-    let locals = locals(alloc)?;
-    Ok(Seated {
-        connection_tables: ConnectionTables {
-            callers: Mutex::new(callers),
-            locals: Mutex::new(locals),
-        },
-        workers,
-    })
-}
-
-// Everybody has what he works with, serves, and gives it back.
-fn serve_seated<P, L, T, S, G, R>(
-    rt: &R,
-    alloc: Global,
-    settings: &ServerSettings,
-    gate: &G,
-    peers: Peers,
-    channel: &Channel<P>,
-    shared: Shared<T, S, L>,
-    mut pool_builder: PoolBuilder<P, L>,
-    parts: u64,
-) -> Result<u64, ServerFault>
-where
-    P: Place + Send + Sync,
-    L: Ledger + Send + Sync,
-    T: RangeTable + Drop + Send,
-    S: HostStore + Drop + Send,
-    G: Gate + Sync,
-    R: Runtime,
-    requires { parts ≡ L.parts }
-{
-    match seat_all(alloc, &mut pool_builder, channel, settings.workers) {
-        Ok(
-            Seated {
-                connection_tables,
-                workers,
-            },
-        ) => {
-            let inside = Inside {
-                channel,
-                shared: Mutex::new(shared),
-                connection_tables,
-            };
-            let back = serve_inside(rt, alloc, settings, gate, peers, &inside, workers);
-            end(pool_builder.into_pool_shutdown(), inside, back, parts)
-        }
-        Err(fault) => {
-            drop(shared);
-            drop(pool_builder);
-            drop(peers);
-            Err(fault)
-        }
-    }
-}
-
-// Everything is put together, served, and taken apart.
+// Serves by the channel and the ledger of these types.
 fn serve_as<P, L, T, S, G, R>(
     rt: &R,
-    alloc: Global,
     settings: &ServerSettings,
-    table: T,
     backing: Backing<S>,
     gate: &G,
-    opened: Opened,
-    blank: Blank,
-    parts: u64,
+    unnamed: Unnamed<T>,
 ) -> Result<u64, ServerFault>
 where
     P: Place + Send + Sync,
@@ -297,81 +323,17 @@ where
     S: HostStore + Drop + Send,
     G: Gate + Sync,
     R: Runtime,
-    requires empty { T.settings table ≡ [] }
-    requires place { (opened.slip.table_id ≡ P.table) × (opened.slip.me.0.of ≡ P.key) }
-    requires ledger { (blank.name ≡ L.name) × (blank.parts ≡ L.parts) × (blank.parts ≡ parts) }
+    requires place { (unnamed.opened.slip.table_id ≡ P.table) × (unnamed.opened.slip.me.0.of ≡ P.key) }
+    requires ledger { (unnamed.blank.name ≡ L.name) × (unnamed.blank.parts ≡ L.parts) }
 {
-    let is_audited = settings.is_audited;
-    let (channel, keeper) = opened.named::<P>();
-    let (total, share) = blank.open::<L>();
-    let pool_builder = PoolBuilder::new(alloc, keeper, share, parts, is_audited);
-    let Backing {
-        store,
-        peers,
-        own_name,
-    } = backing;
-    let served = match shared_over(alloc, table, store, own_name, total, is_audited) {
-        Ok(shared) => serve_seated(
-            rt,
-            alloc,
-            settings,
-            gate,
-            peers,
-            &channel,
-            shared,
-            pool_builder,
-            parts,
-        ),
-        Err(fault) => {
-            drop(pool_builder);
-            drop(peers);
-            Err(fault)
-        }
+    let (server, start) = match Server::<P, L, T, S>::open(rt, settings, backing, unnamed) {
+        Ok(opened) => opened,
+        Err(fault) => return Err(fault),
     };
-    drop(channel);
-    served
-}
-
-// Everybody gives back what he had.
-fn gather_all<P: Place, L: Ledger>(
-    pool_shutdown: &mut PoolShutdown<P, L>,
-    channel: &Channel<P>,
-    callers: &mut ConnectionTable<Worker<P, L>>,
-    back: Result<Vec<Worker<P, L>>, ServerFault>,
-) -> Result<(), ServerFault> {
-    let workers = back?;
-    match take_back(pool_shutdown, channel, callers) {
-        Ok(()) => Ok(pool_shutdown.take_all(channel, workers)?),
+    match server.run(rt, gate, start) {
+        Ok(workers) => server.finish(workers),
         Err(fault) => {
-            drop(workers);
-            Err(fault)
-        }
-    }
-}
-
-// What was cut is taken back, and the journal is checked.
-fn end<P: Place, L: Ledger, T: RangeTable + Drop, S: HostStore + Drop>(
-    pool_shutdown: PoolShutdown<P, L>,
-    inside: Inside<'_, P, L, T, S>,
-    back: Result<Vec<Worker<P, L>>, ServerFault>,
-    parts: u64,
-) -> Result<u64, ServerFault>
-    requires { parts ≡ L.parts }
-{
-    let mut pool_shutdown = pool_shutdown;
-    let Inside {
-        channel,
-        shared,
-        connection_tables,
-    } = inside;
-    let mut callers = connection_tables.callers.into_inner();
-    let gathered = gather_all(&mut pool_shutdown, channel, &mut callers, back);
-    drop(callers);
-    match gathered {
-        Ok(()) => Ok(pool_shutdown.settle(channel, shared.into_inner(), parts)?),
-        Err(fault) => {
-            drop(shared);
-            drop(pool_shutdown);
+            drop(server);
             Err(fault)
         }
     }
@@ -397,25 +359,9 @@ where
     G: Gate + Sync,
     R: Runtime,
 {
-    let Ok(table) = ArenaTable::new(alloc) else {
+    let Ok(unnamed) = Unnamed::new(alloc, settings) else {
         drop(backing);
         return Err(ServerFault::Starved);
     };
-    let Ok(opened) = Opened::new(alloc) else {
-        drop(table);
-        drop(backing);
-        return Err(ServerFault::Starved);
-    };
-    let parts = PLACES as u64 + u64::from(settings.workers);
-    serve_as::<Brand, Brand, _, _, _, _>(
-        rt,
-        alloc,
-        settings,
-        table,
-        backing,
-        gate,
-        opened,
-        Blank::new(parts),
-        parts,
-    )
+    serve_as::<Brand, Brand, _, _, _, _>(rt, settings, backing, gate, unnamed)
 }

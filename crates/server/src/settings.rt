@@ -17,6 +17,10 @@ pub struct ServerSettings {
     pub idle: Duration,
     /// How many workers there are beside the connections' own threads.
     pub workers: u16,
+    /// How many connections for calls by record may be open. A further one is closed at once.
+    pub connections: u16,
+    /// How many of them may come from one address; with `None` all. A further one from it is closed at once.
+    pub connections_per_peer: Option<u16>,
     /// Whether the journal is kept and checked at the end.
     pub is_audited: bool,
 }

@@ -72,16 +72,86 @@ fn is_told_to_stop(mut local: &TcpStream) -> io::Result<bool> {
     Ok(room == *b"ok\n")
 }
 
-// Has a call answered, and tells the server to stop: whether it answers both.
-fn talk<R>(rt: &R, rpc: u16, local: u16) -> io::Result<bool>
+// Whether a call on this connection is answered.
+fn is_answered(caller: &TcpStream) -> io::Result<bool> {
+    write_words(caller, NULL.as_slice())?;
+    reads_words(caller, NULL_REPLY.as_slice())
+}
+
+// Whether the server closes the connection, and sends nothing more.
+fn is_closed(mut from: &TcpStream) -> io::Result<bool> {
+    let mut room = [0u8; 1];
+    Ok(from.read(&mut room)? == 0)
+}
+
+/// What is said to a server before it is told to stop.
+#[derive(Clone, Copy)]
+pub(crate) enum Talk {
+    // A call.
+    Call,
+    // So many connections are open at once, and the last one has a call answered.
+    Open(u32),
+    // Two connections are open. A third from their address is closed, until one of them ends.
+    Third,
+}
+
+// Whether the call of the last connection is answered while all others are open.
+fn open_all<R>(rt: &R, alloc: Global, rpc: u16, count: u32) -> io::Result<bool>
 where
     R: Net<Stream = TcpStream> + Clock,
 {
-    let caller = dial(rt, rpc)?;
-    write_words(&caller, NULL.as_slice())?;
-    let is_answered = reads_words(&caller, NULL_REPLY.as_slice())?;
+    let mut others = Vec::new(alloc);
+    for _ in 1..count {
+        let other = dial(rt, rpc)?;
+        let is_taken = is_answered(&other)?;
+        others.push(other)?;
+        if !is_taken {
+            return Ok(false);
+        }
+    }
+    is_answered(&dial(rt, rpc)?)
+}
+
+// Whether a further connection has a call answered after a while: the place of one that ends is free a moment later.
+fn is_taken_in<R>(rt: &R, rpc: u16) -> io::Result<bool>
+where
+    R: Net<Stream = TcpStream> + Clock,
+{
+    for _ in 0..TRIES {
+        if let Ok(true) = is_answered(&dial(rt, rpc)?) {
+            return Ok(true);
+        }
+        thread::sleep(rt, Duration::from_millis(10));
+    }
+    Ok(false)
+}
+
+// Whether a third connection from one address is closed, and one more is taken in once the first has ended.
+fn try_third<R>(rt: &R, rpc: u16) -> io::Result<bool>
+where
+    R: Net<Stream = TcpStream> + Clock,
+{
+    let first = dial(rt, rpc)?;
+    let second = dial(rt, rpc)?;
+    let are_taken = is_answered(&first)? && is_answered(&second)?;
+    let is_turned_away = is_closed(&dial(rt, rpc)?)?;
+    drop(first);
+    let is_counted_again = is_taken_in(rt, rpc)?;
+    Ok(is_counted_again && is_turned_away && are_taken && is_answered(&second)?)
+}
+
+// Says this, and tells the server to stop: whether it answers both.
+fn told<R>(rt: &R, alloc: Global, rpc: u16, local: u16, talk: Talk) -> io::Result<bool>
+where
+    R: Net<Stream = TcpStream> + Clock,
+{
+    let goes = match talk {
+        Talk::Call => is_answered(&dial(rt, rpc)?)?,
+        Talk::Open(count) => open_all(rt, alloc, rpc, count)?,
+        Talk::Third => try_third(rt, rpc)?,
+    };
     let local = dial(rt, local)?;
-    Ok(is_told_to_stop(&local)? && is_answered)
+    Ok(is_told_to_stop(&local)? && goes)
 }
 
 // What a server stands on: two files, and its ports.
@@ -106,24 +176,31 @@ fn words_of(alloc: Global, ground: Ground<'_>, more: &str) -> Result<String, All
     )
 }
 
-// The status of a server with these words, and whether it answered who talked to it.
+// The status of a server with these words on this ground, and whether it answered who talked to it.
 fn served<R: Runtime>(
     host: &HostRuntime,
     rt: &R,
     asked: &str,
-    rpc: u16,
-    local: u16,
+    ground: Ground<'_>,
+    talk: Talk,
 ) -> (Option<ExitCode>, bool) {
+    let Ground { rpc, local, .. } = ground;
+    let alloc = host.alloc();
     let (status, talked) = thread::join(
         rt,
-        move || status(host, rt, asked, &[], &mut Vec::new(host.alloc())),
-        move || talk(rt, rpc, local),
+        move || status(host, rt, asked, &[], &mut Vec::new(alloc)),
+        move || told(rt, alloc, rpc, local, talk),
     );
     (status, matches!(talked, Ok(true)))
 }
 
-/// Whether a server with these words more answers a call, and ends with status 0 once it is told to stop.
-pub(crate) fn serves<R: Runtime>(host: &HostRuntime, rt: &R, more: &str) -> Option<bool> {
+/// Whether a server with these words more answers what is said to it, and ends with status 0 once it is told to stop.
+pub(crate) fn serves<R: Runtime>(
+    host: &HostRuntime,
+    rt: &R,
+    more: &str,
+    talk: Talk,
+) -> Option<bool> {
     let rpc = free_port(rt).ok()?;
     let local = free_port(rt).ok()?;
     let scratch = Scratch::new(host.alloc(), rpc).ok()?;
@@ -134,7 +211,7 @@ pub(crate) fn serves<R: Runtime>(host: &HostRuntime, rt: &R, more: &str) -> Opti
         local,
     };
     let asked = words_of(host.alloc(), ground, more).ok()?;
-    let (status, is_answered) = served(host, rt, asked.as_str(), rpc, local);
+    let (status, is_answered) = served(host, rt, asked.as_str(), ground, talk);
     scratch.remove(host);
     Some(is_answered && status == Some(ExitCode::SUCCESS))
 }

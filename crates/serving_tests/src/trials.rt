@@ -1,6 +1,6 @@
 //! What is tried, each by a test of its own.
 use crate::files::begins_anew;
-use crate::servers::{is_unstarted, misnames_a_peer, serves, shares_a_port};
+use crate::servers::{Talk, is_unstarted, misnames_a_peer, serves, shares_a_port};
 use crate::streams::unserved;
 use log::Log;
 use std::io::Print;
@@ -17,7 +17,7 @@ enum Trial {
     // `lockd pipe` twice over one file.
     OneFile,
     // `lockd serve` until it is told to stop, with these words more.
-    Serves(&'static str),
+    Serves(&'static str, Talk),
     // `lockd serve` with both listeners on one port.
     OnePort,
     // `lockd serve` over a file in no folder.
@@ -42,7 +42,7 @@ where
     let goes = match trial {
         Trial::Streams => return unserved(host, rt),
         Trial::OneFile => begins_anew(host, rt),
-        Trial::Serves(more) => serves(host, rt, more),
+        Trial::Serves(more, talk) => serves(host, rt, more, talk),
         Trial::OnePort => shares_a_port(host, rt),
         Trial::NoFolder => is_unstarted(host, rt, "/dev/null/hosts.db"),
         Trial::Peers(text) => misnames_a_peer(host, rt, text),
@@ -62,12 +62,18 @@ fn two_servers_over_one_file(rt: HostRuntime) -> Result<(), &'static str> {
 
 #[test]
 fn serves_until_it_is_told_to_stop(rt: HostRuntime) -> Result<(), &'static str> {
-    tried(&rt, &rt, Trial::Serves(""))
+    tried(&rt, &rt, Trial::Serves("", Talk::Call))
 }
 
 #[test]
 fn serves_with_an_audit(rt: HostRuntime) -> Result<(), &'static str> {
-    tried(&rt, &rt, Trial::Serves("--audit --workers 2"))
+    tried(&rt, &rt, Trial::Serves("--audit --workers 2", Talk::Call))
+}
+
+// It has no peers, so that none is asked. (A test that registers would change what the port mapper of this machine has.)
+#[test]
+fn serves_and_asks_port_mappers(rt: HostRuntime) -> Result<(), &'static str> {
+    tried(&rt, &rt, Trial::Serves("--ask-port-mapper", Talk::Call))
 }
 
 #[test]
@@ -83,4 +89,22 @@ fn bad_line_of_peers(rt: HostRuntime) -> Result<(), &'static str> {
 #[test]
 fn database_in_no_folder(rt: HostRuntime) -> Result<(), &'static str> {
     tried(&rt, &rt, Trial::NoFolder)
+}
+
+#[test]
+fn more_connections_than_by_default(rt: HostRuntime) -> Result<(), &'static str> {
+    tried(
+        &rt,
+        &rt,
+        Trial::Serves("--connections 300", Talk::Open(257)),
+    )
+}
+
+#[test]
+fn third_connection_of_a_peer(rt: HostRuntime) -> Result<(), &'static str> {
+    tried(
+        &rt,
+        &rt,
+        Trial::Serves("--connections-per-peer 2", Talk::Third),
+    )
 }

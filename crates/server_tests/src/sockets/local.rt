@@ -5,7 +5,7 @@ use super::client::{dial, read, stop, write};
 use super::servers::{Ports, loopback};
 use super::talks::{CALLED, GRACE, REPLY, Response, answered, lock_both, lock_first};
 use std::alloc::Global;
-use std::io;
+use std::io::{self, ErrorKind};
 use std::net::{Net, TcpListener, TcpStream};
 use std::time::Clock;
 use test_kit::put_plain;
@@ -46,6 +46,16 @@ fn is_granted<R: Net<Stream = TcpStream> + Clock>(rt: &R, ports: Ports) -> io::R
     let is_closed = says(&holder, b"close p1 aa\n", b"ok\n")?;
     let is_told = read::<20>(&waiter)? == *b"granted d2 aa r 0 1\n";
     Ok(is_held && is_waiting && is_closed && is_told)
+}
+
+/// A program has a lock of byte 0 of the file 0102, and another waits for it. The error: they were answered otherwise.
+pub(crate) fn hold_and_wait(local: &TcpStream) -> io::Result<()> {
+    if locks(local, b"setlk p1 0102 w 0 1\n")?
+        && says(local, b"setlkw p2 0102 r 0 1\n", b"wait\n")?
+    {
+        return Ok(());
+    }
+    Err(io::Error::from(ErrorKind::InvalidData))
 }
 
 /// A local program waits for a lock. One answer, where it is told of it.

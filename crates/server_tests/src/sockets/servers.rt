@@ -20,7 +20,11 @@ use std::time::{Clock, Duration};
 pub(crate) struct Ports {
     pub(crate) rpc: u16,
     pub(crate) local: u16,
+    /// The peer's own.
     pub(crate) peer: u16,
+    /// Its port mapper's, and one that this may name.
+    pub(crate) mapper: u16,
+    pub(crate) named: u16,
 }
 
 /// This port of loopback.
@@ -42,10 +46,12 @@ impl Ports {
             rpc: free_port(rt)?,
             local: free_port(rt)?,
             peer: free_port(rt)?,
+            mapper: free_port(rt)?,
+            named: free_port(rt)?,
         })
     }
 
-    fn settings(&self, workers: u16, silence: Duration) -> ServerSettings {
+    fn settings(&self, workers: u16, silence: Duration, asks: bool) -> ServerSettings {
         ServerSettings {
             rpc: loopback(self.rpc),
             local_port: self.local,
@@ -53,11 +59,15 @@ impl Ports {
                 nlm_port: self.peer,
                 nsm_port: self.peer,
                 watch_port: self.peer,
+                port_mapper: if asks { Some(self.mapper) } else { None },
+                registration: None,
                 grace: Duration::from_millis(1),
                 silence,
             },
             idle: Duration::from_secs(60),
             workers,
+            connections: 256,
+            connections_per_peer: None,
             is_audited: true,
         }
     }
@@ -119,10 +129,27 @@ where
 {
     match (Ports::free(rt), backing(alloc)) {
         (Ok(ports), Some(backing)) => {
-            let settings = ports.settings(workers, talk.silence());
+            let settings = ports.settings(workers, talk.silence(), talk.asks());
             let noted = Noted::new(rt, alloc);
             let rt = Logged::new(rt, LevelFilter::Info, &noted);
             served(&rt, alloc, settings, backing, wanted, (ports, talk))
+        }
+        _ => None,
+    }
+}
+
+/// The same, but that nothing is held, and that what is noted is not kept. The handle of the test reaches the server as it is: one
+/// that keeps notes gives no sockets for datagrams.
+pub(crate) fn served_plainly<R: Runtime>(rt: &R, alloc: Global, talk: Talk) -> Option<Served> {
+    match (Ports::free(rt), backing(alloc)) {
+        (Ok(ports), Some(backing)) => {
+            let settings = ports.settings(2, talk.silence(), talk.asks());
+            let calls = CallSettings {
+                registration: talk.registration(ports),
+                ..settings.calls
+            };
+            let settings = ServerSettings { calls, ..settings };
+            served(rt, alloc, settings, backing, 0, (ports, talk))
         }
         _ => None,
     }
@@ -165,7 +192,7 @@ where
         (Ok(ports), Some(backing)) => {
             let settings = ServerSettings {
                 idle: Duration::from_millis(100),
-                ..ports.settings(2, Duration::from_secs(5))
+                ..ports.settings(2, Duration::from_secs(5), false)
             };
             let noted = Noted::new(rt, alloc);
             let rt = Logged::new(rt, LevelFilter::Info, &noted);

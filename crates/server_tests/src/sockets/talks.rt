@@ -4,8 +4,11 @@ use super::calls::{
 };
 use super::client::{answer, ask, dial, is_closed, read, stop, write};
 use super::local::{begin_anew, stay_mute, wait};
+use super::mapped::{Mapper, be_mapped};
+use super::registered::be_registered;
 use super::servers::{Ports, loopback};
 use crate::hall::Hall;
+use server::Registration;
 use std::alloc::Global;
 use std::net::{Net, TcpListener, TcpStream};
 use std::time::{Clock, Duration};
@@ -53,6 +56,10 @@ pub(crate) enum Talk {
     Waiting,
     // The server restarts, and its grace period ends once more.
     Anew,
+    // The second owner is granted, whose peer has such a port mapper.
+    Mapped(Mapper),
+    // The server is registered.
+    Registered,
 }
 
 /// How many calls were answered, and of a grant the statuses of the replies, 0 where there were fewer, and the procedure of the
@@ -309,6 +316,8 @@ impl Talk {
             Talk::Mute => stay_mute(rt, alloc, ports),
             Talk::Waiting => wait(rt, ports),
             Talk::Anew => begin_anew(rt, alloc, ports),
+            Talk::Mapped(mapper) => be_mapped(rt, alloc, ports, mapper),
+            Talk::Registered => be_registered(rt, alloc, ports),
         }
     }
 
@@ -316,7 +325,25 @@ impl Talk {
     pub(crate) fn silence(self) -> Duration {
         match self {
             Talk::Mute => Duration::from_millis(100),
+            Talk::Mapped(mapper) => mapper.silence(),
             _ => Duration::from_secs(5),
         }
+    }
+
+    /// What the server registers, and where.
+    pub(crate) fn registration(self, ports: Ports) -> Option<Registration> {
+        match self {
+            Talk::Registered => Some(Registration {
+                port: ports.rpc,
+                mapper: ports.mapper,
+                pause: Duration::from_millis(50),
+            }),
+            _ => None,
+        }
+    }
+
+    /// Whether the server asks port mappers.
+    pub(crate) fn asks(self) -> bool {
+        matches!(self, Talk::Mapped(_))
     }
 }

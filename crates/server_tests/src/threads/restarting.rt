@@ -10,6 +10,7 @@ use book::{Book, BookEvent};
 use callback_sender::{CallSettings, Locals, Sender};
 use hosts_db::{HostStore, MemHosts};
 use line_loop::{Signals, serve_lines};
+use log::Log;
 use peers::Peers;
 use range_arena::ArenaTable;
 use std::alloc::Global;
@@ -62,6 +63,8 @@ fn settings() -> CallSettings {
         nlm_port: 1,
         nsm_port: 1,
         watch_port: 1,
+        port_mapper: None,
+        registration: None,
         grace: long,
         silence: long,
     }
@@ -101,7 +104,11 @@ fn answers<L: Ledger, R: Wait>(
 }
 
 // Some turns of a sender that knows no peer's address, so that each call to one is silent at once. Whether there was memory.
-fn sends<L: Ledger, R: Net + Wait + Clock>(rt: &R, alloc: Global, shared: &Mutex<Kept<L>>) -> bool {
+fn sends<L: Ledger, R: Net + Wait + Clock + Log>(
+    rt: &R,
+    alloc: Global,
+    shared: &Mutex<Kept<L>>,
+) -> bool {
     let Ok(peers) = Peers::read(alloc, b"") else {
         return false;
     };
@@ -130,7 +137,7 @@ fn acknowledges<L: Ledger>(alloc: Global, shared: &mut Kept<L>) -> bool {
 }
 
 // Whether the notice was sent three times and forgotten, so that its acknowledgement comes too late: the host's epoch stays.
-fn is_forgotten<L: Ledger, R: Net + Wait + Clock>(
+fn is_forgotten<L: Ledger, R: Net + Wait + Clock + Log>(
     rt: &R,
     alloc: Global,
     mut shared: Kept<L>,
@@ -148,7 +155,7 @@ fn is_forgotten<L: Ledger, R: Net + Wait + Clock>(
         && hosts.as_slice() == b"61 1 3 65536\nend\n".as_slice()
 }
 
-fn plays<L: Ledger, R: Net + Wait + Clock>(
+fn plays<L: Ledger, R: Net + Wait + Clock + Log>(
     rt: &R,
     alloc: Global,
     book: Book<ArenaTable, MemHosts>,
@@ -176,7 +183,7 @@ fn begun_with_a_host(alloc: Global) -> Option<Book<ArenaTable, MemHosts>>
     begun_over(alloc, store)
 }
 
-fn played<R: Net + Wait + Clock>(rt: &R, alloc: Global) -> Option<bool> {
+fn played<R: Net + Wait + Clock + Log>(rt: &R, alloc: Global) -> Option<bool> {
     let book = begun_with_a_host(alloc)?;
     let blank = Blank::new(1);
     let goes = plays::<Brand, _>(rt, alloc, book, blank);

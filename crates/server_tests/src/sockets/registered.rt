@@ -1,0 +1,111 @@
+//! A server that registers its port: at a port mapper that is absent at first, goes in the midst, and is restarted.
+use super::client::{read, stop, write};
+use super::servers::{Ports, loopback, served_plainly};
+use super::talks::{Response, Talk};
+use log::Log;
+use std::alloc::Global;
+use std::fs::Files;
+use std::io::{self, Print};
+use std::net::{Net, TcpListener, TcpStream};
+use std::sync::Wait;
+use std::test::*;
+use std::thread;
+use std::thread::Threads;
+use std::time::{Clock, Duration};
+use test_kit::put_plain;
+
+/// A call of the server, behind its mark.
+const CALL: usize = 60;
+
+/// The calls in order, but for their xids and the port of the last four: UNSET of each program and version, and SET (RFC 1833,
+/// section 3).
+const CALLS: [&str; 8] = [
+    "2 0 0 0 0 186b5 1 6",
+    "2 0 0 0 0 186b5 3 6",
+    "2 0 0 0 0 186b5 4 6",
+    "2 0 0 0 0 186b8 1 6",
+    "1 0 0 0 0 186b5 1 6",
+    "1 0 0 0 0 186b5 3 6",
+    "1 0 0 0 0 186b5 4 6",
+    "1 0 0 0 0 186b8 1 6",
+];
+
+/// How many of them unset.
+const UNSETS: usize = 4;
+
+// Whether the bytes behind the mark and the xid are this call, with this port.
+fn is_call(alloc: Global, call: &[u8], words: &str, port: u16) -> bool {
+    let mut wanted = Vec::new(alloc);
+    let is_put = put_plain(&mut wanted, "0 2 186a0 2")
+        && put_plain(&mut wanted, words)
+        && wanted
+            .extend_from_slice(u32::from(port).to_be_bytes().as_slice())
+            .is_ok();
+    is_put && call.get(8..) == Some(wanted.as_slice())
+}
+
+// Answers a call: it was done, or not.
+fn answer(alloc: Global, to: &TcpStream, call: &[u8], is_done: bool) -> io::Result<()> {
+    let mut reply = Vec::new(alloc);
+    reply.extend_from_slice(0x8000_001cu32.to_be_bytes().as_slice())?;
+    reply.extend_from_slice(call.get(4..8).unwrap_or_default())?;
+    for word in [1u32, 0, 0, 0, 0, u32::from(is_done)] {
+        reply.extend_from_slice(word.to_be_bytes().as_slice())?;
+    }
+    write(to, &reply)
+}
+
+// Answers so many calls from the first on. Whether they are as they should be. An UNSET is told that nothing was there.
+fn answers(alloc: Global, to: &TcpStream, count: usize, port: u16) -> io::Result<bool> {
+    let mut are_right = true;
+    for (step, words) in CALLS.iter().take(count).enumerate() {
+        let is_set = step >= UNSETS;
+        let call = read::<CALL>(to)?;
+        let port = if is_set { port } else { 0 };
+        are_right = are_right && is_call(alloc, call.as_slice(), words, port);
+        answer(alloc, to, call.as_slice(), is_set)?;
+    }
+    Ok(are_right)
+}
+
+/// The port mapper is absent at first. Then it goes behind three calls; then all are answered, and it goes again; then all are
+/// answered once more, and the server stops, and takes all back.
+pub(crate) fn be_registered<R>(rt: &R, alloc: Global, ports: Ports) -> io::Result<Response>
+where
+    R: Net<Listener = TcpListener, Stream = TcpStream> + Clock,
+{
+    thread::sleep(rt, Duration::from_millis(200));
+    let listener = TcpListener::bind(rt, loopback(ports.mapper))?;
+    let mut are_right = true;
+    for count in [3, CALLS.len()] {
+        let (connection, _) = listener.accept()?;
+        are_right = answers(alloc, &connection, count, ports.rpc)? && are_right;
+        drop(connection);
+    }
+    let (connection, _) = listener.accept()?;
+    are_right = answers(alloc, &connection, CALLS.len(), ports.rpc)? && are_right;
+    let is_stopped = stop(rt, ports.local)?;
+    let are_taken_back = answers(alloc, &connection, UNSETS, ports.rpc)?;
+    let goes = are_right && is_stopped && are_taken_back;
+    Ok(Response::of(u32::from(goes)))
+}
+
+fn tried<R>(rt: &R, alloc: Global) -> bool
+where
+    R: Net<Listener = TcpListener, Stream = TcpStream>
+        + Threads
+        + Wait
+        + Clock
+        + Files
+        + Print
+        + Log
+        + Sync,
+{
+    let served = served_plainly(rt, alloc, Talk::Registered);
+    matches!(served, Some((_, told, _)) if told == Response::of(1))
+}
+
+#[test]
+fn server_is_registered(rt: HostRuntime) {
+    assert!(rt; tried(&rt, rt.alloc()));
+}
