@@ -27,6 +27,8 @@ mod notices;
 #[cfg(test)]
 mod pipe;
 #[cfg(test)]
+mod polls;
+#[cfg(test)]
 mod quotas;
 #[cfg(test)]
 mod reclaims;

@@ -6,8 +6,8 @@ use Rattle.definitions.specs.Bytes.{Bytes, Holds}
 use Rattle.definitions.specs.Hosts.{Hosts}
 use Rattle.definitions.specs.Phases.{Grace}
 use Rattle.definitions.specs.Shares.{Share}
-use Rattle.definitions.specs.World.{the_limits}
-use Rattle.definitions.specs.Step.{State, Given, opening_state}
+use Rattle.definitions.specs.World.{Rules, the_limits}
+use Rattle.definitions.specs.Step.{State, Given, opening_state_with}
 use Rattle.definitions.specs.Replay.{Done, Entry, after, state_after, given_by, done_of, numbers_of, numbers_from, told_of, fits, all_fit, IsLegal as IsLegalFrom}
 use Rattle.definitions.specs.Moves.{IsSound, IsReclaim, TableMove}
 use Rattle.definition_laws.specs.Standing.{IsShareReclaim, IsGrantless}
@@ -93,18 +93,18 @@ segments_are_legal base first (j ∷ closed) last join legal =
 
 -- ---- what stands over every history
 
-module _ (name : Bytes) (hosts : Hosts) (j : Journal) (h : IsHistory name hosts j) where
+module _ (name : Bytes) (rules : Rules) (hosts : Hosts) (j : Journal) (h : IsHistory name rules hosts j) where
   abbrev done : List Done
   done = done_of h.legal.entries
 
-  leads : state_after the_limits (opening_state name hosts) done ≡ j.end
+  leads : state_after the_limits (opening_state_with name rules hosts) done ≡ j.end
   leads = ap (λ (s : State). state_after the_limits s done) (sym h.base) ∙ h.legal.legal.ends
 
   sound : IsSound the_limits j.end.world
-  sound = subst (λ (s : State). IsSound the_limits s.world) leads (run_is_sound the_limits name hosts done)
+  sound = subst (λ (s : State). IsSound the_limits s.world) leads (run_is_sound the_limits name rules hosts done)
 
   grantless : j.end.world.phase ≡ Grace → IsGrantless j.end.world
-  grantless g = subst (λ (s : State). s.world.phase ≡ Grace → IsGrantless s.world) leads (λ in_grace. grace_calls_law the_limits name hosts done in_grace) g
+  grantless g = subst (λ (s : State). s.world.phase ≡ Grace → IsGrantless s.world) leads (λ in_grace. grace_calls_law the_limits name rules hosts done in_grace) g
 
   reclaims_only : j.end.world.phase ≡ Grace → (event : JournalEvent) (step_result : StepResult) (new : State) (step : Steps j.end event step_result new) → GrantsReclaimsOnly j.end event step_result new step
   reclaims_only g event step_result new step = record {
@@ -113,10 +113,10 @@ module _ (name : Bytes) (hosts : Hosts) (j : Journal) (h : IsHistory name hosts 
   }
 
 pub histories_are_sound : HistoriesAreSound
-histories_are_sound name hosts j h = sound name hosts j h
+histories_are_sound name rules hosts j h = sound name rules hosts j h
 
 pub histories_grant_reclaims_only : HistoriesGrantReclaimsOnly
-histories_grant_reclaims_only name hosts j h = reclaims_only name hosts j h
+histories_grant_reclaims_only name rules hosts j h = reclaims_only name rules hosts j h
 
 pub histories_tell_of_no_grant : HistoriesTellOfNoGrant
-histories_tell_of_no_grant name hosts j h = grantless name hosts j h
+histories_tell_of_no_grant name rules hosts j h = grantless name rules hosts j h

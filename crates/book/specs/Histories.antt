@@ -2,7 +2,8 @@
 use Rattle.std.specs.Prelude.{◌≡◌, ℕ, List, [], ◌∷◌, ◌++◌}
 use Rattle.definitions.specs.Bytes.{Bytes}
 use Rattle.definitions.specs.Hosts.{Hosts, Yes}
-use Rattle.definitions.specs.Step.{State, Applied, Nothing, opening_state}
+use Rattle.definitions.specs.World.{Rules}
+use Rattle.definitions.specs.Step.{State, Applied, Nothing, opening_state_with}
 use Rattle.book.specs.Given.{StepResult, comes_to}
 use Rattle.book.specs.Notes.{Note, JournalEvent, BeginsAnew, Steps}
 use Rattle.book.specs.Journal.{Journal, IsLegal, empty_journal, next_of, noted_journal}
@@ -24,10 +25,10 @@ AreLegal (j ∷ journals) = IsLegal j × AreLegal journals
 abbrev pub joined_journal : State → ℕ → List Journal → Journal → Journal
 joined_journal base first closed last = record { first = first; base = base; notes = notes_of closed ++ last.notes; end = last.end }
 
--- a legal history from the opening state of a name and the store's rows, whose numbers begin with 1
-pub record IsHistory (name : Bytes) (hosts : Hosts) (j : Journal) : Type 0 where
+-- a legal history from the opening state of a name, rules and the store's rows, whose numbers begin with 1
+pub record IsHistory (name : Bytes) (rules : Rules) (hosts : Hosts) (j : Journal) : Type 0 where
   pub first : j.first ≡ 1
-  pub base : j.base ≡ opening_state name hosts
+  pub base : j.base ≡ opening_state_with name rules hosts
   pub legal : IsLegal j
 
 -- a legal history leads from the one state to the other

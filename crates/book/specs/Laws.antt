@@ -4,7 +4,7 @@ use Rattle.definitions.specs.Bytes.{Bytes, Holds}
 use Rattle.definitions.specs.Hosts.{Hosts}
 use Rattle.definitions.specs.Phases.{Grace}
 use Rattle.definitions.specs.Shares.{Share}
-use Rattle.definitions.specs.World.{the_limits}
+use Rattle.definitions.specs.World.{Rules, the_limits}
 use Rattle.definitions.specs.Step.{State}
 use Rattle.definitions.specs.Moves.{IsSound, IsReclaim, TableMove}
 use Rattle.definition_laws.specs.Standing.{IsShareReclaim, IsGrantless}
@@ -15,7 +15,7 @@ use Rattle.book.specs.Histories.{IsHistory}
 
 -- no byte has an exclusive mode of one owner and any mode of another, and nobody who waits could be granted
 abbrev pub HistoriesAreSound : Type 0
-HistoriesAreSound = (name : Bytes) (hosts : Hosts) (j : Journal) → IsHistory name hosts j → IsSound the_limits j.end.world
+HistoriesAreSound = (name : Bytes) (rules : Rules) (hosts : Hosts) (j : Journal) → IsHistory name rules hosts j → IsSound the_limits j.end.world
 
 -- a step grants no lock and no share but to the reclaim that its event is
 pub record GrantsReclaimsOnly (old : State) (event : JournalEvent) (step_result : StepResult) (new : State) (step : Steps old event step_result new) : Type 0 where
@@ -30,11 +30,11 @@ GrantReclaimsOnly old =
 
 -- wherever a history has led
 abbrev pub HistoriesGrantReclaimsOnly : Type 0
-HistoriesGrantReclaimsOnly = (name : Bytes) (hosts : Hosts) (j : Journal) → IsHistory name hosts j → GrantReclaimsOnly j.end
+HistoriesGrantReclaimsOnly = (name : Bytes) (rules : Rules) (hosts : Hosts) (j : Journal) → IsHistory name rules hosts j → GrantReclaimsOnly j.end
 
 -- in grace nobody waits, and no call tells of a grant: so no GRANTED and no GRANTED_MSG is due
 abbrev pub TellsOfNoGrant : State → Type 0
 TellsOfNoGrant s = s.world.phase ≡ Grace → IsGrantless s.world
 
 abbrev pub HistoriesTellOfNoGrant : Type 0
-HistoriesTellOfNoGrant = (name : Bytes) (hosts : Hosts) (j : Journal) → IsHistory name hosts j → TellsOfNoGrant j.end
+HistoriesTellOfNoGrant = (name : Bytes) (rules : Rules) (hosts : Hosts) (j : Journal) → IsHistory name rules hosts j → TellsOfNoGrant j.end

@@ -2,7 +2,8 @@
 ghost use Rattle.std.specs.Prelude.{◌≡◌, ◌⊎◌, ◌<◌, ◌+◌, ◌^◌, [], length, Some, IfOk, IfErr, IsErr, is_some};
 ghost use Rattle.kept_replies.specs.Pairs.{view_of_peer};
 ghost use Rattle.definitions.specs.Outgoing.{next_due};
-ghost use Rattle.definitions.specs.Step.{opening_state};
+ghost use Rattle.definitions.specs.Options.{view_of_rules};
+ghost use Rattle.definitions.specs.Step.{opening_state, opening_state_with};
 ghost use Rattle.book.specs.Notes.{view_of_event, Takes};
 ghost use Rattle.book.specs.Given.{view_of_reply};
 ghost use Rattle.book.specs.Receipts.{newest_event, newest_given, newest_receipt, is_noted};
@@ -19,6 +20,7 @@ use crate::state::BookState;
 use crate::step_result::{Completion, EventStatus, StepResult};
 use call_codec::Dest;
 use callbacks::ShortBytes;
+use definitions::rules::Rules;
 use held_locks::Locks;
 use hosts_db::HostStore;
 use lock_service::{StoreAnswer, World};
@@ -72,8 +74,22 @@ impl<R: RangeTable + Drop, S: HostStore + Drop> Book<R, S> {
         requires { R.settings table ≡ [] }
         ensures begins { IfOk result (λ book. book ≡ record { journal = empty_journal 1 (opening_state own_name (S.rows store)); refusals = S.refusals store }) }
     {
+        Book::new_with(alloc, table, store, own_name, Rules::standard())
+    }
+
+    /// The same under these rules, which no event changes.
+    pub fn new_with(
+        alloc: Global,
+        table: R,
+        store: S,
+        own_name: ShortBytes,
+        rules: Rules,
+    ) -> Result<Book<R, S>, Starved>
+        requires { R.settings table ≡ [] }
+        ensures begins { IfOk result (λ book. book ≡ record { journal = empty_journal 1 (opening_state_with own_name (view_of_rules rules) (S.rows store)); refusals = S.refusals store }) }
+    {
         let segment = Segment::new(alloc)?;
-        let shared = BookState::new(alloc, table, store, own_name)?;
+        let shared = BookState::new(alloc, table, store, own_name, rules)?;
         let base = Snapshot::of(&shared);
         Ok(Book {
             shared,

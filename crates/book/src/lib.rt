@@ -22,6 +22,7 @@ mod take;
 
 pub use book::Book;
 pub use call_codec::{Dest, HostName};
+pub use definitions::rules::Rules;
 pub use entry::{Entry, Operation, SEGMENT};
 pub use event::BookEvent;
 pub use kept_replies::Peer;

@@ -1,6 +1,7 @@
 //! The shared state: the world and the kept replies.
 ghost use Rattle.std.specs.Prelude.{◌≡◌, [], IfOk};
-ghost use Rattle.definitions.specs.Step.{opening_state, Silent, GraceOver, Restart, Applied, Starved as HasStarved};
+ghost use Rattle.definitions.specs.Options.{view_of_rules};
+ghost use Rattle.definitions.specs.Step.{opening_state_with, Silent, GraceOver, Restart, Applied, Starved as HasStarved};
 ghost use Rattle.call_plans.specs.Planned.{refusal_count};
 ghost use Rattle.book.specs.Given.{result_under, unbegun, view_of_completion};
 ghost use Rattle.book.specs.Journal.{TakesMemory};
@@ -15,6 +16,7 @@ use crate::snapshot::Snapshot;
 use crate::step_result::{Answered, Completion, EventStatus, StepResult};
 use call_codec::AnswerReading;
 use callbacks::ShortBytes;
+use definitions::rules::Rules;
 use hosts_db::{HostStore, StoreError};
 use kept_replies::KeptReplies;
 use local_ops::LocalAnswer;
@@ -51,13 +53,14 @@ impl<R: RangeTable + Drop, S: HostStore + Drop> BookState<R, S> {
         table: R,
         store: S,
         own_name: ShortBytes,
+        rules: Rules,
     ) -> Result<BookState<R, S>, Starved>
         requires { R.settings table ≡ [] }
-        ensures { IfOk result (λ made. made ≡ record { state = opening_state own_name (S.rows store); refusals = S.refusals store }) }
+        ensures { IfOk result (λ made. made ≡ record { state = opening_state_with own_name (view_of_rules rules) (S.rows store); refusals = S.refusals store }) }
     {
         let kept = KeptReplies::new(alloc)?;
         Ok(BookState {
-            world: World::new(alloc, table, store, own_name)?,
+            world: World::new(alloc, table, store, own_name, rules)?,
             kept,
         })
     }

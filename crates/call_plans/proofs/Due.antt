@@ -36,7 +36,8 @@ module _ (callbacks : List Callback) (s v : Seen) (world : v.world ≡ with_all_
 
   pub by_still : (c : Change) (calls : List Outgoing) → IsForgottenBy c calls s → IsForgottenBy c calls v
   by_still change.Nothing calls h = tt
-  by_still (change.Set r) calls h = one_still (view_of_owner r.owner) h
+  by_still (change.Lock x) calls h = one_still (view_of_owner x.owner) h
+  by_still (change.Unlock r) calls h = one_still (view_of_owner r.owner) h
   by_still (change.Wait x callback) calls h = one_still (view_of_owner x.owner) h
   by_still (change.Cancel x) calls h = one_still (view_of_owner x.owner) h
   by_still (change.Share x) calls h = tt
@@ -47,7 +48,8 @@ module _ (callbacks : List Callback) (s v : Seen) (world : v.world ≡ with_all_
 
   pub for_still : (c : Change) → IsForgottenFor c s.world s → IsForgottenFor c v.world v
   for_still change.Nothing h = tt
-  for_still (change.Set r) h = one_still (view_of_owner r.owner) h
+  for_still (change.Lock x) h = one_still (view_of_owner x.owner) h
+  for_still (change.Unlock r) h = one_still (view_of_owner r.owner) h
   for_still (change.Wait x callback) h = one_still (view_of_owner x.owner) h
   for_still (change.Cancel x) h = tt
   for_still (change.Share x) h = tt

@@ -18,7 +18,8 @@ use Rattle.call_plans.specs.Answers.{IsFoundForgotten}
 -- whoever the change names, and holds nothing and waits for nothing once it is done, has no number; `calls` are those of before
 abbrev pub IsForgottenBy : Change → List Outgoing → Seen → Type 0
 IsForgottenBy change.Nothing calls s = Unit {0}
-IsForgottenBy (change.Set r) calls s = IsForgottenIfIdle (view_of_owner r.owner) s.world s
+IsForgottenBy (change.Lock x) calls s = IsForgottenIfIdle (view_of_owner x.owner) s.world s
+IsForgottenBy (change.Unlock r) calls s = IsForgottenIfIdle (view_of_owner r.owner) s.world s
 IsForgottenBy (change.Wait x callback) calls s = IsForgottenIfIdle (view_of_owner x.owner) s.world s
 IsForgottenBy (change.Cancel x) calls s = IsForgottenIfIdle (view_of_owner x.owner) s.world s
 IsForgottenBy (change.Share x) calls s = Unit {0}

@@ -1,14 +1,15 @@
 -- What a plan says: what the store is asked, and what follows.
-use Rattle.std.specs.Prelude.{◌≡◌, ◌≢◌, ◌⊎◌, ◌<◌, ◌≤◌, ℕ, ◌+◌, Bool, true, false, List, length, Some, None}
+use Rattle.std.specs.Prelude.{◌≡◌, ◌≢◌, ◌<◌, ◌≤◌, ℕ, ◌+◌, Bool, true, false, List, length, Some, None}
 use Rattle.definitions.specs.Owners.{Owner, is_of_host}
-use Rattle.definitions.specs.Settings.{Setting, Request}
+use Rattle.definitions.specs.Settings.{Setting, Request, setting_of}
 use Rattle.definitions.specs.Starts.{refuses}
 use Rattle.definitions.specs.Shares.{is_denied, has_no_room, with_share, without_share}
 use Rattle.definitions.specs.Hosts as hosts
 use Rattle.definitions.specs.Hosts.{StoreCall, StoreAnswer, NotAsked, Yes, Refused, has_row, after_store, is_past_limit}
 use Rattle.definitions.specs.Outgoing.{Callback}
 use Rattle.definitions.specs.Waits.{is_waiting, without_waiter}
-use Rattle.definitions.specs.World.{World, the_limits, slots_free, with_setting, with_waiter, with_hosts, with_all_due, without_host_of, opening}
+use Rattle.definitions.specs.World.{World, the_limits, slots_free, with_setting, with_waiter, with_hosts, with_all_due, without_host_of, opening_with}
+use Rattle.definitions.specs.LockRules.{with_lock}
 use Rattle.definitions.specs.Grants.{granted_res_rules}
 use Rattle.definitions.specs.Replies.{Outcome}
 use Rattle.definitions.specs.Rulings.{Ruling, decided_ruling, ruled_answer}
@@ -16,7 +17,7 @@ use Rattle.definitions.specs.Answer.{Answered}
 use Rattle.callbacks.specs.Meanings.{view_of_told_my_id}
 use Rattle.nlm4_types.specs.Stat.{view_of_stat}
 use Rattle.owner_ids.specs.Views.{view_of_owner}
-use Rattle.range_table.specs.Modes.{view_of_mode, view_of_held_mode}
+use Rattle.range_table.specs.Modes.{view_of_mode}
 use Rattle.call_codec.specs.OutcomeValues.{view_of_outcome}
 use Rattle.lock_state.specs.Seen.{Seen, Knows, KeepsKnown, IsIdle}
 use Rattle.call_plans.specs.declared.plans.Range as range
@@ -33,21 +34,22 @@ use Rattle.step_order.specs.declared.store.StoreAnswer.{StoreAnswer as CodedAnsw
 use Rattle.step_order.specs.declared.store.StoreAnswer.TheVariants as store
 
 abbrev pub view_of_range : range.Range → Setting
-view_of_range r = record { file = r.file; owner = view_of_owner r.owner; first = r.range.first; last = r.range.last; mode = view_of_held_mode r.mode }
+view_of_range r = record { file = r.file; owner = view_of_owner r.owner; first = r.range.first; last = r.range.last; mode = None }
 
 abbrev pub view_of_wanted : wanted.WantedLock → Request
 view_of_wanted x = record { file = x.file; owner = view_of_owner x.owner; first = x.range.first; last = x.range.last; mode = view_of_mode x.mode }
 
 abbrev pub changed_world : Change → World → World
 changed_world change.Nothing w = w
-changed_world (change.Set r) w = with_setting w (view_of_range r)
+changed_world (change.Lock x) w = with_lock w (view_of_wanted x)
+changed_world (change.Unlock r) w = with_setting w (view_of_range r)
 changed_world (change.Wait x callback) w = with_waiter w (record { request = view_of_wanted x; callback = callback })
 changed_world (change.Cancel x) w = record w { waiters = without_waiter (view_of_wanted x) w.waiters }
 changed_world (change.Share s) w = record w { shares = with_share s w.shares }
 changed_world (change.Unshare s) w = record w { shares = without_share s w.shares }
 changed_world (change.DropHost name) w = without_host_of w name.items
 changed_world (change.GrantAnswered cookie stat) w = (granted_res_rules the_limits w cookie (view_of_stat stat)).world
-changed_world (change.Restart notices) w = with_all_due (opening w.own_name w.hosts) notices.items
+changed_world (change.Restart notices) w = with_all_due (opening_with w.own_name w.rules w.hosts) notices.items
 
 -- what is told in a world: its calls are due in it
 abbrev pub told_in : told.Response → World → Answered
@@ -125,7 +127,8 @@ refusal_count Refused refusals = refusals + 1
 -- the change is refused by no table
 abbrev pub FitsChange : Change → World → Type 0
 FitsChange change.Nothing w = Unit {0}
-FitsChange (change.Set r) w = refuses 65536 w.settings (view_of_range r) ≡ false
+FitsChange (change.Lock x) w = refuses 65536 w.settings (setting_of (view_of_wanted x)) ≡ false
+FitsChange (change.Unlock r) w = refuses 65536 w.settings (view_of_range r) ≡ false
 FitsChange (change.Wait x callback) w = 0 < slots_free the_limits w
 FitsChange (change.Cancel x) w = is_waiting (view_of_wanted x) w.waiters ≡ true
 FitsChange (change.Share s) w = (is_denied w.shares s ≡ false) × (has_no_room 16384 w.shares s ≡ false)
@@ -166,12 +169,10 @@ CanAsk (plan.Decided a) w = Unit {0}
 CanAsk (plan.AfterStore call agreed refused) w = CanAskFor call w
 
 -- whoever is to hold a lock, or to wait for one, is known
-abbrev pub MayHold : range.Range → Seen → Type 0
-MayHold r s = (r.mode ≡ None) ⊎ Knows s (view_of_owner r.owner)
-
 abbrev pub IsReadyFor : Change → Seen → Type 0
 IsReadyFor change.Nothing s = Unit {0}
-IsReadyFor (change.Set r) s = MayHold r s
+IsReadyFor (change.Lock x) s = Knows s (view_of_owner x.owner)
+IsReadyFor (change.Unlock r) s = Unit {0}
 IsReadyFor (change.Wait x callback) s = Knows s (view_of_owner x.owner)
 IsReadyFor (change.Cancel x) s = Unit {0}
 IsReadyFor (change.Share x) s = Unit {0}
@@ -192,7 +193,8 @@ IsForgottenIfIdle x w s = IsIdle w x → Knows s x → ⊥
 
 abbrev pub IsForgottenFor : Change → World → Seen → Type 0
 IsForgottenFor change.Nothing w s = Unit {0}
-IsForgottenFor (change.Set r) w s = IsForgottenIfIdle (view_of_owner r.owner) w s
+IsForgottenFor (change.Lock x) w s = IsForgottenIfIdle (view_of_owner x.owner) w s
+IsForgottenFor (change.Unlock r) w s = IsForgottenIfIdle (view_of_owner r.owner) w s
 IsForgottenFor (change.Wait x callback) w s = IsForgottenIfIdle (view_of_owner x.owner) w s
 IsForgottenFor (change.Cancel x) w s = Unit {0}
 IsForgottenFor (change.Share x) w s = Unit {0}
@@ -211,7 +213,8 @@ KeepsOthersThan x before after = (y : Owner) → y ≢ x → Knows before y → 
 
 abbrev pub KeepsOthersFor : Change → Seen → Seen → Type 0
 KeepsOthersFor change.Nothing before after = KeepsKnown before after
-KeepsOthersFor (change.Set r) before after = KeepsOthersThan (view_of_owner r.owner) before after
+KeepsOthersFor (change.Lock x) before after = KeepsOthersThan (view_of_owner x.owner) before after
+KeepsOthersFor (change.Unlock r) before after = KeepsOthersThan (view_of_owner r.owner) before after
 KeepsOthersFor (change.Wait x callback) before after = KeepsOthersThan (view_of_owner x.owner) before after
 KeepsOthersFor (change.Cancel x) before after = KeepsKnown before after
 KeepsOthersFor (change.Share x) before after = KeepsKnown before after

@@ -13,13 +13,12 @@ use range_table::{ByteRange, FileId, Mode};
 use std::alloc::Global;
 use std::sync::Arc;
 
-/// What an owner is to hold of a range: a mode, or nothing.
+/// A range of which an owner is to hold nothing.
 #[derive(Drop)]
 pub struct Range {
     pub file: FileId,
     pub owner: Owner,
     pub range: ByteRange,
-    pub mode: Option<Mode>,
     pub ghost shown: { IsShown (view_of_owner owner) } by { shown_prop (view_of_owner owner) },
 }
 
@@ -65,7 +64,10 @@ pub enum Asked {
 #[derive(Drop)]
 pub enum Change {
     Nothing,
-    Set(Range),
+    /// The owner holds the lock, and is answered so.
+    Lock(WantedLock),
+    /// The owner holds nothing of the range.
+    Unlock(Range),
     /// The owner waits for the lock, behind all who wait, and the callback tells of the grant.
     Wait(WantedLock, Callback),
     /// The owner, which waits for the lock, waits for it no longer.

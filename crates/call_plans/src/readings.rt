@@ -3,7 +3,6 @@ ghost use Rattle.std.specs.Prelude.{◌≡◌};
 ghost use Rattle.definitions.specs.World.{World as SaidWorld};
 ghost use Rattle.definitions.specs.Rulings.{ruled_answer};
 ghost use Rattle.call_codec.specs.OutcomeValues.{view_of_outcome};
-ghost use Rattle.definitions.specs.Settings.{setting_of};
 ghost use Rattle.held_locks.specs.Asked.{view_of_request, view_of_new_setting};
 ghost use Rattle.call_plans.specs.Planned.{view_of_stored, ruling_of_plan, view_of_wanted, view_of_range};
 
@@ -11,7 +10,7 @@ use crate::plans::{Plan, Range, Response, WantedLock};
 use step_order::StoreAnswer;
 
 impl Range {
-    /// The same, as the locks are told.
+    /// The same, as the locks take it.
     pub fn setting(&self) -> held_locks::NewSetting<'_>
         ensures { view_of_new_setting result ≡ view_of_range self.now }
     {
@@ -19,7 +18,7 @@ impl Range {
             file: self.file,
             owner: &self.owner,
             range: self.range,
-            mode: self.mode,
+            mode: None,
         }
     }
 }
@@ -34,18 +33,6 @@ impl WantedLock {
             owner: &self.owner,
             range: self.range,
             mode: self.mode,
-        }
-    }
-
-    /// What its owner holds once it has the lock.
-    pub fn into_range(self) -> Range
-        ensures { view_of_range result ≡ setting_of (view_of_wanted self) }
-    {
-        Range {
-            file: self.file,
-            owner: self.owner,
-            range: self.range,
-            mode: Some(self.mode),
         }
     }
 }

@@ -1,6 +1,8 @@
 //! The steps in which a plan is done.
 ghost use Rattle.std.specs.Prelude.{◌≡◌, ◌↔◌, IfOk, OnOk, OnErr, IsErr, IsTrue};
 ghost use Rattle.definitions.specs.Hosts.{after_store, is_past_limit};
+ghost use Rattle.definitions.specs.LockRules.{with_lock};
+ghost use Rattle.definitions.specs.Settings.{setting_of};
 ghost use Rattle.definitions.specs.World.{with_hosts, with_setting};
 ghost use Rattle.hosts_db.specs.Calls.{Counts, Makes, IsPastLimit};
 ghost use Rattle.definitions.specs.Starts.{refuses};
@@ -8,14 +10,16 @@ ghost use Rattle.call_codec.specs.OutcomeValues.{view_of_outcome};
 ghost use Rattle.callbacks.specs.Meanings.{view_of_told_my_id};
 ghost use Rattle.std.specs.Option.{option_copied};
 ghost use Rattle.owner_ids.specs.Views.{view_of_owner};
-ghost use Rattle.lock_state.specs.Seen.{AdmitsNobody, KeepsKnown};
+ghost use Rattle.lock_state.specs.Seen.{AdmitsNobody, KeepsKnown, Knows};
 ghost use Rattle.call_plans.specs.Planned.{view_of_stored, answer_in, view_of_asked, told_in, world_after_store, refusal_count};
-ghost use Rattle.call_plans.specs.Planned.{IsAnswerTo, IsCommitted, IsWithin, Fits, FitsChange, FitsAnswer, FitsDue, FitsUnder, CanAsk, CanAskFor, IsReady, IsReadyFor, MayHold};
+ghost use Rattle.call_plans.specs.Planned.{IsAnswerTo, IsCommitted, IsWithin, Fits, FitsChange, FitsAnswer, FitsDue, FitsUnder, CanAsk, CanAskFor, IsReady, IsReadyFor};
 ghost use Rattle.call_plans.specs.Forgotten.{IsForgottenBy, IsForgottenUnder};
-ghost use Rattle.call_plans.specs.Planned.{IsForgotten, IsForgottenFor, KeepsOthers, KeepsOthersFor, IsForgottenIfIdle, changed_world, view_of_range};
+ghost use Rattle.call_plans.specs.Planned.{IsForgotten, IsForgottenFor, KeepsOthers, KeepsOthersFor, IsForgottenIfIdle, changed_world, view_of_range, view_of_wanted};
 
 use crate::answers::granted_res;
-use crate::plans::{Asked, Change, Plan, PlannedAnswer, Range, Response, SharedOutcome};
+use crate::plans::{
+    Asked, Change, Plan, PlannedAnswer, Range, Response, SharedOutcome, WantedLock,
+};
 use callbacks::{OwnedMyId, ShortBytes};
 use hosts_db::{HostStore, StoreError};
 use lock_state::World;
@@ -53,26 +57,9 @@ pub fn reserve_for_change<R: RangeTable, S: HostStore>(
     ensures err { OnErr result (AdmitsNobody world.old world.new) }
 {
     match change {
-        Change::Set(range) => reserve_for_range(world, range),
-        Change::Wait(wanted, _) => world.admit(&wanted.owner),
+        Change::Lock(wanted) | Change::Wait(wanted, _) => world.admit(&wanted.owner),
         // All else takes none.
         _ => Ok(()),
-    }
-}
-
-fn reserve_for_range<R: RangeTable, S: HostStore>(
-    world: &mut World<R, S>,
-    range: &Range,
-) -> Result<(), Starved>
-    ensures world { world.new.world ≡ world.old.world }
-    ensures refusals { world.new.refusals ≡ world.old.refusals }
-    ensures known { KeepsKnown world.old world.new }
-    ensures ready { OnOk result (MayHold range.now world.new) }
-    ensures err { OnErr result (AdmitsNobody world.old world.new) }
-{
-    match range.mode {
-        Some(_) => world.admit(&range.owner),
-        None => Ok(()),
     }
 }
 
@@ -98,8 +85,8 @@ fn forget<R: RangeTable, S: HostStore>(world: &mut World<R, S>, change: &Change)
     ensures others { KeepsOthersFor change.now world.old world.new }
 {
     match change {
-        Change::Set(range) => world.forget_idle(&range.owner),
-        Change::Wait(wanted, _) => world.forget_idle(&wanted.owner),
+        Change::Lock(wanted) | Change::Wait(wanted, _) => world.forget_idle(&wanted.owner),
+        Change::Unlock(range) => world.forget_idle(&range.owner),
         _ => {}
     }
 }
@@ -272,9 +259,23 @@ fn tell<R: RangeTable, S: HostStore>(world: &mut World<R, S>, told: Response) ->
     told.outcome
 }
 
-// Whoever is to hold nothing there any more is forgotten, unless he holds a lock or waits.
-fn set<R: RangeTable, S: HostStore>(world: &mut World<R, S>, range: &Range) -> Result<(), NoRuns>
-    requires { MayHold range.now world.old }
+// Whoever is to hold the lock holds it, and stays known.
+fn lock<R: RangeTable, S: HostStore>(
+    world: &mut World<R, S>,
+    wanted: &WantedLock,
+) -> Result<(), NoRuns>
+    requires { Knows world.old (view_of_owner wanted.now.owner) }
+    ensures refused { IsErr result ↔ IsTrue (refuses 65536 world.old.world.settings (setting_of (view_of_wanted wanted.now))) }
+    ensures ok { OnOk result (world.new.world ≡ with_lock world.old.world (view_of_wanted wanted.now)) }
+    ensures err { OnErr result (world.new.world ≡ world.old.world) }
+    ensures refusals { world.new.refusals ≡ world.old.refusals }
+    ensures forgotten { OnOk result (IsForgottenIfIdle (view_of_owner wanted.now.owner) world.new.world world.new) }
+{
+    world.lock(&wanted.request())
+}
+
+// Whoever holds nothing there any more is forgotten, unless he holds a lock or waits.
+fn unlock<R: RangeTable, S: HostStore>(world: &mut World<R, S>, range: &Range) -> Result<(), NoRuns>
     ensures refused { IsErr result ↔ IsTrue (refuses 65536 world.old.world.settings (view_of_range range.now)) }
     ensures ok { OnOk result (world.new.world ≡ with_setting world.old.world (view_of_range range.now)) }
     ensures err { OnErr result (world.new.world ≡ world.old.world) }
@@ -282,9 +283,7 @@ fn set<R: RangeTable, S: HostStore>(world: &mut World<R, S>, range: &Range) -> R
     ensures forgotten { OnOk result (IsForgottenIfIdle (view_of_owner range.now.owner) world.new.world world.new) }
 {
     let done = world.set(&range.setting());
-    if range.mode.is_none() {
-        world.forget_idle(&range.owner);
-    }
+    world.forget_idle(&range.owner);
     done
 }
 
@@ -299,8 +298,12 @@ pub fn make_change<R: RangeTable, S: HostStore>(world: &mut World<R, S>, change:
     // What ends is dropped by a call: in place, each of its parts is proved here.
     match change {
         Change::Nothing => {}
-        Change::Set(range) => {
-            let _ = set(world, &range);
+        Change::Lock(wanted) => {
+            let _ = lock(world, &wanted);
+            drop(wanted);
+        }
+        Change::Unlock(range) => {
+            let _ = unlock(world, &range);
             drop(range);
         }
         Change::Wait(wanted, callback) => {

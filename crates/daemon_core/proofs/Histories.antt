@@ -2,8 +2,8 @@
 use Rattle.std.proofs.Common.{◌≡◌, ℕ, List, [], ◌∷◌, Option, Some, None, inl, inr, refl, sym, ap, subst}
 use Rattle.definitions.specs.Bytes.{Bytes}
 use Rattle.definitions.specs.Hosts.{Hosts}
-use Rattle.definitions.specs.World.{the_limits}
-use Rattle.definitions.specs.Step.{State, opening_state}
+use Rattle.definitions.specs.World.{Rules, the_limits}
+use Rattle.definitions.specs.Step.{State, opening_state_with}
 use Rattle.definitions.specs.Moves.{IsSound}
 use Rattle.book.specs.Given.{StepResult}
 use Rattle.book.specs.Notes.{JournalEvent, Steps}
@@ -16,7 +16,7 @@ use Rattle.daemon_core.specs.declared.event.Event.TheVariants.{Connect, Piece, D
 use Rattle.daemon_core.specs.declared.event_outcome.EventOutcome.{EventOutcome}
 use Rattle.daemon_core.specs.declared.event_outcome.EventOutcome.TheVariants.{Applied, Starved, NoSegment}
 use Rattle.daemon_core.specs.declared.outputs.Outputs.{Outputs}
-use Rattle.daemon_core.specs.DaemonState.{DaemonState, opening, place_of, Connects, Disconnects, Pieces, TakesAt, DaemonStep, Run}
+use Rattle.daemon_core.specs.DaemonState.{DaemonState, opening_with, place_of, Connects, Disconnects, Pieces, TakesAt, DaemonStep, Run}
 use Rattle.daemon_core.specs.Laws.{RunsAreHistories, RunsAreSound, GraceGrantsReclaimsOnly, GraceTellsOfNoGrant}
 
 -- a step of the daemon leaves the state, or it is one of the book
@@ -79,25 +79,25 @@ runs_are_histories begins grows old new events outs run =
     reached grows old.state old new events outs run (record { history = empty_journal 1 old.state; first = refl; base = refl; ends = refl; legal = begins 1 old.state })
 
 -- what stands over histories
-module _ (are : RunsAreHistories) (name : Bytes) (hosts : Hosts) (refusals : ℕ) (events : List Event) (outs : List Outputs) (daemon_state : DaemonState) (run : Run (opening name hosts refusals) events outs daemon_state) where
-  pub history : Leads (opening_state name hosts) daemon_state.state
-  history = are (opening name hosts refusals) daemon_state events outs run
+module _ (are : RunsAreHistories) (name : Bytes) (rules : Rules) (hosts : Hosts) (refusals : ℕ) (events : List Event) (outs : List Outputs) (daemon_state : DaemonState) (run : Run (opening_with name rules hosts refusals) events outs daemon_state) where
+  pub history : Leads (opening_state_with name rules hosts) daemon_state.state
+  history = are (opening_with name rules hosts refusals) daemon_state events outs run
 
-  pub is_history : IsHistory name hosts history.history
+  pub is_history : IsHistory name rules hosts history.history
   is_history = record { first = history.first; base = history.base; legal = history.legal }
 
 module _ (are : RunsAreHistories) where
   pub runs_are_sound : HistoriesAreSound → RunsAreSound
-  runs_are_sound law name hosts refusals events outs daemon_state run =
-      let r = history are name hosts refusals events outs daemon_state run in
-      subst (λ (s : State). IsSound the_limits s.world) r.ends (law name hosts r.history (is_history are name hosts refusals events outs daemon_state run))
+  runs_are_sound law name rules hosts refusals events outs daemon_state run =
+      let r = history are name rules hosts refusals events outs daemon_state run in
+      subst (λ (s : State). IsSound the_limits s.world) r.ends (law name rules hosts r.history (is_history are name rules hosts refusals events outs daemon_state run))
 
   pub grace_grants_reclaims_only : HistoriesGrantReclaimsOnly → GraceGrantsReclaimsOnly
-  grace_grants_reclaims_only law name hosts refusals events outs daemon_state run =
-      let r = history are name hosts refusals events outs daemon_state run in
-      subst GrantReclaimsOnly r.ends (law name hosts r.history (is_history are name hosts refusals events outs daemon_state run))
+  grace_grants_reclaims_only law name rules hosts refusals events outs daemon_state run =
+      let r = history are name rules hosts refusals events outs daemon_state run in
+      subst GrantReclaimsOnly r.ends (law name rules hosts r.history (is_history are name rules hosts refusals events outs daemon_state run))
 
   pub grace_tells_of_no_grant : HistoriesTellOfNoGrant → GraceTellsOfNoGrant
-  grace_tells_of_no_grant law name hosts refusals events outs daemon_state run =
-      let r = history are name hosts refusals events outs daemon_state run in
-      subst TellsOfNoGrant r.ends (law name hosts r.history (is_history are name hosts refusals events outs daemon_state run))
+  grace_tells_of_no_grant law name rules hosts refusals events outs daemon_state run =
+      let r = history are name rules hosts refusals events outs daemon_state run in
+      subst TellsOfNoGrant r.ends (law name rules hosts r.history (is_history are name rules hosts refusals events outs daemon_state run))

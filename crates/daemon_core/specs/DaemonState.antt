@@ -3,7 +3,8 @@ use Rattle.std.specs.Prelude.{◌≡◌, ℕ, ◌≤◌, ◌⊎◌, ◌==◌, tr
 use Rattle.std.specs.List.{position, remove}
 use Rattle.definitions.specs.Bytes.{Bytes}
 use Rattle.definitions.specs.Hosts.{Hosts}
-use Rattle.definitions.specs.Step.{Given, State, opening_state}
+use Rattle.definitions.specs.World.{Rules, the_rules}
+use Rattle.definitions.specs.Step.{Given, State, opening_state_with}
 use Rattle.kept_replies.specs.declared.key.Peer.{Peer}
 use Rattle.kept_replies.specs.Pairs.{view_of_peer}
 use Rattle.step_order.specs.declared.store.StoreAnswer.{StoreAnswer}
@@ -29,8 +30,11 @@ pub record DaemonState : Type 0 where
   pub room : Room
   pub links : List Link
 
+abbrev pub opening_with : Bytes → Rules → Hosts → ℕ → DaemonState
+opening_with name rules hosts refusals = record { state = opening_state_with name rules hosts; refusals = refusals; room = record { left = 1024; next = 1 }; links = [] }
+
 abbrev pub opening : Bytes → Hosts → ℕ → DaemonState
-opening name hosts refusals = record { state = opening_state name hosts; refusals = refusals; room = record { left = 1024; next = 1 }; links = [] }
+opening name hosts refusals = opening_with name the_rules hosts refusals
 
 -- what a book shows of itself, with these connections
 abbrev pub daemon_state_of : Book → List Link → DaemonState

@@ -3,7 +3,8 @@
 ghost use Rattle.std.specs.Prelude.{◌≡◌, [], IfOk, OnErr};
 ghost use Rattle.book.specs.Notes.{HearsAnswer, AsksLine, FallsSilent, GraceEnds, BeginsAnew};
 ghost use Rattle.daemon_core.specs.Outputs.{outputs_of, told_line, told_posted};
-ghost use Rattle.daemon_core.specs.DaemonState.{DaemonState, opening, place_of, Connects, Disconnects, Pieces, TakesAt, Happens, Waits, SendStep, DaemonStep, Run};
+ghost use Rattle.definitions.specs.Options.{view_of_rules};
+ghost use Rattle.daemon_core.specs.DaemonState.{DaemonState, opening, opening_with, place_of, Connects, Disconnects, Pieces, TakesAt, Happens, Waits, SendStep, DaemonStep, Run};
 
 use crate::connection::StreamConnection;
 use crate::event::Event;
@@ -11,7 +12,7 @@ use crate::noted::{note, send_next};
 use crate::outputs::{Outputs, make_quiet, make_starved, tell, tell_line, tell_posted, tell_to};
 use crate::posted::Posted;
 use crate::send_buffer::SendBuffer;
-use book::{Book, BookEvent, StoreAnswer};
+use book::{Book, BookEvent, Rules, StoreAnswer};
 use callbacks::ShortBytes;
 use held_locks::Locks;
 use hosts_db::HostStore;
@@ -69,9 +70,23 @@ impl<R: RangeTable + Drop, S: HostStore + Drop> Daemon<R, S> {
         requires { R.settings table ≡ [] }
         ensures { IfOk result (λ daemon. daemon ≡ opening own_name (S.rows store) (S.refusals store)) }
     {
+        Daemon::new_with(alloc, table, store, own_name, Rules::standard())
+    }
+
+    /// The same under these rules, which no event changes.
+    pub fn new_with(
+        alloc: Global,
+        table: R,
+        store: S,
+        own_name: ShortBytes,
+        rules: Rules,
+    ) -> Result<Daemon<R, S>, Starved>
+        requires { R.settings table ≡ [] }
+        ensures { IfOk result (λ daemon. daemon ≡ opening_with own_name (view_of_rules rules) (S.rows store) (S.refusals store)) }
+    {
         Ok(Daemon {
             alloc,
-            book: Book::new(alloc, table, store, own_name)?,
+            book: Book::new_with(alloc, table, store, own_name, rules)?,
             connections: Vec::new(alloc),
         })
     }

@@ -25,7 +25,7 @@ pub use crate::outputs::Outputs;
 pub use crate::posted::Posted;
 pub use crate::send_buffer::SendBuffer;
 pub use crate::sent::{Addressee, Sent};
-pub use book::StoreAnswer;
+pub use book::{Rules, StoreAnswer};
 pub use byte_io::WriteFault;
 pub use kept_replies::Peer;
 pub use xdr_core::Frame;

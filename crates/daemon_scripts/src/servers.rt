@@ -6,7 +6,7 @@ use crate::growths::play_in_room;
 use crate::page::Page;
 use crate::script::wrong_line;
 use callbacks::ShortBytes;
-use daemon_core::Daemon;
+use daemon_core::{Daemon, Rules};
 use hosts_db::{FULL_QUOTA, HostRow, HostStore, MemHosts};
 use range_arena::ArenaTable;
 use range_table::RangeTable;
@@ -39,6 +39,8 @@ pub enum Way {
     Cut,
     /// It comes by 64 bytes, to a server that knows as many hosts as a store has.
     Full,
+    /// It comes by 64 bytes, to a server where polls end grants.
+    Polling,
 }
 
 /// The bytes of a stream that come at once, where the test doesn't care.
@@ -54,6 +56,21 @@ pub fn opened<T: RangeTable + Drop, S: HostStore + Drop>(
 {
     let name = ShortBytes::copy_of(alloc, b"server").ok()?;
     Daemon::new(alloc, table, store, name).ok()
+}
+
+// The same where polls end grants.
+fn opened_polling<T: RangeTable + Drop, S: HostStore + Drop>(
+    alloc: Global,
+    table: T,
+    store: S,
+) -> Option<Daemon<T, S>>
+    requires { T.settings table ≡ [] }
+{
+    let name = ShortBytes::copy_of(alloc, b"server").ok()?;
+    let rules = Rules {
+        polls_end_grants: true,
+    };
+    Daemon::new_with(alloc, table, store, name, rules).ok()
 }
 
 /// What is told of the line that goes otherwise than it says, if one does.
@@ -138,6 +155,25 @@ pub fn play_by(alloc: Global, most: usize, lines: &[&str]) -> Result<(), Misplay
     play_in_memory(alloc, 0, Some(Vec::new(alloc)), most, lines)
 }
 
+// The same where polls end grants.
+fn play_polling(alloc: Global, lines: &[&str]) -> Result<(), Misplayed> {
+    let Some(mut store) = memory(alloc, 0, Vec::new(alloc)) else {
+        return Err(Misplayed::NoServer);
+    };
+    let Ok(table) = ArenaTable::new(alloc) else {
+        return Err(Misplayed::NoServer);
+    };
+    let mut writes = 0;
+    let Some(mut daemon) = opened_polling(alloc, table, Lent::new(&mut store, &mut writes)) else {
+        return Err(Misplayed::NoServer);
+    };
+    let mut page = Page::new(alloc, PIECE);
+    let played = told(wrong_line(&mut daemon, &mut page, lines));
+    drop(page);
+    drop(daemon);
+    played
+}
+
 // The same of a stream that comes whole, and of one that comes by five bytes.
 fn play_cut(alloc: Global, lines: &[&str]) -> Result<(), Misplayed> {
     play_by(alloc, 8_192, lines)?;
@@ -209,6 +245,7 @@ fn play_row(alloc: Global, way: Way, lines: &[&str]) -> Result<(), Misplayed> {
         Way::Pieces => play(alloc, lines),
         Way::Cut => play_cut(alloc, lines),
         Way::Full => play_with_all_hosts(alloc, lines),
+        Way::Polling => play_polling(alloc, lines),
     }
 }
 

@@ -17,7 +17,7 @@ use Rattle.definitions.specs.Outgoing.{Outgoing, Callback, Message, Granted, Gra
 use Rattle.definitions.specs.Ranges.{top, last_of, is_too_far, is_stale, range_refusal, file_refusal, request_of, unlock_of, line_unlock}
 use Rattle.definitions.specs.Replies.{Call, Nlm, Nsm, SystemErr, AnswerReading, Unreadable, AcceptedSuccess, OtherAnswer, Line, GetLock, SetLock, SetLockWait, Close, Table, HostList, SetQuota, Stop, BadLine, LineReply, LineAbsent, LineFbig, LineGrace}
 use Rattle.definitions.specs.Waits.{Waiter}
-use Rattle.definitions.specs.World.{World, Limits, with_setting, with_hosts, with_due, with_all_due, without_host_of, restarted_world, restart_callback, opening, slots_free, closed_by}
+use Rattle.definitions.specs.World.{World, Limits, with_setting, with_hosts, with_due, with_all_due, without_host_of, restarted_world, restart_callback, opening_with, slots_free, closed_by}
 use Rattle.definitions.specs.Rulings.{Response, Ruling, decided_ruling, ruled_answer, stays}
 use Rattle.definitions.specs.LockRules.{NewHost}
 use Rattle.definitions.specs.Grants.{TableChange, TableStays, TableChanges, world_without_call, became, grant_answered, granted_res_rules, granted_res_at, granted_res_of, notice_answered, ruling_on_success, answered_success, answered_otherwise, answer_rules}
@@ -78,7 +78,7 @@ module _ (Reclaimed : Request → Type 0) where
 
   pub restart_moves : (w v : World) (hosts : Hosts) → Moves Reclaimed w (restarted_world v hosts)
   restart_moves w v hosts =
-      let kept = due_keeps (opening v.own_name hosts) (map (restart_callback v.own_name hosts.own) hosts.rows) in
+      let kept = due_keeps (opening_with v.own_name v.rules hosts) (map (restart_callback v.own_name hosts.own) hosts.rows) in
       record {
         table = subst (TableMove Reclaimed w.phase w.settings) (sym kept.settings) Empties;
         ranges = λ h. subst AreRanges (sym kept.waiters) tt;

@@ -17,7 +17,7 @@ use Rattle.definitions.specs.Replies.{Call, Nlm, Nsm, SystemErr, Ignored, Turned
 use Rattle.definitions.specs.Waits.{is_waiting, closes_cycle}
 use Rattle.definitions.specs.World.{World, Limits, with_setting, with_waiter, with_hosts, slots_free}
 use Rattle.definitions.specs.Rulings.{Response, Ruling, decided_ruling, stays, each}
-use Rattle.definitions.specs.LockRules.{LockAsk, row_asked, after_row, free_lock, blocked_lock, lock_rules, unlock_rules, cancel_rules}
+use Rattle.definitions.specs.LockRules.{LockAsk, with_lock, row_asked, after_row, free_lock, blocked_lock, lock_rules, unlock_rules, cancel_rules}
 use Rattle.definitions.specs.Grants.{TableChange, notice_answered, ruling_on_success, answered_success, answered_otherwise, answer_rules}
 use Rattle.definitions.specs.Answer.{Answered, gives, lock_ask, caller_row, lock_unless, lock_verdict, cancel_unless, cancel_answer, unlock_unless, unlock_answer, if_slots, by_reply, answer_of_response, by_call, by_message, sent_back, test_callback, lock_callback, cancel_callback, unlock_callback, ruling_after_store, notified_answer, notify_rules, nlm_answer, nsm_answer, ruling}
 use Rattle.definitions.specs.Step.{State, Event, Take, Local, Starved, step, with_world, with_row_stored, store_call}
@@ -49,7 +49,7 @@ lock_unasked : (limits : Limits) (w : World) (a : LockAsk) → Response_unasked 
 lock_unasked limits w a =
     by_cond Response_unasked (conflicts w.settings a.request) (cond (a.block && not a.reclaim) (blocked_lock w a) (stays w DENIED)) (free_lock limits w a)
     (λ _. by_cond Response_unasked (a.block && not a.reclaim) (blocked_lock w a) (stays w DENIED) (λ _. blocked) (λ _ e. refl))
-    (λ _. by_cond Response_unasked (lacks_room limits.runs (quotas_of w.hosts) w.settings a.request) (stays w DENIED_NOLOCKS) (after_row w (row_asked w a.row) GRANTED (λ v. with_setting v (setting_of a.request))) (λ _ e. refl) (λ _. row_unasked w (row_asked w a.row) GRANTED (λ v. with_setting v (setting_of a.request))))
+    (λ _. by_cond Response_unasked (lacks_room limits.runs (quotas_of w.hosts) w.settings a.request) (stays w DENIED_NOLOCKS) (after_row w (row_asked w a.row) GRANTED (λ v. with_lock v a.request)) (λ _ e. refl) (λ _. row_unasked w (row_asked w a.row) GRANTED (λ v. with_lock v a.request)))
   where
     blocked : Response_unasked (blocked_lock w a)
     blocked =

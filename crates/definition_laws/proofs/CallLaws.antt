@@ -20,6 +20,16 @@ left_without p (c ∷ calls) = go (p c) (left_without p calls)
     go true h = IsGone h
     go false h = IsLeft (inl refl) h
 
+-- and of those that are left some more go
+pub left_then_without : (p : Outgoing → Bool) {calls left : List Outgoing} → AreLeft calls left → AreLeft calls (list_without p left)
+left_then_without p NoneLeft = NoneLeft
+left_then_without p (IsGone h) = IsGone (left_then_without p h)
+left_then_without p (IsLeft {c} {d} {before} {behind} same h) = go (p d) (left_then_without p h)
+  where
+    go : (b : Bool) → AreLeft before (list_without p behind) → AreLeft (c ∷ before) (cond b (list_without p behind) (d ∷ list_without p behind))
+    go true k = IsGone k
+    go false k = IsLeft same k
+
 pub left_without_first : (p : Outgoing → Bool) (calls : List Outgoing) → AreLeft calls (without_first p calls)
 left_without_first p [] = NoneLeft
 left_without_first p (c ∷ calls) = go (p c) (left_without_first p calls)

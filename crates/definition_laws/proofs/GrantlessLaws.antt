@@ -14,7 +14,7 @@ use Rattle.definitions.specs.Rulings.{Response, ruled_answer}
 use Rattle.definitions.specs.Grants.{TableChange, TableStays, TableChanges, answer_rules}
 use Rattle.definitions.specs.Lines.{line_answer}
 use Rattle.definitions.specs.Answer.{Answered, ruling}
-use Rattle.definitions.specs.Step.{Peer, KeptPair, State, Event, Completion, Take, Send, Answer, Silent, Local, GraceOver, Restart, Applied, Starved, Stepped, applied_step, starved_step, step, taken_step, look, sent_step, restart, settled_after, is_same_key, is_restart, is_kept_kind, is_success, moved_to_front, with_row_stored, store_call, opening_state}
+use Rattle.definitions.specs.Step.{Peer, KeptPair, State, Event, Completion, Take, Send, Answer, Silent, Local, GraceOver, Restart, Applied, Starved, Stepped, applied_step, starved_step, step, taken_step, look, sent_step, restart, settled_after, is_same_key, is_restart, is_kept_kind, is_success, moved_to_front, with_row_stored, store_call, opening_state_with}
 use Rattle.definitions.specs.Replay.{Done, after, state_after}
 use Rattle.definition_laws.specs.Numbers.{numbered_calls, AreLeft, NoneLeft, IsGone, IsLeft, IsSameCall, AreRenewed}
 use Rattle.definition_laws.specs.Standing.{IsGrantless, is_grant_call, GraceCallsLaw}
@@ -186,7 +186,7 @@ module _ (limits : Limits) (s : State) (quiet : IsQuiet s) where
   begun_quiet : (store : StoreAnswer) → IsQuiet (restart s store).state
   begun_quiet Yes =
       let hosts = after_store s.world.hosts Begin in
-      record { world = rules_quiet NoShare true s.world (restarted_world s.world hosts) (restart_sides NoShare s.world s.world hosts refl) (restart_moves Anything s.world s.world hosts) quiet.world; kept = tt }
+      record { world = rules_quiet NoShare true s.world (restarted_world s.world hosts) (restart_sides NoShare s.world s.world hosts refl refl) (restart_moves Anything s.world s.world hosts) quiet.world; kept = tt }
   begun_quiet NotAsked = quiet
   begun_quiet Refused = quiet
 
@@ -224,4 +224,4 @@ run_quiet limits s [] q = q
 run_quiet limits s (d ∷ done) q = run_quiet limits (after limits s d).state done (step_quiet limits s q d.event d.completion d.store)
 
 pub grace_calls_law : GraceCallsLaw
-grace_calls_law limits name hosts done = (run_quiet limits (opening_state name hosts) done (record { world = λ g. record { waiters = refl; calls = refl }; kept = tt })).world
+grace_calls_law limits name rules hosts done = (run_quiet limits (opening_state_with name rules hosts) done (record { world = λ g. record { waiters = refl; calls = refl }; kept = tt })).world

@@ -10,7 +10,7 @@ use Rattle.definitions.specs.Rulings.{ruled_answer}
 use Rattle.definitions.specs.World.{Limits, slots_free, with_all_due}
 use Rattle.definitions.specs.Outgoing.{Outgoing, next_due}
 use Rattle.definitions.specs.Answer.{Answered, ruling}
-use Rattle.definitions.specs.Step.{Peer, KeptPair, State, Event, Completion, Replies, Take, Send, Answer, Silent, Local, GraceOver, Restart, Applied, Starved, Stepped, applied_step, starved_step, step, taken_step, look, sent_step, is_same_key, is_restart, is_kept_kind, is_success, moved_to_front, with_row_stored, store_call, opening_state}
+use Rattle.definitions.specs.Step.{Peer, KeptPair, State, Event, Completion, Replies, Take, Send, Answer, Silent, Local, GraceOver, Restart, Applied, Starved, Stepped, applied_step, starved_step, step, taken_step, look, sent_step, is_same_key, is_restart, is_kept_kind, is_success, moved_to_front, with_row_stored, store_call, opening_state_with}
 use Rattle.definitions.specs.Hosts.{StoreCall}
 use Rattle.definitions.specs.Nlm.{Locks, LockMsg}
 use Rattle.definitions.specs.Replay.{Done, after, state_after}
@@ -186,7 +186,7 @@ run_kept limits s uses [] h = h
 run_kept limits s uses (d ∷ done) h = run_kept limits (after limits s d).state (used_by limits s d uses) done (step_kept limits s uses h d)
 
 pub kept_law : KeptLaw
-kept_law limits name hosts done = run_kept limits (opening_state name hosts) [] done (sym (take_nothing limits.kept))
+kept_law limits name rules hosts done = run_kept limits (opening_state_with name rules hosts) [] done (sym (take_nothing limits.kept))
 
 pub kept_is_found : KeptIsFound
 kept_is_found limits s peer asked xid version call store room new kind success =

@@ -19,3 +19,4 @@ pub mod AskingLaws
 pub mod GraceAnswers
 pub mod StoreRules
 pub mod StoreLaws
+pub mod PollLaws

@@ -15,9 +15,9 @@ use Rattle.definitions.specs.Hosts.{Hosts, StoreCall, StoreAnswer, NotAsked, Yes
 use Rattle.definitions.specs.Outgoing.{Message, Granted, GrantedMsg}
 use Rattle.definitions.specs.Ranges.{is_stale, is_too_far, range_refusal}
 use Rattle.definitions.specs.Waits.{is_waiting, closes_cycle}
-use Rattle.definitions.specs.World.{World, Limits, with_setting, with_waiter, with_hosts, slots_free}
+use Rattle.definitions.specs.World.{World, Limits, with_waiter, with_hosts, slots_free}
 use Rattle.definitions.specs.Rulings.{Response, Ruling, stays, ruled_answer}
-use Rattle.definitions.specs.LockRules.{LockAsk, row_asked, after_row, free_lock, blocked_lock, lock_rules}
+use Rattle.definitions.specs.LockRules.{LockAsk, with_lock, row_asked, after_row, free_lock, blocked_lock, lock_rules}
 use Rattle.definitions.specs.Answer.{lock_ask, caller_row, lock_unless, lock_verdict, lock_answer, lock_msg_answer}
 use Rattle.definition_laws.specs.Monitored.{stands, HasRow, MonitoredLaw, IsGivenUp, RefusedRowLaw}
 use Rattle.definitions.proofs.MoveLaws.{by_cond}
@@ -59,8 +59,8 @@ module _ (limits : Limits) (w : World) (a : LockArgs) where
 
     free_has : BothHave (free_lock limits w ask)
     free_has =
-        by_cond BothHave (lacks_room limits.runs (quotas_of w.hosts) w.settings ask.request) (stays w DENIED_NOLOCKS) (after_row w (row_asked w (caller_row a)) GRANTED (λ v. with_setting v (setting_of ask.request))) (λ _. refused_has DENIED_NOLOCKS refl)
-        (λ _. row_has GRANTED (λ v. with_setting v (setting_of ask.request)) (λ v. refl))
+        by_cond BothHave (lacks_room limits.runs (quotas_of w.hosts) w.settings ask.request) (stays w DENIED_NOLOCKS) (after_row w (row_asked w (caller_row a)) GRANTED (λ v. with_lock v ask.request)) (λ _. refused_has DENIED_NOLOCKS refl)
+        (λ _. row_has GRANTED (λ v. with_lock v ask.request) (λ v. refl))
 
     blocked_has : BothHave (blocked_lock w ask)
     blocked_has =
@@ -119,7 +119,7 @@ lock_given_up limits w a ask = go (range_refusal w (Locking a.reclaim) a.alock)
     go None =
         by_cond (IsGivenUp w) (conflicts w.settings ask.request) (cond (ask.block && not ask.reclaim) (blocked_lock w ask) (stays w DENIED)) (free_lock limits w ask)
         (λ _. by_cond (IsGivenUp w) (ask.block && not ask.reclaim) (blocked_lock w ask) (stays w DENIED) (λ _. blocked) (λ _. given_up w DENIED))
-        (λ _. by_cond (IsGivenUp w) (lacks_room limits.runs (quotas_of w.hosts) w.settings ask.request) (stays w DENIED_NOLOCKS) (after_row w (row_asked w ask.row) GRANTED (λ v. with_setting v (setting_of ask.request))) (λ _. given_up w DENIED_NOLOCKS) (λ _. row_given_up w (row_asked w ask.row) GRANTED (λ v. with_setting v (setting_of ask.request))))
+        (λ _. by_cond (IsGivenUp w) (lacks_room limits.runs (quotas_of w.hosts) w.settings ask.request) (stays w DENIED_NOLOCKS) (after_row w (row_asked w ask.row) GRANTED (λ v. with_lock v ask.request)) (λ _. given_up w DENIED_NOLOCKS) (λ _. row_given_up w (row_asked w ask.row) GRANTED (λ v. with_lock v ask.request)))
 
 pub refused_row_law : RefusedRowLaw
 refused_row_law limits w version a = (

@@ -10,9 +10,9 @@ use Rattle.definitions.specs.Outgoing.{Granted, GrantedMsg}
 use Rattle.definitions.specs.Ranges.{range_refusal}
 use Rattle.definitions.specs.Replies.{Call, Nlm, SystemErr}
 use Rattle.definitions.specs.Waits.{is_waiting, closes_cycle}
-use Rattle.definitions.specs.World.{World, Limits, with_setting, with_waiter, slots_free}
+use Rattle.definitions.specs.World.{World, Limits, with_waiter, slots_free}
 use Rattle.definitions.specs.Rulings.{Response, Ruling, decided_ruling, stays}
-use Rattle.definitions.specs.LockRules.{LockAsk, NewHost, row_asked, after_row, free_lock, blocked_lock, lock_rules}
+use Rattle.definitions.specs.LockRules.{LockAsk, with_lock, NewHost, row_asked, after_row, free_lock, blocked_lock, lock_rules}
 use Rattle.definitions.specs.Answer.{by_call, lock_callback, Answered, gives, lock_ask, caller_row, lock_unless, lock_verdict, lock_msg_answer}
 use Rattle.definitions.specs.Step.{State, Peer, KeptPair, asked_unless_kept}
 use Rattle.definitions.proofs.MoveLaws.{by_cond}
@@ -47,7 +47,7 @@ rules_set_none : (limits : Limits) (w : World) (a : LockAsk) → SetsNone (lock_
 rules_set_none limits w a =
     by_cond SetsNone (conflicts w.settings a.request) (cond (a.block && not a.reclaim) (blocked_lock w a) (stays w DENIED)) (free_lock limits w a)
     (λ _. by_cond SetsNone (a.block && not a.reclaim) (blocked_lock w a) (stays w DENIED) (λ _. blocked) (λ _. tt))
-    (λ _. by_cond SetsNone (lacks_room limits.runs (quotas_of w.hosts) w.settings a.request) (stays w DENIED_NOLOCKS) (after_row w (row_asked w a.row) GRANTED (λ v. with_setting v (setting_of a.request))) (λ _. tt) (λ _. after_new w (row_asked w a.row) GRANTED (λ v. with_setting v (setting_of a.request)) (new_row w a.row)))
+    (λ _. by_cond SetsNone (lacks_room limits.runs (quotas_of w.hosts) w.settings a.request) (stays w DENIED_NOLOCKS) (after_row w (row_asked w a.row) GRANTED (λ v. with_lock v a.request)) (λ _. tt) (λ _. after_new w (row_asked w a.row) GRANTED (λ v. with_lock v a.request) (new_row w a.row)))
   where
     blocked : SetsNone (blocked_lock w a)
     blocked =

@@ -11,10 +11,10 @@ use Rattle.definitions.specs.Nlm.{Stat, GRANTED, DENIED, DENIED_NOLOCKS, LockArg
 use Rattle.definitions.specs.Outgoing.{Message, Granted, GrantedMsg}
 use Rattle.definitions.specs.Ranges.{range_refusal, request_of}
 use Rattle.definitions.specs.Rulings.{stays}
-use Rattle.definitions.specs.LockRules.{LockAsk, NewHost, lock_rules, free_lock, blocked_lock, row_asked, after_row}
+use Rattle.definitions.specs.LockRules.{LockAsk, with_lock, NewHost, lock_rules, free_lock, blocked_lock, row_asked, after_row}
 use Rattle.definitions.specs.Answer.{lock_ask, lock_unless, lock_verdict, caller_row}
-use Rattle.definitions.specs.World.{World, Limits, with_setting, slots_free}
-use Rattle.definitions.specs.Step.{State, opening_state}
+use Rattle.definitions.specs.World.{World, Limits, slots_free}
+use Rattle.definitions.specs.Step.{State, opening_state_with}
 use Rattle.definitions.specs.Replay.{Done, after, state_after}
 use Rattle.definitions.specs.Reclaims.{AreCompatible, IsHonest, IsUnder}
 use Rattle.definitions.specs.Moves.{IsSound, RunIsSound, GraceRunLaw, HonestIsGranted}
@@ -27,7 +27,7 @@ run_sound limits s [] sound = sound
 run_sound limits s (d ∷ done) sound = run_sound limits (after limits s d).state done (exclusion_law limits s d.event d.completion d.store sound)
 
 pub run_is_sound : RunIsSound
-run_is_sound limits name hosts done = run_sound limits (opening_state name hosts) done (record { compatible = λ file x y byte wanted differ e. refl; ranges = tt; at_rest = refl })
+run_is_sound limits name rules hosts done = run_sound limits (opening_state_with name rules hosts) done (record { compatible = λ file x y byte wanted differ e. refl; ranges = tt; at_rest = refl })
 
 pub grace_run_law : GraceRunLaw
 grace_run_law limits old s [] under h = under
@@ -40,8 +40,8 @@ row_says w (Some call) stat change = refl
 granted : (limits : Limits) (w : World) (a : LockAsk) → conflicts w.settings a.request ≡ false → lacks_room limits.runs (quotas_of w.hosts) w.settings a.request ≡ false → (lock_rules limits w a).agreed.says ≡ GRANTED
 granted limits w a free room =
     ap (λ b. (cond b (cond (a.block && not a.reclaim) (blocked_lock w a) (stays w DENIED)) (free_lock limits w a)).agreed.says) free
-    ∙ ap (λ b. (cond b (stays w DENIED_NOLOCKS) (after_row w (row_asked w a.row) GRANTED (λ v. with_setting v (setting_of a.request)))).agreed.says) room
-    ∙ row_says w (row_asked w a.row) GRANTED (λ v. with_setting v (setting_of a.request))
+    ∙ ap (λ b. (cond b (stays w DENIED_NOLOCKS) (after_row w (row_asked w a.row) GRANTED (λ v. with_lock v a.request))).agreed.says) room
+    ∙ row_says w (row_asked w a.row) GRANTED (λ v. with_lock v a.request)
 
 module _ (limits : Limits) (old : List Setting) (w : World) (a : LockArgs) (compatible : AreCompatible old) (under : IsUnder old w) (ok : range_refusal w (Locking a.reclaim) a.alock ≡ None) (honest : IsHonest old (request_of a.exclusive a.alock)) (room : lacks_room limits.runs (quotas_of w.hosts) w.settings (request_of a.exclusive a.alock) ≡ false) where
   ask_granted : (row : Option NewHost) (message : Message) (slots : ℕ) → (lock_verdict limits w a (lock_ask a row message slots)).agreed.says ≡ GRANTED

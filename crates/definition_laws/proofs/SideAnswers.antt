@@ -13,7 +13,7 @@ use Rattle.definitions.specs.Hosts.{Hosts, HostRow, Watch, Begin, Seen, StoreAns
 use Rattle.definitions.specs.Outgoing.{Callback, Granted, GrantedMsg, LocalLock, is_grant, is_grant_to}
 use Rattle.definitions.specs.Ranges.{is_stale, file_refusal, line_unlock}
 use Rattle.definitions.specs.Replies.{Call, Nlm, Nsm, SystemErr, Line, GetLock, SetLock, SetLockWait, Close, Table, HostList, Stop, BadLine, LineReply, SetQuota, LineAbsent}
-use Rattle.definitions.specs.World.{World, Limits, with_hosts, with_all_due, without_host_of, restarted_world, restart_callback, opening, first_number, slots_free, closed_by}
+use Rattle.definitions.specs.World.{World, Limits, with_hosts, with_all_due, without_host_of, restarted_world, restart_callback, opening_with, first_number, slots_free, closed_by}
 use Rattle.definitions.specs.Rulings.{Response, Ruling, decided_ruling, ruled_answer, stays}
 use Rattle.definitions.specs.Answer.{Answered, gives, lock_ask, caller_row, lock_msg_answer, cancel_answer, unlock_answer, if_slots, by_reply, by_call, by_message, sent_back, lock_callback, cancel_callback, unlock_callback, share_unless, share_of, unshare_unless, nlm_answer, ruling_after_store, notified_answer, notify_rules, status_callback, nsm_answer, ruling}
 use Rattle.definitions.specs.Lines.{line_refusal, line_answer, set_unless, line_sets, line_ask, quota_stored}
@@ -50,6 +50,7 @@ module _ (R : Share → Type 0) where
   due_sides : (w v : World) (callbacks : List Callback) → AllOf IsPlain callbacks → SideMoves R false w v → SideMoves R false w (with_all_due v callbacks)
   due_sides w v callbacks h m = record {
     name = (due_keeps v callbacks).own_name ∙ m.name;
+    rules = (due_keeps v callbacks).rules ∙ m.rules;
     shares = subst (ShareMove R w.phase w.shares) (sym (due_keeps v callbacks).shares) m.shares;
     calls = elim m.calls [ inl g ↦ inl (goes_due w v callbacks h g) | inr k ↦ absurd (true≢false (sym k.0)) ];
   }
@@ -77,6 +78,7 @@ module _ (R : Share → Type 0) where
       (λ h. by_cond (λ (t : Response Stat). SideMoves R false w t.world) (has_no_room limits.shares w.shares new) _ _ (λ _. unmoved_sides R false w)
       (λ _. record {
         name = refl;
+        rules = refl;
         shares = ShareComes new h (λ g. mine new (reclaims (is_stale a.fh) w.phase g e, refl));
         calls = inl (goes_left w (record w { shares = with_share new w.shares }) w.calls (left_same w.calls) refl refl refl);
       }))
@@ -94,6 +96,7 @@ module _ (R : Share → Type 0) where
   unshare_sides w a (Some stat) = unmoved_sides R false w
   unshare_sides w a None = record {
     name = refl;
+    rules = refl;
     shares = ShareGoes (share_of a);
     calls = inl (goes_left w (record w { shares = without_share (share_of a) w.shares }) w.calls (left_same w.calls) refl refl refl);
   }
@@ -101,6 +104,7 @@ module _ (R : Share → Type 0) where
   drop_sides : (w : World) (hosts : Hosts) (name : Bytes) → SideMoves R false w (without_host_of (with_hosts w hosts) name)
   drop_sides w hosts name = record {
     name = refl;
+    rules = refl;
     shares = HostGoes name;
     calls = inl (goes_left w (without_host_of (with_hosts w hosts) name) (without_host_of w name).calls (left_without (is_grant_to name) w.calls) refl refl refl);
   }
@@ -125,7 +129,7 @@ module _ (R : Share → Type 0) where
   nlm_sides limits w version (FreeAll name state) mine = decided_sides w _ (drop_sides w w.hosts name) tt
 
   hosts_same : (w : World) (hosts : Hosts) → IsSame w (with_hosts w hosts)
-  hosts_same w hosts = record { name = refl; phase = refl; shares = refl; calls = refl; next = refl }
+  hosts_same w hosts = record { name = refl; rules = refl; phase = refl; shares = refl; calls = left_same w.calls; next = refl }
 
   status_plain : (state : ℤ) (watches : List Watch) → AllOf IsPlain (map (status_callback state) watches)
   status_plain state [] = tt
@@ -149,13 +153,14 @@ module _ (R : Share → Type 0) where
   notices_plain name own [] = tt
   notices_plain name own (row ∷ rows) = (refl, notices_plain name own rows)
 
-  pub restart_sides : (w v : World) (hosts : Hosts) → v.own_name ≡ w.own_name → SideMoves R true w (restarted_world v hosts)
-  restart_sides w v hosts e =
+  pub restart_sides : (w v : World) (hosts : Hosts) → v.own_name ≡ w.own_name → v.rules ≡ w.rules → SideMoves R true w (restarted_world v hosts)
+  restart_sides w v hosts e f =
       let callbacks = map (restart_callback v.own_name hosts.own) hosts.rows in
-      let start = opening v.own_name hosts in
+      let start = opening_with v.own_name v.rules hosts in
       let kept = due_keeps start callbacks in
       record {
         name = kept.own_name ∙ e;
+        rules = kept.rules ∙ f;
         shares = subst (ShareMove R w.phase w.shares) (sym kept.shares) AllGo;
         calls = inr (
           refl,
@@ -170,7 +175,7 @@ module _ (R : Share → Type 0) where
   stored_sides w hosts a b e f = (subst (SideMoves R false w) (sym e) (same_sides R false w (with_hosts w hosts) (hosts_same w hosts)), subst (SideMoves R false w) (sym f) (unmoved_sides R false w))
 
   crash_sides : (limits : Limits) (w : World) (local : Bool) → AnswerSides local w (nsm_answer limits w local SmSimuCrash)
-  crash_sides limits w true = record { agreed = restart_sides w (with_hosts w (after_store w.hosts Begin)) (after_store w.hosts Begin) refl; refused = unmoved_sides R false w; agreed_due = tt; refused_due = tt }
+  crash_sides limits w true = record { agreed = restart_sides w (with_hosts w (after_store w.hosts Begin)) (after_store w.hosts Begin) refl refl; refused = unmoved_sides R false w; agreed_due = tt; refused_due = tt }
   crash_sides limits w false = said_sides false w _ (same w) tt
 
   monitor_sides : (limits : Limits) (w : World) (local : Bool) (name : Bytes) (my : MyId) (bytes : Bytes) → AnswerSides false w (nsm_answer limits w local (SmMon name my bytes))
@@ -228,12 +233,12 @@ module _ (R : Share → Type 0) where
   both_lines limits w l (GetLock mode lock) = unmoved_line w
   both_lines limits w l (SetLock mode lock) = let m = set_line_sides limits w l false mode lock in (m, m)
   both_lines limits w l (SetLockWait mode lock) = let m = set_line_sides limits w l true mode lock in (m, m)
-  both_lines limits w l (Close owner file) = let m = same_sides R false w (closed_by w file owner) (record { name = refl; phase = refl; shares = refl; calls = refl; next = refl }) in (m, m)
+  both_lines limits w l (Close owner file) = let m = same_sides R false w (closed_by w file owner) (record { name = refl; rules = refl; phase = refl; shares = refl; calls = left_same _; next = refl }) in (m, m)
   both_lines limits w l Table = unmoved_line w
   both_lines limits w l HostList = unmoved_line w
   both_lines limits w l (SetQuota name runs) =
       by_cond (BothLines w) (has_row w.hosts name) (quota_stored w (Quota name runs)) (stays w LineAbsent)
-      (λ _. (same_sides R false w _ (record { name = refl; phase = refl; shares = refl; calls = refl; next = refl }), unmoved_sides R false w))
+      (λ _. (same_sides R false w _ (record { name = refl; rules = refl; phase = refl; shares = refl; calls = left_same _; next = refl }), unmoved_sides R false w))
       (λ _. unmoved_line w)
   both_lines limits w l Stop = unmoved_line w
   both_lines limits w l BadLine = unmoved_line w

@@ -18,6 +18,7 @@ module _ (R : Share → Type 0) where
   ended_sides : (w : World) (c : Outgoing) → SideMoves R false w (world_without_call w c)
   ended_sides w c = record {
     name = refl;
+    rules = refl;
     shares = SharesStay;
     calls = inl (goes_left w (world_without_call w c) (without_call c.number w.calls) (left_without_first (is_numbered c.number) w.calls) refl refl refl);
   }
@@ -29,6 +30,7 @@ module _ (R : Share → Type 0) where
       go None e = unmoved_sides R false w
       go (Some c) e = record {
         name = refl;
+        rules = refl;
         shares = SharesStay;
         calls = inl (goes_silent w number c e (with_calls w (after_silence_at (Some c) w.calls)) refl refl refl);
       }
@@ -40,6 +42,7 @@ module _ (R : Share → Type 0) where
       (λ _. e)
       (λ _. record {
         name = refl;
+        rules = refl;
         shares = SharesStay;
         calls = inl (goes_left w (with_setting (world_without_call w c) (unlock_of alock)) (without_call c.number w.calls) (left_without_first (is_numbered c.number) w.calls) refl refl refl);
       })
@@ -64,6 +67,7 @@ module _ (R : Share → Type 0) where
   notice_sides w c (ToHost name) = (
     record {
       name = refl;
+      rules = refl;
       shares = SharesStay;
       calls = inl (goes_left w _ (without_call c.number w.calls) (left_without_first (is_numbered c.number) w.calls) refl refl refl);
     },

@@ -15,12 +15,12 @@ use Rattle.definitions.specs.Ranges.{range_refusal, request_of, unlock_of}
 use Rattle.definitions.specs.Waits.{is_waiting, closes_cycle}
 use Rattle.definitions.specs.World.{World, Limits, with_setting, with_waiter, with_hosts, with_all_due, first_number}
 use Rattle.definitions.specs.Rulings.{Response, Ruling, decided_ruling, stays}
-use Rattle.definitions.specs.LockRules.{LockAsk, row_asked, after_row, free_lock, blocked_lock, lock_rules, unlock_rules, cancel_rules}
+use Rattle.definitions.specs.LockRules.{LockAsk, tells_of, without_grants_of, with_lock, row_asked, after_row, free_lock, blocked_lock, lock_rules, unlock_rules, cancel_rules}
 use Rattle.definitions.specs.Answer.{lock_unless, lock_verdict, cancel_unless, cancel_answer, unlock_unless, unlock_answer}
 use Rattle.definitions.proofs.WorldLaws.{due_keeps}
 use Rattle.definition_laws.specs.Numbers.{AreLeft, IsDueAgain, AreRenewed}
 use Rattle.definitions.proofs.MoveLaws.{by_cond}
-use Rattle.definition_laws.proofs.CallLaws.{left_same, left_without_first, AllOf, ContinuesBy, begins, all_due}
+use Rattle.definition_laws.proofs.CallLaws.{left_same, left_without_first, left_then_without, AllOf, ContinuesBy, begins, all_due}
 use Rattle.definitions.proofs.Lists.{first_found}
 
 -- ---- what may change
@@ -51,20 +51,22 @@ pub record BeginsPlainly (v : World) : Type 0 where
 -- `begin` says whether the state may begin anew
 pub record SideMoves (Reclaimed : Share → Type 0) (begin : Bool) (w v : World) : Type 0 where
   pub name : v.own_name ≡ w.own_name
+  pub rules : v.rules ≡ w.rules
   pub shares : ShareMove Reclaimed w.phase w.shares v.shares
   pub calls : GoesPlainlyOn w v ⊎ ((begin ≡ true) × BeginsPlainly v)
 
--- ---- rules of locks change nothing of it
+-- ---- rules of locks change nothing of it, but that calls may go
 
 pub record IsSame (w v : World) : Type 0 where
   pub name : v.own_name ≡ w.own_name
+  pub rules : v.rules ≡ w.rules
   pub phase : v.phase ≡ w.phase
   pub shares : v.shares ≡ w.shares
-  pub calls : v.calls ≡ w.calls
+  pub calls : AreLeft w.calls v.calls
   pub next : v.next ≡ w.next
 
 pub same : (w : World) → IsSame w w
-same w = record { name = refl; phase = refl; shares = refl; calls = refl; next = refl }
+same w = record { name = refl; rules = refl; phase = refl; shares = refl; calls = left_same w.calls; next = refl }
 
 abbrev pub BothSame : World → Ruling (Response Stat) → Type 0
 BothSame w r = IsSame w r.agreed.world × IsSame w r.refused.world
@@ -74,20 +76,24 @@ stays_same w stat = (same w, same w)
 
 row_same : (w : World) (call : Option StoreCall) (stat : Stat) (change : World → World) → ((v : World) → IsSame w v → IsSame w (change v)) → BothSame w (after_row w call stat change)
 row_same w None stat change f = (f w (same w), f w (same w))
-row_same w (Some call) stat change f = (f (with_hosts w (after_store w.hosts call)) (record { name = refl; phase = refl; shares = refl; calls = refl; next = refl }), same w)
+row_same w (Some call) stat change f = (f (with_hosts w (after_store w.hosts call)) (record { name = refl; rules = refl; phase = refl; shares = refl; calls = left_same w.calls; next = refl }), same w)
 
 module _ (limits : Limits) (w : World) (a : LockAsk) where
-  set_same : (v : World) → IsSame w v → IsSame w (with_setting v (setting_of a.request))
-  set_same v h = record { name = h.name; phase = h.phase; shares = h.shares; calls = h.calls; next = h.next }
+  set_same : (v : World) → IsSame w v → IsSame w (with_lock v a.request)
+  set_same v h = record { name = h.name; rules = h.rules; phase = h.phase; shares = h.shares; calls = go v.rules.polls_end_grants; next = h.next }
+    where
+      go : (b : Bool) → AreLeft w.calls (cond b (without_grants_of a.request v.calls) v.calls)
+      go true = left_then_without (λ (c : Outgoing). tells_of a.request c.callback.message) h.calls
+      go false = h.calls
 
   wait_same : (v : World) → IsSame w v → IsSame w (with_waiter v (record { request = a.request; callback = a.callback }))
-  wait_same v h = record { name = h.name; phase = h.phase; shares = h.shares; calls = h.calls; next = h.next }
+  wait_same v h = record { name = h.name; rules = h.rules; phase = h.phase; shares = h.shares; calls = h.calls; next = h.next }
 
   pub lock_same : BothSame w (lock_rules limits w a)
   lock_same =
       by_cond (BothSame w) (conflicts w.settings a.request) (cond (a.block && not a.reclaim) (blocked_lock w a) (stays w DENIED)) (free_lock limits w a)
       (λ _. by_cond (BothSame w) (a.block && not a.reclaim) (blocked_lock w a) (stays w DENIED) (λ _. blocked) (λ _. stays_same w DENIED))
-      (λ _. by_cond (BothSame w) (lacks_room limits.runs (quotas_of w.hosts) w.settings a.request) (stays w DENIED_NOLOCKS) (after_row w (row_asked w a.row) GRANTED (λ v. with_setting v (setting_of a.request))) (λ _. stays_same w DENIED_NOLOCKS) (λ _. row_same w (row_asked w a.row) GRANTED (λ v. with_setting v (setting_of a.request)) set_same))
+      (λ _. by_cond (BothSame w) (lacks_room limits.runs (quotas_of w.hosts) w.settings a.request) (stays w DENIED_NOLOCKS) (after_row w (row_asked w a.row) GRANTED (λ v. with_lock v a.request)) (λ _. stays_same w DENIED_NOLOCKS) (λ _. row_same w (row_asked w a.row) GRANTED (λ v. with_lock v a.request) set_same))
     where
       blocked : BothSame w (blocked_lock w a)
       blocked =
@@ -98,11 +104,11 @@ module _ (limits : Limits) (w : World) (a : LockAsk) where
 
 pub unlock_same : (limits : Limits) (w : World) (s : Setting) → BothSame w (unlock_rules limits w s)
 unlock_same limits w s =
-    let set : IsSame w (with_setting w s) = record { name = refl; phase = refl; shares = refl; calls = refl; next = refl } in
+    let set : IsSame w (with_setting w s) = record { name = refl; rules = refl; phase = refl; shares = refl; calls = left_same w.calls; next = refl } in
     by_cond (BothSame w) (is_refused limits.runs (quotas_of w.hosts) w.settings s) (stays w DENIED_NOLOCKS) (decided_ruling (record { says = GRANTED; world = with_setting w s })) (λ _. stays_same w DENIED_NOLOCKS) (λ _. (set, set))
 
 cancel_same : (w : World) (r : Request) → BothSame w (cancel_rules w r)
-cancel_same w r = by_cond (BothSame w) (is_waiting r w.waiters) _ (stays w DENIED) (λ _. (record { name = refl; phase = refl; shares = refl; calls = refl; next = refl }, record { name = refl; phase = refl; shares = refl; calls = refl; next = refl })) (λ _. stays_same w DENIED)
+cancel_same w r = by_cond (BothSame w) (is_waiting r w.waiters) _ (stays w DENIED) (λ _. (record { name = refl; rules = refl; phase = refl; shares = refl; calls = left_same w.calls; next = refl }, record { name = refl; rules = refl; phase = refl; shares = refl; calls = left_same w.calls; next = refl })) (λ _. stays_same w DENIED)
 
 pub verdict_same : (limits : Limits) (w : World) (a : LockArgs) (ask : LockAsk) → BothSame w (lock_verdict limits w a ask)
 verdict_same limits w a ask = go (range_refusal w (Locking a.reclaim) a.alock)
@@ -181,8 +187,9 @@ module _ (R : Share → Type 0) where
   pub same_sides : (begin : Bool) (w v : World) → IsSame w v → SideMoves R begin w v
   same_sides begin w v h = record {
     name = h.name;
+    rules = h.rules;
     shares = subst (ShareMove R w.phase w.shares) (sym h.shares) SharesStay;
-    calls = inl (goes_left w v w.calls (left_same w.calls) h.calls h.next h.phase);
+    calls = inl (goes_left w v v.calls h.calls refl h.next h.phase);
   }
 
   pub unmoved_sides : (begin : Bool) (w : World) → SideMoves R begin w w
@@ -192,6 +199,7 @@ module _ (R : Share → Type 0) where
   pub going : (begin : Bool) (w v : World) → SideMoves R false w v → SideMoves R begin w v
   going begin w v m = record {
     name = m.name;
+    rules = m.rules;
     shares = m.shares;
     calls = elim m.calls [ inl g ↦ inl g | inr h ↦ absurd (true≢false (sym h.0)) ];
   }

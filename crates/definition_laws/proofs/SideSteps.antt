@@ -17,7 +17,7 @@ use Rattle.definitions.specs.Answer.{ruling}
 use Rattle.definitions.specs.Step.{Peer, KeptPair, State, Event, Take, Send, Answer, Silent, Local, GraceOver, Restart, Completion, Applied, Starved, Stepped, applied_step, starved_step, step, taken_step, look, sent_step, restart, settled_after, with_row_stored, store_call, is_restart}
 use Rattle.definitions.proofs.WorldLaws.{due_keeps}
 use Rattle.definition_laws.specs.Numbers.{Continues, GoesOn, BeginsAnew, is_beginning, NumbersLaw}
-use Rattle.definition_laws.specs.Standing.{IsShareReclaim, IsShareReclaimOf, OwnNameLaw}
+use Rattle.definition_laws.specs.Standing.{IsShareReclaim, IsShareReclaimOf, OwnNameLaw, RulesLaw}
 use Rattle.definitions.proofs.MoveLaws.{by_cond}
 use Rattle.definition_laws.proofs.CallLaws.{left_same, left_sending, AllOf, begins, one_due, all_due}
 use Rattle.definition_laws.proofs.SideMoves.{ShareMove, SharesStay, GoesPlainlyOn, SideMoves, IsSame, same_sides, unmoved_sides, goes_left, goes_silent}
@@ -54,19 +54,20 @@ settled_continues (suc n) limits before first w h = go (first_ready limits w) (s
 
 pub record IsKept (w v : World) : Type 0 where
   pub name : v.own_name ≡ w.own_name
+  pub rules : v.rules ≡ w.rules
   pub shares : v.shares ≡ w.shares
   pub hosts : v.hosts ≡ w.hosts
   pub phase : v.phase ≡ w.phase
 
 settled_kept : (n : ℕ) (limits : Limits) (w : World) → IsKept w (settled_within n limits w)
-settled_kept zero limits w = record { name = refl; shares = refl; hosts = refl; phase = refl }
+settled_kept zero limits w = record { name = refl; rules = refl; shares = refl; hosts = refl; phase = refl }
 settled_kept (suc n) limits w = go (first_ready limits w) (settled_kept n limits)
   where
     go : (o : Option Waiter) → ((v : World) → IsKept v (settled_within n limits v)) → IsKept w (elim o [ None ↦ w | Some x ↦ settled_within n limits (granted_world limits w x) ])
-    go None more = record { name = refl; shares = refl; hosts = refl; phase = refl }
+    go None more = record { name = refl; rules = refl; shares = refl; hosts = refl; phase = refl }
     go (Some x) more =
         let k = more (granted_world limits w x) in
-        record { name = k.name; shares = k.shares; hosts = k.hosts; phase = k.phase }
+        record { name = k.name; rules = k.rules; shares = k.shares; hosts = k.hosts; phase = k.phase }
 
 pub settle_keeps : (limits : Limits) (w : World) → IsKept w (settled_world limits w)
 settle_keeps limits w = settled_kept (length w.waiters) limits w
@@ -83,6 +84,7 @@ goes_still w v e n = record {
 
 pub record StepSides (Reclaimed : Share → Type 0) (begin : Bool) (w v : World) : Type 0 where
   pub name : v.own_name ≡ w.own_name
+  pub rules : v.rules ≡ w.rules
   pub shares : ShareMove Reclaimed w.phase w.shares v.shares
   pub calls : GoesOn w v ⊎ ((begin ≡ true) × BeginsAnew v)
 
@@ -93,6 +95,7 @@ module _ (R : Share → Type 0) where
   by_rules : (begin : Bool) (w v : World) → SideMoves R begin w v → StepSides R begin w v
   by_rules begin w v m = record {
     name = m.name;
+    rules = m.rules;
     shares = m.shares;
     calls = elim m.calls [ inl g ↦ inl (plainly w v g) | inr k ↦ inr (k.0, k.1.behind.rest) ];
   }
@@ -104,14 +107,15 @@ module _ (R : Share → Type 0) where
   same_step begin w v h = by_rules begin w v (same_sides R begin w v h)
 
   -- calls go on, and nothing else
-  going_step : (begin : Bool) (w v : World) → v.own_name ≡ w.own_name → v.shares ≡ w.shares → GoesOn w v → StepSides R begin w v
-  going_step begin w v e k g = record { name = e; shares = subst (ShareMove R w.phase w.shares) (sym k) SharesStay; calls = inl g }
+  going_step : (begin : Bool) (w v : World) → v.own_name ≡ w.own_name → v.rules ≡ w.rules → v.shares ≡ w.shares → GoesOn w v → StepSides R begin w v
+  going_step begin w v e f k g = record { name = e; rules = f; shares = subst (ShareMove R w.phase w.shares) (sym k) SharesStay; calls = inl g }
 
   settled_step : (limits : Limits) (begin : Bool) (w v : World) → StepSides R begin w v → StepSides R begin w (settled_world limits v)
   settled_step limits begin w v m =
       let kept = settle_keeps limits v in
       record {
         name = kept.name ∙ m.name;
+        rules = kept.rules ∙ m.rules;
         shares = subst (ShareMove R w.phase w.shares) (sym kept.shares) m.shares;
         calls = elim m.calls [
           | inl g ↦ inl (record { left = g.left; again = g.again; in_order = g.in_order; behind = settled_continues (length v.waiters) limits (g.left ++ g.again) w.next v g.behind })
@@ -122,7 +126,7 @@ module _ (R : Share → Type 0) where
   repeat_step : (begin : Bool) (w : World) (callbacks : List Callback) → StepSides R begin w (with_all_due w callbacks)
   repeat_step begin w callbacks =
       let g = goes_still w w refl refl in
-      going_step begin w (with_all_due w callbacks) (due_keeps w callbacks).own_name (due_keeps w callbacks).shares (record {
+      going_step begin w (with_all_due w callbacks) (due_keeps w callbacks).own_name (due_keeps w callbacks).rules (due_keeps w callbacks).shares (record {
         left = g.left;
         again = g.again;
         in_order = g.in_order;
@@ -133,8 +137,8 @@ module _ (R : Share → Type 0) where
   silent_step begin w number = go (first_that (is_numbered number) w.calls) refl
     where
       go : (o : Option Outgoing) → first_that (is_numbered number) w.calls ≡ o → StepSides R begin w (with_calls w (after_silence_at o w.calls))
-      go None e = same_step begin w (with_calls w w.calls) (record { name = refl; phase = refl; shares = refl; calls = refl; next = refl })
-      go (Some c) e = let v = with_calls w (after_silence_at (Some c) w.calls) in going_step begin w v refl refl (plainly w v (goes_silent w number c e v refl refl refl))
+      go None e = same_step begin w (with_calls w w.calls) (record { name = refl; rules = refl; phase = refl; shares = refl; calls = left_same _; next = refl })
+      go (Some c) e = let v = with_calls w (after_silence_at (Some c) w.calls) in going_step begin w v refl refl refl (plainly w v (goes_silent w number c e v refl refl refl))
 
 module _ (limits : Limits) (s : State) where
   taken_sides : (peer : Peer) (asked : Bytes) (xid : ℕ) (call : Call) (store : StoreAnswer) (o : Option KeptPair) → StepSides (IsShareReclaimOf call) (is_restart peer call store) s.world (taken_step limits s peer asked xid call store o).state.world
@@ -155,7 +159,7 @@ module _ (limits : Limits) (s : State) where
   sent_sides R begin None = unmoved_step R begin s.world
   sent_sides R begin (Some c) =
       let v = with_calls s.world (after_sending s.world.calls) in
-      going_step R begin s.world v refl refl (plainly R s.world v (goes_left s.world v (after_sending s.world.calls) (left_sending s.world.calls) refl refl refl))
+      going_step R begin s.world v refl refl refl (plainly R s.world v (goes_left s.world v (after_sending s.world.calls) (left_sending s.world.calls) refl refl refl))
 
   changed_sides : (R : Share → Type 0) (begin : Bool) (t : Response TableChange) → StepSides R begin s.world t.world → StepSides R begin s.world (settled_after limits t)
   changed_sides R begin t m = go t.says
@@ -170,7 +174,7 @@ module _ (limits : Limits) (s : State) where
   answered_sides R reading Refused = changed_sides R false _ (by_rules R false s.world _ (answer_sides R limits s.world reading).1)
 
   begun_sides : (R : Share → Type 0) (store : StoreAnswer) → StepSides R (is_beginning Restart store) s.world (restart s store).state.world
-  begun_sides R Yes = by_rules R true s.world _ (restart_sides R s.world s.world (after_store s.world.hosts Begin) refl)
+  begun_sides R Yes = by_rules R true s.world _ (restart_sides R s.world s.world (after_store s.world.hosts Begin) refl refl)
   begun_sides R NotAsked = unmoved_step R _ s.world
   begun_sides R Refused = unmoved_step R _ s.world
 
@@ -185,12 +189,12 @@ module _ (limits : Limits) (s : State) where
       let R = IsShareReclaim (Local l line) in
       let v = (ruled_answer store (line_answer limits s.world l line)).world in
       settled_step R limits _ s.world v (by_rules R _ s.world v (line_sides R limits s.world l line store))
-  applied_sides GraceOver store = going_step _ _ s.world _ refl refl (goes_still s.world (record s.world { phase = Normal }) refl refl)
+  applied_sides GraceOver store = going_step _ _ s.world _ refl refl refl (goes_still s.world (record s.world { phase = Normal }) refl refl)
   applied_sides Restart store = begun_sides _ store
 
   row_sides : (R : Share → Type 0) (begin : Bool) (call : Call) (o : Option StoreCall) (store : StoreAnswer) → StepSides R begin s.world (with_row_stored s call o store).world
-  row_sides R begin (Nlm version (Locks a)) (Some call) Yes = same_step R begin s.world _ (record { name = refl; phase = refl; shares = refl; calls = refl; next = refl })
-  row_sides R begin (Nlm version (LockMsg a)) (Some call) Yes = same_step R begin s.world _ (record { name = refl; phase = refl; shares = refl; calls = refl; next = refl })
+  row_sides R begin (Nlm version (Locks a)) (Some call) Yes = same_step R begin s.world _ (record { name = refl; rules = refl; phase = refl; shares = refl; calls = left_same _; next = refl })
+  row_sides R begin (Nlm version (LockMsg a)) (Some call) Yes = same_step R begin s.world _ (record { name = refl; rules = refl; phase = refl; shares = refl; calls = left_same _; next = refl })
   row_sides R begin _ _ _ = unmoved_step R begin s.world
 
   starved_sides : (event : Event) (store : StoreAnswer) → StepSides (IsShareReclaim event) (is_beginning event store) s.world (starved_step limits s event store).state.world
@@ -209,3 +213,6 @@ numbers_law limits s event completion store = (step_sides limits s event complet
 
 pub own_name_law : OwnNameLaw
 own_name_law limits s event completion store = (step_sides limits s event completion store).name
+
+pub rules_law : RulesLaw
+rules_law limits s event completion store = (step_sides limits s event completion store).rules

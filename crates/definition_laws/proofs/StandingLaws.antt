@@ -5,7 +5,7 @@ use Rattle.definitions.specs.Shown.{narrow_stat}
 use Rattle.definitions.specs.Nlm.{Stat, V1, V3, V4, GRANTED, DENIED, DENIED_NOLOCKS, BLOCKED, DENIED_GRACE_PERIOD, DEADLCK, ROFS, STALE_FH, FBIG, FAILED}
 use Rattle.definitions.specs.Shares.{SharesStand}
 use Rattle.definitions.specs.World.{Limits}
-use Rattle.definitions.specs.Step.{State, opening_state}
+use Rattle.definitions.specs.Step.{State, opening_state_with}
 use Rattle.definitions.specs.Replay.{Done, after, state_after}
 use Rattle.definition_laws.specs.Standing.{IsShareReclaim, ShareRunLaw, GraceSharesLaw, ShownLaw}
 use Rattle.definition_laws.proofs.SideSteps.{step_sides}
@@ -18,7 +18,7 @@ run_stands limits s (d ∷ done) h =
     run_stands limits (after limits s d).state done (shares_stand (IsShareReclaim d.event) s.world.phase s.world.shares (after limits s d).state.world.shares m.shares h)
 
 pub share_run_law : ShareRunLaw
-share_run_law limits name hosts done = run_stands limits (opening_state name hosts) done (record { single = tt; coexist = λ a b h. absurd h })
+share_run_law limits name rules hosts done = run_stands limits (opening_state_with name rules hosts) done (record { single = tt; coexist = λ a b h. absurd h })
 
 pub grace_shares_law : GraceSharesLaw
 grace_shares_law limits s event completion store g share h =

@@ -13,7 +13,7 @@ use Rattle.definitions.specs.Nlm.{Locks, LockMsg}
 use Rattle.definitions.specs.Outgoing.{Outgoing, next_due}
 use Rattle.definitions.specs.Replies.{Call, Nlm, Ignored, Turned, Asks, AnswerReading}
 use Rattle.definitions.specs.Waits.{Waiter}
-use Rattle.definitions.specs.World.{World, Limits, is_ready, settled_world, settled_within, with_all_due, slots_free, opening, restart_callback, restarted_world, Settles, AtRest, Grants}
+use Rattle.definitions.specs.World.{World, Limits, is_ready, settled_world, settled_within, with_all_due, slots_free, opening_with, restart_callback, restarted_world, Settles, AtRest, Grants}
 use Rattle.definitions.specs.Rulings.{Response, ruled_answer}
 use Rattle.definitions.specs.Grants.{TableChange, TableStays, TableChanges, answer_rules}
 use Rattle.definitions.specs.Lines.{line_answer}
@@ -104,8 +104,8 @@ module _ (limits : Limits) (s : State) (sound : IsSound limits s.world) where
 
   restarted_sound : (w : World) (hosts : Hosts) → IsSound limits (restarted_world w hosts)
   restarted_sound w hosts =
-      let kept = due_keeps (opening w.own_name hosts) (map (restart_callback w.own_name hosts.own) hosts.rows) in
-      sound_same limits (opening w.own_name hosts) (restarted_world w hosts) kept.settings kept.waiters (hosts_stay (opening w.own_name hosts) (restarted_world w hosts) kept.hosts) (record { compatible = nothing_set; ranges = tt; at_rest = refl })
+      let kept = due_keeps (opening_with w.own_name w.rules hosts) (map (restart_callback w.own_name hosts.own) hosts.rows) in
+      sound_same limits (opening_with w.own_name w.rules hosts) (restarted_world w hosts) kept.settings kept.waiters (hosts_stay (opening_with w.own_name w.rules hosts) (restarted_world w hosts) kept.hosts) (record { compatible = nothing_set; ranges = tt; at_rest = refl })
 
   restart_sound : (store : StoreAnswer) → IsSound limits (restart s store).state.world
   restart_sound Yes = restarted_sound s.world (after_store s.world.hosts Begin)

@@ -6,12 +6,12 @@ use Rattle.definitions.specs.Nlm.{Locks, LockMsg}
 use Rattle.definitions.specs.Hosts.{Hosts, StoreCall, Begin, StoreAnswer, NotAsked, Yes, Refused, AreInOrder, after_store}
 use Rattle.definitions.specs.Outgoing.{Outgoing, next_due}
 use Rattle.definitions.specs.Replies.{Call, Nlm, Ignored, Turned, Asks, AnswerReading, LineReply}
-use Rattle.definitions.specs.World.{Limits, slots_free, restart_callback, opening}
+use Rattle.definitions.specs.World.{Limits, slots_free, restart_callback, opening_with}
 use Rattle.definitions.specs.Rulings.{Response, Ruling, ruled_answer}
 use Rattle.definitions.specs.Lines.{line_answer}
 use Rattle.definitions.specs.Grants.{TableChange, TableStays, TableChanges, answer_rules}
 use Rattle.definitions.specs.Answer.{Answered, ruling}
-use Rattle.definitions.specs.Step.{Peer, KeptPair, State, Event, Applied, Starved, Stepped, Take, Send, Answer, Silent, Local, GraceOver, Restart, taken_step, applied_step, starved_step, look, sent_step, restart, settled_after, with_row_stored, store_call, asked_unless_kept, opening_state}
+use Rattle.definitions.specs.Step.{Peer, KeptPair, State, Event, Applied, Starved, Stepped, Take, Send, Answer, Silent, Local, GraceOver, Restart, taken_step, applied_step, starved_step, look, sent_step, restart, settled_after, with_row_stored, store_call, asked_unless_kept, opening_state_with}
 use Rattle.definitions.specs.Replay.{Done, after, state_after, may_leave_row, fits, all_fit}
 use Rattle.definition_laws.specs.Asking.{hosts_after, StoreLaw, HostRunLaw}
 use Rattle.definitions.proofs.MoveLaws.{by_cond}
@@ -69,7 +69,7 @@ module _ (limits : Limits) (s : State) where
   sent_follows (Some c) = refl
 
   restart_follows : (store : StoreAnswer) → (restart s store).state.world.hosts ≡ hosts_after s.world.hosts (Some Begin) store
-  restart_follows Yes = let hosts = after_store s.world.hosts Begin in (due_keeps (opening s.world.own_name hosts) (map (restart_callback s.world.own_name hosts.own) hosts.rows)).hosts
+  restart_follows Yes = let hosts = after_store s.world.hosts Begin in (due_keeps (opening_with s.world.own_name s.world.rules hosts) (map (restart_callback s.world.own_name hosts.own) hosts.rows)).hosts
   restart_follows NotAsked = refl
   restart_follows Refused = refl
 
@@ -129,4 +129,4 @@ run_in_order limits s (d ∷ done) h fit =
     both false c e = absurd (true≢false (sym e))
 
 pub host_run_law : HostRunLaw
-host_run_law limits name hosts done h fit = run_in_order limits (opening_state name hosts) done h fit
+host_run_law limits name rules hosts done h fit = run_in_order limits (opening_state_with name rules hosts) done h fit

@@ -14,9 +14,9 @@ use Rattle.definitions.specs.Outgoing.{Outgoing, Callback, LocalLock, Message, G
 use Rattle.definitions.specs.Ranges.{range_refusal, file_refusal, request_of, unlock_of, line_unlock}
 use Rattle.definitions.specs.Replies.{Call, Nlm, Nsm, SystemErr, AnswerReading, Unreadable, AcceptedSuccess, OtherAnswer, Line, GetLock, SetLock, SetLockWait, Close, Table, HostList, SetQuota, Stop, BadLine, LineReply, LineAbsent}
 use Rattle.definitions.specs.Waits.{is_waiting, closes_cycle}
-use Rattle.definitions.specs.World.{World, Limits, with_setting, with_waiter, with_hosts, slots_free, restart_callback, opening}
+use Rattle.definitions.specs.World.{World, Limits, with_setting, with_waiter, with_hosts, slots_free, restart_callback, opening_with}
 use Rattle.definitions.specs.Rulings.{Response, Ruling, decided_ruling, stays}
-use Rattle.definitions.specs.LockRules.{LockAsk, row_asked, after_row, free_lock, blocked_lock, lock_rules, unlock_rules, cancel_rules}
+use Rattle.definitions.specs.LockRules.{LockAsk, with_lock, row_asked, after_row, free_lock, blocked_lock, lock_rules, unlock_rules, cancel_rules}
 use Rattle.definitions.specs.Lines.{line_refusal, line_answer, quota_stored, set_unless, line_sets, line_ask}
 use Rattle.definitions.specs.Grants.{TableChange, TableStays, TableChanges, world_without_call, became, grant_answered, granted_res_rules, granted_res_at, granted_res_of, notice_answered, ruling_on_success, answered_success, answered_otherwise, answer_rules}
 use Rattle.definitions.specs.Answer.{Answered, gives, lock_ask, caller_row, lock_unless, lock_verdict, lock_msg_answer, cancel_unless, cancel_answer, unlock_unless, unlock_answer, if_slots, by_call, by_message, sent_back, test_callback, lock_callback, cancel_callback, unlock_callback, share_unless, share_of, unshare_unless, ruling_after_store, notified_answer, notify_rules, status_callback, nlm_answer, nsm_answer, ruling}
@@ -47,7 +47,7 @@ lock_follows : (limits : Limits) (w : World) (a : LockAsk) → Response_follows 
 lock_follows limits w a =
     by_cond (Response_follows w) (conflicts w.settings a.request) (cond (a.block && not a.reclaim) (blocked_lock w a) (stays w DENIED)) (free_lock limits w a)
     (λ _. by_cond (Response_follows w) (a.block && not a.reclaim) (blocked_lock w a) (stays w DENIED) (λ _. blocked) (λ _. (refl, refl)))
-    (λ _. by_cond (Response_follows w) (lacks_room limits.runs (quotas_of w.hosts) w.settings a.request) (stays w DENIED_NOLOCKS) (after_row w (row_asked w a.row) GRANTED (λ v. with_setting v (setting_of a.request))) (λ _. (refl, refl)) (λ _. row_follows w (row_asked w a.row) GRANTED (λ v. with_setting v (setting_of a.request)) (λ v. refl)))
+    (λ _. by_cond (Response_follows w) (lacks_room limits.runs (quotas_of w.hosts) w.settings a.request) (stays w DENIED_NOLOCKS) (after_row w (row_asked w a.row) GRANTED (λ v. with_lock v a.request)) (λ _. (refl, refl)) (λ _. row_follows w (row_asked w a.row) GRANTED (λ v. with_lock v a.request) (λ v. refl)))
   where
     blocked : Response_follows w (blocked_lock w a)
     blocked =
@@ -170,7 +170,7 @@ nsm_follows limits w true (SmUnmonAll my) = (refl, refl)
 nsm_follows limits w false (SmUnmonAll my) = (refl, refl)
 nsm_follows limits w true SmSimuCrash =
     let hosts = after_store w.hosts Begin in
-    ((due_keeps (opening w.own_name hosts) (map (restart_callback w.own_name hosts.own) hosts.rows)).hosts, refl)
+    ((due_keeps (opening_with w.own_name w.rules hosts) (map (restart_callback w.own_name hosts.own) hosts.rows)).hosts, refl)
 nsm_follows limits w false SmSimuCrash = (refl, refl)
 nsm_follows limits w local (SmNotify name state) = go (row_of w.hosts name)
   where

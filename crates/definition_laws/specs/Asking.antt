@@ -5,10 +5,10 @@ use Rattle.definitions.specs.Grants.{answer_rules}
 use Rattle.definitions.specs.Hosts.{Hosts, StoreCall, StoreAnswer, Yes, AreInOrder, after_store}
 use Rattle.definitions.specs.Replies.{Call, AnswerReading}
 use Rattle.definitions.specs.Rulings.{Ruling}
-use Rattle.definitions.specs.Step.{State, Event, Completion, Starved, with_world, step, store_call, opening_state}
+use Rattle.definitions.specs.Step.{State, Event, Completion, Starved, with_world, step, store_call, opening_state_with}
 use Rattle.definitions.specs.Replay.{Done, fits, all_fit, state_after}
 use Rattle.definitions.specs.Bytes.{Bytes}
-use Rattle.definitions.specs.World.{World, Limits, with_hosts}
+use Rattle.definitions.specs.World.{World, Limits, Rules, with_hosts}
 
 -- where the store isn't asked there is but one outcome
 abbrev pub IsUnasked : {A : Type 0} → Ruling A → Type 0
@@ -41,6 +41,6 @@ StoreLaw =
 -- and rows and watches stay in order, none twice
 abbrev pub HostRunLaw : Type 0
 HostRunLaw =
-    (limits : Limits) (name : Bytes) (hosts : Hosts) (done : List Done) → AreInOrder hosts
-    → all_fit limits (opening_state name hosts) done ≡ true
-    → AreInOrder (state_after limits (opening_state name hosts) done).world.hosts
+    (limits : Limits) (name : Bytes) (rules : Rules) (hosts : Hosts) (done : List Done) → AreInOrder hosts
+    → all_fit limits (opening_state_with name rules hosts) done ≡ true
+    → AreInOrder (state_after limits (opening_state_with name rules hosts) done).world.hosts

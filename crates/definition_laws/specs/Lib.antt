@@ -14,3 +14,4 @@ pub mod RowsOfGrace
 pub mod RowsOfAnswers
 pub mod RowsOfVersions
 pub mod Asking
+pub mod Polls

@@ -13,8 +13,8 @@ use Rattle.definitions.specs.Shown.{shown_stat}
 use Rattle.definitions.specs.Answer.{share_of, share_verdict, lock_answer, nm_lock_answer, lock_msg_answer}
 use Rattle.definitions.specs.Lines.{line_refusal}
 use Rattle.definition_laws.specs.Monitored.{stands}
-use Rattle.definitions.specs.World.{World, Limits}
-use Rattle.definitions.specs.Step.{State, Event, Take, Completion, step, opening_state}
+use Rattle.definitions.specs.World.{World, Limits, Rules}
+use Rattle.definitions.specs.Step.{State, Event, Take, Completion, step, opening_state_with}
 use Rattle.definitions.specs.Replay.{Done, state_after}
 
 -- no event, outcome or answer of the store changes the own name
@@ -23,11 +23,17 @@ OwnNameLaw =
     (limits : Limits) (s : State) (event : Event) (completion : Completion) (store : StoreAnswer)
     → (step limits s event completion store).state.world.own_name ≡ s.world.own_name
 
+-- nor the rules
+abbrev pub RulesLaw : Type 0
+RulesLaw =
+    (limits : Limits) (s : State) (event : Event) (completion : Completion) (store : StoreAnswer)
+    → (step limits s event completion store).state.world.rules ≡ s.world.rules
+
 -- after any events: one share for each file and owner, and none does what another denies
 abbrev pub ShareRunLaw : Type 0
 ShareRunLaw =
-    (limits : Limits) (name : Bytes) (hosts : Hosts) (done : List Done)
-    → SharesStand (state_after limits (opening_state name hosts) done).world.shares
+    (limits : Limits) (name : Bytes) (rules : Rules) (hosts : Hosts) (done : List Done)
+    → SharesStand (state_after limits (opening_state_with name rules hosts) done).world.shares
 
 -- ---- in grace
 
@@ -57,9 +63,9 @@ pub record IsGrantless (w : World) : Type 0 where
 -- after any events that end in grace
 abbrev pub GraceCallsLaw : Type 0
 GraceCallsLaw =
-    (limits : Limits) (name : Bytes) (hosts : Hosts) (done : List Done)
-    → (state_after limits (opening_state name hosts) done).world.phase ≡ Grace
-    → IsGrantless (state_after limits (opening_state name hosts) done).world
+    (limits : Limits) (name : Bytes) (rules : Rules) (hosts : Hosts) (done : List Done)
+    → (state_after limits (opening_state_with name rules hosts) done).world.phase ≡ Grace
+    → IsGrantless (state_after limits (opening_state_with name rules hosts) done).world
 
 -- a lock or a share is answered GRANTED, or comes to wait, only where it is a reclaim, and a line's lock never is
 pub record GraceAnswersLaw : Type 0 where

@@ -11,7 +11,8 @@ ghost use Rattle.definitions.specs.Replay.{HistoryGrows, HistoryLaw};
 ghost use Rattle.definitions.specs.Reclaims.{ExclusionKept, ExclusionKeptByDrops, ExclusionKeptByUnlock, HonestMeetsNoConflict, HonestStaysWithin, RestartIsUnder};
 ghost use Rattle.definitions.specs.Settings.{DropHostLaw, DropOwnerLaw, NewestLaw};
 ghost use Rattle.definitions.specs.Shares.{ClashLaw, SharesLaw};
-ghost use Rattle.definition_laws.specs.Standing.{GraceAnswersLaw, GraceCallsLaw, GraceSharesLaw, OwnNameLaw, ShareRunLaw, ShownLaw};
+ghost use Rattle.definition_laws.specs.Polls.{LateAnswerLaw, PollLaw};
+ghost use Rattle.definition_laws.specs.Standing.{GraceAnswersLaw, GraceCallsLaw, GraceSharesLaw, OwnNameLaw, RulesLaw, ShareRunLaw, ShownLaw};
 ghost use Rattle.definitions.specs.Starts.{FirstConflictLaw, RunsLaw, StartsLaw};
 ghost use Rattle.definitions.specs.Step.{RepeatLaw};
 ghost use Rattle.definitions.specs.Uses.{KeptIsFound, KeptLaw};
@@ -203,6 +204,11 @@ pub fn own_name_stays()
     ensures { OwnNameLaw }
 {}
 
+/// Nor the rules.
+pub fn rules_stay()
+    ensures { RulesLaw }
+{}
+
 /// A new share is denied exactly where another owner's does what it denies, or denies what it does.
 pub fn clash_is_found()
     ensures { ClashLaw }
@@ -267,4 +273,14 @@ pub fn refused_row_changes_nothing()
 #[tactic(auto, using(crate::proofs::StandingLaws::shown_law))]
 pub fn shown_statuses_keep_their_sense()
     ensures { ShownLaw }
+{}
+
+/// Where polls end grants, an answer to a lock call that is GRANTED leaves no call that tells of its lock.
+pub fn polled_lock_is_untold()
+    ensures { PollLaw }
+{}
+
+/// No answer to a call of the server's own unlocks a lock that no call tells of.
+pub fn late_answer_unlocks_another()
+    ensures { LateAnswerLaw }
 {}

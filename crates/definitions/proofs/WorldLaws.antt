@@ -6,15 +6,15 @@ use Rattle.definitions.specs.Hosts.{HostRow, next_own, IsLeastOddAbove, NextOwnL
 use Rattle.definitions.specs.Outgoing.{Callback, Outgoing, due_now}
 use Rattle.definitions.specs.Waits.{Waiter}
 use Rattle.definitions.proofs.Lists.{first_found, none_found}
-use Rattle.definitions.specs.World.{World, Limits, opening, with_due, with_all_due, LeavesRest, restart_callback, RestartNotices, is_ready_in, first_ready, granted_world, settled_within, IsFirstReady, after_grant, Settles, AtRest, Grants, SettleLaw}
+use Rattle.definitions.specs.World.{World, Limits, opening_with, with_due, with_all_due, LeavesRest, restart_callback, RestartNotices, is_ready_in, first_ready, granted_world, settled_within, IsFirstReady, after_grant, Settles, AtRest, Grants, SettleLaw}
 
 -- ---- calls that become due
 
 pub due_keeps : (w : World) (callbacks : List Callback) → LeavesRest w (with_all_due w callbacks)
-due_keeps w [] = record { settings = refl; waiters = refl; shares = refl; phase = refl; hosts = refl; own_name = refl }
+due_keeps w [] = record { settings = refl; waiters = refl; shares = refl; phase = refl; hosts = refl; own_name = refl; rules = refl }
 due_keeps w (callback ∷ callbacks) =
     let more = due_keeps (with_due w callback) callbacks in
-    record { settings = more.settings; waiters = more.waiters; shares = more.shares; phase = more.phase; hosts = more.hosts; own_name = more.own_name }
+    record { settings = more.settings; waiters = more.waiters; shares = more.shares; phase = more.phase; hosts = more.hosts; own_name = more.own_name; rules = more.rules }
 
 callbacks_of : List Outgoing → List Callback
 callbacks_of calls = map (λ (c : Outgoing). c.callback) calls
@@ -56,7 +56,7 @@ all_alike f (r ∷ rows) = ap (λ zs. true ∷ zs) (all_alike f rows)
 pub restart_notices : RestartNotices
 restart_notices w hosts =
     let f = restart_callback w.own_name hosts.own in
-    (due_callbacks (opening w.own_name hosts) (map f hosts.rows), due_flags (opening w.own_name hosts) (map f hosts.rows) ∙ all_alike f hosts.rows)
+    (due_callbacks (opening_with w.own_name w.rules hosts) (map f hosts.rows), due_flags (opening_with w.own_name w.rules hosts) (map f hosts.rows) ∙ all_alike f hosts.rows)
 
 pub next_own_law : NextOwnLaw
 next_own_law = record { below = below; past = past; odd = odd; another = another }

@@ -26,3 +26,4 @@ pub mod Reclaims
 pub mod Moves
 pub mod Uses
 pub mod First
+pub mod Options

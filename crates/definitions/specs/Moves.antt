@@ -9,8 +9,8 @@ use Rattle.definitions.specs.Nlm.{Version, GRANTED, LockArgs, Locks, LockMsg, Nm
 use Rattle.definitions.specs.Ranges.{range_refusal, request_of}
 use Rattle.definitions.specs.Replies.{Call, Nlm, Nsm, Asks}
 use Rattle.definitions.specs.Waits.{Waiter}
-use Rattle.definitions.specs.World.{World, Limits, is_ready_in}
-use Rattle.definitions.specs.Step.{State, Event, Take, Completion, step, opening_state}
+use Rattle.definitions.specs.World.{World, Rules, Limits, is_ready_in}
+use Rattle.definitions.specs.Step.{State, Event, Take, Completion, step, opening_state_with}
 use Rattle.definitions.specs.Replay.{Done, after, state_after}
 use Rattle.definitions.specs.Starts.{is_short}
 use Rattle.definitions.specs.Quotas.{quotas_of, exceeds}
@@ -78,7 +78,9 @@ GraceLaw =
 
 -- so it is after any events from the opening world, whatever was refused or starved
 abbrev pub RunIsSound : Type 0
-RunIsSound = (limits : Limits) (name : Bytes) (hosts : Hosts) (done : List Done) → IsSound limits (state_after limits (opening_state name hosts) done).world
+RunIsSound =
+    (limits : Limits) (name : Bytes) (rules : Rules) (hosts : Hosts) (done : List Done)
+    → IsSound limits (state_after limits (opening_state_with name rules hosts) done).world
 
 -- each event finds grace, and each of its reclaims is honest in the list
 abbrev pub AreHonest : Limits → List Setting → State → List Done → Type 0

@@ -7,7 +7,7 @@ use Rattle.definitions.specs.Nsm.{SmSimuCrash}
 use Rattle.definitions.specs.Hosts.{Hosts, StoreCall, Begin, StoreAnswer, NotAsked, Yes, Refused, after_store}
 use Rattle.definitions.specs.Outgoing.{Callback, Outgoing, next_due, after_sending, after_silence}
 use Rattle.definitions.specs.Replies.{Call, Nlm, Nsm, Outcome, Success, Refuses, SystemErr, Reading, Ignored, Turned, Asks, AnswerReading, Line, LineReply, LineStarved}
-use Rattle.definitions.specs.World.{World, Limits, opening, slots_free, with_hosts, with_calls, with_all_due, LeavesRest, settled_world, restarted_world}
+use Rattle.definitions.specs.World.{World, Rules, the_rules, Limits, opening_with, slots_free, with_hosts, with_calls, with_all_due, LeavesRest, settled_world, restarted_world}
 use Rattle.definitions.specs.Rulings.{Response, ruled_answer}
 use Rattle.definitions.specs.Answer.{Answered, ruling}
 use Rattle.definitions.specs.Lines.{line_answer}
@@ -31,8 +31,11 @@ pub record State : Type 0 where
   pub world : World
   pub kept : List KeptPair
 
+abbrev pub opening_state_with : Bytes → Rules → Hosts → State
+opening_state_with name rules hosts = record { world = opening_with name rules hosts; kept = [] }
+
 abbrev pub opening_state : Bytes → Hosts → State
-opening_state name hosts = record { world = opening name hosts; kept = [] }
+opening_state name hosts = opening_state_with name the_rules hosts
 
 pub data Event : Type 0 where
   Take : Peer → Bytes → Reading → Event

@@ -7,8 +7,8 @@ use Rattle.definitions.specs.Nlm.{Version, NlmCall}
 use Rattle.definitions.specs.Replies.{Call, Nlm, Asks}
 use Rattle.definitions.specs.Replay.{Done, after, state_after}
 use Rattle.definitions.specs.Rulings.{ruled_answer}
-use Rattle.definitions.specs.Step.{Peer, KeptPair, State, Event, Take, Restart, Applied, Starved, look, is_kept_kind, is_success, is_restart, is_same_key, step, opening_state}
-use Rattle.definitions.specs.World.{Limits, slots_free}
+use Rattle.definitions.specs.Step.{Peer, KeptPair, State, Event, Take, Restart, Applied, Starved, look, is_kept_kind, is_success, is_restart, is_same_key, step, opening_state_with}
+use Rattle.definitions.specs.World.{Limits, Rules, slots_free}
 
 -- the pair of a call that is answered for the first time
 abbrev pub new_pair : Peer → Bytes → ℕ → Answered → KeptPair
@@ -43,9 +43,9 @@ distinct (k ∷ uses) = k ∷ list_without (is_same_key k.peer k.asked) (distinc
 -- however the events went, the newest uses are kept, as many as there is room for
 abbrev pub KeptLaw : Type 0
 KeptLaw =
-    (limits : Limits) (name : Bytes) (hosts : Hosts) (done : List Done)
-    → (state_after limits (opening_state name hosts) done).kept
-    ≡ take limits.kept (distinct (uses_after limits (opening_state name hosts) [] done))
+    (limits : Limits) (name : Bytes) (rules : Rules) (hosts : Hosts) (done : List Done)
+    → (state_after limits (opening_state_with name rules hosts) done).kept
+    ≡ take limits.kept (distinct (uses_after limits (opening_state_with name rules hosts) [] done))
 
 -- a new call whose kind is kept and whose reply is SUCCESS is found by its repeat, with that reply and those calls
 abbrev pub KeptIsFound : Type 0

@@ -3,3 +3,4 @@
 
 pub mod own_state;
 pub mod quotas;
+pub mod rules;

@@ -1,11 +1,12 @@
 -- What the lock rules say, by what the world shows.
-use Rattle.std.proofs.Common.{◌≡◌, ◌≤◌, ◌<◌, ℕ, ◌-◌, eqb, Bool, true, false, not, ◌&&◌, cond, List, [], ◌∷◌, length, refl, sym, ap, ◌∙◌, subst, Some, None, Result, Ok, Err, arith}
+use Rattle.std.proofs.Common.{◌≡◌, ◌≤◌, ◌<◌, ℕ, ◌+◌, ◌-◌, eqb, Bool, true, false, not, ◌&&◌, cond, List, [], ◌∷◌, length, refl, sym, ap, ◌∙◌, subst, Some, None, Result, Ok, Err, arith}
 use Rattle.std.proofs.lemmas.Bool.{eqb-true, false≢true}
 use Rattle.std.proofs.lemmas.List.{length-append}
 use Rattle.std.specs.Prelude.{IfOk}
 use Rattle.definitions.specs.Bytes.{Bytes, without_first}
+use Rattle.definitions.proofs.Lists.{length_without}
 use Rattle.definitions.specs.Owners.{Owner}
-use Rattle.definitions.specs.Settings.{Mode, Request, Setting, setting_of}
+use Rattle.definitions.specs.Settings.{Mode, Request, Setting}
 use Rattle.definitions.specs.Conflict.{conflicts}
 use Rattle.definitions.specs.Phases.{Cancelling, Locking}
 use Rattle.definitions.specs.Quotas.{quotas_of, lacks_room}
@@ -13,11 +14,11 @@ use Rattle.definitions.specs.Hosts.{Hosts, StoreCall, Monitor, has_row, after_st
 use Rattle.definitions.specs.Nlm as nlm
 use Rattle.definitions.specs.Nlm.{Stat}
 use Rattle.definitions.specs.Waits.{Waiter, is_waiting, without_waiter, same_request as is_same_request, closes_cycle}
-use Rattle.definitions.specs.World.{World, the_limits, slots_free, with_hosts, with_setting, with_waiter}
+use Rattle.definitions.specs.World.{World, the_limits, slots_free, with_hosts, with_waiter}
 use Rattle.definitions.specs.Ranges.{range_refusal, request_of}
 use Rattle.definitions.specs.Rulings.{Ruling, Response, decided_ruling, stays}
-use Rattle.definitions.specs.Outgoing.{Granted, GrantedMsg}
-use Rattle.definitions.specs.LockRules.{LockAsk, NewHost, row_asked, after_row, lock_rules, blocked_lock}
+use Rattle.definitions.specs.Outgoing.{Outgoing, Granted, GrantedMsg}
+use Rattle.definitions.specs.LockRules.{LockAsk, NewHost, tells_of, without_grants_of, with_lock, row_asked, after_row, lock_rules, blocked_lock}
 use Rattle.definitions.specs.Answer.{Answered, cancel_answer, cancel_unless, lock_unless, lock_ask, caller_row}
 use Rattle.call_plans.specs.declared.plans.Asked.{Asked}
 use Rattle.call_plans.specs.declared.plans.Asked.TheVariants as asks
@@ -51,7 +52,7 @@ module _ (w : World) (a : LockAsk) where
   pub no_room : conflicts w.settings a.request ≡ false → lacks_room 65536 (quotas_of w.hosts) w.settings a.request ≡ true → lock_rules the_limits w a ≡ stays w nlm.DENIED_NOLOCKS
   no_room free full = rw (free, full) refl
 
-  pub granted : conflicts w.settings a.request ≡ false → lacks_room 65536 (quotas_of w.hosts) w.settings a.request ≡ false → lock_rules the_limits w a ≡ after_row w (row_asked w a.row) nlm.GRANTED (λ v. with_setting v (setting_of a.request))
+  pub granted : conflicts w.settings a.request ≡ false → lacks_room 65536 (quotas_of w.hosts) w.settings a.request ≡ false → lock_rules the_limits w a ≡ after_row w (row_asked w a.row) nlm.GRANTED (λ v. with_lock v a.request)
   granted free room = rw (free, room) refl
 
   pub would_wait_for_itself : is_waiting a.request w.waiters ≡ false → closes_cycle w.settings w.waiters a.request ≡ true → blocked_lock w a ≡ stays w nlm.DEADLCK
@@ -106,6 +107,17 @@ pub leaves_room : (w : World) (r : Request) (reserved : ℕ) → reserved ≤ sl
 leaves_room w r reserved h =
     let few = fewer (λ (x : Waiter). is_same_request x.request r) w.waiters in
     omega arith
+
+-- a lock that ends grants leaves no less room
+pub lock_leaves_room : (w : World) (r : Request) (reserved : ℕ) → reserved ≤ slots_free the_limits w → reserved ≤ slots_free the_limits (with_lock w r)
+lock_leaves_room w r reserved h = go w.rules.polls_end_grants
+  where
+    no_more : length (without_grants_of r w.calls) ≤ length w.calls
+    no_more = length_without (λ (c : Outgoing). tells_of r c.callback.message) w.calls
+
+    go : (b : Bool) → reserved ≤ the_limits.slots - (length w.waiters + length (cond b (without_grants_of r w.calls) w.calls))
+    go true = let fewer = no_more in omega arith
+    go false = h
 
 module _ (w : World) (a : nlm.CancelArgs) (none : range_refusal w Cancelling a.alock ≡ None) (q r : Request) (asked : q ≡ r) (is : r ≡ request_of a.exclusive a.alock) where
   waits : (b : Bool) → b ≡ is_waiting q w.waiters → is_waiting (request_of a.exclusive a.alock) w.waiters ≡ b

@@ -222,13 +222,11 @@ fn unlocked_range(place: &CallRange, lock: &LocalLock) -> Result<Range, Starved>
     requires first { place.now.range.first ≡ lock.now.offset }
     requires last { place.now.range.last ≡ last_byte lock.now.offset lock.now.len }
     ensures setting { IfOk result (λ range. view_of_range range ≡ line_unlock (view_of_local_lock lock.now)) }
-    ensures mode { IfOk result (λ range. range.mode ≡ None) }
 {
     Ok(Range {
         file: place.file,
         owner: lock.owner.clone()?,
         range: place.range,
-        mode: None,
     })
 }
 

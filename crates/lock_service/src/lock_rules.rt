@@ -38,8 +38,7 @@ pub(crate) fn lock_rules<R: RangeTable, S: HostStore>(
         drop(ask.wanted);
         return Ok(Verdict::of_stat(Stat::DeniedNolocks));
     }
-    let change = Change::Set(ask.wanted.into_range());
-    behind_row(world, ask.row, Stat::Granted, change)
+    behind_row(world, ask.row, Stat::Granted, Change::Lock(ask.wanted))
 }
 
 // Another lock is in the way: its owner waits, where it asked to. A reclaim never waits.

@@ -55,7 +55,6 @@ fn verdict<R: RangeTable, S: HostStore>(
         file: place.file,
         owner: owner_of(world.alloc(), &args.alock)?,
         range: place.range,
-        mode: None,
     };
     Ok(unlock_rules(world, range))
 }
@@ -66,7 +65,6 @@ pub(crate) fn unlock_rules<R: RangeTable, S: HostStore>(
     world: &World<R, S>,
     range: Range,
 ) -> Verdict
-    requires { range.mode ≡ None }
     ensures verdict { (reserved : ℕ) → IsVerdict (rules_said the_limits world.now.world (view_of_range range)) reserved world.now.world result }
     ensures asks { OnlyAsksIf false result }
 {
@@ -75,6 +73,6 @@ pub(crate) fn unlock_rules<R: RangeTable, S: HostStore>(
     }
     Verdict::Decided {
         stat: Stat::Granted,
-        change: Change::Set(range),
+        change: Change::Unlock(range),
     }
 }

@@ -4,9 +4,11 @@ ghost use Rattle.definitions.specs.Owners.{Owner as SaidOwner, is_of_host};
 ghost use Rattle.definitions.specs.Phases.{Normal};
 ghost use Rattle.definitions.specs.Starts.{refuses};
 ghost use Rattle.definitions.specs.Shares.{is_denied, has_no_room, with_share, without_share};
-ghost use Rattle.definitions.specs.World.{with_setting, without_host_of};
+ghost use Rattle.definitions.specs.LockRules.{with_lock, without_grants_of};
+ghost use Rattle.definitions.specs.Settings.{setting_of};
+ghost use Rattle.definitions.specs.World.{with_calls, with_setting, without_host_of};
 ghost use Rattle.owner_ids.specs.Views.{view_of_owner};
-ghost use Rattle.held_locks.specs.Asked.{view_of_new_setting};
+ghost use Rattle.held_locks.specs.Asked.{view_of_new_setting, view_of_request};
 ghost use Rattle.lock_state.specs.Seen.{AdmitsNobody, IsIdle, Knows, KeepsKnown};
 ghost use Rattle.lock_state.specs.Whole.{IsShown};
 
@@ -15,7 +17,7 @@ use crate::unsettled::{Unsettled, set_on};
 use crate::world::World;
 use dos_shares::{Share, ShareError};
 use grace::Phase;
-use held_locks::NewSetting;
+use held_locks::{NewSetting, Request};
 use hosts_db::HostStore;
 use owner_ids::{Owner, Starved};
 use range_table::{NoRuns, RangeTable};
@@ -58,6 +60,38 @@ impl<R: RangeTable, S: HostStore> World<R, S> {
     {
         let quotas = Stored { store: &self.store };
         set_on(&mut self.locks, &mut self.unsettled, &quotas, setting)
+    }
+
+    /// Sets a lock whose owner is answered GRANTED (XNFS, NLM_LOCK; POSIX, fcntl). Whoever locks is known. Under the rules by which
+    /// polls end grants, whatever was to tell of this lock ends. Refused where fewer than 2 of 65,536 runs are free. Then nothing
+    /// has changed.
+    pub fn lock(&mut self, wanted: &Request<'_>) -> Result<(), NoRuns>
+        requires known { Knows self.old (view_of_owner wanted.now.owner.now) }
+        requires shown { IsShown (view_of_owner wanted.now.owner.now) }
+        ensures refused { IsErr result ↔ IsTrue (refuses 65536 self.old.world.settings (setting_of (view_of_request wanted.now))) }
+        ensures ok { OnOk result (self.new ≡ record self.old { world = with_lock self.old.world (view_of_request wanted.now) }) }
+        ensures err { OnErr result (self.new ≡ self.old) }
+    {
+        let setting = NewSetting {
+            file: wanted.file,
+            owner: wanted.owner,
+            range: wanted.range,
+            mode: Some(wanted.mode),
+        };
+        let set = self.set(&setting);
+        if set.is_ok() && self.rules.polls_end_grants {
+            self.end_grants(wanted);
+        }
+        set
+    }
+
+    // Whatever is to tell of this lock ends, due or sent. Its places are free.
+    fn end_grants(&mut self, wanted: &Request<'_>)
+        ensures { self.new ≡ record self.old { world = with_calls self.old.world (without_grants_of (view_of_request wanted.now) self.old.world.calls) } }
+    {
+        let before = self.calls.len();
+        self.calls.end_grants(wanted);
+        self.slots.give(before - self.calls.len());
     }
 
     /// Takes a share (XNFS, NLM_SHARE). The owner's earlier share of the file goes. Refused, nothing has changed.

@@ -2,7 +2,7 @@
 ghost use Rattle.std.specs.Prelude.{◌≡◌, ℕ, ◌+◌, ◌<◌, ◌≤◌, [], length, map, pos, OnOk, OnErr, IfOk};
 ghost use Rattle.definitions.specs.Hosts.{Begin, after_store, next_own};
 ghost use Rattle.definitions.specs.Outgoing.{ToHost, Notify};
-ghost use Rattle.definitions.specs.World.{opening, restarted_world, restart_callback, with_due, with_all_due, with_hosts, slots_free, the_limits};
+ghost use Rattle.definitions.specs.World.{opening_with, restarted_world, restart_callback, with_due, with_all_due, with_hosts, slots_free, the_limits};
 ghost use Rattle.hosts_db.specs.Calls.{Counts, Makes, IsNotStarved};
 
 use crate::unsettled::Unsettled;
@@ -65,7 +65,7 @@ impl<R: RangeTable, S: HostStore> World<R, S> {
     /// known. It takes no memory.
     pub fn begin(&mut self, notices: Vec<Callback>)
         requires { length notices.items ≤ 8192 }
-        ensures world { self.new.world ≡ with_all_due (opening self.old.world.own_name self.old.world.hosts) notices.items }
+        ensures world { self.new.world ≡ with_all_due (opening_with self.old.world.own_name self.old.world.rules self.old.world.hosts) notices.items }
         ensures refusals { self.new.refusals ≡ self.old.refusals }
         ensures names { self.new.names ≡ [] }
     {
@@ -75,7 +75,7 @@ impl<R: RangeTable, S: HostStore> World<R, S> {
 
     // As at the opening, in the own state that is stored.
     fn empty(&mut self)
-        ensures world { self.new.world ≡ opening self.old.world.own_name self.old.world.hosts }
+        ensures world { self.new.world ≡ opening_with self.old.world.own_name self.old.world.rules self.old.world.hosts }
         ensures refusals { self.new.refusals ≡ self.old.refusals }
         ensures names { self.new.names ≡ [] }
     {

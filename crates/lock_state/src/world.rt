@@ -1,11 +1,13 @@
 //! The state, and what is read of it.
 ghost use Rattle.std.specs.Prelude.{◌≡◌, [], IfOk};
-ghost use Rattle.definitions.specs.World.{opening, first_number};
+ghost use Rattle.definitions.specs.Options.{view_of_rules};
+ghost use Rattle.definitions.specs.World.{opening_with, first_number};
 ghost use Rattle.grace.specs.Meanings.{view_of_phase};
 
 use crate::unsettled::Unsettled;
 use blocked_list::Slots;
 use callbacks::ShortBytes;
+use definitions::rules::Rules;
 use dos_shares::Shares;
 use grace::Phase;
 use held_locks::Locks;
@@ -22,6 +24,7 @@ use std::marker::Model;
 pub struct World<R: RangeTable, S: HostStore> {
     pub(crate) alloc: Global,
     pub(crate) own_name: ShortBytes,
+    pub(crate) rules: Rules,
     pub(crate) locks: Locks<R>,
     pub(crate) slots: Slots,
     pub(crate) shares: Shares,
@@ -34,6 +37,7 @@ pub struct World<R: RangeTable, S: HostStore> {
 
 impl<R: RangeTable, S: HostStore> Model for World<R, S> {
     ghost use Rattle.owner_ids.specs.Names.{names_of_owners};
+    ghost use Rattle.definitions.specs.Options.{view_of_rules};
     ghost use Rattle.definitions.specs.Quotas.{quotas_of};
     ghost use Rattle.blocked_list.specs.Waiting.{waiters_by};
     ghost use Rattle.grace.specs.Meanings.{view_of_phase};
@@ -45,6 +49,7 @@ impl<R: RangeTable, S: HostStore> Model for World<R, S> {
     ghost view = { λ w. record {
       world = record {
         own_name = w.own_name;
+        rules = view_of_rules w.rules;
         settings = w.locks.settings;
         waiters = waiters_by (names_of_owners w.locks.names) w.slots.waiters;
         shares = w.shares;
@@ -62,15 +67,16 @@ impl<R: RangeTable, S: HostStore> Model for World<R, S> {
 
 impl<R: RangeTable + Drop, S: HostStore + Drop> World<R, S> {
     /// The store's rows and nothing else, in grace, with room for all waiters, shares and calls. The name is the server's
-    /// own.
+    /// own. Its rules last as long as it does.
     pub fn new(
         alloc: Global,
         table: R,
         store: S,
         own_name: ShortBytes,
+        rules: Rules,
     ) -> Result<World<R, S>, Starved>
         requires { R.settings table ≡ [] }
-        ensures { IfOk result (λ made. made ≡ record { world = opening own_name (S.rows store); names = []; refusals = S.refusals store }) }
+        ensures { IfOk result (λ made. made ≡ record { world = opening_with own_name (view_of_rules rules) (S.rows store); names = []; refusals = S.refusals store }) }
     {
         let shares = Shares::new(alloc)?;
         let calls = OutCalls::new(alloc)?;
@@ -79,6 +85,7 @@ impl<R: RangeTable + Drop, S: HostStore + Drop> World<R, S> {
         Ok(World {
             alloc,
             own_name,
+            rules,
             locks: Locks::new(alloc, table),
             slots,
             shares,

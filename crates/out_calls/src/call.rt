@@ -1,9 +1,13 @@
 //! One call.
 ghost use Rattle.std.specs.Prelude.{◌≡◌, ◌<◌, ◌≤◌, ◌&&◌, ◌^◌, eqb, ltb, true, false};
 ghost use Rattle.definitions.specs.Bytes.{same_bytes, eight_bytes};
+ghost use Rattle.definitions.specs.LockRules.{tells_of};
 ghost use Rattle.definitions.specs.Outgoing.{Outgoing, Callback as SentCallback, due_now, once_more, xid_of, was_sent, is_grant_to, is_granted_msg, ends_when_sent};
+ghost use Rattle.held_locks.specs.Asked.{view_of_request};
 
+use crate::grants;
 use callbacks::Callback;
+use held_locks::Request;
 use std::marker::Model;
 
 /// How often a call is sent before a silence forgets it.
@@ -113,6 +117,12 @@ impl OutCall {
         ensures { result ≡ is_grant_to name.now self.now }
     {
         self.callback.is_grant_to(name)
+    }
+
+    pub(crate) fn tells_of(&self, wanted: &Request<'_>) -> bool
+        ensures { result ≡ tells_of (view_of_request wanted.now) self.now.callback.message }
+    {
+        grants::tells_of(self.callback.message(), wanted)
     }
 
     pub(crate) fn ends_when_sent(&self) -> bool

@@ -3,11 +3,14 @@ ghost use Rattle.std.specs.Prelude.{◌≡◌, ◌↔◌, ◌≤◌, ◌<◌, �
 ghost use Rattle.std.specs.List.{position_or_len, remove};
 ghost use Rattle.definitions.specs.Bytes.{first_that, without_first};
 ghost use Rattle.definitions.specs.Outgoing.{Outgoing, Callback as SentCallback, due_now, next_due, is_numbered, without_call, after_sending, after_silence, call_of_xid, call_of_cookie, without_grants_to};
+ghost use Rattle.definitions.specs.LockRules.{without_grants_of};
 ghost use Rattle.definitions.specs.First.{IsFirstPlace};
+ghost use Rattle.held_locks.specs.Asked.{view_of_request};
 ghost use Rattle.out_calls.specs.Found.{found, kept_or};
 
 use crate::call::{MOST_SENDINGS, OutCall};
 use callbacks::{Callback, MOST_SLOTS};
+use held_locks::Request;
 use owner_ids::Starved;
 use std::alloc::Global;
 use std::marker::Model;
@@ -149,6 +152,14 @@ impl OutCalls {
         ensures { self.new ≡ without_grants_to name.now self.old }
     {
         self.calls.retain(|call| !call.is_grant_to(name));
+        self.sent = first_due(self.calls.as_slice());
+    }
+
+    /// Takes out each GRANTED and GRANTED_MSG of this lock, due or sent: of the same owner, file, range and mode.
+    pub fn end_grants(&mut self, wanted: &Request<'_>)
+        ensures { self.new ≡ without_grants_of (view_of_request wanted.now) self.old }
+    {
+        self.calls.retain(|call| !call.tells_of(wanted));
         self.sent = first_due(self.calls.as_slice());
     }
 

@@ -4,6 +4,7 @@
 
 mod call;
 mod calls;
+mod grants;
 
 pub use call::{MOST_SENDINGS, OutCall};
 pub use calls::OutCalls;

@@ -8,7 +8,7 @@ use Rattle.definitions.specs.Hosts.{Hosts, has_row}
 use Rattle.definitions.specs.Phases.{Grace}
 use Rattle.definitions.specs.Moves.{IsReclaim, AreHonest}
 use Rattle.definitions.specs.Reclaims.{IsHonest, IsUnder}
-use Rattle.definitions.specs.World.{the_limits}
+use Rattle.definitions.specs.World.{Rules, the_limits}
 use Rattle.definitions.specs.Step.{State, Completion, Applied, step}
 use Rattle.definitions.specs.Replay.{Done, Entry, after, state_after, done_of, fits, all_fit, IsLegal as IsLegalFrom}
 use Rattle.definition_laws.specs.Numbers.{is_beginning}
@@ -50,14 +50,14 @@ kept_over one (n ∷ notes) (e ∷ entries) s are fit kept =
     let p = both (fits the_limits s d) (all_fit the_limits (after the_limits s d).state (done_of entries)) fit in
     kept_over one notes entries (after the_limits s d).state are.1 p.1 (kept_rows one s d.event d.completion d.store p.0 (read_of n.event d.event are.0.event) kept)
 
-kept_from_opening : OneReading → (name : Bytes) (hosts : Hosts) (j : Journal) → IsHistory name hosts j → KeptHaveRows j.end
-kept_from_opening one name hosts j h =
+kept_from_opening : OneReading → (name : Bytes) (rules : Rules) (hosts : Hosts) (j : Journal) → IsHistory name rules hosts j → KeptHaveRows j.end
+kept_from_opening one name rules hosts j h =
     let none : KeptHaveRows j.base = subst KeptHaveRows (sym h.base) (λ k held. absurd held) in
     subst KeptHaveRows h.legal.legal.ends (kept_over one j.notes h.legal.entries j.base h.legal.are h.legal.legal.store none)
 
 pub histories_monitor_hosts : OneReading → HistoriesMonitorHosts
-histories_monitor_hosts one name hosts j h =
-    let kept = kept_from_opening one name hosts j h in
+histories_monitor_hosts one name rules hosts j h =
+    let kept = kept_from_opening one name rules hosts j h in
     record { kept = kept; standing = λ new event step_result s peer asked xid call host is done monitors told. standing_has_row j.end new event step_result s kept peer asked xid call host is done monitors told }
 
 -- ---- reclaims

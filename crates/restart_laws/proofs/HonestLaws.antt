@@ -15,9 +15,9 @@ use Rattle.definitions.specs.Hosts.{StoreCall, StoreAnswer, NotAsked, Yes, Refus
 use Rattle.definitions.specs.Outgoing.{Outgoing, Message, Granted, GrantedMsg, due_now}
 use Rattle.definitions.specs.Replies.{Nlm, Asks, Success, NoResult, ResResult, SystemErr}
 use Rattle.definitions.specs.Shown.{res}
-use Rattle.definitions.specs.World.{World, the_limits, slots_free, settled_world, with_setting}
+use Rattle.definitions.specs.World.{World, the_limits, slots_free, settled_world}
 use Rattle.definitions.specs.Rulings.{Response, Ruling, ruled_answer, decided_ruling, stays}
-use Rattle.definitions.specs.LockRules.{LockAsk, NewHost, row_asked, after_row, free_lock, blocked_lock, lock_rules}
+use Rattle.definitions.specs.LockRules.{LockAsk, NewHost, calls_after_lock, with_lock, row_asked, after_row, free_lock, blocked_lock, lock_rules}
 use Rattle.definitions.specs.Answer.{Answered, gives, answer_of_response, sent_back, by_reply, by_call, lock_callback, lock_ask, caller_row, lock_unless, lock_verdict, lock_msg_answer, nlm_answer, ruling}
 use Rattle.definitions.specs.Reclaims.{AreCompatible, IsUnder}
 use Rattle.definitions.specs.Step.{Peer, KeptPair, State, Event, Take, Applied, Replies, taken_step, applied_step, store_call, asked_unless_kept}
@@ -28,19 +28,19 @@ use Rattle.definition_laws.proofs.StepLaws.{settled_nobody}
 use Rattle.restart_laws.specs.Honest.{lock_of, has_place, IsHonestReclaim, IsGranted}
 
 -- a lock that meets no conflict and finds room is granted once its row is stored
-rules_grant : (w : World) (a : LockAsk) → conflicts w.settings a.request ≡ false → lacks_room the_limits.runs (quotas_of w.hosts) w.settings a.request ≡ false → lock_rules the_limits w a ≡ after_row w (row_asked w a.row) GRANTED (λ v. with_setting v (setting_of a.request))
+rules_grant : (w : World) (a : LockAsk) → conflicts w.settings a.request ≡ false → lacks_room the_limits.runs (quotas_of w.hosts) w.settings a.request ≡ false → lock_rules the_limits w a ≡ after_row w (row_asked w a.row) GRANTED (λ v. with_lock v a.request)
 rules_grant w a free room =
     ap (λ b. cond b (cond (a.block && not a.reclaim) (blocked_lock w a) (stays w DENIED)) (free_lock the_limits w a)) free
-    ∙ ap (λ b. cond b (stays w DENIED_NOLOCKS) (after_row w (row_asked w a.row) GRANTED (λ v. with_setting v (setting_of a.request)))) room
+    ∙ ap (λ b. cond b (stays w DENIED_NOLOCKS) (after_row w (row_asked w a.row) GRANTED (λ v. with_lock v a.request))) room
 
--- a grant that the store doesn't refuse: the setting is made, and nothing else but a row
+-- a grant that the store doesn't refuse: the setting is made, the calls that a poll ends are gone, and nothing else but a row
 record IsGrant (w : World) (r : Request) (t : Response Stat) : Type 0 where
   says : t.says ≡ GRANTED
   settings : t.world.settings ≡ w.settings ++ setting_of r ∷ []
-  calls : t.world.calls ≡ w.calls
+  calls : t.world.calls ≡ calls_after_lock w.rules r w.calls
   waiters : t.world.waiters ≡ w.waiters
 
-agreed_grant : (w : World) (o : Option StoreCall) (r : Request) → IsGrant w r (after_row w o GRANTED (λ v. with_setting v (setting_of r))).agreed
+agreed_grant : (w : World) (o : Option StoreCall) (r : Request) → IsGrant w r (after_row w o GRANTED (λ v. with_lock v r)).agreed
 agreed_grant w None r = record { says = refl; settings = refl; calls = refl; waiters = refl }
 agreed_grant w (Some call) r = record { says = refl; settings = refl; calls = refl; waiters = refl }
 
@@ -73,13 +73,13 @@ module _ (list : List Setting) (compatible : AreCompatible list) (s : State) (un
   free = honest_meets_no_conflict list w.settings request (admitted w (Locking a.reclaim) a.alock ok).0 compatible under.settings h.honest
 
   -- the verdict of each of the three
-  verdict : (row : Option NewHost) (message : Message) (slots : ℕ) → lock_verdict the_limits w a (lock_ask a row message slots) ≡ after_row w (row_asked w row) GRANTED (λ v. with_setting v (setting_of request))
+  verdict : (row : Option NewHost) (message : Message) (slots : ℕ) → lock_verdict the_limits w a (lock_ask a row message slots) ≡ after_row w (row_asked w row) GRANTED (λ v. with_lock v request)
   verdict row message slots =
       ap (lock_unless the_limits w (lock_ask a row message slots)) ok
       ∙ rules_grant w (lock_ask a row message slots) free room
 
   abbrev grant : Option NewHost → Ruling (Response Stat)
-  grant row = after_row w (row_asked w row) GRANTED (λ v. with_setting v (setting_of request))
+  grant row = after_row w (row_asked w row) GRANTED (λ v. with_lock v request)
 
   is_grant : (row : Option NewHost) → IsGrant w request (grant row).agreed
   is_grant row = agreed_grant w (row_asked w row) request
@@ -123,7 +123,7 @@ module _ (list : List Setting) (compatible : AreCompatible list) (s : State) (un
   replied_grant c row is fit =
       let t = (grant row).agreed in
       let g = is_grant row in
-      let same = agreed c (by_reply version a.cookie (grant row)) is (λ e. ap (answer_of_response version a.cookie) (row_unasked w (row_asked w row) GRANTED (λ v. with_setting v (setting_of request)) e)) fit in (
+      let same = agreed c (by_reply version a.cookie (grant row)) is (λ e. ap (answer_of_response version a.cookie) (row_unasked w (row_asked w row) GRANTED (λ v. with_lock v request) e)) fit in (
         ap (λ (x : Answered). (settled_world the_limits x.world).settings) same ∙ ap (λ (v : World). v.settings) (settled_nobody the_limits t.world (g.waiters ∙ under.waiters)) ∙ g.settings,
         ap (λ (x : Answered). Replies xid x.outcome) same ∙ ap (λ stat. Replies xid (Success (ResResult (res version a.cookie stat)))) g.says,
       )
@@ -131,13 +131,13 @@ module _ (list : List Setting) (compatible : AreCompatible list) (s : State) (un
   called_grant : leb 1 (slots_free the_limits w) ≡ true → Fits (LockMsg a) store
       → ((taken_step the_limits s peer asked xid (Nlm version (LockMsg a)) store None).state.world.settings ≡ w.settings ++ setting_of request ∷ [])
       × ((taken_step the_limits s peer asked xid (Nlm version (LockMsg a)) store None).given ≡ Replies xid (Success NoResult))
-      × (map (λ (c : Outgoing). c.callback) (taken_step the_limits s peer asked xid (Nlm version (LockMsg a)) store None).state.world.calls ≡ map (λ (c : Outgoing). c.callback) w.calls ++ lock_callback version a GRANTED ∷ [])
+      × (map (λ (c : Outgoing). c.callback) (taken_step the_limits s peer asked xid (Nlm version (LockMsg a)) store None).state.world.calls ≡ map (λ (c : Outgoing). c.callback) (calls_after_lock w.rules request w.calls) ++ lock_callback version a GRANTED ∷ [])
   called_grant p fit =
       let row = caller_row a in
       let t = (grant row).agreed in
       let g = is_grant row in
       let back : Response Stat → Answered = λ told. sent_back (lock_callback version a told.says) told.world in
-      let same = agreed (LockMsg a) (by_call (lock_callback version a) (grant row)) (by_lock_msg p) (λ e. ap back (row_unasked w (row_asked w row) GRANTED (λ v. with_setting v (setting_of request)) e)) fit in
+      let same = agreed (LockMsg a) (by_call (lock_callback version a) (grant row)) (by_lock_msg p) (λ e. ap back (row_unasked w (row_asked w row) GRANTED (λ v. with_lock v request) e)) fit in
       let rest = settled_nobody the_limits (back t).world (g.waiters ∙ under.waiters) in (
         ap (λ (x : Answered). (settled_world the_limits x.world).settings) same ∙ ap (λ (v : World). v.settings) rest ∙ g.settings,
         ap (λ (x : Answered). Replies xid x.outcome) same,
@@ -145,7 +145,7 @@ module _ (list : List Setting) (compatible : AreCompatible list) (s : State) (un
             ∙ ap (λ (v : World). map (λ (c : Outgoing). c.callback) v.calls) rest
             ∙ map-append (λ (c : Outgoing). c.callback) t.world.calls (due_now t.world.next (lock_callback version a t.says) ∷ [])
             ∙ ap (λ (calls : List Outgoing). map (λ (c : Outgoing). c.callback) calls ++ lock_callback version a t.says ∷ []) g.calls
-            ∙ ap (λ stat. map (λ (c : Outgoing). c.callback) w.calls ++ lock_callback version a stat ∷ []) g.says,
+            ∙ ap (λ stat. map (λ (c : Outgoing). c.callback) (calls_after_lock w.rules request w.calls) ++ lock_callback version a stat ∷ []) g.says,
       )
 
   abbrev Granted_by : NlmCall → Option KeptPair → Type 0

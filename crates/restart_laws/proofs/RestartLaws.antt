@@ -6,7 +6,7 @@ use Rattle.definitions.specs.Hosts.{Hosts, Begin, StoreAnswer, NotAsked, Yes, Re
 use Rattle.definitions.specs.Nsm.{NsmCall, SmNull, SmStat, SmMon, SmUnmon, SmUnmonAll, SmSimuCrash, SmNotify}
 use Rattle.definitions.specs.Settings.{Setting}
 use Rattle.definitions.specs.Replies.{Call, Nlm, Nsm, Ignored, Turned, Asks}
-use Rattle.definitions.specs.World.{World, the_limits, opening, restart_callback, restarted_world, settled_world}
+use Rattle.definitions.specs.World.{World, the_limits, opening_with, restart_callback, restarted_world, settled_world}
 use Rattle.definitions.specs.Rulings.{ruled_answer}
 use Rattle.definitions.specs.Answer.{ruling}
 use Rattle.definition_laws.specs.Numbers.{is_beginning}
@@ -29,7 +29,7 @@ module _ (s : State) where
   LeadsAnew t = t ≡ anew
 
   nobody : anew_world.waiters ≡ []
-  nobody = let hosts = after_store s.world.hosts Begin in (due_keeps (opening s.world.own_name hosts) (map (restart_callback s.world.own_name hosts.own) hosts.rows)).waiters
+  nobody = let hosts = after_store s.world.hosts Begin in (due_keeps (opening_with s.world.own_name s.world.rules hosts) (map (restart_callback s.world.own_name hosts.own) hosts.rows)).waiters
 
   crash_leads : (peer : Peer) (asked : Bytes) (xid : ℕ) → peer.local ≡ true → LeadsAnew (fresh the_limits s peer asked xid (Nsm SmSimuCrash) Yes).state
   crash_leads peer asked xid local =
@@ -86,12 +86,13 @@ module _ (s : State) where
   is_anew =
       let hosts = after_store s.world.hosts Begin in
       let callbacks = map (restart_callback s.world.own_name hosts.own) hosts.rows in
-      let w = opening s.world.own_name hosts in
+      let w = opening_with s.world.own_name s.world.rules hosts in
       let told = restart_notices s.world hosts in
       let kept = due_keeps w callbacks in
       let same = kept.hosts in
       record {
         name = kept.own_name;
+        rules = kept.rules;
         rows = ap (λ (h : Hosts). h.rows) same;
         watches = ap (λ (h : Hosts). h.watches) same;
         own = ap (λ (h : Hosts). h.own) same;

@@ -1,5 +1,6 @@
 -- What stands over histories stands over runs.
 use Rattle.std.proofs.Common.{◌≡◌, ℕ, true, List, [], ◌∷◌, Option, Some, None, inl, inr, refl, sym, ap, subst, ◌∙◌}
+use Rattle.definitions.specs.World.{Rules}
 use Rattle.definitions.specs.Bytes.{Bytes}
 use Rattle.definitions.specs.Settings.{Setting, Request}
 use Rattle.definitions.specs.Hosts.{Hosts, has_row}
@@ -20,7 +21,7 @@ use Rattle.book.specs.Histories.{Leads}
 use Rattle.daemon_core.specs.declared.event.Event.{Event}
 use Rattle.daemon_core.specs.declared.event.Event.TheVariants.{Connect, Piece, Disconnect, Take, Send, Answer, Local, Silent, GraceOver, Restart}
 use Rattle.daemon_core.specs.declared.outputs.Outputs.{Outputs}
-use Rattle.daemon_core.specs.DaemonState.{DaemonState, opening, place_of, TakesAt, DaemonStep, Run}
+use Rattle.daemon_core.specs.DaemonState.{DaemonState, opening_with, place_of, TakesAt, DaemonStep, Run}
 use Rattle.daemon_core.specs.Laws.{RunsAreHistories}
 use Rattle.daemon_core.proofs.Histories.{connects, disconnects, pieces}
 use Rattle.restart_laws.specs.Rows.{KeptHaveRows}
@@ -39,16 +40,16 @@ module _ (are : RunsAreHistories) (keep : HistoriesKeepRows) (monitor : Historie
       let first : has_row r.history.base.world.hosts name ≡ true = subst (λ (s : State). has_row s.world.hosts name ≡ true) (sym r.base) h in
       subst (λ (s : State). has_row s.world.hosts name ≡ true) r.ends (keep r.history r.legal name first)
 
-  monitors_hosts : (name : Bytes) (hosts : Hosts) (refusals : ℕ) (events : List Event) (outs : List Outputs) (daemon_state : DaemonState) → Run (opening name hosts refusals) events outs daemon_state → MonitorsHosts daemon_state.state
-  monitors_hosts name hosts refusals events outs daemon_state run =
-      let r = are (opening name hosts refusals) daemon_state events outs run in
-      subst MonitorsHosts r.ends (monitor name hosts r.history (record { first = r.first; base = r.base; legal = r.legal }))
+  monitors_hosts : (name : Bytes) (rules : Rules) (hosts : Hosts) (refusals : ℕ) (events : List Event) (outs : List Outputs) (daemon_state : DaemonState) → Run (opening_with name rules hosts refusals) events outs daemon_state → MonitorsHosts daemon_state.state
+  monitors_hosts name rules hosts refusals events outs daemon_state run =
+      let r = are (opening_with name rules hosts refusals) daemon_state events outs run in
+      subst MonitorsHosts r.ends (monitor name rules hosts r.history (record { first = r.first; base = r.base; legal = r.legal }))
 
   pub runs_keep_rows : RunsKeepRows
   runs_keep_rows = record {
     stay = stays;
-    kept = λ name hosts refusals events outs daemon_state run. (monitors_hosts name hosts refusals events outs daemon_state run).kept;
-    standing = λ name hosts refusals events outs daemon_state new run place i out taken xid call host is done monitors told. (monitors_hosts name hosts refusals events outs daemon_state run).standing new.state _ _ taken.step (view_of_peer taken.link.peer) taken.bytes xid call host is done monitors told;
+    kept = λ name rules hosts refusals events outs daemon_state run. (monitors_hosts name rules hosts refusals events outs daemon_state run).kept;
+    standing = λ name rules hosts refusals events outs daemon_state new run place i out taken xid call host is done monitors told. (monitors_hosts name rules hosts refusals events outs daemon_state run).standing new.state _ _ taken.step (view_of_peer taken.link.peer) taken.bytes xid call host is done monitors told;
   }
 
 -- ---- reclaims

@@ -6,9 +6,10 @@ use Rattle.definitions.specs.Phases.{Grace}
 use Rattle.definitions.specs.World.{restart_callback}
 use Rattle.definitions.specs.Step.{State}
 
--- nothing of before is left but the name, the rows and the watches; the own state is odd, and not the stored one
+-- nothing of before is left but the name, the rules, the rows and the watches; the own state is odd, and not the stored one
 pub record IsAnew (old new : State) : Type 0 where
   pub name : new.world.own_name ≡ old.world.own_name
+  pub rules : new.world.rules ≡ old.world.rules
   pub rows : new.world.hosts.rows ≡ old.world.hosts.rows
   pub watches : new.world.hosts.watches ≡ old.world.hosts.watches
   pub own : new.world.hosts.own ≡ next_own old.world.hosts.own

@@ -7,7 +7,7 @@ use Rattle.definitions.specs.Hosts.{Hosts, has_row}
 use Rattle.definitions.specs.Moves.{AreHonest}
 use Rattle.definitions.specs.Reclaims.{AreCompatible, IsUnder}
 use Rattle.definitions.specs.Replies.{Call, Nlm, Asks}
-use Rattle.definitions.specs.World.{the_limits}
+use Rattle.definitions.specs.World.{Rules, the_limits}
 use Rattle.definitions.specs.Step.{Peer, State, Take, Applied, look}
 use Rattle.definitions.specs.Replay.{Entry, after, state_after, done_of, IsLegal as IsLegalFrom}
 use Rattle.definition_laws.specs.Numbers.{is_beginning}
@@ -39,7 +39,7 @@ pub record MonitorsHosts (s : State) : Type 0 where
 
 -- wherever a history from an opening has led
 abbrev pub HistoriesMonitorHosts : Type 0
-HistoriesMonitorHosts = (name : Bytes) (hosts : Hosts) (j : Journal) → IsHistory name hosts j → MonitorsHosts j.end
+HistoriesMonitorHosts = (name : Bytes) (rules : Rules) (hosts : Hosts) (j : Journal) → IsHistory name rules hosts j → MonitorsHosts j.end
 
 -- ---- reclaims
 

@@ -9,6 +9,7 @@ use Rattle.definitions.specs.Nlm.{Version, NlmCall, Locks, LockMsg, NmLock, Lock
 use Rattle.definitions.specs.Ranges.{is_stale, is_too_far, request_of}
 use Rattle.definitions.specs.Hosts.{StoreAnswer, Refused}
 use Rattle.definitions.specs.Outgoing.{Callback, Outgoing}
+use Rattle.definitions.specs.LockRules.{calls_after_lock}
 use Rattle.definitions.specs.Replies.{Success, NoResult, ResResult}
 use Rattle.definitions.specs.Shown.{res}
 use Rattle.definitions.specs.World.{the_limits, slots_free}
@@ -43,13 +44,14 @@ pub record IsHonestReclaim (list : List Setting) (s : State) (peer : Peer) (aske
   pub place : has_place s call ≡ true
   pub row : store ≢ Refused
 
-abbrev callbacks_of : State → List Callback
-callbacks_of s = map (λ (c : Outgoing). c.callback) s.world.calls
+abbrev callbacks_of : List Outgoing → List Callback
+callbacks_of calls = map (λ (c : Outgoing). c.callback) calls
 
--- the reply says GRANTED, or it is empty and the LOCK_RES behind it says so
+-- the reply says GRANTED, or it is empty and the LOCK_RES behind it says so, behind the calls that were there, but for those
+-- that the lock ends
 abbrev pub TellsGranted : Version → NlmCall → LockArgs → ℕ → State → Given → State → Type 0
 TellsGranted version (LockMsg b) a xid old given new =
-    (given ≡ Replies xid (Success NoResult)) × (callbacks_of new ≡ callbacks_of old ++ lock_callback version a GRANTED ∷ [])
+    (given ≡ Replies xid (Success NoResult)) × (callbacks_of new.world.calls ≡ callbacks_of (calls_after_lock old.world.rules (request_of a.exclusive a.alock) old.world.calls) ++ lock_callback version a GRANTED ∷ [])
 TellsGranted version _ a xid old given new = given ≡ Replies xid (Success (ResResult (res version a.cookie GRANTED)))
 
 -- the lock is the newest setting, and its caller is told that it is granted

@@ -6,6 +6,7 @@ use Rattle.definitions.specs.Phases.{Grace}
 use Rattle.definitions.specs.Nlm.{Version, NlmCall, LockArgs}
 use Rattle.definitions.specs.Hosts.{Hosts, Yes, has_row}
 use Rattle.definitions.specs.Nsm.{SmSimuCrash}
+use Rattle.definitions.specs.World.{Rules}
 use Rattle.definitions.specs.Replies.{Call, Nlm, Nsm}
 use Rattle.definitions.specs.Reclaims.{AreCompatible, IsHonest, IsUnder}
 use Rattle.definitions.specs.Moves.{IsReclaim}
@@ -17,7 +18,7 @@ use Rattle.daemon_core.specs.declared.event.Event.TheVariants.{Take, Restart}
 use Rattle.daemon_core.specs.declared.outputs.Outputs.{Outputs}
 use Rattle.daemon_core.specs.Outcomes.{view_of_event_outcome}
 use Rattle.daemon_core.specs.Outputs.{reply_to}
-use Rattle.daemon_core.specs.DaemonState.{DaemonState, Answers, DaemonStep, Run, opening}
+use Rattle.daemon_core.specs.DaemonState.{DaemonState, Answers, DaemonStep, Run, opening_with}
 use Rattle.daemon_core.specs.Response.{IsCall, kept_of}
 use Rattle.restart_laws.specs.Rows.{monitored_by, tells_lock, telling, KeptHaveRows}
 use Rattle.restart_laws.specs.Anew.{IsAnew}
@@ -30,10 +31,10 @@ use Rattle.restart_laws.specs.Honest.{IsHonestReclaim, IsGranted}
 pub record RunsKeepRows : Type 0 where
   pub stay : (old new : DaemonState) (events : List Event) (outs : List Outputs) → Run old events outs new → (name : Bytes)
       → has_row old.state.world.hosts name ≡ true → has_row new.state.world.hosts name ≡ true
-  pub kept : (name : Bytes) (hosts : Hosts) (refusals : ℕ) (events : List Event) (outs : List Outputs) (daemon_state : DaemonState)
-      → Run (opening name hosts refusals) events outs daemon_state → KeptHaveRows daemon_state.state
-  pub standing : (name : Bytes) (hosts : Hosts) (refusals : ℕ) (events : List Event) (outs : List Outputs) (daemon_state new : DaemonState)
-      → Run (opening name hosts refusals) events outs daemon_state
+  pub kept : (name : Bytes) (rules : Rules) (hosts : Hosts) (refusals : ℕ) (events : List Event) (outs : List Outputs) (daemon_state : DaemonState)
+      → Run (opening_with name rules hosts refusals) events outs daemon_state → KeptHaveRows daemon_state.state
+  pub standing : (name : Bytes) (rules : Rules) (hosts : Hosts) (refusals : ℕ) (events : List Event) (outs : List Outputs) (daemon_state new : DaemonState)
+      → Run (opening_with name rules hosts refusals) events outs daemon_state
       → (place i : ℕ) (out : Outputs) (taken : Answers place i daemon_state out new) (xid : ℕ) (call : Call) (host : Bytes)
       → IsCall taken xid call → view_of_event_outcome out.outcome ≡ Applied
       → monitored_by call ≡ Some host

@@ -3,7 +3,7 @@ use Rattle.std.proofs.Common.{◌≡◌, ℕ, ◌+◌, List, [], ◌∷◌, ◌+
 use Rattle.definitions.specs.Bytes.{Bytes}
 use Rattle.definitions.specs.Hosts.{Hosts, Yes}
 use Rattle.definitions.specs.World.{the_limits}
-use Rattle.definitions.specs.Step.{State, Event, Restart, Completion, Applied, Given, Nothing, opening_state}
+use Rattle.definitions.specs.Step.{State, Event, Restart, Completion, Applied, Given, Nothing, opening_state_with}
 use Rattle.definitions.specs.Hosts.{StoreAnswer}
 use Rattle.definitions.specs.Replay.{after}
 use Rattle.call_codec.specs.declared.records.dest.Dest.{Dest}
@@ -43,6 +43,7 @@ begins_in_step total closed b b' step_result new enters done agreed none zero le
       counted = omega (arith, zero, took);
       history = record {
         name = b.journal.base.world.own_name;
+        rules = b.journal.base.world.rules;
         hosts = b.journal.base.world.hosts;
         joined = (ap (λ (j : Journal). j.base) enters.journal ∙ ap (λ (j : Journal). j.base) new, ap (λ (j : Journal). j.first) enters.journal ∙ ap (λ (j : Journal). j.first) new, tt);
         legal = (legal, tt);
@@ -63,8 +64,9 @@ turns_in_step total closed closed' j b b' same more turned legal old =
       counted = let c = old.counted in let t = takes_of_append closed b.journal in omega (arith, c, t);
       history = record {
         name = h.name;
+        rules = h.rules;
         hosts = h.hosts;
-        joined = join_more (opening_state h.name h.hosts) 1 closed b.journal h.joined;
+        joined = join_more (opening_state_with h.name h.rules h.hosts) 1 closed b.journal h.joined;
         legal = legal_more (closed ++ b.journal ∷ []) (empty_journal (next_of b.journal) b.journal.end) begins h.legal;
         restart = restart_more (closed ++ b.journal ∷ []) (empty_journal (next_of b.journal) b.journal.end) h.restart;
       };
@@ -76,8 +78,9 @@ goes_on closed b b' event step_result enters legal h =
     let n : Note = record { number = next_of b.journal; event = event; step_result = step_result } in
     record {
       name = h.name;
+      rules = h.rules;
       hosts = h.hosts;
-      joined = join_last (opening_state h.name h.hosts) 1 closed b.journal b'.journal (ap (λ (j : Journal). j.base) enters.journal) (ap (λ (j : Journal). j.first) enters.journal) h.joined;
+      joined = join_last (opening_state_with h.name h.rules h.hosts) 1 closed b.journal b'.journal (ap (λ (j : Journal). j.base) enters.journal) (ap (λ (j : Journal). j.first) enters.journal) h.joined;
       legal = legal_last closed b.journal b'.journal legal h.legal;
       restart = restart_last closed b.journal b'.journal n (ap (λ (j : Journal). j.notes) enters.journal) h.restart;
     }
@@ -116,9 +119,10 @@ first_base s n (j ∷ closed) last h = h.0
 pub served : SegmentsAreLegal → (total : ℕ) (held : Held) → IsInStep total held.closed held.book.journal → IsServed held
 served law total held old =
     let h = old.history in
-    let base = first_base (opening_state h.name h.hosts) 1 held.closed held.book.journal h.joined in
+    let base = first_base (opening_state_with h.name h.rules h.hosts) 1 held.closed held.book.journal h.joined in
     record {
       name = h.name;
+      rules = h.rules;
       hosts = h.hosts;
       history = record {
         first = refl;

@@ -2,7 +2,8 @@
 use Rattle.std.specs.Prelude.{◌≡◌, ◌≢◌, ◌⊎◌, ℕ, ◌+◌, Bool, cond, Option, Some, None, List, [], ◌∷◌, ◌++◌}
 use Rattle.definitions.specs.Bytes.{Bytes}
 use Rattle.definitions.specs.Hosts.{Hosts, StoreAnswer, Yes}
-use Rattle.definitions.specs.Step.{State, Completion, Applied, Starved, Nothing, opening_state}
+use Rattle.definitions.specs.World.{Rules}
+use Rattle.definitions.specs.Step.{State, Completion, Applied, Starved, Nothing, opening_state_with}
 use Rattle.book.specs.Given.{StepResult, comes_to}
 use Rattle.book.specs.Notes.{JournalEvent, BeginsAnew, Note, is_take}
 use Rattle.book.specs.Receipts.{newest_note}
@@ -26,12 +27,13 @@ abbrev pub takes_of : List Journal → ℕ
 takes_of [] = 0
 takes_of (j ∷ journals) = takes_in j.notes + takes_of journals
 
--- the segments are one history from the opening state of a name and of the store's rows: numbers begin with 1, each segment is
+-- the segments are one history from the opening state of a name, of rules and of the store's rows: numbers begin with 1, each segment is
 -- legal, and the first entry is a restart that the store agreed to
 pub record IsOneHistory (journals : List Journal) : Type 0 where
   pub name : Bytes
+  pub rules : Rules
   pub hosts : Hosts
-  pub joined : Join (opening_state name hosts) 1 journals
+  pub joined : Join (opening_state_with name rules hosts) 1 journals
   pub legal : AreLegal journals
   pub restart : BeginsWithRestart (notes_of journals)
 
@@ -53,18 +55,19 @@ base_of (j ∷ journals) last = j.base
 abbrev pub history_of : Held → Journal
 history_of held = joined_journal (base_of held.closed held.book.journal) 1 held.closed held.book.journal
 
--- it is a history from the opening state of a name and of the store's rows, and its first entry is a restart that the store agreed to
+-- it is a history from the opening state of a name, of rules and of the store's rows, and its first entry is a restart that the store agreed to
 pub record IsServed (held : Held) : Type 0 where
   pub name : Bytes
+  pub rules : Rules
   pub hosts : Hosts
-  pub history : IsHistory name hosts (history_of held)
+  pub history : IsHistory name rules hosts (history_of held)
   pub restart : BeginsWithRestart (history_of held).notes
 
 -- ---- the beginning
 
--- an empty journal whose first number is 1, in the opening state of a name and of the store's rows
+-- an empty journal whose first number is 1, in the opening state of a name, of rules and of the store's rows
 abbrev pub IsNew : Journal → Type 0
-IsNew j = j ≡ empty_journal 1 (opening_state j.base.world.own_name j.base.world.hosts)
+IsNew j = j ≡ empty_journal 1 (opening_state_with j.base.world.own_name j.base.world.rules j.base.world.hosts)
 
 -- the book has one entry more: a restart that the store agreed to
 pub record Begins (book : Book) (is_kept : Bool) (new : Held) : Type 0 where

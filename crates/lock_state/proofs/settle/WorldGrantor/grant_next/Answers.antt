@@ -6,6 +6,7 @@ use Rattle.owner_ids.specs.Views.{view_of_owner}
 use Rattle.blocked_list.specs.Quotas.{is_limited}
 use Rattle.definitions.specs.Starts.{refuses}
 use Rattle.definitions.specs.Bytes.{is_any}
+use Rattle.definitions.specs.Options.{view_of_rules}
 use Rattle.definitions.specs.World.{World, the_limits, is_ready, is_ready_in, settled_world}
 use Rattle.grace.specs.Meanings.{view_of_phase}
 use Rattle.held_locks.specs.Asked.{setting_by}
@@ -86,6 +87,7 @@ invariant_of-self-2 g c =
 abbrev world : (g : Over) → goal.After-self-3-1 g → World
 world g c = record {
   own_name = c.self.inside.own_name;
+  rules = view_of_rules c.self.inside.rules;
   settings = c.self.inside.locks.settings;
   waiters = waiters_by (names_of_owners c.self.inside.locks.names) c.self.inside.slots.waiters;
   shares = c.self.inside.shares;
