@@ -1,5 +1,5 @@
 -- What rows that are shown say, as the definitions have it.
-use Rattle.std.specs.Prelude.{◌≡◌, ℕ, ◌+◌, Bool, cond, List, length, map, filter}
+use Rattle.std.specs.Prelude.{◌≡◌, ℕ, ◌+◌, Bool, true, false, cond, List, length, map, filter}
 use Rattle.definitions.specs.Owners.{Owner, Remote, Process, Description}
 use Rattle.definitions.specs.Settings.{Mode, Shared, Exclusive, Setting, Request}
 use Rattle.definitions.specs.Starts.{Run, runs, used, used_of}
@@ -14,7 +14,9 @@ use Rattle.status_pages.specs.declared.rows.OwnerRow.TheVariants as row
 use Rattle.status_pages.specs.declared.rows.LockRow.{LockRow}
 use Rattle.status_pages.specs.declared.rows.HostRow.{HostRow as ShownHost}
 use Rattle.status_pages.specs.declared.rows.Lists.{Lists}
-use Rattle.status_lists.specs.declared.numbers.StateNumbers.{StateNumbers}
+use Rattle.status_pages.specs.declared.page.Page.{Page}
+use Rattle.status_pages.specs.declared.page.Page.TheVariants as page
+use Rattle.status_pages.specs.declared.metrics.StateNumbers.{StateNumbers}
 
 abbrev pub view_of_owner_row : OwnerRow → Owner
 view_of_owner_row (row.Host name svid oh) = Remote (record { name = name.items; svid = svid; oh = oh.items })
@@ -48,6 +50,24 @@ pub record AreListsOf (w : World) (lists : Lists) : Type 0 where
   pub waiters : map request_of_row lists.waiters.items ≡ map request_wanted w.waiters
   pub hosts : map view_of_host_row lists.hosts.items ≡ w.hosts.rows
   pub host_runs : map runs_shown lists.hosts.items ≡ map (runs_of_host w.settings) w.hosts.rows
+
+-- whether a page shows lists
+abbrev pub shows_lists : Page → Bool
+shows_lists page.Index = true
+shows_lists page.Locks = true
+shows_lists page.Waiters = true
+shows_lists page.Hosts = true
+shows_lists page.Metrics = false
+shows_lists page.Status = false
+
+-- what the waiters want, in the order of waiting
+abbrev pub AreWaitersOf : World → Lists → Type 0
+AreWaitersOf w lists = map request_of_row lists.waiters.items ≡ map request_wanted w.waiters
+
+-- the lists of the state, or what the waiters want alone
+abbrev pub AreListedIf : Bool → World → Lists → Type 0
+AreListedIf true w lists = AreListsOf w lists
+AreListedIf false w lists = AreWaitersOf w lists
 
 abbrev pub grace_number : Phase → ℕ
 grace_number Grace = 1

@@ -9,30 +9,7 @@ use grace::Phase;
 use hosts_db::HostStore;
 use lock_state::OutCalls;
 use range_table::RangeTable;
-
-/// What the state shows in numbers.
-#[derive(Clone, Copy, Debug, PartialEq, Eq)]
-pub struct StateNumbers {
-    /// Runs of bytes that owners hold.
-    pub runs: u64,
-    pub waiters: u64,
-    /// Calls of the server's own that are to be sent.
-    pub calls_due: u64,
-    /// Those that were sent and are not answered.
-    pub calls_unanswered: u64,
-    /// Places left for waiters and calls.
-    pub slots_free: u64,
-    pub shares: u64,
-    /// Hosts with a row in the store.
-    pub hosts: u64,
-    pub watches: u64,
-    pub kept_replies: u64,
-    /// 1 in the grace period, else 0.
-    pub grace: u64,
-    pub own_state: u32,
-    /// Entries of the journal since the beginning.
-    pub entries: u64,
-}
+use status_pages::StateNumbers;
 
 fn due(calls: &OutCalls) -> usize
     ensures due { result ≡ due_of calls.now }

@@ -13,19 +13,19 @@ abbrev pub Text : Type 0
 Text = List ℕ
 
 abbrev pub number_of : Numbers → Number → ℕ
-number_of n Runs = n.runs
-number_of n Waiters = n.waiters
-number_of n CallsDue = n.calls_due
-number_of n CallsUnanswered = n.calls_unanswered
-number_of n SlotsFree = n.slots_free
-number_of n Shares = n.shares
-number_of n Hosts = n.hosts
-number_of n Watches = n.watches
-number_of n KeptReplies = n.kept_replies
-number_of n Grace = n.grace
+number_of n Runs = n.state.runs
+number_of n Waiters = n.state.waiters
+number_of n CallsDue = n.state.calls_due
+number_of n CallsUnanswered = n.state.calls_unanswered
+number_of n SlotsFree = n.state.slots_free
+number_of n Shares = n.state.shares
+number_of n Hosts = n.state.hosts
+number_of n Watches = n.state.watches
+number_of n KeptReplies = n.state.kept_replies
+number_of n Grace = n.state.grace
 number_of n GraceLeft = n.grace_left
-number_of n OwnState = n.own_state
-number_of n Entries = n.entries
+number_of n OwnState = n.state.own_state
+number_of n Entries = n.state.entries
 number_of n CallConnections = n.call_connections
 number_of n LocalConnections = n.local_connections
 number_of n StatusConnections = n.status_connections

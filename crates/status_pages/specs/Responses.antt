@@ -1,5 +1,7 @@
 -- Answers, byte for byte (RFC 9112, sections 4 to 6).
 use Rattle.std.specs.Prelude.{ℕ, Bool, cond, List, [], ◌++◌, length, codes, decimal}
+use Rattle.status_pages.specs.declared.request.Refusal.{Refusal}
+use Rattle.status_pages.specs.declared.request.Refusal.TheVariants.{BadRequest, MethodNotAllowed, TooLong}
 use Rattle.status_pages.specs.declared.responses.Status.{Status}
 use Rattle.status_pages.specs.declared.responses.Status.TheVariants as status
 use Rattle.status_pages.specs.declared.responses.ContentType.{ContentType}
@@ -8,6 +10,11 @@ use Rattle.status_pages.specs.declared.responses.Delivery.{Delivery}
 
 abbrev pub Text : Type 0
 Text = List ℕ
+
+abbrev pub status_of : Refusal → Status
+status_of BadRequest = status.BadRequest
+status_of MethodNotAllowed = status.MethodNotAllowed
+status_of TooLong = status.TooLong
 
 abbrev pub status_text : Status → Text
 status_text status.Ok = codes "200 OK"

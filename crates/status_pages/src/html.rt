@@ -2,7 +2,7 @@
 mod tables;
 
 use crate::escape::Html;
-use crate::metrics::Numbers;
+use crate::metrics::{Numbers, StateNumbers};
 use crate::rows::{HostRow, LockRow, Waiting};
 use crate::starved::Starved;
 use std::alloc::Global;
@@ -49,6 +49,7 @@ td.n,th.n{text-align:right;white-space:nowrap}
 small{color:#666}
 dl{display:grid;grid-template-columns:max-content auto;gap:.15em 1em;margin:.8em 0}
 dd{margin:0}
+@media(max-width:40em){table{font-size:.85em}td,th{padding-right:.4em}}
 @media(prefers-color-scheme:dark){body{color:#ddd;background:#181818}.ok{background:#1d3a1d}.bad{background:#5a3a10}td,th{border-color:#444}small{color:#999}}
 </style>
 </head>
@@ -71,18 +72,19 @@ fn put_fact(
 
 // What an operator should know first.
 fn put_health(html: &mut Html, numbers: &Numbers) -> Result<(), Starved> {
-    if numbers.grace > 0 {
+    let state = &numbers.state;
+    if state.grace > 0 {
         html.markup("<p class=bad>In the grace period for another ")?;
         html.number(numbers.grace_left)?;
         return html.markup(" s: only clients that had locks get them back.</p>\n");
     }
-    if numbers.slots_free < FEW_SLOTS || numbers.runs > MANY_RUNS {
+    if state.slots_free < FEW_SLOTS || state.runs > MANY_RUNS {
         return html.markup("<p class=bad>A limit is near: look at runs and free places.</p>\n");
     }
     html.markup("<p class=ok>Serving.</p>\n")
 }
 
-fn put_numbers(html: &mut Html, numbers: &Numbers) -> Result<(), Starved> {
+fn put_numbers(html: &mut Html, numbers: &StateNumbers) -> Result<(), Starved> {
     html.markup("<dl>\n")?;
     put_fact(html, "runs of bytes locked", numbers.runs, " of 65536\n")?;
     put_fact(html, "waiters", numbers.waiters, "\n")?;
@@ -91,7 +93,7 @@ fn put_numbers(html: &mut Html, numbers: &Numbers) -> Result<(), Starved> {
     put_fact(html, "free places", numbers.slots_free, " of 8192\n")?;
     put_fact(html, "shares", numbers.shares, " of 16384\n")?;
     put_fact(html, "hosts", numbers.hosts, " of 4096\n")?;
-    put_fact(html, "own state", numbers.own_state, "\n")?;
+    put_fact(html, "own state", u64::from(numbers.own_state), "\n")?;
     put_fact(html, "events since the start", numbers.entries, "\n")?;
     html.markup("</dl>\n")
 }
@@ -102,7 +104,7 @@ pub fn index_page(alloc: Global, shown: &Shown<'_>) -> Result<Vec<u8>, Starved> 
     let mut html = Html::new(alloc);
     html.markup(HEAD)?;
     put_health(&mut html, shown.numbers)?;
-    put_numbers(&mut html, shown.numbers)?;
+    put_numbers(&mut html, &shown.numbers.state)?;
     put_waiters(&mut html, shown)?;
     put_files(&mut html, shown)?;
     put_hosts(&mut html, shown)?;

@@ -170,7 +170,7 @@ fn waiter_value(
 fn put_host_row(
     map: &mut Members,
     alloc: Global,
-    own_state: u64,
+    own_state: u32,
     host: &HostRow,
 ) -> Result<(), Starved> {
     put_bytes(map, alloc, "host", "host_hex", host.name.as_slice())?;
@@ -178,12 +178,12 @@ fn put_host_row(
     put(map, alloc, "seen", Value::from(host.seen))?;
     put(map, alloc, "quota", Value::from(host.quota))?;
     put(map, alloc, "locks", Value::from(host.runs))?;
-    let heard = u64::from(host.epoch) == own_state;
+    let heard = host.epoch == own_state;
     put(map, alloc, "heard", Value::Bool(heard))?;
     Ok(())
 }
 
-fn host_value(alloc: Global, own_state: u64, host: &HostRow) -> Result<Value, Starved> {
+fn host_value(alloc: Global, own_state: u32, host: &HostRow) -> Result<Value, Starved> {
     let mut map = Map::new(alloc);
     put_host_row(&mut map, alloc, own_state, host)?;
     Ok(Value::Object(map))
@@ -231,7 +231,7 @@ pub fn waiters_page(
 
 /// The page `/hosts.json`: an array with an object for each stored host, in order of name: `host`, `host_hex`, `epoch`, `seen`,
 /// `quota`, `locks`, and `heard`, whether it knows of this own state.
-pub fn hosts_page(alloc: Global, own_state: u64, hosts: &[HostRow]) -> Result<Vec<u8>, Starved>
+pub fn hosts_page(alloc: Global, own_state: u32, hosts: &[HostRow]) -> Result<Vec<u8>, Starved>
     ensures { IfOk result (λ page. IsArrayOf (length hosts.now) page.items) }
 {
     let mut values = Vec::with_capacity(alloc, hosts.len())?;

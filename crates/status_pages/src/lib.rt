@@ -17,7 +17,7 @@ mod waiting;
 pub use escape::escaped_is_plain;
 pub use html::{Shown, index_page};
 pub use json::{hosts_page, locks_page, status_page, waiters_page};
-pub use metrics::{Numbers, metrics_page};
+pub use metrics::{Numbers, StateNumbers, metrics_page};
 pub use page::Page;
 pub use request::{Asked, MOST_HEAD_BYTES, Reading, Refusal, read_request};
 pub use responses::{ContentType, Delivery, Status, response};

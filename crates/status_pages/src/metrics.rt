@@ -10,9 +10,9 @@ use crate::text::{put_number, put_parts};
 use std::alloc::Global;
 pub(crate) use table::METRICS;
 
-/// What the state shows at one moment.
+/// What the server's state shows at one moment.
 #[derive(Clone, Copy, Debug, PartialEq, Eq)]
-pub struct Numbers {
+pub struct StateNumbers {
     /// Runs of bytes that owners hold.
     pub runs: u64,
     /// Locks that are waited for.
@@ -31,12 +31,18 @@ pub struct Numbers {
     pub kept_replies: u64,
     /// 1 in the grace period, else 0.
     pub grace: u64,
-    /// How long the grace period goes on, in seconds, rounded up; 0 where it is over.
-    pub grace_left: u64,
     /// The server's own state (XNFS, NSM).
-    pub own_state: u64,
+    pub own_state: u32,
     /// Entries of the journal since the start.
     pub entries: u64,
+}
+
+/// What is shown in numbers.
+#[derive(Clone, Copy, Debug, PartialEq, Eq)]
+pub struct Numbers {
+    pub state: StateNumbers,
+    /// How long the grace period goes on, in seconds, rounded up; 0 where it is over.
+    pub grace_left: u64,
     /// Connections for calls by record that are open.
     pub call_connections: u64,
     /// Connections of local programs that are open.
@@ -103,19 +109,19 @@ impl Numbers {
         ensures { result ≡ number_of self.now number }
     {
         match number {
-            Number::Runs => self.runs,
-            Number::Waiters => self.waiters,
-            Number::CallsDue => self.calls_due,
-            Number::CallsUnanswered => self.calls_unanswered,
-            Number::SlotsFree => self.slots_free,
-            Number::Shares => self.shares,
-            Number::Hosts => self.hosts,
-            Number::Watches => self.watches,
-            Number::KeptReplies => self.kept_replies,
-            Number::Grace => self.grace,
+            Number::Runs => self.state.runs,
+            Number::Waiters => self.state.waiters,
+            Number::CallsDue => self.state.calls_due,
+            Number::CallsUnanswered => self.state.calls_unanswered,
+            Number::SlotsFree => self.state.slots_free,
+            Number::Shares => self.state.shares,
+            Number::Hosts => self.state.hosts,
+            Number::Watches => self.state.watches,
+            Number::KeptReplies => self.state.kept_replies,
+            Number::Grace => self.state.grace,
             Number::GraceLeft => self.grace_left,
-            Number::OwnState => self.own_state,
-            Number::Entries => self.entries,
+            Number::OwnState => u64::from(self.state.own_state),
+            Number::Entries => self.state.entries,
             Number::CallConnections => self.call_connections,
             Number::LocalConnections => self.local_connections,
             Number::StatusConnections => self.status_connections,

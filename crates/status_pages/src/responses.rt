@@ -45,6 +45,11 @@ const FIXED: &[u8] =
     b"Cache-Control: no-store\r\nX-Content-Type-Options: nosniff\r\nContent-Security-Policy: default-src 'none'; style-src 'unsafe-inline'\r\n";
 
 impl From<Refusal> for Status {
+    ghost use Rattle.std.specs.Prelude.{◌≡◌};
+    ghost use Rattle.status_pages.specs.Responses.{status_of};
+
+    ghost from_gives = { λ refusal s. s ≡ status_of refusal };
+
     fn from(refusal: Refusal) -> Status {
         match refusal {
             Refusal::BadRequest => Status::BadRequest,

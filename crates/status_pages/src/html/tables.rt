@@ -83,9 +83,9 @@ fn put_waiter(html: &mut Html, shown: &Shown<'_>, waiter: &Waiting) -> Result<()
     put_owner(html, &waiter.lock.owner)?;
     html.markup("<td>")?;
     put_range(html, &waiter.lock)?;
-    html.markup(" of ")?;
+    html.markup("<br><small>")?;
     html.hex(waiter.lock.file.as_slice())?;
-    html.markup("<td class=n>")?;
+    html.markup("</small><td class=n>")?;
     html.number(shown.now.saturating_sub(waiter.since))?;
     html.markup(" s<td>")?;
     put_holder(html, first_in_way(shown.locks, &waiter.lock))?;
@@ -136,7 +136,7 @@ pub(super) fn put_files(html: &mut Html, shown: &Shown<'_>) -> Result<(), Starve
     put_rest(html, shown.locks.len(), "/locks.json")
 }
 
-fn put_host(html: &mut Html, own_state: u64, host: &HostRow) -> Result<(), Starved> {
+fn put_host(html: &mut Html, own_state: u32, host: &HostRow) -> Result<(), Starved> {
     html.markup("<tr><td>")?;
     put_name(html, host.name.as_slice())?;
     html.markup("<td class=n>")?;
@@ -145,7 +145,7 @@ fn put_host(html: &mut Html, own_state: u64, host: &HostRow) -> Result<(), Starv
     html.number(u64::from(host.quota))?;
     html.markup("<td class=n>")?;
     html.signed(host.seen)?;
-    html.markup(if u64::from(host.epoch) == own_state {
+    html.markup(if host.epoch == own_state {
         "<td>yes\n"
     } else {
         "<td>no\n"
@@ -162,7 +162,7 @@ pub(super) fn put_hosts(html: &mut Html, shown: &Shown<'_>) -> Result<(), Starve
         "<div class=all><table>\n<tr><th>host<th class=n>runs<th class=n>quota<th class=n>state<th>knows of this start\n",
     )?;
     for host in shown.hosts.iter().take(MOST_ROWS) {
-        put_host(html, shown.numbers.own_state, host)?;
+        put_host(html, shown.numbers.state.own_state, host)?;
     }
     html.markup("</table></div>\n")?;
     put_rest(html, shown.hosts.len(), "/hosts.json")

@@ -1,0 +1,130 @@
+//! Pages are made of looks.
+use crate::looks::Look;
+use status_pages::{
+    Lists, LockRow, Numbers, Page, Shown, Starved, StateNumbers, Waiting, hosts_page, index_page,
+    known_since, locks_page, metrics_page, status_page, waiters_page,
+};
+use std::alloc::Global;
+
+/// The program's version.
+pub const VERSION: &str = "1.0.0";
+
+/// How many connections are open.
+#[derive(Clone, Copy)]
+pub struct OpenConnections {
+    /// For calls by record.
+    pub calls: u64,
+    /// Of local programs.
+    pub local: u64,
+    /// To the status port.
+    pub status: u64,
+}
+
+/// What is known of the moment of a look beside the book.
+#[derive(Clone, Copy)]
+pub struct Moment {
+    /// How long the server runs, in seconds.
+    pub now: u64,
+    pub open: OpenConnections,
+}
+
+/// Makes pages, and keeps between them what one look alone doesn't show: since when who waits is known to wait, and when the grace
+/// period began.
+#[derive(Drop)]
+pub struct Board {
+    alloc: Global,
+    waiting: Vec<Waiting>,
+    own_state: u32,
+    // The length of a grace period, and when this one began, in seconds.
+    grace: u64,
+    grace_since: u64,
+    // When the server started, in seconds since 1970.
+    started: u64,
+}
+
+impl Board {
+    /// The server has begun under this own state, at this second since 1970. Its grace periods have this many seconds.
+    pub fn new(alloc: Global, own_state: u32, grace: u64, started: u64) -> Board {
+        Board {
+            alloc,
+            waiting: Vec::new(alloc),
+            own_state,
+            grace,
+            grace_since: 0,
+            started,
+        }
+    }
+
+    // A restart of the status monitor begins a grace period anew: its first look takes that to be now.
+    fn see_own_state(&mut self, own_state: u32, now: u64) {
+        if self.own_state != own_state {
+            self.own_state = own_state;
+            self.grace_since = now;
+        }
+    }
+
+    /// Sees a look at this second: since when who waits is known to wait, and whether a grace period has begun anew. `Starved`:
+    /// there is no memory to keep it.
+    pub fn see(&mut self, look: Look, now: u64) -> Result<(), Starved> {
+        self.see_own_state(look.numbers.own_state, now);
+        self.see_waiters(look.lists.waiters, now)
+    }
+
+    fn see_waiters(&mut self, waiters: Vec<LockRow>, now: u64) -> Result<(), Starved> {
+        self.waiting = known_since(self.alloc, &self.waiting, waiters, now)?;
+        Ok(())
+    }
+
+    // How long the grace period goes on, in seconds.
+    fn grace_left(&self, state: &StateNumbers, now: u64) -> u64 {
+        if state.grace == 0 {
+            return 0;
+        }
+        self.grace_since
+            .saturating_add(self.grace)
+            .saturating_sub(now)
+    }
+
+    fn numbers(&self, state: StateNumbers, moment: Moment) -> Numbers {
+        Numbers {
+            state,
+            grace_left: self.grace_left(&state, moment.now),
+            call_connections: moment.open.calls,
+            local_connections: moment.open.local,
+            status_connections: moment.open.status,
+            started: self.started,
+        }
+    }
+
+    /// The page, of a look at this moment. `Starved`: there is no memory for it.
+    pub fn page(&mut self, page: Page, look: Look, moment: Moment) -> Result<Vec<u8>, Starved> {
+        let Look { numbers, lists } = look;
+        let Lists {
+            locks,
+            waiters,
+            hosts,
+        } = lists;
+        self.see_own_state(numbers.own_state, moment.now);
+        self.see_waiters(waiters, moment.now)?;
+        let numbers = self.numbers(numbers, moment);
+        let shown = Shown {
+            numbers: &numbers,
+            locks: &locks,
+            waiters: &self.waiting,
+            hosts: &hosts,
+            now: moment.now,
+        };
+        page_of(self.alloc, page, &shown)
+    }
+}
+
+fn page_of(alloc: Global, page: Page, shown: &Shown<'_>) -> Result<Vec<u8>, Starved> {
+    match page {
+        Page::Index => index_page(alloc, shown),
+        Page::Metrics => metrics_page(alloc, shown.numbers, VERSION),
+        Page::Locks => locks_page(alloc, shown.locks),
+        Page::Waiters => waiters_page(alloc, shown.locks, shown.waiters, shown.now),
+        Page::Hosts => hosts_page(alloc, shown.numbers.state.own_state, shown.hosts),
+        Page::Status => status_page(alloc, shown.numbers, VERSION),
+    }
+}
