@@ -24,6 +24,16 @@ pub enum Due {
     NoRoom,
 }
 
+impl Due {
+    /// The same, where something else is left, too.
+    pub(crate) fn or_more(self, is_left: bool) -> Due {
+        match self {
+            Due::Nothing if is_left => Due::More,
+            due => due,
+        }
+    }
+}
+
 // Sends the call that is due first. What is left, where it is none.
 fn send_next<R: RangeTable, S: HostStore, L: Ledger, C: CallSink, W: Wait>(
     rt: &W,

@@ -3,6 +3,7 @@
 #![tactic(auto)]
 
 mod call_sink;
+mod datagrams;
 mod due;
 mod locals;
 mod peer;
@@ -14,8 +15,10 @@ mod turn;
 mod watch;
 
 pub use call_sink::{CallSink, SentCall};
+pub use datagrams::Datagrams;
 pub use due::{Due, MOST_CALLS, send_due};
 pub use locals::Locals;
+pub use peers_file::Addresses;
 pub use port_registering::Registration;
 pub use run::Sender;
 pub use settings::CallSettings;

@@ -4,7 +4,7 @@ use crate::pending_calls::PendingCalls;
 use bytes::Bytes;
 use log::Log;
 use mio::net::TcpStream;
-use mio::{Events, Interest, Poll, Token, Waker};
+use mio::{Events, Interest, Poll, Registry, Token, Waker};
 use port_registering::{Registrar, Registration};
 use record_stream::{Progress, TIMES};
 use std::alloc::{AllocError, Global};
@@ -95,6 +95,11 @@ impl PeerPool {
             Some(registrar) => registrar.is_over(),
             None => true,
         }
+    }
+
+    /// Where sockets are registered that end a wait.
+    pub(crate) fn registry(&self) -> &Registry {
+        self.poll.registry()
     }
 
     /// Ends a wait.

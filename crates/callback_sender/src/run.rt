@@ -9,8 +9,8 @@ use crate::turn::NonRecordEvent;
 use crate::{CallSink, SentCall};
 use book::Dest;
 use ghost_list::History;
-use mio::Waker;
-use peers::Peers;
+use mio::{Registry, Waker};
+use peers_file::Addresses;
 use std::alloc::Global;
 use std::io;
 use std::marker::Model;
@@ -20,11 +20,11 @@ use xdr_core::Frame;
 
 /// Makes the server's own calls, on one thread. It keeps one connection to each peer while that answers. Contracts see the
 /// calls that it was handed.
-pub struct Sender<'a, R, D> {
+pub struct Sender<'a, R, D, A> {
     pub(crate) rt: &'a R,
     locals: &'a D,
     pub(crate) settings: CallSettings,
-    peers: Peers,
+    pub(crate) addresses: A,
     pub(crate) peer_pool: PeerPool,
     pub(crate) pending_calls: PendingCalls,
     pub(crate) kept: Option<NonRecordEvent>,
@@ -33,13 +33,13 @@ pub struct Sender<'a, R, D> {
 }
 
 // It is written out, so that no crate above proves again how each part is dropped.
-impl<'a, R, D> Drop for Sender<'a, R, D> {
+impl<'a, R, D, A: Drop> Drop for Sender<'a, R, D, A> {
     fn drop(self) {
         let Sender {
             rt: _,
             locals: _,
             settings: _,
-            peers: _,
+            addresses: _,
             peer_pool: _,
             pending_calls: _,
             kept: _,
@@ -49,7 +49,7 @@ impl<'a, R, D> Drop for Sender<'a, R, D> {
     }
 }
 
-impl<'a, R, D> Model for Sender<'a, R, D> {
+impl<'a, R, D, A> Model for Sender<'a, R, D, A> {
     ghost use Rattle.std.specs.Prelude.{List};
     ghost use Rattle.callback_sender.specs.Calls.{Call};
     ghost use Rattle.callback_sender.specs.SentCalls.{view_of_sent};
@@ -59,15 +59,16 @@ impl<'a, R, D> Model for Sender<'a, R, D> {
     ghost view = { λ s. view_of_sent s.all.items };
 }
 
-impl<'a, R: Net + Clock, D: Locals> Sender<'a, R, D> {
-    /// Calls the peers of this file at their ports, and these local programs. The error is the system's, or there is no memory.
+impl<'a, R: Net + Clock, D: Locals, A: Addresses + Drop> Sender<'a, R, D, A> {
+    /// Calls hosts where these addresses have them, at their ports, and these local programs. The error is the system's, or there
+    /// is no memory.
     pub fn new(
         alloc: Global,
         rt: &'a R,
         settings: CallSettings,
-        peers: Peers,
+        addresses: A,
         locals: &'a D,
-    ) -> io::Result<Sender<'a, R, D>>
+    ) -> io::Result<Sender<'a, R, D, A>>
         ensures { IfOk result (λ s. s ≡ []) }
     {
         let now = Instant::now(rt)?;
@@ -80,13 +81,18 @@ impl<'a, R: Net + Clock, D: Locals> Sender<'a, R, D> {
             rt,
             locals,
             settings,
-            peers,
+            addresses,
             peer_pool,
             pending_calls,
             kept: None,
             now,
             all: History::new(),
         })
+    }
+
+    /// Where sockets are registered that are to wake the sender, under a token that no place has.
+    pub fn registry(&self) -> &Registry {
+        self.peer_pool.registry()
     }
 
     /// Wakes the sender, where something came due or it is to stop. It is asked for once.
@@ -98,7 +104,7 @@ impl<'a, R: Net + Clock, D: Locals> Sender<'a, R, D> {
     fn place_of(&mut self, name: &[u8], bytes: &[u8]) -> Option<usize>
         ensures { self.new ≡ self.old }
     {
-        let address = self.peers.address(name)?;
+        let address = self.addresses.address(name)?;
         let at = SocketAddr::new(address, self.settings.port_of(bytes));
         self.peer_pool
             .place_of(at, self.settings.asks_of(bytes), self.now)
@@ -134,7 +140,7 @@ impl<'a, R: Net + Clock, D: Locals> Sender<'a, R, D> {
     }
 }
 
-impl<'a, R: Net + Clock, D: Locals> CallSink for Sender<'a, R, D> {
+impl<'a, R: Net + Clock, D: Locals, A: Addresses + Drop> CallSink for Sender<'a, R, D, A> {
     ghost handed = { λ s. s };
 
     fn hand(&mut self, number: u64, to: Dest, bytes: Frame) {

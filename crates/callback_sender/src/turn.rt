@@ -4,6 +4,7 @@ ghost use Rattle.book.specs.Notes.{is_take, view_of_event};
 ghost use Rattle.callback_sender.specs.Handing.{HandsOn};
 ghost use Rattle.callback_sender.specs.Waits.{is_under};
 
+use crate::datagrams::Datagrams;
 use crate::locals::Locals;
 use crate::pending_calls::{PendingCall, ReceivedAnswer, is_under};
 use crate::run::Sender;
@@ -13,6 +14,7 @@ use book::BookEvent;
 use hosts_db::HostStore;
 use line_loop::Signals;
 use log::Log;
+use peers_file::Addresses;
 use range_table::RangeTable;
 use std::net::Net;
 use std::sync::ledger::Ledger;
@@ -110,7 +112,7 @@ fn end_grace<T: RangeTable, S: HostStore, L: Ledger>(
     }
 }
 
-impl<'a, R: Net + Clock + Wait + Log, D: Locals> Sender<'a, R, D> {
+impl<'a, R: Net + Clock + Wait + Log, D: Locals, A: Addresses + Drop> Sender<'a, R, D, A> {
     fn tick(&mut self)
         ensures { self.new ≡ self.old }
     {
@@ -271,10 +273,11 @@ impl<'a, R: Net + Clock + Wait + Log, D: Locals> Sender<'a, R, D> {
         self.tell_time(shared, watch) && self.tell_events(shared)
     }
 
-    // Writes and reads what goes, and waits until something may go on.
+    // Looks at where hosts are, writes and reads what goes, and waits until something may go on.
     fn exchange(&mut self, due: Due, watch: &GraceWatch)
         ensures { self.new ≡ self.old }
     {
+        self.addresses.look(self.now);
         self.peer_pool.serve_registrar(self.rt, self.now);
         self.peer_pool.pass(self.rt, self.now);
         self.peer_pool.serve(self.rt, &mut self.pending_calls);
@@ -284,17 +287,19 @@ impl<'a, R: Net + Clock + Wait + Log, D: Locals> Sender<'a, R, D> {
         }
     }
 
-    fn turn<T: RangeTable, S: HostStore, L: Ledger>(
+    fn turn<T: RangeTable, S: HostStore, L: Ledger, N: Datagrams>(
         &mut self,
         shared: &Mutex<Shared<T, S, L>>,
         watch: &mut GraceWatch,
+        datagrams: &mut N,
         ghost_trace: &mut GhostTrace,
     )
         ensures { HandsOn self.old self.new ghost_trace.old ghost_trace.new }
     {
         let is_room = self.tell_all(shared, watch);
+        let are_left = datagrams.answer();
         let due = self.send_if(shared, is_room, ghost_trace);
-        self.exchange(due, watch);
+        self.exchange(due.or_more(are_left), watch);
     }
 
     /// The server stops: what was registered is taken back, for which it waits a second or two at most.
@@ -314,11 +319,12 @@ impl<'a, R: Net + Clock + Wait + Log, D: Locals> Sender<'a, R, D> {
     }
 
     /// Makes the server's own calls until the server stops: those that holds of the book's lock gave, in order, and no others. It
-    /// gives the entries of these holds.
-    pub fn run<T: RangeTable, S: HostStore, L: Ledger, G: Signals>(
+    /// gives the entries of these holds. Between its turns the datagrams that came are answered.
+    pub fn run<T: RangeTable, S: HostStore, L: Ledger, G: Signals, N: Datagrams>(
         &mut self,
         shared: &Mutex<Shared<T, S, L>>,
         signals: &G,
+        datagrams: &mut N,
     ) -> GhostTrace
         ensures { HandsOn self.old self.new [] result }
     {
@@ -330,7 +336,7 @@ impl<'a, R: Net + Clock + Wait + Log, D: Locals> Sender<'a, R, D> {
             if signals.is_stopping() {
                 break;
             }
-            self.turn(shared, &mut watch, &mut ghost_trace);
+            self.turn(shared, &mut watch, datagrams, &mut ghost_trace);
         }
         ghost_trace
     }

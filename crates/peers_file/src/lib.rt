@@ -1,8 +1,10 @@
-//! The file of peers, read again where it changed.
+//! The file of peers, read again where it changed, and a trait of what knows where hosts are.
 #![tactic(auto)]
 
+mod addresses;
 mod peers_file;
 mod seen;
 
+pub use addresses::{Addresses, WatchedPeers};
 pub use peers_file::PeersFile;
 pub use seen::{Seen, seen_at};

@@ -25,7 +25,7 @@ const PAUSE_MILLIS: u64 = 1_000;
 pub struct PeersFile {
     alloc: Global,
     peers: Peers,
-    // Where the file is. None where it isn't read again.
+    // Where the file is. None while it is looked at.
     path: Option<String>,
     // What was seen of it when it was read. None where there was none.
     seen: Option<Seen>,
@@ -50,19 +50,6 @@ fn read_file<R: Files>(rt: &R, alloc: Global, path: &str) -> io::Result<Vec<u8>>
 }
 
 impl PeersFile {
-    /// These peers, and no file that is read again.
-    pub fn fixed(alloc: Global, peers: Peers) -> PeersFile
-        ensures { result ≡ peers }
-    {
-        PeersFile {
-            alloc,
-            peers,
-            path: None,
-            seen: None,
-            looked: None,
-        }
-    }
-
     /// The peers that were read of the file at this path, of which this was seen before it was read.
     pub fn watched(alloc: Global, peers: Peers, path: String, seen: Option<Seen>) -> PeersFile
         ensures { result ≡ peers }

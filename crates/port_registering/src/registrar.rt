@@ -1,5 +1,5 @@
 //! When the server is registered, and with which calls.
-use crate::calls::{CALLS, Registration, UNSETS, call_at, goes_on};
+use crate::calls::{Registration, UNSETS, goes_on};
 use log::{Log, info, warn};
 use mio::net::TcpStream;
 use mio::{Interest, Registry, Token};
@@ -106,7 +106,7 @@ impl Registrar {
     // Sends the call of this place.
     fn ask(&mut self, step: usize) -> io::Result<()> {
         self.xid = self.xid.wrapping_add(1);
-        match call_at(step, self.xid, self.registration.port) {
+        match self.registration.call_at(step, self.xid) {
             Some(frame) => Ok(self.stream.put(frame.as_slice())?),
             None => Ok(()),
         }
@@ -129,7 +129,7 @@ impl Registrar {
         }
         self.state = State::Talks {
             step: 0,
-            end: CALLS,
+            end: self.registration.calls(),
             until: Registrar::later(now, Duration::from_secs(TALK_SECONDS)),
         };
         true

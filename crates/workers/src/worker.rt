@@ -180,8 +180,8 @@ impl<P: Place, L: Ledger> Worker<P, L> {
         self.seat.receive(rt, channel)
     }
 
-    // What stands before one job, its answer, and word that it is done.
-    fn serve<R: RangeTable, S: HostStore, G: Gate, O: Outbox, W: Wait>(
+    /// Answers this job, which was taken from the channel or never came by it: the gate is told before, and the outbox then.
+    pub fn serve<R: RangeTable, S: HostStore, G: Gate, O: Outbox, W: Wait>(
         &mut self,
         rt: &W,
         shared: &Mutex<Shared<R, S, L>>,

@@ -1,0 +1,3 @@
+pub mod Screens
+pub mod Slots
+pub mod Answered
