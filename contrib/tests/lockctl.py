@@ -9,7 +9,7 @@ import time
 from unittest import mock
 
 import starts
-from stand_ins import Cut, LineStandIn, StandIn, Trickle, marked, mute, opaque, success, words, xid_of
+from stand_ins import Cut, LineStandIn, PageStandIn, StandIn, Trickle, marked, mute, opaque, page, success, words, xid_of
 from tried import CONTRIB, cases, equal, run, test
 
 # A host's locks, one of them to the end of the file, a process's and an open file description's; the host's name is `client`.
@@ -235,6 +235,85 @@ def lockctl_top_until_it_is_interrupted():
     equal(("".join(lines), top.returncode, fault), (SCREEN * 2, 0, ""))
 
 
+# ---- waiters
+
+NOBODY = dict.fromkeys(("host", "host_hex", "svid", "oh", "oh_hex", "number"))
+OF_CLIENT = {"host": "client", "host_hex": "636c69656e74", "svid": 7, "oh": "one", "oh_hex": "6f6e65", "number": None}
+FIRST_LOCK = {"file": "01020304", "mode": "write", "first": 0, "last": 9, "kind": "host", **OF_CLIENT}
+WAITS = [
+    {"file": "01020304", "mode": "read", "first": 5, "last": None, "kind": "process", **NOBODY, "number": 42}
+    | {"waits_seconds": 61, "in_way": FIRST_LOCK},
+    {"file": "0a0b", "mode": "write", "first": 0, "last": 18, "kind": "host", **OF_CLIENT, "svid": -1}
+    | {"oh": None, "oh_hex": "00ff", "waits_seconds": 0, "in_way": None},
+]
+WAITERS = """\
+FILE      MODE   FIRST  LAST  KIND     WAITER  SVID  OH                  SECONDS  BEHIND
+01020304  read       5   end  process  42         -  -                        61  host client 7 one
+0a0b      write      0    18  host     client    -1  \\x00\\xff(hex:00ff)        0  -
+"""
+WAITER_LINES = WAITERS.splitlines()
+
+
+def waiters(answer, *options, seconds="5"):
+    """What `waiters` comes to where the status port answers so, and what it was asked."""
+    with PageStandIn(lambda _: answer) as status:
+        at = status.place.split(":")[1]
+        return run("lockctl", "waiters", "--status-port", at, "--timeout", seconds, *options), status.records
+
+
+@cases(
+    all=((), WAITERS.split("\n")[1:3]),
+    of_host=(("--host", "client"), WAITER_LINES[2:]),
+    of_file=(("--file", "01020304"), WAITER_LINES[1:2]),
+)
+def lockctl_waiters(options, wanted):
+    (status, text, fault), asked = waiters(page(json.dumps(WAITS).encode()), *options)
+    equal((status, fault), (0, ""))
+    equal([line.split() for line in text.splitlines()], [WAITER_LINES[0].split(), *(line.split() for line in wanted)])
+    equal(asked, [b"GET /waiters.json HTTP/1.0\r\n\r\n"])
+
+
+@test
+def lockctl_waiters_table():
+    equal(waiters(page(json.dumps(WAITS).encode()))[0], (0, WAITERS, ""))
+    equal(waiters(page(b"[]"))[0], (0, "nobody waits\n", ""))
+    equal(waiters(page(json.dumps(WAITS).encode()), "--file", "ff")[0], (0, "nobody waits\n", ""))
+
+
+@test
+def lockctl_waiters_json():
+    equal(waiters(page(b"[]"), "--json")[0], (0, "[]\n", ""))
+    (status, text, fault), _ = waiters(page(json.dumps(WAITS).encode()), "--json")
+    equal((status, fault), (0, ""))
+    equal(json.loads(text), WAITS)
+    equal(list(json.loads(text)[0])[-3:], ["number", "waits_seconds", "in_way"])
+
+
+@cases(
+    mute=(b"", "closed the connection"),
+    slow=(Trickle(page(b"[]")), "within 0.3 s"),
+    cut=(page(b"[]")[:-1], "closed the connection before its answer was whole"),
+    garbage=(b"ok\r\n\r\n", "sent what is no page of lockd"),
+    endless=(b"a" * 9000, "sent more than 8192 bytes without an end"),
+    starved=(page(b"", b"503 Service Unavailable"), "answered /waiters.json by status 503"),
+    no_json=(page(b"[}"), "that is no JSON"),
+    no_list=(page(b"3"), "a list of waiters that is none of lockd"),
+    no_rows=(page(b"[{}]"), "a list of waiters that is none of lockd"),
+    no_row=(page(b"[[]]"), "a list of waiters that is none of lockd"),
+)
+def lockctl_waiters_bad_answer(answer, part):
+    told(waiters(answer, seconds="0.3" if isinstance(answer, Trickle) else "5")[0], 1, part)
+
+
+@test
+def lockctl_waiters_without_status_port():
+    found = run("lockctl", "waiters", "--status-port", str(starts.free_port()))
+    told(found, 1, "Connection refused: look whether lockd runs", "listens there (--status-port)")
+    with PageStandIn(lambda _: page(b"[]")) as status:
+        with mock.patch.dict(os.environ, {"LOCKD_STATUS_PORT": status.place.split(":")[1]}):
+            equal(run("lockctl", "waiters"), (0, "nobody waits\n", ""))
+
+
 # ---- quota, release, stop
 
 
@@ -443,7 +522,8 @@ def lockctl_output_that_cannot_be_written(path):
 @cases(
     nothing=("",),
     other=("shares",),
-    waiters=("waiters",),
+    waiters_of_no_handle=("waiters --file 1",),
+    status_port_zero=("waiters --status-port 0",),
     port_zero=("locks --port 0",),
     port_sign=("locks --local-port +1",),
     port_digits=("locks --port " + "1" * 5000,),
@@ -491,6 +571,7 @@ def tries_the_program(options, port):
     head = "FILE      MODE   FIRST  LAST  KIND  HOLDER  SVID  OH\n"
     table = head + "01020304  write      0     9  host  a          7  A\n"
     equal(run("lockctl", *options, "locks"), (0, table, ""))
+    equal(run("lockctl", *options, "waiters"), (0, "nobody waits\n", ""))
     equal(run("lockctl", *options, "quota", "a", "10")[0], 0)
     hosts = "HOST  EPOCH  SEEN  QUOTA  LOCKS  HEARD\na         1     3     10      1  yes\n"
     equal(run("lockctl", *options, "hosts"), (0, hosts, ""))
@@ -503,12 +584,13 @@ def tries_the_program(options, port):
 def lockctl_over_the_program():
     with starts.room() as path:
         (path / "peers").write_text("a 127.0.0.1\n")
-        port, local_port = starts.free_port(), starts.free_port()
-        words = starts.serve_words(path, port=port, local_port=local_port, grace_seconds=1)
+        port, local_port, status_port = starts.free_port(), starts.free_port(), starts.free_port()
+        words = starts.serve_words(path, port=port, local_port=local_port, status_port=status_port, grace_seconds=1)
         server = subprocess.Popen([starts.PROGRAM, *words], stdout=subprocess.PIPE, stderr=subprocess.PIPE)
         try:
             equal(server.stdout.readline(), b"ready\n")
-            tries_the_program(["--port", str(port), "--local-port", str(local_port)], port)
+            places = ["--port", str(port), "--local-port", str(local_port), "--status-port", str(status_port)]
+            tries_the_program(places, port)
             equal(server.communicate(timeout=starts.WAIT_SECONDS), (b"", b""))
             equal(server.returncode, 0)
         finally:

@@ -188,3 +188,23 @@ def mute(_record):
 def monitor(record):
     """A daemon that answers each call by an empty success."""
     return marked(success(xid_of(record)))
+
+
+class PageStandIn(StandIn):
+    """One that takes requests over HTTP/1.0 in place of records, and ends each connection behind its answer."""
+
+    def serve_records(self, connection):
+        with connection.makefile("rb") as stream:
+            head = b""
+            while line := stream.readline():
+                head += line
+                if line == b"\r\n":
+                    self.records.append(head)
+                    send(connection, self.answer(head))
+                    return
+
+
+def page(body, status=b"200 OK", kind=b"application/json"):
+    """An answer (RFC 9112, sections 4 to 6)."""
+    head = b"HTTP/1.1 %s\r\nContent-Type: %s\r\nContent-Length: %d\r\nConnection: close\r\n\r\n"
+    return head % (status, kind, len(body)) + body

@@ -7,6 +7,7 @@ import tempfile
 import time
 from pathlib import Path
 
+from stand_ins import call, success
 from tried import CONTRIB, cases, equal
 
 PROGRAM = CONTRIB.parent / "crates/lockd_main/out/lockd_main"
@@ -223,6 +224,44 @@ def two_connections_of_a_peer():
         equal(told, NULL_REPLY)
 
 
+def peers_file_that_changes():
+    """What is noted of each change: a bad line, no file, a good file."""
+    with room() as path:
+        peers, local_port = path / "peers", free_port()
+        peers.write_text("client 127.0.0.1\n")
+        words = serve_words(path, local_port=local_port)
+        server = subprocess.Popen([PROGRAM, *words], stdout=subprocess.PIPE, stderr=subprocess.PIPE)
+        try:
+            equal(server.stdout.readline(), b"ready\n")
+            for change in (lambda: peers.write_text("a 127.0.0.1\nb\n"), peers.unlink, lambda: peers.write_text("b ::1\n")):
+                change()
+                # The file is looked at once a second.
+                time.sleep(2.2)
+            equal(said_by(local_port, b"stop\n"), b"ok\n")
+            _, told = server.communicate(timeout=WAIT_SECONDS)
+        finally:
+            server.kill()
+            server.communicate()
+        equal(server.returncode, 0)
+        notes = [line.split("] ", 1)[1] for line in told.decode().splitlines()]
+        stay = "the peers stay as they were"
+        bad = f"{peers}: line 2 is no name, a space and an IP address, names a host again, or comes behind 4096 others: {stay}"
+        equal(notes, [bad, f"{peers}: there is no such file: {stay}", f"{peers}: read again"])
+
+
+def datagrams():
+    """SM_NULL by UDP, from two addresses, and what is dropped."""
+    notify_port = free_port()
+    with served("--notify-port", str(notify_port)), contextlib.ExitStack() as ended:
+        for address in ("127.0.0.1", "127.0.0.2"):
+            one = ended.enter_context(socket.socket(socket.AF_INET, socket.SOCK_DGRAM))
+            one.bind((address, 0))
+            one.settimeout(WAIT_SECONDS)
+            for datagram in (NULL[4:8], call(0)):
+                one.sendto(datagram, ("127.0.0.1", notify_port))
+            equal(one.recv(65_535), success(0x01020304))
+
+
 STREAMS = dict(pipe=(("pipe",),), table=(("table",),))
 SERVER = dict(serve=((),))
 
@@ -233,7 +272,7 @@ if PROGRAM.exists():
     )(peers_file_that_cannot_be_read)
     cases(**STREAMS, **SERVER)(no_database)
     cases(**STREAMS, **SERVER)(database_in_no_folder)
-    cases(calls=("port",), lines=("local_port",))(port_in_use)
+    cases(calls=("port",), lines=("local_port",), pages=("status_port",))(port_in_use)
     cases(none=())(address_of_another_machine)
     cases(two=())(pipe_twice_on_one_file)
     cases(memory=(False,), file=(True,))(table_at_the_end)
@@ -241,5 +280,7 @@ if PROGRAM.exists():
     cases(**STREAMS)(record_too_long)
     cases(plain=(False,), audited=(True,))(serves_until_it_is_told_to_stop)
     cases(none=())(two_connections_of_a_peer)
+    cases(none=())(peers_file_that_changes)
+    cases(none=())(datagrams)
 else:
     print(f"skipped: how the program starts and ends, since it isn't built ({PROGRAM.relative_to(CONTRIB.parent)})", flush=True)

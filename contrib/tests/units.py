@@ -1,7 +1,6 @@
 """Tests of what the programs say of themselves, and of the units."""
 
 import re
-import shlex
 
 from tried import CONTRIB, cases, equal, run, test
 
@@ -11,7 +10,6 @@ COMMANDS = CONTRIB.parent / "crates/config/specs/Lockd.antt"
 @cases(
     lockctl=("lockctl", "hex:6162 for its bytes"),
     register=("lockd-register", "default: all three"),
-    relay=("lockd-notify-relay", "sees the relay's address"),
 )
 def helps(program, told):
     status, text, _ = run(program, "--help")
@@ -20,19 +18,16 @@ def helps(program, told):
 
 
 def command(unit, key):
-    """The options of a unit's command, with their values."""
+    """The options of a unit's command, with their values; an empty one where an option has none."""
     text = (CONTRIB / unit).read_text().replace("\\\n", "")
     line = re.search(rf"^{key}=-?(.*)$", text, re.MULTILINE)[1]
-    options = [word for word in shlex.split(line) if "/sbin/" not in word and word not in ("serve", "set")]
-    return dict(zip(options[::2], options[1::2]))
+    return {option: value for option, value in re.findall(r"(--[a-z-]+)(?: ([^- ]\S*))?", line)}
 
 
-@test
-def units_agree():
-    serve, register_set = command("lockd.service", "ExecStart"), command("lockd.service", "ExecStartPost")
-    relay = command("lockd-notify-relay.service", "ExecStart")
-    equal(relay, {"--listen": "0.0.0.0:" + register_set["--notify-port"], "--daemon": "127.0.0.1:" + serve["--port"]})
-    equal(register_set["--port"], serve["--port"])
+def option_names(kinds):
+    """The names of the options of `serve` of these kinds."""
+    serve_rules = re.split(r"^serve_rules =", COMMANDS.read_text(), flags=re.MULTILINE)[1].split("\n\n")[0]
+    return sorted("--" + name for name in re.findall(rf'(?:{kinds})_rule \(codes "([a-z-]+)"\)', serve_rules))
 
 
 @test
@@ -44,6 +39,13 @@ def lockctl_asks_at_the_ports_of_the_unit():
 
 @test
 def unit_gives_what_serve_needs():
-    serve_rules = re.split(r"^serve_rules =", COMMANDS.read_text(), flags=re.MULTILINE)[1]
-    needed = re.findall(r'needed_rule \(codes "([a-z-]+)"\)', serve_rules)
-    equal(sorted(command("lockd.service", "ExecStart")), sorted("--" + name for name in needed))
+    serve = command("lockd.service", "ExecStart")
+    equal(sorted(option for option, value in serve.items() if not value), [one for one in option_names("flag") if one in serve])
+    equal([one for one in option_names("needed") if one not in serve], [])
+    equal([one for one in serve if one not in option_names("needed|value|default|flag")], [])
+
+
+@test
+def unit_registers_its_notices():
+    serve = command("lockd.service", "ExecStart")
+    assert "--register" in serve and "--notify-port" in serve, serve

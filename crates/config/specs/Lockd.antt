@@ -41,7 +41,9 @@ serve_rules =
     ∷ default_rule (codes "grace-seconds") (codes "45") ∷ default_rule (codes "silence-seconds") (codes "5") ∷ default_rule (codes "idle-seconds") (codes "600")
     ∷ default_rule (codes "workers") (codes "4")
     ∷ default_rule (codes "connections") (codes "256") ∷ value_rule (codes "connections-per-peer")
-    ∷ flag_rule (codes "audit") ∷ flag_rule (codes "ask-port-mapper") ∷ flag_rule (codes "register") ∷ []
+    ∷ value_rule (codes "notify-port")
+    ∷ flag_rule (codes "audit") ∷ flag_rule (codes "ask-port-mapper") ∷ flag_rule (codes "register")
+    ∷ flag_rule (codes "poll-ends-grant") ∷ value_rule (codes "status-port") ∷ []
 
 -- `lockd pipe`, `lockd table` and `lockd serve`
 abbrev pub pipe_app : App

@@ -60,6 +60,8 @@ serve_in bind rows = do
   workers ← setting workers_in (codes "workers") rows
   connections ← setting connections_in (codes "connections") rows
   per_peer ← optional_setting connections_in (codes "connections-per-peer") rows
+  notify_port ← optional_setting port_in (codes "notify-port") rows
+  status_port ← optional_setting port_in (codes "status-port") rows
   name ← setting name_in (codes "name") rows
   db ← first_of (codes "db") rows
   peers ← first_of (codes "peers") rows
@@ -69,6 +71,7 @@ serve_in bind rows = do
     workers = workers;
     connections = connections;
     connections_per_peer = per_peer;
+    notify_port = notify_port;
     name = name;
     db = db;
     peers = peers;
@@ -76,6 +79,8 @@ serve_in bind rows = do
     audit = flag_in (codes "audit") rows;
     ask_port_mapper = flag_in (codes "ask-port-mapper") rows;
     register = flag_in (codes "register") rows;
+    poll_ends_grant = flag_in (codes "poll-ends-grant") rows;
+    status_port = status_port;
   })
 
 abbrev pub ReadsAddress : Result IpAddr Unread → Text → List Row → Type 0

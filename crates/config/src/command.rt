@@ -154,6 +154,11 @@ const SERVE_CHOICES: &[Choice<'static>] = &[
         help: "How many of them may come from one address, 1 to 4096; without it all",
     },
     Choice {
+        name: "notify-port",
+        takes: OptionValue::Value("N"),
+        help: "The UDP port for calls of program 100024; without it none come by UDP",
+    },
+    Choice {
         name: "audit",
         takes: OptionValue::Nothing,
         help: "Check the journal at the end",
@@ -167,6 +172,16 @@ const SERVE_CHOICES: &[Choice<'static>] = &[
         name: "register",
         takes: OptionValue::Nothing,
         help: "Register the port at the port mapper of this machine",
+    },
+    Choice {
+        name: "poll-ends-grant",
+        takes: OptionValue::Nothing,
+        help: "A lock call that is answered GRANTED ends the GRANTED calls of its lock",
+    },
+    Choice {
+        name: "status-port",
+        takes: OptionValue::Value("N"),
+        help: "The port for operators, who read pages, on loopback alone; without it there is none",
     },
 ];
 

@@ -57,6 +57,8 @@ pub struct ServeConfig {
     pub connections: Connections,
     /// How many of them may come from one address; None: all.
     pub connections_per_peer: Option<Connections>,
+    /// The UDP port of calls to the status monitor, program 100024; None: none come by UDP.
+    pub notify_port: Option<Port>,
     pub name: OwnName,
     /// Where the hosts are stored.
     pub db: FilePath,
@@ -71,6 +73,10 @@ pub struct ServeConfig {
     pub ask_port_mapper: bool,
     /// Whether the port for calls by record is registered at the port mapper of this machine.
     pub register: bool,
+    /// Whether a lock that is answered GRANTED ends the grants that were to tell of it.
+    pub poll_ends_grant: bool,
+    /// For operators, on loopback alone; None: they have no port.
+    pub status_port: Option<Port>,
 }
 
 /// What the program is asked to do.
@@ -136,7 +142,30 @@ fn read_port<'a>(matches: &ArgMatches<'a>, option: &'a str) -> Result<Port, Unre
     let value = read_text(matches, option)?;
     match Port::read(value) {
         Some(port) => Ok(port),
-        None => Err(refuse(value, option, "a port is 1 to 65535")),
+        None => Err(refuse_port(value, option)),
+    }
+}
+
+/// The refusal of a value that is no port.
+fn refuse_port<'a>(value: &'a str, option: &'a str) -> Unread<'a>
+    ensures { IsWrong result }
+{
+    refuse(value, option, "a port is 1 to 65535")
+}
+
+/// The port of an option that need not be given.
+fn read_optional_port<'a>(
+    matches: &ArgMatches<'a>,
+    option: &'a str,
+) -> Result<Option<Port>, Unread<'a>>
+    ensures { Reads (λ port. port) result (optional_setting port_in option.now (rows_of (found_of matches.now))) }
+{
+    match matches.get_str(option) {
+        Some(value) => match Port::read(value) {
+            Some(port) => Ok(Some(port)),
+            None => Err(refuse_port(value, option)),
+        },
+        None => Ok(None),
     }
 }
 
@@ -316,18 +345,22 @@ pub(crate) fn read_serve<'a>(
     let workers = read_workers(matches, "workers")?;
     let connections = read_connections(matches, "connections")?;
     let connections_per_peer = read_optional_connections(matches, "connections-per-peer")?;
+    let notify_port = read_optional_port(matches, "notify-port")?;
+    let status_port = read_optional_port(matches, "status-port")?;
     let name = read_name(alloc, matches, "name")?;
     let db = read_path(alloc, matches, "db")?;
     let peers = read_path(alloc, matches, "peers")?;
     let audit = is_given(matches, "audit");
     let ask_port_mapper = is_given(matches, "ask-port-mapper");
     let register = is_given(matches, "register");
+    let poll_ends_grant = is_given(matches, "poll-ends-grant");
     Ok(ServeConfig {
         ports,
         times,
         workers,
         connections,
         connections_per_peer,
+        notify_port,
         name,
         db,
         peers,
@@ -335,5 +368,7 @@ pub(crate) fn read_serve<'a>(
         audit,
         ask_port_mapper,
         register,
+        poll_ends_grant,
+        status_port,
     })
 }

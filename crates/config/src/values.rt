@@ -32,7 +32,7 @@ fn read_between(text: &str, least: u64, most: u64) -> Option<u64>
     }
 }
 
-/// A TCP port, 1 to 65,535.
+/// A port of TCP or UDP, 1 to 65,535.
 #[derive(Clone, Copy, Debug, PartialEq, Eq)]
 pub struct Port {
     number: u16,

@@ -15,7 +15,7 @@ pub use connection_table::ConnectionTable;
 pub use law::{connections_are_counted, left_place_is_free, place_is_kept};
 pub use listener::{Listener, ShutdownHandle};
 pub use peer_address::PeerAddress;
-pub use threads::{Accepted, MainLoop, NoThread, Service, Side, WorkerPool, run};
+pub use threads::{Accepted, Listeners, MainLoop, NoThread, Service, Side, WorkerPool, run};
 pub use writer::Writer;
 
 /// The most bytes that are joined before they are written.

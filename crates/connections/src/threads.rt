@@ -3,5 +3,5 @@ mod accepting;
 mod running;
 mod service;
 
-pub use running::{NoThread, WorkerPool, run};
+pub use running::{Listeners, NoThread, WorkerPool, run};
 pub use service::{Accepted, MainLoop, Service, Side};

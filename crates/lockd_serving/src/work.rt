@@ -3,12 +3,11 @@ ghost use Rattle.std.specs.Prelude.{◌≡◌, ◌≤◌, Err, IfErr, IfOk, IfSo
 ghost use Rattle.lockd_serving.specs.Ran.{Fails, Ran, RanOver, RanServer, Runs, AreStored, stand};
 
 use crate::ends::{end, end_server, end_stream};
-use crate::sockets::{ServeFault, read_peers, serve_sockets};
+use crate::sockets::{FilePeers, ServeFault, serve_sockets, watch_peers};
 use crate::stores::{OpenedDatabase, hosts_of};
 use crate::streams::{Console, Output, serve_stream};
 use config::{Config, FilePath, ServeConfig, StreamConfig};
 use hosts_db::{HostStore, KeptHosts, Lasting};
-use peers::Peers;
 use pipe_loops::StreamFault;
 use server::Runtime;
 use sqlite::{Alter, Connection};
@@ -21,7 +20,7 @@ pub(crate) enum Work<'a> {
     /// A stream.
     Stream(Output, &'a StreamConfig),
     /// Sockets, with the peers that a file names.
-    Sockets(&'a ServeConfig, Peers),
+    Sockets(&'a ServeConfig, FilePeers<'a>),
 }
 
 // Serves over the store.
@@ -128,10 +127,10 @@ fn run_server<R: Runtime, I: Read, O: Write>(
     rt: &R,
     console: &mut Console<I, O>,
     asked: &ServeConfig,
-    peers: Result<Peers, ServeFault>,
+    peers: Result<FilePeers<'_>, ServeFault>,
 ) -> ExitCode
     ensures runs { RanServer result.status (stand I.remaining O.contents console.old) (stand I.remaining O.contents console.new) }
-    ensures refused { IfErr peers (λ _. result.status ≡ 1) }
+    ensures refused { IfErr peers.entry (λ _. result.status ≡ 1) }
 {
     match peers {
         Ok(peers) => {
@@ -166,7 +165,7 @@ pub fn serve_asked<R: Runtime, I: Read, O: Write>(
             serve_file(host, rt, console, work, asked.db.as_ref())
         }
         Config::Serve(asked) => {
-            let peers = read_peers(host, asked.peers.as_str());
+            let peers = watch_peers(host, asked.peers.as_str());
             run_server(host, rt, console, asked, peers)
         }
     }

@@ -1,6 +1,9 @@
 //! What every thread knows, and what it does.
 use crate::incoming::Incoming;
 use crate::notes;
+use crate::operators::{
+    AnswerBytes, BookPages, RequestBytes, Status, Turns, idle, linger, prepare,
+};
 use crate::peer::peer_at;
 use crate::signals::StopSignals;
 use crate::sockets::CallerSockets;
@@ -10,13 +13,14 @@ use hosts_db::HostStore;
 use job_queue::{Channel, Place};
 use line_loop::{Signals, serve_lines};
 use log::Log;
+use page_loop::{PagesEnding, serve_pages};
 use range_table::RangeTable;
 use reply_outbox::{Gate, ReplyBuffer};
 use std::alloc::Global;
 use std::net::{SocketAddr, TcpStream};
 use std::sync::ledger::Ledger;
 use std::sync::{Mutex, Wait};
-use std::time::Duration;
+use std::time::{Clock, Duration};
 use workers::{Origin, Shared, Source, Worker};
 
 /// The connections that are open. Those for calls lend what it takes to answer jobs.
@@ -24,6 +28,7 @@ use workers::{Origin, Shared, Source, Worker};
 pub(crate) struct ConnectionTables<P: Place, L: Ledger> {
     pub(crate) callers: Mutex<ConnectionTable<Worker<P, L>>>,
     pub(crate) locals: Mutex<ConnectionTable<()>>,
+    pub(crate) operators: Mutex<ConnectionTable<()>>,
 }
 
 /// What shuts the listeners.
@@ -31,6 +36,7 @@ pub(crate) struct ConnectionTables<P: Place, L: Ledger> {
 pub(crate) struct ShutdownHandles {
     pub(crate) callers: ShutdownHandle,
     pub(crate) locals: ShutdownHandle,
+    pub(crate) operators: Option<ShutdownHandle>,
 }
 
 /// What every thread knows. No thread holds two of the locks at once.
@@ -44,6 +50,7 @@ pub(crate) struct Context<'a, P: Place, L: Ledger, T: RangeTable, S: HostStore, 
     pub(crate) stop_signals: &'a StopSignals,
     pub(crate) gate: &'a G,
     pub(crate) idle: Duration,
+    pub(crate) status: &'a Status,
 }
 
 impl<'a, P: Place, L: Ledger, T: RangeTable + Drop, S: HostStore + Drop, G: Gate> Context<
@@ -120,6 +127,33 @@ impl<'a, P: Place, L: Ledger, T: RangeTable + Drop, S: HostStore + Drop, G: Gate
         notes::local(rt, accepted.from, served.ending);
         self.connection_tables.locals.lock(rt).leave(number);
     }
+
+    // Answers the requests of an operator.
+    fn answer_operator<R: Wait + Clock>(&self, rt: &R, stream: &TcpStream) -> PagesEnding {
+        let mut pages = BookPages {
+            rt,
+            status: self.status,
+            shared: self.shared,
+            connection_tables: self.connection_tables,
+        };
+        let turns = Turns::new();
+        let mut input = RequestBytes::new(rt, stream, &turns, self.stop_signals);
+        let mut output = AnswerBytes::new(stream, &turns, self.stop_signals);
+        serve_pages(self.alloc, &mut pages, &mut input, &mut output, MOST_READS)
+    }
+
+    fn serve_operator<R: Wait + Log + Clock>(&self, rt: &R, accepted: &Accepted) {
+        let stream = accepted.connection.stream();
+        if prepare(stream).is_ok() {
+            let ending = self.answer_operator(rt, stream);
+            notes::operator(rt, accepted.from, ending);
+            if ending == PagesEnding::Refused {
+                linger(stream);
+            }
+        }
+        let number = accepted.connection.number();
+        self.connection_tables.operators.lock(rt).leave(number);
+    }
 }
 
 impl<
@@ -129,7 +163,7 @@ impl<
     T: RangeTable + Drop,
     S: HostStore + Drop,
     G: Gate,
-    R: Wait + Log,
+    R: Wait + Log + Clock,
 > Service<R, Worker<P, L>> for Context<'a, P, L, T, S, G> {
     fn admit(&self, rt: &R, side: Side, stream: TcpStream, from: SocketAddr) -> Option<Accepted> {
         let peer = PeerAddress::new(from.ip());
@@ -144,6 +178,11 @@ impl<
                 .locals
                 .lock(rt)
                 .admit(stream, peer, None),
+            Side::Operators => self
+                .connection_tables
+                .operators
+                .lock(rt)
+                .admit(stream, peer, Some(idle())),
         };
         Some(Accepted {
             side,
@@ -156,6 +195,7 @@ impl<
         match accepted.side {
             Side::Callers => self.serve_caller(rt, &accepted),
             Side::Locals => self.serve_local(rt, &accepted),
+            Side::Operators => self.serve_operator(rt, &accepted),
         }
     }
 
@@ -163,6 +203,7 @@ impl<
         match side {
             Side::Callers => self.connection_tables.callers.lock(rt).leave(number),
             Side::Locals => self.connection_tables.locals.lock(rt).leave(number),
+            Side::Operators => self.connection_tables.operators.lock(rt).leave(number),
         }
     }
 
@@ -179,12 +220,20 @@ impl<
         worker
     }
 
+    fn watch(&self, rt: &R) {
+        self.status.watch(rt, self.shared, self.stop_signals);
+    }
+
     fn stop(&self, rt: &R) {
         self.stop_signals.stop();
         self.shutdown_handles.callers.shut();
         self.shutdown_handles.locals.shut();
+        if let Some(handle) = &self.shutdown_handles.operators {
+            handle.shut();
+        }
         self.connection_tables.callers.lock(rt).close();
         self.connection_tables.locals.lock(rt).close();
+        self.connection_tables.operators.lock(rt).close();
     }
 
     fn is_stopping(&self) -> bool {

@@ -2,12 +2,14 @@
 #![tactic(auto)]
 
 mod context;
+mod datagrams;
 mod fault;
 mod incoming;
 mod lines;
 mod listening;
 mod main_loop;
 mod notes;
+mod operators;
 mod peer;
 mod runtime;
 mod seats;
@@ -18,7 +20,8 @@ mod sockets;
 mod unnamed;
 pub mod worker_pool;
 
-pub use callback_sender::{CallSettings, Registration};
+pub use book::Rules;
+pub use callback_sender::{Addresses, CallSettings, Registration};
 pub use fault::{NoListener, ServerFault};
 pub use runtime::Runtime;
 pub use serving::serve;

@@ -1,6 +1,6 @@
 //! What the thread that started all others does.
 use crate::signals::StopSignals;
-use callback_sender::{Locals, Sender};
+use callback_sender::{Addresses, Datagrams, Locals, Sender};
 use connections::MainLoop;
 use hosts_db::HostStore;
 use log::Log;
@@ -12,23 +12,26 @@ use std::sync::{Mutex, Wait};
 use std::time::Clock;
 use workers::Shared;
 
-/// Says that the server is ready, and makes its own calls until it is stopped.
+/// Says that the server is ready, and makes its own calls until it is stopped, between which it answers what comes by datagram.
 #[derive(Drop)]
-pub(crate) struct Sends<'a, R, D, T: RangeTable, S: HostStore, L: Ledger> {
-    sender: Sender<'a, R, D>,
+pub(crate) struct Sends<'a, R, D, A: Drop, N, T: RangeTable, S: HostStore, L: Ledger> {
+    sender: Sender<'a, R, D, A>,
+    datagrams: N,
     shared: &'a Mutex<Shared<T, S, L>>,
     stop_signals: &'a StopSignals,
     is_told: bool,
 }
 
-impl<'a, R, D, T: RangeTable, S: HostStore, L: Ledger> Sends<'a, R, D, T, S, L> {
+impl<'a, R, D, A: Drop, N, T: RangeTable, S: HostStore, L: Ledger> Sends<'a, R, D, A, N, T, S, L> {
     pub(crate) fn new(
-        sender: Sender<'a, R, D>,
+        sender: Sender<'a, R, D, A>,
+        datagrams: N,
         shared: &'a Mutex<Shared<T, S, L>>,
         stop_signals: &'a StopSignals,
-    ) -> Sends<'a, R, D, T, S, L> {
+    ) -> Sends<'a, R, D, A, N, T, S, L> {
         Sends {
             sender,
+            datagrams,
             shared,
             stop_signals,
             is_told: false,
@@ -39,12 +42,26 @@ impl<'a, R, D, T: RangeTable, S: HostStore, L: Ledger> Sends<'a, R, D, T, S, L> 
     pub(crate) fn is_told(&self) -> bool {
         self.is_told
     }
+
+    /// What answered datagrams, once it is over.
+    pub(crate) fn into_datagrams(self) -> N {
+        let Sends {
+            sender: _,
+            datagrams,
+            shared: _,
+            stop_signals: _,
+            is_told: _,
+        } = self;
+        datagrams
+    }
 }
 
-impl<'a, R, D, T, S, L> MainLoop<R> for Sends<'a, R, D, T, S, L>
+impl<'a, R, D, A, N, T, S, L> MainLoop<R> for Sends<'a, R, D, A, N, T, S, L>
 where
     R: Net + Wait + Clock + Print + Log,
     D: Locals,
+    A: Addresses + Drop,
+    N: Datagrams,
     T: RangeTable,
     S: HostStore,
     L: Ledger,
@@ -52,7 +69,10 @@ where
     fn run(&mut self, rt: &R) {
         self.is_told = println!(rt; "ready").is_ok();
         if self.is_told {
-            drop(self.sender.run(self.shared, self.stop_signals));
+            drop(
+                self.sender
+                    .run(self.shared, self.stop_signals, &mut self.datagrams),
+            );
             self.sender.leave();
         }
     }

@@ -18,6 +18,9 @@ use workers::{Shared, Worker};
 /// How many connections of local programs may be open.
 const LOCAL_PLACES: usize = 256;
 
+/// How many connections of operators may be open.
+const OPERATOR_PLACES: usize = 16;
+
 /// How many parts the ledger `L` is cut into.
 #[derive(Drop)]
 pub(crate) struct Parts<L: Ledger> {
@@ -53,6 +56,15 @@ pub(crate) struct Unseated<P: Place, L: Ledger> {
     pub(crate) parts: Parts<L>,
 }
 
+/// What it takes to answer jobs, of whoever has no connection.
+#[derive(Drop)]
+pub(crate) struct Crew<P: Place, L: Ledger> {
+    /// Of the workers.
+    pub(crate) workers: Vec<Worker<P, L>>,
+    /// Of the port for datagrams, where there is one.
+    pub(crate) datagrams: Option<Worker<P, L>>,
+}
+
 /// A channel, the connections with what their places lend, and who takes back what was given out. The ledger is cut into these parts.
 #[derive(Drop)]
 pub(crate) struct Seats<P: Place, L: Ledger> {
@@ -73,10 +85,11 @@ fn callers<P: Place, L: Ledger>(
     Ok(ConnectionTable::new(alloc, workers, settings.connections_per_peer)?)
 }
 
-// A connection table of local programs, whose places lend nothing that they need. Refused: there is no memory for it.
-fn locals(alloc: Global) -> Result<ConnectionTable<()>, AllocError> {
+// A connection table of so many places, which lend nothing: local programs and operators need nothing. Refused: there is no memory
+// for it.
+fn plain_places(alloc: Global, places: usize) -> Result<ConnectionTable<()>, AllocError> {
     let mut nothing = Vec::new(alloc);
-    for _ in 0..LOCAL_PLACES {
+    for _ in 0..places {
         nothing.push(())?;
     }
     ConnectionTable::new(alloc, nothing, None)
@@ -97,29 +110,43 @@ fn take_back<P: Place, L: Ledger>(
     Ok(())
 }
 
-// Takes back what the places lent, and then what the workers had.
+// Takes back what the workers had, and then what the port for datagrams had.
+fn take_crew<P: Place, L: Ledger>(
+    pool_shutdown: &mut PoolShutdown<P, L>,
+    channel: &Channel<P>,
+    crew: Crew<P, L>,
+) -> Result<(), ServerFault> {
+    let Crew { workers, datagrams } = crew;
+    pool_shutdown.take_all(channel, workers)?;
+    if let Some(worker) = datagrams {
+        pool_shutdown.take(channel, worker)?;
+    }
+    Ok(())
+}
+
+// Takes back what the places lent, and then what all others had.
 fn gather_all<P: Place, L: Ledger>(
     pool_shutdown: &mut PoolShutdown<P, L>,
     channel: &Channel<P>,
     callers: &mut ConnectionTable<Worker<P, L>>,
-    workers: Vec<Worker<P, L>>,
+    crew: Crew<P, L>,
 ) -> Result<(), ServerFault> {
     match take_back(pool_shutdown, channel, callers) {
-        Ok(()) => Ok(pool_shutdown.take_all(channel, workers)?),
+        Ok(()) => take_crew(pool_shutdown, channel, crew),
         Err(fault) => {
-            drop(workers);
+            drop(crew);
             Err(fault)
         }
     }
 }
 
 impl<P: Place, L: Ledger> Unseated<P, L> {
-    /// Gives each place of a caller and then each worker what it takes to answer jobs. The workers come beside. `Starved`: there is
-    /// no memory for it, and nothing is left.
+    /// Gives each place of a caller, then each worker, and then the port for datagrams, where there is one, what it takes to answer
+    /// jobs. What has no connection comes beside. `Starved`: there is no memory for it, and nothing is left.
     pub(crate) fn seat_all(
         self,
         settings: &ServerSettings,
-    ) -> Result<(Seats<P, L>, Vec<Worker<P, L>>), ServerFault> {
+    ) -> Result<(Seats<P, L>, Crew<P, L>), ServerFault> {
         let Unseated {
             alloc,
             channel,
@@ -128,17 +155,23 @@ impl<P: Place, L: Ledger> Unseated<P, L> {
         } = self;
         let callers = callers(alloc, &mut pool_builder, &channel, settings)?;
         let workers = pool_builder.cut_all(&channel, settings.workers)?;
-        let locals = locals(alloc)?;
+        let datagrams = match settings.notify {
+            Some(_) => Some(pool_builder.cut(&channel)?),
+            None => None,
+        };
+        let locals = plain_places(alloc, LOCAL_PLACES)?;
+        let operators = plain_places(alloc, OPERATOR_PLACES)?;
         let seats = Seats {
             channel,
             connection_tables: ConnectionTables {
                 callers: Mutex::new(callers),
                 locals: Mutex::new(locals),
+                operators: Mutex::new(operators),
             },
             pool_shutdown: pool_builder.into_pool_shutdown(),
             parts,
         };
-        Ok((seats, workers))
+        Ok((seats, Crew { workers, datagrams }))
     }
 }
 
@@ -149,7 +182,7 @@ impl<P: Place, L: Ledger> Seats<P, L> {
     pub(crate) fn settle<T: RangeTable + Drop, S: HostStore + Drop>(
         self,
         shared: Shared<T, S, L>,
-        workers: Vec<Worker<P, L>>,
+        crew: Crew<P, L>,
     ) -> Result<u64, ServerFault> {
         let Seats {
             channel,
@@ -158,7 +191,7 @@ impl<P: Place, L: Ledger> Seats<P, L> {
             parts,
         } = self;
         let mut callers = connection_tables.callers.into_inner();
-        let gathered = gather_all(&mut pool_shutdown, &channel, &mut callers, workers);
+        let gathered = gather_all(&mut pool_shutdown, &channel, &mut callers, crew);
         drop(callers);
         match gathered {
             Ok(()) => Ok(pool_shutdown.settle(&channel, shared, parts.count())?),

@@ -2,22 +2,24 @@
 ghost use Rattle.std.specs.Prelude.{◌≡◌, []};
 
 use crate::context::{Context, ShutdownHandles};
+use crate::datagrams::{DatagramContext, DatagramPort, DatagramSeat};
 use crate::fault::ServerFault;
 use crate::lines::LocalLines;
 use crate::listening::{Listening, listen};
 use crate::main_loop::Sends;
+use crate::operators::Status;
 use crate::runtime::Runtime;
-use crate::seats::{Parts, Seats, Unseated};
+use crate::seats::{Crew, Parts, Seats, Unseated};
 use crate::settings::{Backing, ServerSettings};
 use crate::signals::StopSignals;
 use crate::unnamed::Unnamed;
 use crate::worker_pool::PoolBuilder;
 use book::Book;
-use callback_sender::Sender;
+use callback_sender::{Addresses, Sender};
 use connections::{NoThread, WorkerPool, run};
 use hosts_db::HostStore;
 use job_queue::Place;
-use peers::Peers;
+use mio::Registry;
 use range_table::RangeTable;
 use reply_outbox::Gate;
 use std::alloc::Global;
@@ -39,38 +41,39 @@ struct Server<P: Place, L: Ledger, T: RangeTable, S: HostStore> {
     settings: ServerSettings,
     shared: Mutex<Shared<T, S, L>>,
     seats: Seats<P, L>,
+    status: Status,
 }
 
 // What the threads of a server take with them: its listeners with what each worker has, the status port, if there is one, what
 // shuts the listeners, and the peers that are called.
 #[derive(Drop)]
-struct Start<P: Place, L: Ledger> {
+struct Start<P: Place, L: Ledger, A> {
     worker_pool: WorkerPool<Worker<P, L>>,
     shutdown_handles: ShutdownHandles,
-    peers: Peers,
+    datagrams: Option<DatagramSeat<P, L>>,
+    peers: A,
 }
 
-impl<P: Place, L: Ledger> Start<P, L> {
-    fn new(
-        alloc: Global,
-        listening: Listening,
-        workers: Vec<Worker<P, L>>,
-        peers: Peers,
-    ) -> Start<P, L> {
+impl<P: Place, L: Ledger, A> Start<P, L, A> {
+    fn new(alloc: Global, listening: Listening, crew: Crew<P, L>, peers: A) -> Start<P, L, A> {
         let Listening {
-            callers,
-            locals,
+            listeners,
             shutdown_handles,
+            datagrams: socket,
         } = listening;
+        let Crew { workers, datagrams } = crew;
         Start {
             worker_pool: WorkerPool {
                 alloc,
-                callers,
-                locals,
+                listeners,
                 workers,
                 stack: STACK,
             },
             shutdown_handles,
+            datagrams: match (socket, datagrams) {
+                (Some(socket), Some(worker)) => Some(DatagramSeat { socket, worker }),
+                _ => None,
+            },
             peers,
         }
     }
@@ -78,20 +81,20 @@ impl<P: Place, L: Ledger> Start<P, L> {
 
 // What there is once a server has begun anew: a book that all threads share, what they are to be given, and the peers.
 #[derive(Drop)]
-struct Begun<P: Place, L: Ledger, T: RangeTable, S: HostStore> {
+struct Begun<P: Place, L: Ledger, T: RangeTable, S: HostStore, A> {
     shared: Shared<T, S, L>,
     unseated: Unseated<P, L>,
-    peers: Peers,
+    peers: A,
 }
 
 // A book over the store whose server has begun anew, so that the store has the new own state, and beside it the peers.
-fn shared_over<T: RangeTable + Drop, S: HostStore + Drop, L: Ledger>(
+fn shared_over<T: RangeTable + Drop, S: HostStore + Drop, L: Ledger, A: Drop>(
     alloc: Global,
     table: T,
-    backing: Backing<S>,
+    backing: Backing<S, A>,
     total: Total<L>,
     is_audited: bool,
-) -> Result<(Shared<T, S, L>, Peers), ServerFault>
+) -> Result<(Shared<T, S, L>, A), ServerFault>
     requires empty { T.settings table ≡ [] }
     requires total { total.total ≡ 0 }
 {
@@ -99,8 +102,9 @@ fn shared_over<T: RangeTable + Drop, S: HostStore + Drop, L: Ledger>(
         store,
         peers,
         own_name,
+        rules,
     } = backing;
-    let Ok(book) = Book::new(alloc, table, store, own_name) else {
+    let Ok(book) = Book::new_with(alloc, table, store, own_name, rules) else {
         drop(peers);
         return Err(ServerFault::Starved);
     };
@@ -114,11 +118,11 @@ fn shared_over<T: RangeTable + Drop, S: HostStore + Drop, L: Ledger>(
 }
 
 // Names the channel and the ledger, and begins the server anew.
-fn begin<P: Place, L: Ledger, T: RangeTable + Drop, S: HostStore + Drop>(
+fn begin<P: Place, L: Ledger, T: RangeTable + Drop, S: HostStore + Drop, A: Drop>(
     settings: &ServerSettings,
-    backing: Backing<S>,
+    backing: Backing<S, A>,
     unnamed: Unnamed<T>,
-) -> Result<Begun<P, L, T, S>, ServerFault>
+) -> Result<Begun<P, L, T, S, A>, ServerFault>
     requires place { (unnamed.opened.slip.table_id ≡ P.table) × (unnamed.opened.slip.me.0.of ≡ P.key) }
     requires ledger { (unnamed.blank.name ≡ L.name) × (unnamed.blank.parts ≡ L.parts) }
 {
@@ -153,18 +157,18 @@ fn begin<P: Place, L: Ledger, T: RangeTable + Drop, S: HostStore + Drop>(
 
 // What the server's own calls need.
 #[derive(Drop)]
-struct Calling<'a, R> {
-    sender: Sender<'a, R, LocalLines<'a, R>>,
+struct Calling<'a, R, A: Drop> {
+    sender: Sender<'a, R, LocalLines<'a, R>, A>,
     stop_signals: StopSignals,
 }
 
-fn call<'a, R: Net + Clock + Wait>(
+fn call<'a, R: Net + Clock + Wait, A: Addresses + Drop>(
     rt: &'a R,
     alloc: Global,
     settings: &ServerSettings,
-    peers: Peers,
+    peers: A,
     locals: &'a LocalLines<'a, R>,
-) -> io::Result<Calling<'a, R>> {
+) -> io::Result<Calling<'a, R, A>> {
     let sender = Sender::new(alloc, rt, settings.calls, peers, locals)?;
     let stop_signals = StopSignals::new(sender.waker()?);
     Ok(Calling {
@@ -173,13 +177,15 @@ fn call<'a, R: Net + Clock + Wait>(
     })
 }
 
-// All threads, from their start to their end: what the workers had, once it was said that the server is ready.
-fn run_threads<P, L, T, S, G, R>(
+// All threads, from their start to their end: what the workers and the port for datagrams had, once it was said that the server is
+// ready.
+fn run_threads<P, L, T, S, G, R, A>(
     rt: &R,
     context: &Context<'_, P, L, T, S, G>,
     worker_pool: WorkerPool<Worker<P, L>>,
-    sender: Sender<'_, R, LocalLines<'_, R>>,
-) -> Result<Vec<Worker<P, L>>, ServerFault>
+    sender: Sender<'_, R, LocalLines<'_, R>, A>,
+    datagrams: Option<DatagramPort<'_, R, P, L, T, S, G>>,
+) -> Result<Crew<P, L>, ServerFault>
 where
     P: Place + Send + Sync,
     L: Ledger + Send + Sync,
@@ -187,10 +193,22 @@ where
     S: HostStore + Drop + Send,
     G: Gate + Sync,
     R: Runtime,
+    A: Addresses + Drop,
 {
-    let mut sends = Sends::new(sender, context.shared, context.stop_signals);
+    let mut sends = Sends::new(sender, datagrams, context.shared, context.stop_signals);
     let ran = run(rt, context, worker_pool, &mut sends);
-    if_told(ran, sends.is_told())
+    let is_told = sends.is_told();
+    let datagrams = match sends.into_datagrams() {
+        Some(port) => Some(port.into_worker()),
+        None => None,
+    };
+    match if_told(ran, is_told) {
+        Ok(workers) => Ok(Crew { workers, datagrams }),
+        Err(fault) => {
+            drop(datagrams);
+            Err(fault)
+        }
+    }
 }
 
 // What came back, where it was said that the server is ready.
@@ -211,14 +229,15 @@ where
 {
     // All that can be had before a thread starts. The store has the new own state before a listener opens. Each fault lets go of
     // what was had: `Starved`, `StoreRefused`, and `ReadFault`, behind which the new own state stays stored.
-    fn open<R>(
+    fn open<R, A>(
         rt: &R,
         settings: &ServerSettings,
-        backing: Backing<S>,
+        backing: Backing<S, A>,
         unnamed: Unnamed<T>,
-    ) -> Result<(Server<P, L, T, S>, Start<P, L>), ServerFault>
+    ) -> Result<(Server<P, L, T, S>, Start<P, L, A>), ServerFault>
     where
-        R: Net<Listener = TcpListener, Stream = TcpStream>,
+        R: Net<Listener = TcpListener, Stream = TcpStream> + Clock,
+        A: Drop,
         requires place { (unnamed.opened.slip.table_id ≡ P.table) × (unnamed.opened.slip.me.0.of ≡ P.key) }
         requires ledger { (unnamed.blank.name ≡ L.name) × (unnamed.blank.parts ≡ L.parts) }
     {
@@ -227,11 +246,11 @@ where
             shared,
             unseated,
             peers,
-        } = match begin::<P, L, T, S>(settings, backing, unnamed) {
+        } = match begin::<P, L, T, S, A>(settings, backing, unnamed) {
             Ok(begun) => begun,
             Err(fault) => return Err(fault),
         };
-        let (seats, workers) = match unseated.seat_all(settings) {
+        let (seats, crew) = match unseated.seat_all(settings) {
             Ok(seated) => seated,
             Err(fault) => {
                 drop(shared);
@@ -242,35 +261,38 @@ where
         let server = Server {
             alloc,
             settings: *settings,
+            status: Status::new(rt, alloc, shared.own_state(), settings),
             shared: Mutex::new(shared),
             seats,
         };
         match listen(rt, settings) {
-            Ok(listening) => Ok((server, Start::new(alloc, listening, workers, peers))),
+            Ok(listening) => Ok((server, Start::new(alloc, listening, crew, peers))),
             Err(refused) => {
                 drop(server);
-                drop(workers);
+                drop(crew);
                 drop(peers);
                 Err(ServerFault::ReadFault(refused))
             }
         }
     }
 
-    // Starts the threads, prints `ready`, and comes back with what the workers had once the server was stopped and all threads have
-    // ended. `NoSender`: no thread was started. `NoThread`, `WriteFault`: each that was started has ended.
-    fn run<G, R>(
+    // Starts the threads, prints `ready`, and comes back with what each without a connection had once the server was stopped and all
+    // threads have ended. `NoSender`: no thread was started. `NoThread`, `WriteFault`: each that was started has ended.
+    fn run<G, R, A>(
         &self,
         rt: &R,
         gate: &G,
-        start: Start<P, L>,
-    ) -> Result<Vec<Worker<P, L>>, ServerFault>
+        start: Start<P, L, A>,
+    ) -> Result<Crew<P, L>, ServerFault>
     where
         G: Gate + Sync,
         R: Runtime,
+        A: Addresses + Drop,
     {
         let Start {
             worker_pool,
             shutdown_handles,
+            datagrams,
             peers,
         } = start;
         // The sender borrows the connection table through these lines, so it is made here and not by `open`.
@@ -282,6 +304,10 @@ where
             Ok(calling) => calling,
             Err(error) => return Err(ServerFault::NoSender(error)),
         };
+        let datagrams = match self.open_datagrams(rt, gate, sender.registry(), datagrams) {
+            Ok(datagrams) => datagrams,
+            Err(error) => return Err(ServerFault::NoSender(error)),
+        };
         let context = Context {
             alloc: self.alloc,
             channel: &self.seats.channel,
@@ -291,28 +317,50 @@ where
             stop_signals: &stop_signals,
             gate,
             idle: self.settings.idle,
+            status: &self.status,
         };
-        run_threads(rt, &context, worker_pool, sender)
+        run_threads(rt, &context, worker_pool, sender, datagrams)
+    }
+
+    // The port for datagrams, where there is one, which is waited for with whatever is registered there.
+    fn open_datagrams<'a, G, R>(
+        &'a self,
+        rt: &'a R,
+        gate: &'a G,
+        registry: &Registry,
+        seat: Option<DatagramSeat<P, L>>,
+    ) -> io::Result<Option<DatagramPort<'a, R, P, L, T, S, G>>> {
+        let Some(seat) = seat else {
+            return Ok(None);
+        };
+        let context = DatagramContext {
+            alloc: self.alloc,
+            rt,
+            shared: &self.shared,
+            gate,
+        };
+        Ok(Some(DatagramPort::new(context, registry, seat)?))
     }
 
     // Takes back what was given out, and checks the journal: how many calls were taken, where that was audited, and else 0.
     // `AuditMismatch`: not all came back, or the journal and the receipts don't agree. `Starved`: no memory to check it.
-    fn finish(self, workers: Vec<Worker<P, L>>) -> Result<u64, ServerFault> {
+    fn finish(self, crew: Crew<P, L>) -> Result<u64, ServerFault> {
         let Server {
             alloc: _,
             settings: _,
             shared,
             seats,
+            status: _,
         } = self;
-        seats.settle(shared.into_inner(), workers)
+        seats.settle(shared.into_inner(), crew)
     }
 }
 
 // Serves by the channel and the ledger of these types.
-fn serve_as<P, L, T, S, G, R>(
+fn serve_as<P, L, T, S, G, R, A>(
     rt: &R,
     settings: &ServerSettings,
-    backing: Backing<S>,
+    backing: Backing<S, A>,
     gate: &G,
     unnamed: Unnamed<T>,
 ) -> Result<u64, ServerFault>
@@ -323,6 +371,7 @@ where
     S: HostStore + Drop + Send,
     G: Gate + Sync,
     R: Runtime,
+    A: Addresses + Drop,
     requires place { (unnamed.opened.slip.table_id ≡ P.table) × (unnamed.opened.slip.me.0.of ≡ P.key) }
     requires ledger { (unnamed.blank.name ≡ L.name) × (unnamed.blank.parts ≡ L.parts) }
 {
@@ -331,7 +380,7 @@ where
         Err(fault) => return Err(fault),
     };
     match server.run(rt, gate, start) {
-        Ok(workers) => server.finish(workers),
+        Ok(crew) => server.finish(crew),
         Err(fault) => {
             drop(server);
             Err(fault)
@@ -340,28 +389,29 @@ where
 }
 
 /// Serves until a local program says `stop`: how many calls were taken, where that was audited, and else 0. It begins the server
-/// anew over the store's hosts, opens both listeners, starts the threads, and prints `ready`; in the end all threads are joined and
+/// anew over the store's hosts, opens both listeners and, where it is asked for, the port for datagrams, starts the threads, and prints `ready`; in the end all threads are joined and
 /// what they did is settled. Before each job the gate is told.
 ///
 /// `Starved`: no memory. `NoSender`: what calls peers could not be had. `NoThread`: a thread could not be started. `StoreRefused`:
 /// the store refused the new own state. `ReadFault`: a listener could not be had; the store has the new own state by then.
 /// `WriteFault`: `ready` could not be written. `AuditMismatch`: the journal and the receipts don't agree, after all was served.
 /// With each of these every thread that was started has ended.
-pub fn serve<S, G, R>(
+pub fn serve<S, G, R, A>(
     rt: &R,
     alloc: Global,
     settings: &ServerSettings,
-    backing: Backing<S>,
+    backing: Backing<S, A>,
     gate: &G,
 ) -> Result<u64, ServerFault>
 where
     S: HostStore + Drop + Send,
     G: Gate + Sync,
     R: Runtime,
+    A: Addresses + Drop,
 {
     let Ok(unnamed) = Unnamed::new(alloc, settings) else {
         drop(backing);
         return Err(ServerFault::Starved);
     };
-    serve_as::<Brand, Brand, _, _, _, _>(rt, settings, backing, gate, unnamed)
+    serve_as::<Brand, Brand, _, _, _, _, _>(rt, settings, backing, gate, unnamed)
 }

@@ -1,6 +1,6 @@
 //! What a server is told.
+use book::Rules;
 use callbacks::ShortBytes;
-use peers::Peers;
 use std::net::SocketAddr;
 use std::time::Duration;
 
@@ -11,6 +11,10 @@ pub struct ServerSettings {
     pub rpc: SocketAddr,
     /// The port of loopback on which the lines of local programs come in.
     pub local_port: u16,
+    /// Where calls to the status monitor come in by datagram. None: none do.
+    pub notify: Option<SocketAddr>,
+    /// The port of loopback on which operators ask for pages. None: there is none.
+    pub status_port: Option<u16>,
     /// The ports of its peers, and how long it waits for them.
     pub calls: callback_sender::CallSettings,
     /// How long a connection for calls by record may be idle. A zero refuses each.
@@ -27,11 +31,13 @@ pub struct ServerSettings {
 
 /// What a server stands on.
 #[derive(Drop)]
-pub struct Backing<S> {
+pub struct Backing<S, A> {
     /// Where its hosts are stored.
     pub store: S,
-    /// The addresses of the hosts that it calls.
-    pub peers: Peers,
+    /// The addresses of the hosts that it calls. One thread alone asks them.
+    pub peers: A,
     /// The name under which it monitors and notifies.
     pub own_name: ShortBytes,
+    /// What an option changes of the rules by which it answers.
+    pub rules: Rules,
 }

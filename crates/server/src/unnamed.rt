@@ -1,5 +1,5 @@
 //! What a server is made of before its types name the channel and the ledger.
-ghost use Rattle.std.specs.Prelude.{◌≡◌, ◌+◌, [], IfOk};
+ghost use Rattle.std.specs.Prelude.{◌≡◌, ◌+◌, [], IfOk, cond, is_some};
 
 use crate::fault::ServerFault;
 use crate::settings::ServerSettings;
@@ -23,13 +23,14 @@ pub(crate) struct Unnamed<T: RangeTable> {
 }
 
 impl Unnamed<ArenaTable> {
-    /// With a part of the ledger for whoever answers calls: for each place of a connection for calls, and for each worker.
+    /// With a part of the ledger for whoever answers calls: for each place of a connection for calls, for each worker, and for the
+    /// port for datagrams where there is one.
     /// `Starved`: there is no memory for it.
     pub(crate) fn new(
         alloc: Global,
         settings: &ServerSettings,
     ) -> Result<Unnamed<ArenaTable>, ServerFault>
-        ensures { IfOk result (λ unnamed. unnamed.parts ≡ settings.now.connections + settings.now.workers) }
+        ensures { IfOk result (λ unnamed. unnamed.parts ≡ settings.now.connections + settings.now.workers + cond (is_some settings.now.notify) 1 0) }
     {
         let Ok(table) = ArenaTable::new(alloc) else {
             return Err(ServerFault::Starved);
@@ -38,7 +39,8 @@ impl Unnamed<ArenaTable> {
             drop(table);
             return Err(ServerFault::Starved);
         };
-        let parts = u64::from(settings.connections) + u64::from(settings.workers);
+        let datagrams = if settings.notify.is_some() { 1 } else { 0 };
+        let parts = u64::from(settings.connections) + u64::from(settings.workers) + datagrams;
         Ok(Unnamed {
             alloc,
             table,

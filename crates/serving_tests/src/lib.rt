@@ -7,6 +7,8 @@ mod files;
 #[cfg(test)]
 mod notes;
 #[cfg(test)]
+mod peers;
+#[cfg(test)]
 mod runs;
 #[cfg(test)]
 mod servers;

@@ -20,7 +20,7 @@ const NULL_REPLY: [u32; 7] = [0x8000_0018, 1, 1, 0, 0, 0, 0];
 /// A file of peers that names none.
 const NO_PEERS: &str = "/dev/null";
 
-fn loopback(port: u16) -> SocketAddr {
+pub(crate) fn loopback(port: u16) -> SocketAddr {
     SocketAddr::V4(SocketAddrV4::new(Ipv4Addr::LOCALHOST, port))
 }
 
@@ -33,7 +33,7 @@ where
 }
 
 // A connection to this port, once somebody listens there.
-fn dial<R>(rt: &R, port: u16) -> io::Result<TcpStream>
+pub(crate) fn dial<R>(rt: &R, port: u16) -> io::Result<TcpStream>
 where
     R: Net<Stream = TcpStream> + Clock,
 {
@@ -65,7 +65,7 @@ fn reads_words(mut from: &TcpStream, words: &[u32]) -> io::Result<bool> {
     Ok(true)
 }
 
-fn is_told_to_stop(mut local: &TcpStream) -> io::Result<bool> {
+pub(crate) fn is_told_to_stop(mut local: &TcpStream) -> io::Result<bool> {
     local.write_all(b"stop\n")?;
     let mut room = [0u8; 3];
     local.read_exact(&mut room)?;
@@ -156,23 +156,30 @@ where
 
 // What a server stands on: two files, and its ports.
 #[derive(Clone, Copy)]
-struct Ground<'a> {
-    hosts: &'a str,
-    peers: &'a str,
-    rpc: u16,
-    local: u16,
+pub(crate) struct Ground<'a> {
+    pub(crate) hosts: &'a str,
+    pub(crate) peers: &'a str,
+    pub(crate) rpc: u16,
+    pub(crate) local: u16,
+    // The port of its peers' lock managers.
+    pub(crate) peer: u16,
 }
 
 // Words of a server on these, and these words more.
-fn words_of(alloc: Global, ground: Ground<'_>, more: &str) -> Result<String, AllocError> {
+pub(crate) fn words_of(
+    alloc: Global,
+    ground: Ground<'_>,
+    more: &str,
+) -> Result<String, AllocError> {
     let Ground {
         hosts,
         peers,
         rpc,
         local,
+        peer,
     } = ground;
     format!(in alloc;
-        "serve --db {hosts} --port {rpc} --local-port {local} --bind 127.0.0.1 --peers {peers} --peer-nlm-port 1 --peer-nsm-port 1 --watch-port 1 {more}"
+        "serve --db {hosts} --port {rpc} --local-port {local} --bind 127.0.0.1 --peers {peers} --peer-nlm-port {peer} --peer-nsm-port 1 --watch-port 1 {more}"
     )
 }
 
@@ -209,6 +216,7 @@ pub(crate) fn serves<R: Runtime>(
         peers: NO_PEERS,
         rpc,
         local,
+        peer: 1,
     };
     let asked = words_of(host.alloc(), ground, more).ok()?;
     let (status, is_answered) = served(host, rt, asked.as_str(), ground, talk);
@@ -229,6 +237,7 @@ pub(crate) fn is_unstarted<R: Runtime>(host: &HostRuntime, rt: &R, hosts: &str) 
         peers: NO_PEERS,
         rpc: free_port(rt).ok()?,
         local: free_port(rt).ok()?,
+        peer: 1,
     };
     let status = status_on(host, rt, ground)?;
     Some(status == ExitCode::FAILURE)
@@ -245,6 +254,7 @@ pub(crate) fn misnames_a_peer<R: Runtime>(host: &HostRuntime, rt: &R, text: &str
         peers: peers.path.as_str(),
         rpc,
         local: free_port(rt).ok()?,
+        peer: 1,
     };
     let status = status_on(host, rt, ground);
     scratch.remove(host);
@@ -261,6 +271,7 @@ pub(crate) fn shares_a_port<R: Runtime>(host: &HostRuntime, rt: &R) -> Option<bo
         peers: NO_PEERS,
         rpc: port,
         local: port,
+        peer: 1,
     };
     let status = status_on(host, rt, ground);
     scratch.remove(host);

@@ -1,5 +1,6 @@
 //! What is tried, each by a test of its own.
 use crate::files::begins_anew;
+use crate::peers::follows_its_file;
 use crate::servers::{Talk, is_unstarted, misnames_a_peer, serves, shares_a_port};
 use crate::streams::unserved;
 use log::Log;
@@ -24,6 +25,8 @@ enum Trial {
     NoFolder,
     // `lockd serve` with a file of peers that has this text.
     Peers(&'static str),
+    // `lockd serve` whose file of peers changes.
+    ChangedPeers,
 }
 
 const BAD: Result<(), &str> = Err("it goes otherwise");
@@ -46,6 +49,7 @@ where
         Trial::OnePort => shares_a_port(host, rt),
         Trial::NoFolder => is_unstarted(host, rt, "/dev/null/hosts.db"),
         Trial::Peers(text) => misnames_a_peer(host, rt, text),
+        Trial::ChangedPeers => follows_its_file(host, rt),
     };
     if goes == Some(true) { Ok(()) } else { BAD }
 }
@@ -84,6 +88,11 @@ fn port_in_use(rt: HostRuntime) -> Result<(), &'static str> {
 #[test]
 fn bad_line_of_peers(rt: HostRuntime) -> Result<(), &'static str> {
     tried(&rt, &rt, Trial::Peers("a 192.0.2.1\nb\n"))
+}
+
+#[test]
+fn changed_file_of_peers(rt: HostRuntime) -> Result<(), &'static str> {
+    tried(&rt, &rt, Trial::ChangedPeers)
 }
 
 #[test]

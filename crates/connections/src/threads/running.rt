@@ -14,14 +14,22 @@ use thiserror::Error;
 #[error("1 Starved")]
 pub struct NoThread;
 
-/// Where connections come in, and what each worker has.
+/// Where connections come in.
 #[derive(Drop)]
-pub struct WorkerPool<W> {
-    pub alloc: Global,
+pub struct Listeners {
     /// For calls by record.
     pub callers: Listener,
     /// For local programs.
     pub locals: Listener,
+    /// For operators, where that is asked for.
+    pub operators: Option<Listener>,
+}
+
+/// Where connections come in, and what each worker has.
+#[derive(Drop)]
+pub struct WorkerPool<W> {
+    pub alloc: Global,
+    pub listeners: Listeners,
     /// What each worker has, in the order in which they start.
     pub workers: Vec<W>,
     /// The bytes of each thread's stack.
@@ -69,6 +77,24 @@ where
         .is_ok()
 }
 
+// The thread that watches. Whether there is one.
+fn open_watch<'s, E, R, W, C>(
+    rt: &'s R,
+    scope: &'s Scope<'s, E>,
+    service: &'s C,
+    stack: usize,
+) -> bool
+where
+    R: Threads + Sync,
+    W: 's,
+    C: Service<R, W> + Sync,
+{
+    Builder::new()
+        .stack_size(stack)
+        .spawn_scoped(scope, move || service.watch(rt))
+        .is_ok()
+}
+
 // A thread for each worker. False where one could not be started: its worker and those behind it are dropped.
 fn spawn_all<'s, E, R, W, C>(
     rt: &'s R,
@@ -104,12 +130,47 @@ fn gather<R: Threads, W: Drop>(rt: &R, hands: Vec<JoinHandle<W>>, back: &mut Vec
     true
 }
 
-// Both listeners are open while the main loop runs. It comes back once no connection is left.
+// A thread for each listener, and one that watches for operators. Whether each has one.
+fn open_all<'s, E, R, W, C>(
+    rt: &'s R,
+    scope: &'s Scope<'s, E>,
+    service: &'s C,
+    listeners: &'s Listeners,
+    stack: usize,
+) -> bool
+where
+    R: Threads + Clock + Sync,
+    W: 's,
+    C: Service<R, W> + Sync,
+{
+    let callers = Post {
+        side: Side::Callers,
+        stack,
+    };
+    let locals = Post {
+        side: Side::Locals,
+        stack,
+    };
+    let operators = Post {
+        side: Side::Operators,
+        stack,
+    };
+    open::<_, R, W, C>(rt, scope, service, callers, &listeners.callers)
+        && open::<_, R, W, C>(rt, scope, service, locals, &listeners.locals)
+        && match &listeners.operators {
+            Some(listener) => {
+                open::<_, R, W, C>(rt, scope, service, operators, listener)
+                    && open_watch::<_, R, W, C>(rt, scope, service, stack)
+            }
+            None => true,
+        }
+}
+
+// All listeners are open while the main loop runs. It comes back once no connection is left.
 fn serve_listeners<R, W, C, K>(
     rt: &R,
     service: &C,
-    callers: &Listener,
-    locals: &Listener,
+    listeners: &Listeners,
     stack: usize,
     main_loop: &mut K,
 ) -> bool
@@ -119,25 +180,7 @@ where
     K: MainLoop<R>,
 {
     thread::scope(thread::scope_env(), rt, |scope| {
-        let is_open = open::<_, R, W, C>(
-            rt,
-            scope,
-            service,
-            Post {
-                side: Side::Callers,
-                stack,
-            },
-            callers,
-        ) && open::<_, R, W, C>(
-            rt,
-            scope,
-            service,
-            Post {
-                side: Side::Locals,
-                stack,
-            },
-            locals,
-        );
+        let is_open = open_all::<_, R, W, C>(rt, scope, service, listeners, stack);
         if is_open {
             main_loop.run(rt);
         }
@@ -162,18 +205,16 @@ where
 {
     let WorkerPool {
         alloc,
-        callers,
-        locals,
+        listeners,
         workers,
         stack,
     } = worker_pool;
-    let callers = &callers;
-    let locals = &locals;
+    let listeners = &listeners;
     thread::scope(thread::scope_env(), rt, |scope| {
         let mut hands = Vec::new(alloc);
         let is_spawned = spawn_all::<_, R, W, C>(rt, scope, service, workers, stack, &mut hands);
         let is_served = is_spawned
-            && serve_listeners::<R, W, C, K>(rt, service, callers, locals, stack, main_loop);
+            && serve_listeners::<R, W, C, K>(rt, service, listeners, stack, main_loop);
         service.close();
         gather(rt, hands, back) && is_served
     })

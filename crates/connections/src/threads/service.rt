@@ -11,6 +11,8 @@ pub enum Side {
     Callers,
     /// Lines of local programs.
     Locals,
+    /// Requests of operators for pages.
+    Operators,
 }
 
 /// A connection that was taken in.
@@ -36,6 +38,9 @@ pub trait Service<R, W> {
 
     /// All that a worker's thread does, to its end.
     fn work(&self, rt: &R, worker: W) -> W;
+
+    /// All that is done beside them where operators have a listener, by a thread of its own, to the end.
+    fn watch(&self, rt: &R);
 
     /// Ends reading on every connection, and shuts the listeners.
     fn stop(&self, rt: &R);

@@ -83,8 +83,8 @@ const DEFAULTS: &str =
 --watch-port 65535 = 0 Serve(ServeConfig { ports: Ports { rpc: Port { number: 1 }, local: Port { number: 2 }, \
 peer_nlm: Port { number: 3 }, peer_nsm: Port { number: 4 }, watch: Port { number: 65535 } }, \
 times: Times { grace: Seconds { number: 45 }, silence: Seconds { number: 5 }, idle: Seconds { number: 600 } }, \
-workers: Workers { number: 4 }, connections: Connections { number: 256 }, connections_per_peer: None, name: OwnName { text: \"server\" }, db: FilePath { text: \"hosts.db\" }, \
-peers: FilePath { text: \"peers\" }, bind: 0.0.0.0, audit: false, ask_port_mapper: false, register: false })";
+workers: Workers { number: 4 }, connections: Connections { number: 256 }, connections_per_peer: None, notify_port: None, name: OwnName { text: \"server\" }, db: FilePath { text: \"hosts.db\" }, \
+peers: FilePath { text: \"peers\" }, bind: 0.0.0.0, audit: false, ask_port_mapper: false, register: false, poll_ends_grant: false, status_port: None })";
 
 #[test]
 fn defaults(rt: HostRuntime) -> Result<(), &'static str> {
@@ -126,6 +126,11 @@ const BOUNDS: &str = "--workers 1 = 0
 --connections-per-peer 0 = 2
 --connections-per-peer 4097 = 2
 --connections-per-peer = 2
+--notify-port 1 = 0
+--notify-port 65535 = 0
+--notify-port 0 = 2
+--notify-port 65536 = 2
+--notify-port = 2
 --grace-seconds 86400 = 0
 --grace-seconds 86401 = 2
 --silence-seconds 1 = 0
@@ -140,6 +145,13 @@ const BOUNDS: &str = "--workers 1 = 0
 --ask-port-mapper yes = 2
 --register = 0
 --register yes = 2
+--poll-ends-grant = 0
+--poll-ends-grant yes = 2
+--status-port 1 = 0
+--status-port 65535 = 0
+--status-port 0 = 2
+--status-port 65536 = 2
+--status-port = 2
 --port 5 = 2";
 
 const WITHOUT_PORT: &str =
@@ -159,7 +171,8 @@ fn bounds(rt: HostRuntime) -> Result<(), &'static str> {
 
 const TOLD: &str = "--workers 17 = 2 invalid value '17' for '--workers': workers are 1 to 16
 --connections 5000 = 2 invalid value '5000' for '--connections': connections are 1 to 4096
---connections-per-peer 0 = 2 invalid value '0' for '--connections-per-peer': connections are 1 to 4096";
+--connections-per-peer 0 = 2 invalid value '0' for '--connections-per-peer': connections are 1 to 4096
+--status-port 0 = 2 invalid value '0' for '--status-port': a port is 1 to 65535";
 
 #[test]
 fn told_words(rt: HostRuntime) -> Result<(), &'static str> {

@@ -18,8 +18,8 @@ use test_kit::put_plain;
 const CALL: usize = 60;
 
 /// The calls in order, but for their xids and the port of the last four: UNSET of each program and version, and SET (RFC 1833,
-/// section 3).
-const CALLS: [&str; 8] = [
+/// section 3). The last is SET over UDP, of a server that takes calls by datagram.
+const CALLS: [&str; 9] = [
     "2 0 0 0 0 186b5 1 6",
     "2 0 0 0 0 186b5 3 6",
     "2 0 0 0 0 186b5 4 6",
@@ -28,10 +28,13 @@ const CALLS: [&str; 8] = [
     "1 0 0 0 0 186b5 3 6",
     "1 0 0 0 0 186b5 4 6",
     "1 0 0 0 0 186b8 1 6",
+    "1 0 0 0 0 186b8 1 11",
 ];
 
-/// How many of them unset.
+/// How many of them unset, and how many there are over TCP.
 const UNSETS: usize = 4;
+
+const OVER_TCP: usize = 8;
 
 // Whether the bytes behind the mark and the xid are this call, with this port.
 fn is_call(alloc: Global, call: &[u8], words: &str, port: u16) -> bool {
@@ -55,13 +58,24 @@ fn answer(alloc: Global, to: &TcpStream, call: &[u8], is_done: bool) -> io::Resu
     write(to, &reply)
 }
 
+// The port that the call of this place names.
+fn port_at(step: usize, ports: Ports) -> u16 {
+    if step < UNSETS {
+        0
+    } else if step < OVER_TCP {
+        ports.rpc
+    } else {
+        ports.named
+    }
+}
+
 // Answers so many calls from the first on. Whether they are as they should be. An UNSET is told that nothing was there.
-fn answers(alloc: Global, to: &TcpStream, count: usize, port: u16) -> io::Result<bool> {
+fn answers(alloc: Global, to: &TcpStream, count: usize, ports: Ports) -> io::Result<bool> {
     let mut are_right = true;
     for (step, words) in CALLS.iter().take(count).enumerate() {
         let is_set = step >= UNSETS;
         let call = read::<CALL>(to)?;
-        let port = if is_set { port } else { 0 };
+        let port = port_at(step, ports);
         are_right = are_right && is_call(alloc, call.as_slice(), words, port);
         answer(alloc, to, call.as_slice(), is_set)?;
     }
@@ -70,27 +84,33 @@ fn answers(alloc: Global, to: &TcpStream, count: usize, port: u16) -> io::Result
 
 /// The port mapper is absent at first. Then it goes behind three calls; then all are answered, and it goes again; then all are
 /// answered once more, and the server stops, and takes all back.
-pub(crate) fn be_registered<R>(rt: &R, alloc: Global, ports: Ports) -> io::Result<Response>
+pub(crate) fn be_registered<R>(
+    rt: &R,
+    alloc: Global,
+    ports: Ports,
+    by_datagram: bool,
+) -> io::Result<Response>
 where
     R: Net<Listener = TcpListener, Stream = TcpStream> + Clock,
 {
+    let all = if by_datagram { CALLS.len() } else { OVER_TCP };
     thread::sleep(rt, Duration::from_millis(200));
     let listener = TcpListener::bind(rt, loopback(ports.mapper))?;
     let mut are_right = true;
-    for count in [3, CALLS.len()] {
+    for count in [3, all] {
         let (connection, _) = listener.accept()?;
-        are_right = answers(alloc, &connection, count, ports.rpc)? && are_right;
+        are_right = answers(alloc, &connection, count, ports)? && are_right;
         drop(connection);
     }
     let (connection, _) = listener.accept()?;
-    are_right = answers(alloc, &connection, CALLS.len(), ports.rpc)? && are_right;
+    are_right = answers(alloc, &connection, all, ports)? && are_right;
     let is_stopped = stop(rt, ports.local)?;
-    let are_taken_back = answers(alloc, &connection, UNSETS, ports.rpc)?;
+    let are_taken_back = answers(alloc, &connection, UNSETS, ports)?;
     let goes = are_right && is_stopped && are_taken_back;
     Ok(Response::of(u32::from(goes)))
 }
 
-fn tried<R>(rt: &R, alloc: Global) -> bool
+fn tried<R>(rt: &R, alloc: Global, by_datagram: bool) -> bool
 where
     R: Net<Listener = TcpListener, Stream = TcpStream>
         + Threads
@@ -101,11 +121,11 @@ where
         + Log
         + Sync,
 {
-    let served = served_plainly(rt, alloc, Talk::Registered);
+    let served = served_plainly(rt, alloc, Talk::Registered(by_datagram));
     matches!(served, Some((_, told, _)) if told == Response::of(1))
 }
 
 #[test]
 fn server_is_registered(rt: HostRuntime) {
-    assert!(rt; tried(&rt, rt.alloc()));
+    assert!(rt; tried(&rt, rt.alloc(), false) && tried(&rt, rt.alloc(), true));
 }

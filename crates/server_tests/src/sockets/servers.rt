@@ -6,7 +6,7 @@ use callbacks::ShortBytes;
 use hosts_db::MemHosts;
 use log::{LevelFilter, Log, Logged};
 use peers::Peers;
-use server::{Backing, CallSettings, Runtime, ServerSettings, serve};
+use server::{Backing, CallSettings, Rules, Runtime, ServerSettings, serve};
 use std::alloc::Global;
 use std::io::{self, Print};
 use std::net::{Ipv4Addr, Net, SocketAddr, SocketAddrV4, TcpListener, TcpStream};
@@ -25,6 +25,8 @@ pub(crate) struct Ports {
     /// Its port mapper's, and one that this may name.
     pub(crate) mapper: u16,
     pub(crate) named: u16,
+    /// For operators.
+    pub(crate) status: u16,
 }
 
 /// This port of loopback.
@@ -48,6 +50,7 @@ impl Ports {
             peer: free_port(rt)?,
             mapper: free_port(rt)?,
             named: free_port(rt)?,
+            status: free_port(rt)?,
         })
     }
 
@@ -55,6 +58,8 @@ impl Ports {
         ServerSettings {
             rpc: loopback(self.rpc),
             local_port: self.local,
+            notify: None,
+            status_port: None,
             calls: CallSettings {
                 nlm_port: self.peer,
                 nsm_port: self.peer,
@@ -73,7 +78,7 @@ impl Ports {
     }
 }
 
-fn backing(alloc: Global) -> Option<Backing<MemHosts>> {
+fn backing(alloc: Global) -> Option<Backing<MemHosts, Peers>> {
     let store = MemHosts::new(alloc, 0, Vec::new(alloc), Vec::new(alloc)).ok()?;
     let peers = Peers::read(alloc, b"client 127.0.0.1\n").ok()?;
     let own_name = ShortBytes::copy_of(alloc, b"server").ok()?;
@@ -81,6 +86,7 @@ fn backing(alloc: Global) -> Option<Backing<MemHosts>> {
         store,
         peers,
         own_name,
+        rules: Rules::standard(),
     })
 }
 
@@ -91,7 +97,7 @@ fn served<R: Runtime>(
     rt: &R,
     alloc: Global,
     settings: ServerSettings,
-    backing: Backing<MemHosts>,
+    backing: Backing<MemHosts, Peers>,
     wanted: u64,
     talk: (Ports, Talk),
 ) -> Option<Served> {
@@ -129,7 +135,10 @@ where
 {
     match (Ports::free(rt), backing(alloc)) {
         (Ok(ports), Some(backing)) => {
-            let settings = ports.settings(workers, talk.silence(), talk.asks());
+            let settings = ServerSettings {
+                status_port: talk.status_port(ports),
+                ..ports.settings(workers, talk.silence(), talk.asks())
+            };
             let noted = Noted::new(rt, alloc);
             let rt = Logged::new(rt, LevelFilter::Info, &noted);
             served(&rt, alloc, settings, backing, wanted, (ports, talk))
@@ -148,7 +157,12 @@ pub(crate) fn served_plainly<R: Runtime>(rt: &R, alloc: Global, talk: Talk) -> O
                 registration: talk.registration(ports),
                 ..settings.calls
             };
-            let settings = ServerSettings { calls, ..settings };
+            let notify = talk.notify(ports);
+            let settings = ServerSettings {
+                calls,
+                notify,
+                ..settings
+            };
             served(rt, alloc, settings, backing, 0, (ports, talk))
         }
         _ => None,
@@ -160,7 +174,7 @@ fn noted_of<R: Runtime, N: Wait + Clock + Sync>(
     rt: &R,
     alloc: Global,
     settings: ServerSettings,
-    backing: Backing<MemHosts>,
+    backing: Backing<MemHosts, Peers>,
     ports: Ports,
     noted: &Noted<'_, N>,
 ) -> Option<usize> {

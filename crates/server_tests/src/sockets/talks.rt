@@ -3,14 +3,16 @@ use super::calls::{
     Call, DENIED, LOCK_BY_FIRST, LOCK_BY_SECOND, NO_REPLY, NULL, UNLOCK_BY_FIRST, put_call,
 };
 use super::client::{answer, ask, dial, is_closed, read, stop, write};
+use super::datagrams::send_datagrams;
 use super::local::{begin_anew, stay_mute, wait};
 use super::mapped::{Mapper, be_mapped};
+use super::pages::{PageTalk, ask_pages};
 use super::registered::be_registered;
 use super::servers::{Ports, loopback};
 use crate::hall::Hall;
 use server::Registration;
 use std::alloc::Global;
-use std::net::{Net, TcpListener, TcpStream};
+use std::net::{Net, SocketAddr, TcpListener, TcpStream};
 use std::time::{Clock, Duration};
 use std::{io, thread};
 
@@ -58,8 +60,12 @@ pub(crate) enum Talk {
     Anew,
     // The second owner is granted, whose peer has such a port mapper.
     Mapped(Mapper),
-    // The server is registered.
-    Registered,
+    // The server is registered, with a port for datagrams or without.
+    Registered(bool),
+    // Calls come by datagram.
+    Datagrams,
+    // Operators ask for pages.
+    Pages(PageTalk),
 }
 
 /// How many calls were answered, and of a grant the statuses of the replies, 0 where there were fewer, and the procedure of the
@@ -317,7 +323,9 @@ impl Talk {
             Talk::Waiting => wait(rt, ports),
             Talk::Anew => begin_anew(rt, alloc, ports),
             Talk::Mapped(mapper) => be_mapped(rt, alloc, ports, mapper),
-            Talk::Registered => be_registered(rt, alloc, ports),
+            Talk::Registered(by_datagram) => be_registered(rt, alloc, ports, by_datagram),
+            Talk::Datagrams => send_datagrams(rt, alloc, ports),
+            Talk::Pages(talk) => ask_pages(rt, alloc, ports, talk),
         }
     }
 
@@ -333,11 +341,28 @@ impl Talk {
     /// What the server registers, and where.
     pub(crate) fn registration(self, ports: Ports) -> Option<Registration> {
         match self {
-            Talk::Registered => Some(Registration {
+            Talk::Registered(by_datagram) => Some(Registration {
                 port: ports.rpc,
+                notify_port: if by_datagram { Some(ports.named) } else { None },
                 mapper: ports.mapper,
                 pause: Duration::from_millis(50),
             }),
+            _ => None,
+        }
+    }
+
+    /// Where calls come by datagram, if they do.
+    pub(crate) fn notify(self, ports: Ports) -> Option<SocketAddr> {
+        match self {
+            Talk::Datagrams => Some(loopback(ports.named)),
+            _ => None,
+        }
+    }
+
+    /// The port at which operators ask for pages.
+    pub(crate) fn status_port(self, ports: Ports) -> Option<u16> {
+        match self {
+            Talk::Pages(_) => Some(ports.status),
             _ => None,
         }
     }

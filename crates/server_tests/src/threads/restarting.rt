@@ -123,7 +123,7 @@ fn sends<L: Ledger, R: Net + Wait + Clock + Log>(
     };
     match Sender::new(alloc, rt, settings(), peers, &locals) {
         Ok(mut sender) => {
-            drop(sender.run(shared, &turns));
+            drop(sender.run(shared, &turns, &mut ()));
             true
         }
         Err(_) => false,
