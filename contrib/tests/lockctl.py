@@ -273,6 +273,25 @@ def lockctl_waiters(options, wanted):
     equal(asked, [b"GET /waiters.json HTTP/1.0\r\n\r\n"])
 
 
+# Those on 0a0b are two, and a file without a lock is waited for, too, as where a quota is in the way.
+WAITED = """\
+4 locks, 3 files, 1 host with locks, 4 waiters
+WAITERS  LOCKS  READ  WRITE  OWNERS  FILE
+      2      1     1      0       1  0a0b
+      1      3     1      2       2  01020304
+      1      0     0      0       0  ff
+"""
+
+
+@test
+def lockctl_top_by_waiters():
+    waits = [*WAITS, WAITS[1], WAITS[1] | {"file": "ff"}]
+    with PageStandIn(lambda _: page(json.dumps(waits).encode())) as status:
+        at = status.place.split(":")[1]
+        equal(asked(Daemon(), f"top --once --status-port {at}"), (0, WAITED, ""))
+    told(asked(Daemon(), f"top --once --status-port {starts.free_port()}"), 1, "Connection refused")
+
+
 @test
 def lockctl_waiters_table():
     equal(waiters(page(json.dumps(WAITS).encode()))[0], (0, WAITERS, ""))
