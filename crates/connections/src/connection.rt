@@ -3,6 +3,8 @@ ghost use Rattle.std.specs.Prelude.{◌≡◌, ◌≤◌, length, take, IfOk, On
 ghost use Rattle.std.specs.Io.KnownBytes.{Appends, Keeps};
 ghost use Rattle.byte_io.specs.Written.{Wrote};
 
+use crate::patient::{Patience, Patient};
+use byte_io::write_whole;
 use std::io::{self, ErrorKind, Write};
 use std::marker::Model;
 use std::net::{Shutdown, TcpStream};
@@ -109,6 +111,30 @@ impl Connection {
     pub fn send<R: Wait>(&self, rt: &R, bytes: &[u8]) -> Result<(), Lost> {
         let mut outgoing = self.outgoing.lock(rt);
         self.write(&mut outgoing, bytes)
+    }
+
+    /// Writes the bytes whole, for the connection's own thread: nobody else waits for it, so it waits for its peer. Five seconds in
+    /// which none of them moves, or a turn that moves none once patience is over, lose the connection as with `send`.
+    pub fn send_patiently<R: Wait, E: Patience>(
+        &self,
+        rt: &R,
+        bytes: &[u8],
+        patience: &E,
+    ) -> Result<(), Lost> {
+        let mut outgoing = self.outgoing.lock(rt);
+        if outgoing.is_lost {
+            return Err(Lost);
+        }
+        let mut to = Patient {
+            stream: &self.stream,
+            patience,
+        };
+        if write_whole(&mut to, bytes).is_ok() {
+            return Ok(());
+        }
+        outgoing.is_lost = true;
+        self.shut();
+        Err(Lost)
     }
 
     // For whoever writes more than one piece between those of others.

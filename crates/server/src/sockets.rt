@@ -1,11 +1,23 @@
 //! Replies are written to the connections that their calls came on.
 ghost use Rattle.std.specs.Prelude.{◌≡◌, []};
 
-use connections::{Connection, ConnectionTable, Lost};
+use connections::{Connection, ConnectionTable, Lost, Patience};
 use line_loop::Signals;
 use reply_outbox::{ReplySockets, SocketEffects};
 use std::alloc::Global;
 use std::sync::{Arc, Mutex, Wait};
+
+// Waits for a peer until the server stops.
+#[derive(Drop)]
+struct UntilStop<'a, Q> {
+    signals: &'a Q,
+}
+
+impl<'a, Q: Signals> Patience for UntilStop<'a, Q> {
+    fn is_over(&self) -> bool {
+        self.signals.is_stopping()
+    }
+}
 
 /// The connections of callers, as an outbox writes to them.
 #[derive(Drop)]
@@ -38,6 +50,22 @@ impl<'a, 'h, K: Drop, Q: Signals, R: Wait> CallerSockets<'a, 'h, K, Q, R> {
         }
     }
 
+    fn is_home(&self, number: u64) -> bool {
+        self.home.is_some_and(|home| home.number() == number)
+    }
+
+    // Whoever answers waits for its own connection's peer, until the server stops, and not for another's.
+    fn send(&self, to: &Connection, bytes: &[u8]) -> Result<(), Lost> {
+        if self.is_home(to.number()) {
+            let until_stop = UntilStop {
+                signals: self.signals,
+            };
+            to.send_patiently(self.rt, bytes, &until_stop)
+        } else {
+            to.send(self.rt, bytes)
+        }
+    }
+
     // The connection table's lock is everybody's: who answers its own connection's calls needs no look at it.
     fn find(&self, number: u64) -> Option<Arc<Connection, Global>> {
         match self.home {
@@ -55,7 +83,7 @@ impl<'a, 'h, K: Drop, Q: Signals, R: Wait> ReplySockets for CallerSockets<'a, 'h
             self.effects.add_break(connection);
             return;
         };
-        match to.send(self.rt, bytes) {
+        match self.send(&to, bytes) {
             Ok(()) => self.effects.add_write(connection, bytes),
             Err(Lost) => self.effects.add_break(connection),
         }
