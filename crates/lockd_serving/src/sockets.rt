@@ -42,6 +42,10 @@ pub(crate) enum ServeFault {
 struct Open;
 
 impl Gate for Open {
+    ghost use Rattle.std.specs.Prelude.{false};
+
+    ghost holds = { λ _. false };
+
     fn may_hold(&self) -> bool {
         false
     }

@@ -17,10 +17,12 @@ use xdr_core::Frame;
 
 /// Runs before a worker takes the book's lock.
 pub trait Gate {
-    /// Whether it may hold a worker. Then another is woken first, where jobs may be left behind.
-    fn may_hold(&self) -> bool {
-        true
-    }
+    /// Whether it may hold a worker.
+    ghost holds: { Self → Bool };
+
+    /// Whether it may hold a worker. Then calls come by the channel, and another worker is woken first, where jobs may be left behind.
+    fn may_hold(&self) -> bool
+        ensures { result ≡ holds self.now };
 
     fn before(&self, job: &Job);
 }

@@ -47,6 +47,14 @@ impl<'a, R: Clock> Hall<'a, R> {
 }
 
 impl<'a, R: Clock> Gate for Hall<'a, R> {
+    ghost use Rattle.std.specs.Prelude.{true};
+
+    ghost holds = { λ _. true };
+
+    fn may_hold(&self) -> bool {
+        true
+    }
+
     fn before(&self, _job: &Job) {
         self.inside.fetch_add(1, Ordering::SeqCst);
         if !self.waits(self.wanted) {

@@ -10,7 +10,7 @@ use Rattle.job_queue.specs.Task.{Task}
 use Rattle.job_queue.specs.Passes.{with_hand}
 use Rattle.reply_outbox.specs.Posted.{Sent}
 use Rattle.workers.specs.declared.reading.Origin.{Origin}
-use Rattle.workers.specs.Answers.{Answer, AreMet, all_sent, all_receipts, Worker, with_seat}
+use Rattle.workers.specs.Answers.{Answer, AreMet, all_sent, all_receipts, Worker, with_seat, Worked}
 
 -- the job of this record, under the next number
 abbrev pub job_of : Origin → Bytes → Task
@@ -26,13 +26,28 @@ jobs_of o [] = []
 jobs_of o (asked ∷ rest) = job_of o asked ∷ jobs_of (origin_after o 1) rest
 
 -- these jobs were put, and some were taken and answered, in order: each receipt and each record is that of its job
-pub record Serves (jobs : List Task) (old new : Worker) (sent sent' : List Sent) : Type 0 where
+pub record ServesByChannel (jobs : List Task) (old new : Worker) (sent sent' : List Sent) : Type 0 where
   pub answers : List Answer
   pub met : AreMet answers
   pub hand : new.seat ≡ with_hand old.seat (record { put = old.seat.hand.put ++ jobs; taken = old.seat.hand.taken ++ map (λ (a : Answer). a.job) answers })
   pub handed : sent' ≡ sent ++ all_sent answers
   pub receipts : new.receipts ≡ old.receipts ++ all_receipts answers
   pub keeps : new.keeps ≡ old.keeps
+
+-- these jobs were answered, each at once and in order, and the channel had none of them: each receipt and each record is that of its job
+pub record ServesAtOnce (jobs : List Task) (old new : Worker) (sent sent' : List Sent) : Type 0 where
+  pub answers : List Answer
+  pub met : AreMet answers
+  pub each : map (λ (a : Answer). a.job) answers ≡ jobs
+  pub seat : new.seat ≡ old.seat
+  pub handed : sent' ≡ sent ++ all_sent answers
+  pub receipts : new.receipts ≡ old.receipts ++ all_receipts answers
+  pub keeps : new.keeps ≡ old.keeps
+
+-- by the channel where the gate may hold whoever answers, and else at once
+abbrev pub Serves : Bool → List Task → Worker → Worker → List Sent → List Sent → Type 0
+Serves true jobs old new sent sent' = ServesByChannel jobs old new sent sent'
+Serves false jobs old new sent sent' = ServesAtOnce jobs old new sent sent'
 
 -- these were put, numbered on, and nothing else happened
 pub record HavePut (records : List Bytes) (o o' : Origin) (old new : Worker) : Type 0 where
@@ -44,7 +59,17 @@ abbrev pub Puts : Bool → List Bytes → Origin → Origin → Worker → Worke
 Puts true records o o' old new = HavePut records o o' old new
 Puts false records o o' old new = (count : ℕ) × (count < length records) × HavePut (take count records) o o' old new
 
--- which records were put, where these bytes of the stream make these records, and which bytes that were read are not among them:
+-- these were put, numbered on, and jobs were taken and answered then; or they were answered at once, numbered on
+abbrev pub Handled : Bool → List Bytes → Origin → Origin → Worker → Worker → List Sent → List Sent → Type 0
+Handled true records o o' old new sent sent' = (between : Worker) × HavePut records o o' old between × Worked between new sent sent'
+Handled false records o o' old new sent sent' = (o' ≡ origin_after o (length records)) × ServesAtOnce (jobs_of o records) old new sent sent'
+
+-- all records, or those before one that had no number or that the channel gave back
+abbrev pub Handles : Bool → Bool → List Bytes → Origin → Origin → Worker → Worker → List Sent → List Sent → Type 0
+Handles holds true records o o' old new sent sent' = Handled holds records o o' old new sent sent'
+Handles holds false records o o' old new sent sent' = (count : ℕ) × (count < length records) × Handled holds (take count records) o o' old new sent sent'
+
+-- which records were put or answered, where these bytes of the stream make these records, and which bytes that were read are not among them:
 -- for those there was no memory, or for the place of what is read, and then nothing was
 abbrev pub EndsBy : Ending → List ℕ → List Bytes → Bool → ℕ → List ℕ → Option (List ℕ) → Type 0
 EndsBy Over bytes records fault count lost after = (fault ≡ false) × (count ≡ length records) × (lost ≡ []) × IsAtEnd after
@@ -53,9 +78,9 @@ EndsBy TooLong bytes records fault count lost after = (fault ≡ true) × (count
 EndsBy Closed bytes records fault count lost after = (count < length records) × (lost ≡ [])
 EndsBy Starved bytes records fault count lost after = (fault ≡ false) × (count ≡ length records) × (lost ≡ [] → bytes ≡ [])
 
--- the jobs that were put are, numbered on, those of the first records of the bytes that were read; all of them, unless the
--- channel took no more or there was no memory for the last bytes
-pub record IsRead (ending : Ending) (o o' : Origin) (before after : Option (List ℕ)) (old new : Worker) (sent sent' : List Sent) : Type 0 where
+-- the jobs that were put, or answered at once, are, numbered on, those of the first records of the bytes that were read; all of
+-- them, unless the channel took no more, or there was no number for one more, or no memory for the last bytes
+pub record IsRead (holds : Bool) (ending : Ending) (o o' : Origin) (before after : Option (List ℕ)) (old new : Worker) (sent sent' : List Sent) : Type 0 where
   pub bytes : List ℕ
   pub lost : List ℕ
   pub consumed : Consumes before after (bytes ++ lost)
@@ -65,4 +90,4 @@ pub record IsRead (ending : Ending) (o o' : Origin) (before after : Option (List
   pub count : ℕ
   pub ends : EndsBy ending bytes records fault count lost after
   pub numbered : o' ≡ origin_after o count
-  pub serves : Serves (jobs_of o (take count records)) old new sent sent'
+  pub serves : Serves holds (jobs_of o (take count records)) old new sent sent'

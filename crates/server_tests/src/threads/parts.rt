@@ -22,8 +22,28 @@ use workers::{Shared, Worker};
 pub(crate) struct Open;
 
 impl Gate for Open {
+    ghost use Rattle.std.specs.Prelude.{false};
+
+    ghost holds = { λ _. false };
+
     fn may_hold(&self) -> bool {
         false
+    }
+
+    fn before(&self, _job: &Job) {}
+}
+
+/// Holds nobody, and says whether it may.
+#[derive(Clone, Copy, Drop)]
+pub(crate) struct Passing {
+    pub(crate) may_hold: bool,
+}
+
+impl Gate for Passing {
+    ghost holds = { λ passing. passing.may_hold };
+
+    fn may_hold(&self) -> bool {
+        self.may_hold
     }
 
     fn before(&self, _job: &Job) {}

@@ -1,6 +1,6 @@
 //! A connection's own thread over memory.
 use super::memory::MemoryOutbox;
-use super::parts::{Kept, Open, bytes_of, repeated};
+use super::parts::{Kept, Passing, bytes_of, repeated};
 use super::rounds::{Crew, Turn, audited};
 use job_queue::{Channel, Place};
 use kept_replies::Peer;
@@ -29,10 +29,11 @@ pub(crate) struct Reading<'a> {
     reads: usize,
     /// How often it is read at most.
     bound: u64,
-    /// Whether the channel is closed before.
+    /// Whether its calls go by the channel, and whether that is closed before.
+    by_channel: bool,
     is_closed: bool,
     ending: Ending,
-    /// How many jobs are put. As many are answered.
+    /// How many jobs are numbered. As many are answered.
     put: u64,
     /// As `are_replies` has them, of the words that come once.
     replies: &'a str,
@@ -74,7 +75,10 @@ impl Reading<'_> {
                 put: 0,
             },
         };
-        let ending = reader.read(rt, channel, shared, &Open, &mut outbox, &mut source);
+        let gate = Passing {
+            may_hold: self.by_channel,
+        };
+        let ending = reader.read(rt, channel, shared, &gate, &mut outbox, &mut source);
         ending == self.ending
             && source.origin.put == self.put
             && self.are_replied(alloc, outbox.kept())
@@ -104,6 +108,7 @@ const THREE: Reading<'static> = Reading {
     most: 65_536,
     reads: usize::MAX,
     bound: u64::MAX,
+    by_channel: false,
     is_closed: false,
     ending: Ending::Over,
     put: 3,
@@ -140,11 +145,17 @@ const LONG: Reading<'static> = Reading {
 
 const CLOSED: Reading<'static> = Reading {
     name: "a closed channel",
-    stream: "80000028 8 0 2 186b5 4 0 0 0 0 0 80000028 9 0 2 186b5 4 0 0 0 0 0",
+    by_channel: true,
     is_closed: true,
     ending: Ending::Closed,
     put: 0,
     replies: "",
+    ..THREE
+};
+
+const UNUSED: Reading<'static> = Reading {
+    name: "a closed channel by which no call goes",
+    is_closed: true,
     ..THREE
 };
 
@@ -187,18 +198,36 @@ const READINGS: &[Reading<'static>] = &[
     ENDS,
     FAILS,
     LONG,
-    CLOSED,
     BOUNDED,
     MANY,
     MANY_AUDITED,
 ];
 
+// At once, and by the channel.
+fn is_so_either_way<R: Threads + Wait + Clock + Sync>(
+    rt: &R,
+    alloc: Global,
+    reading: &Reading<'_>,
+) -> bool {
+    let by_channel = Reading {
+        by_channel: true,
+        ..*reading
+    };
+    is_so(rt, alloc, reading) && is_so(rt, alloc, &by_channel)
+}
+
 #[test]
 fn each_record_is_answered(rt: HostRuntime) -> Result<(), (&'static str, usize)> {
     for reading in READINGS {
-        if !is_so(&rt, rt.alloc(), reading) {
+        if !is_so_either_way(&rt, rt.alloc(), reading) {
             return Err((reading.name, reading.most));
         }
     }
     Ok(())
+}
+
+#[test]
+fn closed_channel_ends_who_uses_it(rt: HostRuntime) {
+    assert!(rt; is_so(&rt, rt.alloc(), &CLOSED));
+    assert!(rt; is_so(&rt, rt.alloc(), &UNUSED));
 }
