@@ -27,3 +27,22 @@ const QUOTA_OF_RUNS: &[&str] = &[
 fn quota_of_runs(rt: HostRuntime) -> Result<(), Misplayed> {
     play(rt.alloc(), QUOTA_OF_RUNS)
 }
+
+/// Who waits for its host's quota alone is granted once the host has given up other bytes.
+const QUOTA_AND_OTHER_BYTES: &[&str] = &[
+    "begins",
+    "180 lock a 0 10 = granted",
+    "181 lock b 50 1 = granted",
+    "182 block b 5 1 = blocked",
+    "local |quota 62 1| ok",
+    "183 unlock a 0 0 = granted",
+    "quiet",
+    "184 unlock b 50 1 = granted",
+    "sends b 1 grant b 1 5 1",
+    "quiet",
+];
+
+#[test]
+fn quota_and_other_bytes(rt: HostRuntime) -> Result<(), Misplayed> {
+    play(rt.alloc(), QUOTA_AND_OTHER_BYTES)
+}

@@ -20,6 +20,48 @@ const ROWS: &[Row] = &[
             "quiet",
         ],
     ),
+    // Who waits for bytes beside those that come free still waits, and so does who waits for some that don't. Who shares a
+    // byte with them is granted, and whoever waits for that byte after that waits for the grant's.
+    (
+        "freed_by_a_byte",
+        &[
+            "begins",
+            "quiet",
+            "10 lock a 0 30 = granted",
+            "11 block b 9 1 = blocked",
+            "12 block c 20 1 = blocked",
+            "13 block d 5 6 = blocked",
+            "14 unlock a 10 10 = granted",
+            "quiet",
+            "15 unlock a 5 5 = granted",
+            "sends b 1 grant b 1 9 1",
+            "quiet",
+            "16 unlock b 9 1 = granted",
+            "sends d 2 grant d 1 5 6",
+            "quiet",
+            "17 unlock a 15 6 = granted",
+            "sends c 3 grant c 1 20 1",
+            "quiet",
+        ],
+    ),
+    // A lock that becomes a shared one frees the readers of its bytes, in their order, and no writer.
+    (
+        "downgrade_frees_readers",
+        &[
+            "begins",
+            "quiet",
+            "10 lock a 0 10 = granted",
+            "11 block-shared b 9 1 = blocked",
+            "12 block c 4 1 = blocked",
+            "13 block-shared d 0 10 = blocked",
+            "14 block-shared a 0 9 = granted",
+            "quiet",
+            "15 block-shared a 9 1 = granted",
+            "sends b 1 grant b 0 9 1",
+            "sends d 2 grant d 0 0 10",
+            "quiet",
+        ],
+    ),
     // Who closes a cycle does not wait. Who holds nothing closes none.
     (
         "deadlock",

@@ -7,3 +7,4 @@ pub mod Places
 pub mod Indexed
 pub mod Parts
 pub mod Tallies
+pub mod Bounded

@@ -1,5 +1,5 @@
 -- A walk over those of one file.
-use Rattle.std.proofs.Common.{◌≡◌, ◌<◌, ◌≤◌, ◌+◌, ◌-◌, Bool, true, false, cond, not, ℕ, zero, suc, ◌||◌, eqb, ltb, List, [], ◌∷◌, ◌++◌, length, map, take, get_or, Option, Some, None, refl, sym, ap, subst, arith, ◌∙◌}
+use Rattle.std.proofs.Common.{◌≡◌, ◌<◌, ◌≤◌, ◌+◌, ◌-◌, Bool, true, false, cond, not, ℕ, zero, suc, ◌&&◌, ◌==◌, ◌||◌, eqb, ltb, List, [], ◌∷◌, ◌++◌, length, map, take, get_or, Option, Some, None, refl, sym, ap, subst, arith, ◌∙◌}
 use Rattle.std.proofs.lemmas.Bool.{or_parts}
 use Rattle.std.proofs.lemmas.Bool.Decides.{nat_tests}
 use Rattle.std.proofs.lemmas.List.{take_all, map-append, get_or_append_left, length-map}
@@ -13,14 +13,20 @@ use Rattle.definitions.specs.Bytes.{Bytes, same_bytes, is_any}
 use Rattle.definitions.specs.Settings.{Setting}
 use Rattle.owner_ids.specs.Names.{Names}
 use Rattle.range_table.specs.declared.run.Run.{Run}
+use Rattle.range_table.specs.Modes.{view_of_mode}
+use Rattle.definitions.specs.Waits.{modes_are_same}
+use Rattle.definitions.proofs.Lists.{none_by}
 use Rattle.range_table.proofs.Tests.{by_test}
 use Rattle.blocked_list.specs.ByFile.{below, file_at, places_of, moved_up, without_place, IsIndex}
 use Rattle.definitions.specs.First.{IsFirstAt}
+use Rattle.blocked_list.specs.declared.touched.Touched.{Touched}
+use Rattle.blocked_list.specs.Touches.{meets}
 use Rattle.blocked_list.specs.Ready.{is_ready_on}
+use Rattle.std.proofs.Math.Bool.{and-false}
 use Rattle.blocked_list.specs.Waiting.{Waiting, AreNamed, waiter_by, waiters_by, same_wanted}
 use Rattle.blocked_list.proofs.Places.{IsKept, kept_place}
 use Rattle.blocked_list.proofs.Indexed.{index_same, index_less}
-use Rattle.blocked_list.proofs.Ready.{any_more, first_from, here, uses, free_on, out_on}
+use Rattle.blocked_list.proofs.Ready.{any_more, first_from, here, uses}
 use Rattle.blocked_list.proofs.Waits.{map_remove}
 
 module _ {X : Type 0} (test : X → Bool) where
@@ -104,11 +110,13 @@ part_seen f vs ws ps e is = is ∙ ap (λ (us : List Waiting). places_of (file_a
 
 -- ---- those of another file
 
-pub ready_off : (names : Names) (quotas : Quotas) (settings : List Setting) (f : Bytes) (ws : List Waiting) (p : ℕ) → same_bytes (file_at ws p) f ≡ false → passes_at (is_ready_on f quotas settings) (waiters_by names ws) p ≡ false
-ready_off names quotas settings f [] zero e = refl
-ready_off names quotas settings f [] (suc p) e = refl
-ready_off names quotas settings f (w ∷ ws) zero e = rw e refl
-ready_off names quotas settings f (w ∷ ws) (suc p) e = ready_off names quotas settings f ws p e
+pub ready_off : (names : Names) (quotas : Quotas) (settings : List Setting) (t : Touched) (ws : List Waiting) (p : ℕ) → same_bytes (file_at ws p) t.file ≡ false → passes_at (is_ready_on t quotas settings) (waiters_by names ws) p ≡ false
+ready_off names quotas settings t [] zero e = refl
+ready_off names quotas settings t [] (suc p) e = refl
+ready_off names quotas settings t (w ∷ ws) zero e =
+    ap (λ b. (meets t w.wanted.first w.wanted.last && b) && is_ready the_limits quotas settings (waiter_by names w)) e
+    ∙ ap (λ b. b && is_ready the_limits quotas settings (waiter_by names w)) (and-false (meets t w.wanted.first w.wanted.last))
+ready_off names quotas settings t (w ∷ ws) (suc p) e = ready_off names quotas settings t ws p e
 
 pub wanted_off : (r : Run) (ws : List Waiting) (p : ℕ) → same_bytes (file_at ws p) r.file ≡ false → passes_at (λ (w : Waiting). same_wanted w.wanted r) ws p ≡ false
 wanted_off r [] zero e = refl
@@ -116,39 +124,42 @@ wanted_off r [] (suc p) e = refl
 wanted_off r (w ∷ ws) zero e = rw e refl
 wanted_off r (w ∷ ws) (suc p) e = wanted_off r ws p e
 
+-- where nobody of its owner waits, nobody waits for just this lock
+pub nobody_of_owner : (r : Run) (ws : List Waiting) → is_any (λ (w : Waiting). w.wanted.owner == r.owner) ws ≡ false → is_any (λ (w : Waiting). same_wanted w.wanted r) ws ≡ false
+nobody_of_owner r ws e =
+    none_by (λ (w : Waiting). w.wanted.owner == r.owner) (λ (w : Waiting). same_wanted w.wanted r) ws
+    (λ w h. ap (λ b. same_bytes w.wanted.file r.file && (b && ((w.wanted.first == r.first) && ((w.wanted.last == r.last) && modes_are_same (view_of_mode w.wanted.mode) (view_of_mode r.mode))))) h ∙ and-false (same_bytes w.wanted.file r.file)) e
+
 pub file_there : (ws : List Waiting) (p : ℕ) (w : Waiting) → p < length ws → w ≡ get_or ws p w → file_at ws p ≡ w.wanted.file
 file_there [] p w l e = absurd (omega (arith, l))
 file_there (v ∷ ws) zero w l e = ap (λ (u : Waiting). u.wanted.file) (sym e)
 file_there (v ∷ ws) (suc p) w l e = file_there ws p w (omega (arith, l)) e
 
-module _ (names : Names) (quotas : Quotas) (settings : List Setting) (f : Bytes) (ws : List Waiting) (ps : List ℕ) (is : ps ≡ places_of (file_at ws) f (below (length ws))) where
-  by_owner : ps ≡ places_of (file_at ws) f (below (length (waiters_by names ws)))
-  by_owner = is ∙ ap (λ n. places_of (file_at ws) f (below n)) (sym (length-map ws (waiter_by names)))
+module _ (names : Names) (quotas : Quotas) (settings : List Setting) (t : Touched) (ws : List Waiting) (ps : List ℕ) (is : ps ≡ places_of (file_at ws) t.file (below (length ws))) where
+  by_owner : ps ≡ places_of (file_at ws) t.file (below (length (waiters_by names ws)))
+  by_owner = is ∙ ap (λ n. places_of (file_at ws) t.file (below n)) (sym (length-map ws (waiter_by names)))
 
-  pub none_on_file : (i : ℕ) → length ps ≤ i → is_any (passes_at (is_ready_on f quotas settings) (waiters_by names ws)) (take i ps) ≡ false → is_any (is_ready_on f quotas settings) (waiters_by names ws) ≡ false
-  none_on_file = part_none (is_ready_on f quotas settings) (file_at ws) f (waiters_by names ws) (ready_off names quotas settings f ws) ps by_owner
+  pub none_on_file : (i : ℕ) → length ps ≤ i → is_any (passes_at (is_ready_on t quotas settings) (waiters_by names ws)) (take i ps) ≡ false → is_any (is_ready_on t quotas settings) (waiters_by names ws) ≡ false
+  none_on_file = part_none (is_ready_on t quotas settings) (file_at ws) t.file (waiters_by names ws) (ready_off names quotas settings t ws) ps by_owner
 
   module _ (i k : ℕ) (w : Waiting) (l : i < length ps) (e : k ≡ get_or ps i 0) (at : w ≡ get_or ws k w) where
     inside : k < length ws
-    inside = (part_inside (file_at ws) f (length ws) ps is i k l e).0
+    inside = (part_inside (file_at ws) t.file (length ws) ps is i k l e).0
 
     -- its place among the owners
     within : k < length (waiters_by names ws)
     within = rw (length-map ws (waiter_by names)) inside
 
-    on : same_bytes w.wanted.file f ≡ true
-    on = ap (λ g. same_bytes g f) (sym (file_there ws k w inside at)) ∙ (part_inside (file_at ws) f (length ws) ps is i k l e).1
-
     used : AreNamed names ws → IsSome (names w.wanted.owner)
     used = uses names quotas settings ws k w inside at
 
-    pub first_on_file : AreNamed names ws → is_any (passes_at (is_ready_on f quotas settings) (waiters_by names ws)) (take i ps) ≡ false → (IsSome (names w.wanted.owner) → true ≡ is_ready the_limits quotas settings (waiter_by names w)) → IsFirstAt (is_ready_on f quotas settings) (waiters_by names ws) k
+    pub first_on_file : AreNamed names ws → is_any (passes_at (is_ready_on t quotas settings) (waiters_by names ws)) (take i ps) ≡ false → (IsSome (names w.wanted.owner) → true ≡ is_ready_on t quotas settings (waiter_by names w)) → IsFirstAt (is_ready_on t quotas settings) (waiters_by names ws) k
     first_on_file named none free =
-        part_found (is_ready_on f quotas settings) (file_at ws) f (waiters_by names ws) (ready_off names quotas settings f ws) ps by_owner i k (waiter_by names w) l e (sym (here names quotas settings ws k w inside at)) none (free_on names quotas settings ws k w inside at f on (free (used named)))
+        part_found (is_ready_on t quotas settings) (file_at ws) t.file (waiters_by names ws) (ready_off names quotas settings t ws) ps by_owner i k (waiter_by names w) l e (sym (here names quotas settings ws k w inside at)) none (sym (free (used named)))
 
-    pub next_on_file : AreNamed names ws → is_any (passes_at (is_ready_on f quotas settings) (waiters_by names ws)) (take i ps) ≡ false → (IsSome (names w.wanted.owner) → false ≡ is_ready the_limits quotas settings (waiter_by names w)) → is_any (passes_at (is_ready_on f quotas settings) (waiters_by names ws)) (take (i + 1) ps) ≡ false
+    pub next_on_file : AreNamed names ws → is_any (passes_at (is_ready_on t quotas settings) (waiters_by names ws)) (take i ps) ≡ false → (IsSome (names w.wanted.owner) → false ≡ is_ready_on t quotas settings (waiter_by names w)) → is_any (passes_at (is_ready_on t quotas settings) (waiters_by names ws)) (take (i + 1) ps) ≡ false
     next_on_file named none out =
-        part_next (is_ready_on f quotas settings) (file_at ws) f (waiters_by names ws) (ready_off names quotas settings f ws) ps i k (waiter_by names w) l e within (sym (here names quotas settings ws k w inside at)) none (out_on names quotas settings ws k w inside at f (out (used named)))
+        part_next (is_ready_on t quotas settings) (file_at ws) t.file (waiters_by names ws) (ready_off names quotas settings t ws) ps i k (waiter_by names w) l e within (sym (here names quotas settings ws k w inside at)) none (sym (out (used named)))
 
 -- ---- one more, and one less
 

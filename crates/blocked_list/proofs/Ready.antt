@@ -10,6 +10,8 @@ use Rattle.definitions.specs.Starts.{is_short}
 use Rattle.definitions.specs.Waits.{Waiter}
 use Rattle.definitions.specs.World.{is_ready, the_limits}
 use Rattle.definitions.specs.First.{IsFirstAt, IsFirstPlace}
+use Rattle.blocked_list.specs.declared.touched.Touched.{Touched}
+use Rattle.blocked_list.specs.Touches.{touches}
 use Rattle.blocked_list.specs.Ready.{is_ready_on, is_ready_off}
 use Rattle.owner_ids.specs.Names.{Names}
 use Rattle.std.specs.Prelude.{IsSome}
@@ -26,9 +28,9 @@ pub short_none : (quotas : Quotas) (settings : List Setting) → is_short 65536 
 short_none quotas settings e [] = refl
 short_none quotas settings e (x ∷ xs) = rw (short_off quotas settings e x) (short_none quotas settings e xs)
 
-pub short_none_on : (file : Bytes) (quotas : Quotas) (settings : List Setting) → is_short 65536 settings ≡ true → (xs : List Waiter) → is_any (is_ready_on file quotas settings) xs ≡ false
-short_none_on file quotas settings e [] = refl
-short_none_on file quotas settings e (x ∷ xs) = rw (and_right (same_bytes x.request.file file) (is_ready the_limits quotas settings x) (short_off quotas settings e x)) (short_none_on file quotas settings e xs)
+pub short_none_on : (t : Touched) (quotas : Quotas) (settings : List Setting) → is_short 65536 settings ≡ true → (xs : List Waiter) → is_any (is_ready_on t quotas settings) xs ≡ false
+short_none_on t quotas settings e [] = refl
+short_none_on t quotas settings e (x ∷ xs) = rw (and_right (touches t x.request) (is_ready the_limits quotas settings x) (short_off quotas settings e x)) (short_none_on t quotas settings e xs)
 
 module _ {X : Type 0} (test : X → Bool) where
   -- one more that doesn't pass
@@ -58,34 +60,34 @@ module _ {X : Type 0} (test : X → Bool) where
             passes = f.passes;
           }
 
--- ---- all, or those on one file
+-- ---- all, or those who wait for some bytes
 
-module _ (file : Bytes) (quotas : Quotas) (settings : List Setting) where
+module _ (t : Touched) (quotas : Quotas) (settings : List Setting) where
   abbrev on : Waiter → Bool
-  on = is_ready_on file quotas settings
+  on = is_ready_on t quotas settings
 
-  -- who isn't ready on another file is ready where it is ready on this one
-  ready_on : (x : Waiter) → is_ready_off file quotas settings x ≡ false → is_ready the_limits quotas settings x ≡ on x
-  ready_on x e = go (same_bytes x.request.file file) e
+  -- who isn't ready on other bytes is ready where it is ready on these
+  ready_on : (x : Waiter) → is_ready_off t quotas settings x ≡ false → is_ready the_limits quotas settings x ≡ on x
+  ready_on x e = go (touches t x.request) e
     where
       go : (b : Bool) → (not b && is_ready the_limits quotas settings x) ≡ false → is_ready the_limits quotas settings x ≡ (b && is_ready the_limits quotas settings x)
       go true h = refl
       go false h = h
 
-  none_on : (xs : List Waiter) → is_any (is_ready_off file quotas settings) xs ≡ false → is_any on xs ≡ false → is_any (is_ready the_limits quotas settings) xs ≡ false
+  none_on : (xs : List Waiter) → is_any (is_ready_off t quotas settings) xs ≡ false → is_any on xs ≡ false → is_any (is_ready the_limits quotas settings) xs ≡ false
   none_on [] e f = refl
   none_on (x ∷ xs) e f =
-      let a = or_parts (is_ready_off file quotas settings x) (is_any (is_ready_off file quotas settings) xs) e in
+      let a = or_parts (is_ready_off t quotas settings x) (is_any (is_ready_off t quotas settings) xs) e in
       let b = or_parts (on x) (is_any on xs) f in
       rw (ready_on x a.0, b.0) (none_on xs a.1 b.1)
 
-  none_front : (before : List Waiter) (x : Waiter) (behind : List Waiter) → is_any (is_ready_off file quotas settings) (before ++ x ∷ behind) ≡ false → is_any (is_ready_off file quotas settings) before ≡ false
+  none_front : (before : List Waiter) (x : Waiter) (behind : List Waiter) → is_any (is_ready_off t quotas settings) (before ++ x ∷ behind) ≡ false → is_any (is_ready_off t quotas settings) before ≡ false
   none_front [] x behind e = refl
   none_front (y ∷ ys) x behind e =
-      let a = or_parts (is_ready_off file quotas settings y) (is_any (is_ready_off file quotas settings) (ys ++ x ∷ behind)) e in
+      let a = or_parts (is_ready_off t quotas settings y) (is_any (is_ready_off t quotas settings) (ys ++ x ∷ behind)) e in
       rw a.0 (none_front ys x behind a.1)
 
-  pub first_on : (xs : List Waiter) (place : Option ℕ) → is_any (is_ready_off file quotas settings) xs ≡ false → IsFirstPlace on xs place → IsFirstPlace (is_ready the_limits quotas settings) xs place
+  pub first_on : (xs : List Waiter) (place : Option ℕ) → is_any (is_ready_off t quotas settings) xs ≡ false → IsFirstPlace on xs place → IsFirstPlace (is_ready the_limits quotas settings) xs place
   first_on xs None e f = none_on xs e f
   first_on xs (Some i) e f = record {
     before = f.before;
@@ -93,8 +95,8 @@ module _ (file : Bytes) (quotas : Quotas) (settings : List Setting) where
     behind = f.behind;
     there = f.there;
     place = f.place;
-    none_before = none_on f.before (none_front f.before f.x f.behind (ap (is_any (is_ready_off file quotas settings)) (sym f.there) ∙ e)) f.none_before;
-    passes = (and_parts (same_bytes f.x.request.file file) (is_ready the_limits quotas settings f.x) f.passes).1;
+    none_before = none_on f.before (none_front f.before f.x f.behind (ap (is_any (is_ready_off t quotas settings)) (sym f.there) ∙ e)) f.none_before;
+    passes = (and_parts (touches t f.x.request) (is_ready the_limits quotas settings f.x) f.passes).1;
   }
 
 -- ---- the waiter at a place
@@ -106,7 +108,7 @@ module _ (names : Names) (quotas : Quotas) (settings : List Setting) (ws : List 
   ready_here : is_ready the_limits quotas settings (get_or (waiters_by names ws) i (waiter_by names w)) ≡ is_ready the_limits quotas settings (waiter_by names w)
   ready_here = ap (is_ready the_limits quotas settings) here
 
-  within : i < length (waiters_by names ws)
+  pub within : i < length (waiters_by names ws)
   within = rw (length-map ws (waiter_by names)) l
 
   pub uses : AreNamed names ws → IsSome (names w.wanted.owner)
@@ -117,10 +119,3 @@ module _ (names : Names) (quotas : Quotas) (settings : List Setting) (ws : List 
 
   pub ready_first : AreNamed names ws → is_any (is_ready the_limits quotas settings) (take i (waiters_by names ws)) ≡ false → (IsSome (names w.wanted.owner) → true ≡ is_ready the_limits quotas settings (waiter_by names w)) → IsFirstAt (is_ready the_limits quotas settings) (waiters_by names ws) i
   ready_first named none free = first_from (is_ready the_limits quotas settings) (waiters_by names ws) i (waiter_by names w) within none (ready_here ∙ sym (free (uses named)))
-
-  -- of those on a file
-  pub out_on : (file : Bytes) → false ≡ is_ready the_limits quotas settings (waiter_by names w) → is_ready_on file quotas settings (waiter_by names w) ≡ false
-  out_on file out = and_right (same_bytes w.wanted.file file) (is_ready the_limits quotas settings (waiter_by names w)) (sym out)
-
-  pub free_on : (file : Bytes) → same_bytes w.wanted.file file ≡ true → true ≡ is_ready the_limits quotas settings (waiter_by names w) → is_ready_on file quotas settings (waiter_by names w) ≡ true
-  free_on file on free = rw (on) (sym free)

@@ -1,6 +1,8 @@
 pub mod Waiting
 pub mod Standing
 pub mod Quotas
+pub mod Touches
+pub mod Hulls
 pub mod Ready
 pub mod Reach
 pub mod ByFile

@@ -7,13 +7,13 @@ pub fn unlimited_exceeds_nothing()
     ensures { UnlimitedLaw }
 {}
 
-/// A setting, where nobody who waits for another file can be granted before it, 2 runs are free, and no quota holds its
-/// owner back: only those who wait for its file.
-pub fn setting_frees_own_file()
+/// A setting, where nobody who waits for other bytes can be granted before it, 2 runs are free, and no quota holds its
+/// owner back: only those who wait for its bytes.
+pub fn setting_frees_own_bytes()
     ensures { SettingFreesLaw }
 {}
 
-/// A close, likewise.
-pub fn close_frees_own_file()
+/// A close, likewise: only those who wait for bytes among which are all that its owner held.
+pub fn close_frees_own_bytes()
     ensures { CloseFreesLaw }
 {}

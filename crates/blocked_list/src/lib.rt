@@ -6,10 +6,12 @@ mod by_file;
 mod by_owner;
 mod cycles;
 mod grants;
+mod hulls;
 pub mod laws;
 mod quotas;
 mod settling;
 mod slots;
+mod touched;
 mod waiter;
 
 pub use callbacks::MOST_SLOTS;
@@ -17,4 +19,5 @@ pub use owner_ids::Starved;
 pub use quotas::{Limit, Quotas, limit_of};
 pub use settling::{Grantor, settle};
 pub use slots::{NoSlots, NotWaiting, Slots};
+pub use touched::Touched;
 pub use waiter::Waiter;

@@ -10,6 +10,7 @@ ghost use Rattle.blocked_list.specs.Waiting.{Waiting, AreKnown, AreNamed, free_p
 
 use crate::by_file::ByFile;
 use crate::by_owner::ByOwner;
+use crate::hulls::Hulls;
 use crate::waiter::Waiter;
 use callbacks::MOST_SLOTS;
 use owner_ids::{Host, HostOf, OwnerId, Owners, Starved};
@@ -36,6 +37,7 @@ pub struct Slots {
     pub(crate) waiters: Vec<Waiter>,
     pub(crate) by_file: ByFile,
     by_owner: ByOwner,
+    pub(crate) hulls: Hulls,
     calls: usize,
 }
 
@@ -43,13 +45,14 @@ impl Model for Slots {
     ghost use Rattle.std.specs.Prelude.{◌≤◌, ◌+◌, length, vec_capacity};
     ghost use Rattle.blocked_list.specs.ByFile.{IsIndex, file_at};
     ghost use Rattle.blocked_list.specs.ByOwner.{AreCounted};
+    ghost use Rattle.blocked_list.specs.Hulls.{AreIn};
     ghost use Rattle.blocked_list.specs.Waiting.{Taken};
 
     ghost Value = { Taken };
 
     ghost view = { λ s. record { waiters = s.waiters.items; calls = s.calls } };
 
-    ghost invariant = { λ s. (length s.waiters.items + s.calls ≤ 8192) × (8192 ≤ vec_capacity s.waiters) × IsIndex (file_at s.waiters.items) (length s.waiters.items) s.by_file × AreCounted s.waiters.items s.by_owner };
+    ghost invariant = { λ s. (length s.waiters.items + s.calls ≤ 8192) × (8192 ≤ vec_capacity s.waiters) × IsIndex (file_at s.waiters.items) (length s.waiters.items) s.by_file × AreCounted s.waiters.items s.by_owner × AreIn s.waiters.items s.hulls };
 }
 
 impl Slots {
@@ -61,6 +64,7 @@ impl Slots {
             waiters: Vec::with_capacity(alloc, MOST_SLOTS)?,
             by_file: ByFile::new(alloc)?,
             by_owner: ByOwner::new(alloc)?,
+            hulls: Hulls::new(alloc)?,
             calls: 0,
         })
     }
@@ -94,6 +98,7 @@ impl Slots {
         }
         let place = self.waiters.len();
         let owner = waiter.wanted().owner;
+        self.hulls.widen(place, waiter.wanted());
         self.waiters.push_reserved(waiter);
         self.by_file.add(&self.waiters, place);
         self.by_owner.add(owner);
@@ -148,6 +153,7 @@ impl Slots {
         let waiter = self.waiters.remove(place);
         self.by_file.remove(place);
         self.by_owner.remove(waiter.wanted().owner);
+        self.hulls.refresh(&self.waiters);
         waiter
     }
 
@@ -184,6 +190,7 @@ impl Slots {
             .retain(|waiter| !host.has(waiter.wanted().owner));
         self.by_file.renew_after(&self.waiters, before);
         self.by_owner.renew_after(&self.waiters, before);
+        self.hulls.refresh_after(&self.waiters, before);
     }
 
     /// Takes out the waiters of an owner on a file, as when it closes the file (POSIX fcntl).
@@ -196,6 +203,7 @@ impl Slots {
         self.waiters.retain(|waiter| !(waiter.is_on(file) && waiter.wanted().owner == owner));
         self.by_file.renew_after(&self.waiters, before);
         self.by_owner.renew_after(&self.waiters, before);
+        self.hulls.refresh_after(&self.waiters, before);
     }
 
     /// Whether somebody of this number waits.
@@ -217,6 +225,7 @@ impl Slots {
         self.waiters.clear();
         self.by_file.clear();
         self.by_owner.clear();
+        self.hulls.forget();
         self.calls = 0;
     }
 
@@ -224,6 +233,9 @@ impl Slots {
     fn place_of(&self, wanted: &Run) -> Option<usize>
         ensures { IsFirstPlace (λ w. same_wanted w.wanted wanted.now) self.now.waiters result }
     {
+        if self.by_owner.is_nobody(wanted.owner) {
+            return None;
+        }
         for place in self.by_file.part(&self.waiters, &wanted.file) {
             let place = usize::from(*place);
             if self.waiters[place].is_for(wanted) {

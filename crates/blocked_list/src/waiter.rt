@@ -7,8 +7,11 @@ ghost use Rattle.definitions.specs.World.{is_ready, the_limits};
 ghost use Rattle.owner_ids.specs.Names.{names_of_owners};
 ghost use Rattle.blocked_list.specs.Waiting.{same_wanted, setting_wanted};
 ghost use Rattle.blocked_list.specs.Standing.{WhereFree, AreRunsOf};
+ghost use Rattle.blocked_list.specs.Touches.{meets};
+ghost use Rattle.blocked_list.specs.Ready.{is_ready_on};
 
 use crate::quotas::{Quotas, limit_of};
+use crate::touched::Touched;
 use callbacks::Callback;
 use held_locks::{Allowance, RunsOfHosts};
 use owner_ids::Owners;
@@ -86,6 +89,28 @@ impl Waiter {
         ensures { result ≡ same_bytes self.now.wanted.file file.now }
     {
         self.wanted.run().file.is_same(file)
+    }
+
+    // Whether it waits for one of these bytes.
+    pub(crate) fn waits_for(&self, touched: &Touched) -> bool
+        ensures { result ≡ (meets touched.now self.now.wanted.first self.now.wanted.last && same_bytes self.now.wanted.file touched.now.file) }
+    {
+        touched.meets(self.wanted.run()) && self.is_on(&touched.file)
+    }
+
+    // Whether it waits for one of these bytes, and nobody is in the way, and its host's quota isn't, where 2 runs are free.
+    // The table is asked only of who waits for one of them.
+    pub(crate) fn is_freed<T: RangeTable, H: RunsOfHosts, Q: Quotas>(
+        &self,
+        table: &T,
+        owners: &Owners,
+        hosts: &H,
+        quotas: &Q,
+        touched: &Touched,
+    ) -> bool
+        ensures { WhereFree (names_of_owners owners.now) (T.settings table.now) self.now (λ settings waiter. AreRunsOf (H.runs hosts.now) settings → result ≡ is_ready_on touched.now (Q.by_host quotas.now) settings waiter) }
+    {
+        self.waits_for(touched) && self.is_free(table, owners, hosts, quotas)
     }
 
     // Whether nobody is in the way, and its host's quota isn't, where 2 runs are free.

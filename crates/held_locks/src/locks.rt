@@ -245,8 +245,8 @@ impl<R: RangeTable> Locks<R> {
 }
 
 impl<R: RangeTable> Locks<R> {
-    // The number of a known owner that holds nothing.
-    fn idle_number(&self, owner: &Owner) -> Option<OwnerId>
+    /// The number of a known owner that holds nothing. It takes no search: the runs of each number are counted.
+    pub fn idle_number(&self, owner: &Owner) -> Option<OwnerId>
         ensures number { IfSome result (λ n. names_of_owners self.now.names n ≡ Some (view_of_owner owner.now)) }
         ensures idle { IfSome result (λ n. HoldsNothing self.now (view_of_owner owner.now)) }
         ensures none { IfNone result (HoldsNothing self.now (view_of_owner owner.now) → (n : ℕ) → names_of_owners self.now.names n ≢ Some (view_of_owner owner.now)) }

@@ -19,7 +19,7 @@ use Rattle.lock_state.specs.declared.unsettled.Unsettled.{Unsettled}
 use Rattle.blocked_list.specs.Quotas.{is_limited}
 use Rattle.lock_state.specs.ReadyAt.{IsReadyAt, after_change}
 use Rattle.lock_state.specs.Whole.{IsWhole, AreWaitersShown}
-use Rattle.lock_state.proofs.ReadyAt.{ready_closed, ready_without}
+use Rattle.lock_state.proofs.ReadyAt.{whole, ready_closed, ready_without}
 use Rattle.lock_state.proofs.Kept.{some_of}
 use Rattle.lock_state.proofs.Shown.{shown_without, waiters_without}
 
@@ -45,7 +45,7 @@ stranger_waits_not names file x nobody (w ∷ ws) a =
 
 pub whole_closed : (names : List (Option Owner)) (file : Bytes) (x : Owner) (settings : List Setting) (slots left : Taken) (calls : List Outgoing) (quotas : Quotas) (unsettled : Unsettled) (held : Bool) → IsWhole settings names slots calls quotas unsettled → CloseFreesLaw → held ≡ (is_short 65536 settings || is_limited quotas x)
     → waiters_by (names_of_owners names) left.waiters ≡ without_waiters_on file x (waiters_by (names_of_owners names) slots.waiters) → AreNamed (names_of_owners names) left.waiters → left.calls ≡ slots.calls
-    → IsWhole (without_owner_on file x settings) names left calls quotas (after_change unsettled file held)
+    → IsWhole (without_owner_on file x settings) names left calls quotas (after_change unsettled (whole file) held)
 whole_closed names file x settings slots left calls quotas unsettled held h law is by in_use count = record {
   in_use = in_use;
   counted = count ∙ h.counted;
@@ -54,9 +54,9 @@ whole_closed names file x settings slots left calls quotas unsettled held h law 
   ranges = subst AreRanges (sym by) (ranges_without closed (waiters_by (names_of_owners names) slots.waiters) h.ranges);
   ready =
       let ws = waiters_by (names_of_owners names) slots.waiters in
-      let changed = ready_closed law unsettled held quotas settings file x ws h.ranges is h.ready in
-      subst (IsReadyAt (after_change unsettled file held) quotas (without_owner_on file x settings)) (sym by)
-      (ready_without (after_change unsettled file held) quotas (without_owner_on file x settings) closed ws changed);
+      let changed = ready_closed law unsettled held quotas settings file x ws h.ranges h.shown is h.ready in
+      subst (IsReadyAt (after_change unsettled (whole file) held) quotas (without_owner_on file x settings)) (sym by)
+      (ready_without (after_change unsettled (whole file) held) quotas (without_owner_on file x settings) closed ws changed);
 }
   where
     closed : Waiter → Bool

@@ -16,10 +16,12 @@ use Rattle.held_locks.specs.Asked.{setting_by}
 use Rattle.blocked_list.specs.Waiting.{Waiting, Taken, AreNamed, owner_at, waiter_by, waiters_by}
 use Rattle.definitions.specs.Moves.{AreRanges}
 use Rattle.definitions.proofs.MoveLaws.{ranges_without_first}
+use Rattle.range_table.specs.declared.run.Run.{Run}
+use Rattle.blocked_list.specs.declared.touched.Touched.{Touched}
 use Rattle.blocked_list.specs.Quotas.{is_limited}
 use Rattle.blocked_list.specs.Ready.{SettingFreesLaw}
 use Rattle.lock_state.specs.declared.unsettled.Unsettled.{Unsettled}
-use Rattle.lock_state.specs.ReadyAt.{IsReadyAt, after_grant}
+use Rattle.lock_state.specs.ReadyAt.{IsReadyAt, after_change}
 use Rattle.lock_state.specs.Whole.{IsWhole, AreWaitersShown}
 use Rattle.lock_state.proofs.ReadyAt.{ready_granted}
 use Rattle.lock_state.proofs.Shown.{shown_more, first_shown, waiters_without_first}
@@ -55,6 +57,10 @@ module _ (w : World) (x : Waiter) (e : first_ready the_limits w ≡ Some x) wher
 
 -- ---- the grant
 
+-- what a lock spans
+abbrev pub run_bytes : Run → Touched
+run_bytes r = record { file = r.file; first = r.first; last = r.last }
+
 both : (a b q : Bool) → (not a && not (b || q)) ≡ true → b ≡ false
 both true b q e = cc
 both false true q e = cc
@@ -84,7 +90,7 @@ module _ (names : List (Option Owner)) (settings : List Setting) (slots left : T
   is_set (Err z) now refused ok = absurd (not_refused ((refused owner is_named).0 refl))
 
   pub whole_granted : (number : ℕ) (held : Bool) → held ≡ is_limited quotas owner → waiters_by (names_of_owners names) left.waiters ≡ without_first (is_ready the_limits quotas settings) (waiters_by (names_of_owners names) slots.waiters) → AreNamed (names_of_owners names) left.waiters → left.calls ≡ slots.calls + 1 → waiting.wanted.first ≤ waiting.wanted.last → waiting.wanted.last < 2 ^ 63 → SettingFreesLaw
-      → IsWhole (settings ++ setting_by owner waiting.wanted ∷ []) names left (calls ++ due_now number waiting.callback ∷ []) quotas (after_grant unsettled held)
+      → IsWhole (settings ++ setting_by owner waiting.wanted ∷ []) names left (calls ++ due_now number waiting.callback ∷ []) quotas (after_change unsettled (run_bytes waiting.wanted) held)
   whole_granted number held is gone in_use more ordered inside law = record {
     in_use = in_use;
     counted = let k = length_more calls (due_now number waiting.callback) in let t = h.counted in omega arith;
@@ -93,6 +99,6 @@ module _ (names : List (Option Owner)) (settings : List Setting) (slots left : T
     ranges = subst AreRanges (sym gone) (ranges_without_first (is_ready the_limits quotas settings) (waiters_by (names_of_owners names) slots.waiters) h.ranges);
     ready =
         let s = setting_by owner waiting.wanted in
-        subst (IsReadyAt (after_grant unsettled held) quotas (settings ++ s ∷ [])) (sym gone)
-        (ready_granted law unsettled held quotas settings s (waiters_by (names_of_owners names) slots.waiters) (waiter_by (names_of_owners names) waiting) h.ranges room is there refl h.ready);
+        subst (IsReadyAt (after_change unsettled (run_bytes waiting.wanted) held) quotas (settings ++ s ∷ [])) (sym gone)
+        (ready_granted law unsettled (run_bytes waiting.wanted) held quotas settings s (waiters_by (names_of_owners names) slots.waiters) (λ w spans. spans) h.ranges room is h.ready);
   }

@@ -12,3 +12,4 @@ pub mod Strangers
 pub mod Waiting
 pub mod Stored
 pub mod Listed
+pub mod Touching

@@ -30,18 +30,12 @@ none_any : {X : Type 0} (test : X → Bool) → ((x : X) → test x ≡ false) �
 none_any test none [] = refl
 none_any test none (x ∷ xs) = ap (λ b. b || is_any test xs) (none x) ∙ none_any test none xs
 
-module _ (names : Names) (held : Held) (settings : List Setting) (h : Stands names held settings) (r : Request) (nobody : (n : ℕ) → names n ≢ Some r.owner) where
-  holds_nothing : (file : Bytes) (byte : ℕ) → mode_at settings file r.owner byte ≡ None
-  holds_nothing file byte = go (mode_at settings file r.owner byte) refl
-    where
-      go : (o : Option Mode) → mode_at settings file r.owner byte ≡ o → mode_at settings file r.owner byte ≡ None
-      go None e = e
-      go (Some m) e = let n = h.numbered r.owner file byte (λ none. none-some m (sym none ∙ e)) in absurd (nobody n.0 n.1)
-
+-- nobody waits for who holds nothing, and its waiting closes no cycle
+module _ (settings : List Setting) (r : Request) (nothing : (file : Bytes) (byte : ℕ) → mode_at settings file r.owner byte ≡ None) where
   keeps_nobody_out : (q : Request) → conflicts_with settings q r.owner ≡ false
   keeps_nobody_out q =
       none_any (λ byte. holds_against settings q byte r.owner)
-      (λ byte. ap (λ o. not (same_owner r.owner q.owner) && excludes o q.mode) (holds_nothing q.file byte) ∙ and-false (not (same_owner r.owner q.owner)))
+      (λ byte. ap (λ o. not (same_owner r.owner q.owner) && excludes o q.mode) (nothing q.file byte) ∙ and-false (not (same_owner r.owner q.owner)))
       (tested_bytes settings q)
 
   nobody_waits_for : (waiters : List Waiter) (y : Owner) → waits_for settings waiters y r.owner ≡ false
@@ -50,8 +44,18 @@ module _ (names : Names) (held : Held) (settings : List Setting) (h : Stands nam
       (λ w. ap (λ b. same_owner w.request.owner y && b) (keeps_nobody_out w.request) ∙ and-false (same_owner w.request.owner y))
       waiters
 
-  -- so that nobody waits for it, and its waiting closes no cycle
-  pub stranger_closes : (waiters : List Waiter) → closes_cycle settings waiters r ≡ false
-  stranger_closes waiters =
+  pub idle_closes : (waiters : List Waiter) → closes_cycle settings waiters r ≡ false
+  idle_closes waiters =
       ap (λ b. not (is_description r.owner) && b) (none_any (λ y. waits_for settings waiters y r.owner) (nobody_waits_for waiters) (reached_from settings waiters r))
       ∙ and-false (not (is_description r.owner))
+
+module _ (names : Names) (held : Held) (settings : List Setting) (h : Stands names held settings) (r : Request) (nobody : (n : ℕ) → names n ≢ Some r.owner) where
+  holds_nothing : (file : Bytes) (byte : ℕ) → mode_at settings file r.owner byte ≡ None
+  holds_nothing file byte = go (mode_at settings file r.owner byte) refl
+    where
+      go : (o : Option Mode) → mode_at settings file r.owner byte ≡ o → mode_at settings file r.owner byte ≡ None
+      go None e = e
+      go (Some m) e = let n = h.numbered r.owner file byte (λ none. none-some m (sym none ∙ e)) in absurd (nobody n.0 n.1)
+
+  pub stranger_closes : (waiters : List Waiter) → closes_cycle settings waiters r ≡ false
+  stranger_closes waiters = idle_closes settings r holds_nothing waiters

@@ -1,5 +1,5 @@
 -- What stays where somebody waits for a lock, or waits no longer.
-use Rattle.std.proofs.Common.{◌≡◌, ℕ, ◌+◌, ◌-◌, ◌<◌, ◌≤◌, List, [], ◌∷◌, ◌++◌, length, refl, sym, ap, ◌∙◌, subst, Option, Some, Result, Ok, Err, IsErr, OnOk, OnErr, arith}
+use Rattle.std.proofs.Common.{◌≡◌, ℕ, Bool, ◌+◌, ◌-◌, ◌<◌, ◌≤◌, List, [], ◌∷◌, ◌++◌, length, refl, sym, ap, ◌∙◌, subst, Option, Some, Result, Ok, Err, IsErr, OnOk, OnErr, arith}
 use Rattle.std.proofs.lemmas.List.{length-map}
 use Rattle.std.specs.Option.{IsSome}
 use Rattle.definitions.specs.Owners.{Owner}
@@ -16,7 +16,10 @@ use Rattle.blocked_list.specs.Waiting.{Taken, AreNamed, AreKnown, request_by, wa
 use Rattle.definitions.specs.Moves.{AreRanges}
 use Rattle.definitions.proofs.MoveLaws.{ranges_behind, ranges_without_first}
 use Rattle.lock_state.specs.declared.unsettled.Unsettled.{Unsettled}
-use Rattle.lock_state.specs.ReadyAt.{IsReadyAt, with_file}
+use Rattle.blocked_list.specs.declared.touched.Touched.{Touched}
+use Rattle.blocked_list.specs.Touches.{Spans}
+use Rattle.definitions.specs.Conflict.{conflicts}
+use Rattle.lock_state.specs.ReadyAt.{IsReadyAt, after_wait}
 use Rattle.lock_state.specs.Whole.{IsWhole, IsShown, AreWaitersShown}
 use Rattle.lock_state.proofs.ReadyAt.{ready_waiting, ready_without_first}
 use Rattle.lock_state.proofs.Shown.{waiters_without_first}
@@ -45,14 +48,14 @@ module _ {A E : Type 0} (r : Result A E) (names : List (Option Owner)) (settings
       let counted = h.counted in
       omega arith
 
-  pub whole_waiting : (x : Waiter) → waiters_by (names_of_owners names) left.waiters ≡ waiters_by (names_of_owners names) slots.waiters ++ x ∷ [] → AreNamed (names_of_owners names) left.waiters → left.calls ≡ slots.calls → IsShown x.request.owner → x.request.first ≤ x.request.last → IsWhole settings names left calls quotas (with_file unsettled x.request.file)
-  whole_waiting x by in_use same shown ordered = record {
+  pub whole_waiting : (x : Waiter) → waiters_by (names_of_owners names) left.waiters ≡ waiters_by (names_of_owners names) slots.waiters ++ x ∷ [] → AreNamed (names_of_owners names) left.waiters → left.calls ≡ slots.calls → IsShown x.request.owner → x.request.first ≤ x.request.last → (t : Touched) (out : Bool) → ((w : Touched) → Spans w t.file t.first t.last → Spans w x.request.file x.request.first x.request.last) → out ≡ conflicts settings x.request → IsWhole settings names left calls quotas (after_wait unsettled t out)
+  whole_waiting x by in_use same shown ordered t out own is = record {
     in_use = in_use;
     counted = same ∙ h.counted;
     shown = h.shown;
     waiters_shown = subst AreWaitersShown (sym by) (waiters_more (waiters_by (names_of_owners names) slots.waiters) x h.waiters_shown shown);
     ranges = subst AreRanges (sym by) (ranges_behind (waiters_by (names_of_owners names) slots.waiters) (x ∷ []) h.ranges (ordered, tt));
-    ready = subst (IsReadyAt (with_file unsettled x.request.file) quotas settings) (sym by) (ready_waiting unsettled quotas settings (waiters_by (names_of_owners names) slots.waiters) x h.ready);
+    ready = subst (IsReadyAt (after_wait unsettled t out) quotas settings) (sym by) (ready_waiting unsettled t out quotas settings (waiters_by (names_of_owners names) slots.waiters) x own is ordered h.ready);
   }
 
   pub whole_cancelled : (wanted : Run) → AreKnown (names_of_owners names) slots.waiters → IsSome (names_of_owners names wanted.owner)

@@ -9,8 +9,8 @@ ghost use Rattle.lock_state.specs.Seen.{KeepsKnown};
 
 use crate::quotas::{Stored, may_free};
 use crate::world::World;
-use blocked_list::Slots;
-use blocked_list::laws::close_frees_own_file;
+use blocked_list::laws::close_frees_own_bytes;
+use blocked_list::{Slots, Touched};
 use hosts_db::HostStore;
 use owner_ids::{Owner, Owners};
 use range_table::{FileId, RangeTable};
@@ -25,10 +25,10 @@ impl<R: RangeTable, S: HostStore> World<R, S> {
     {
         let (_, owners) = self.locks.parts();
         drop_waiters(&mut self.slots, owners, file, owner);
-        close_frees_own_file();
+        close_frees_own_bytes();
         let quotas = Stored { store: &self.store };
         let was_held = may_free(&self.locks, &quotas, owner);
-        self.unsettled = self.unsettled.after_change(file, was_held);
+        self.unsettled = self.unsettled.after_change(&Touched::whole(file), was_held);
         self.locks.drop_owner_on_file(file, owner);
     }
 }

@@ -37,7 +37,7 @@ pub(crate) fn is_limited<Q: Quotas>(quotas: &Q, owner: &Owner) -> bool
     limit_of(quotas, owner).is_some()
 }
 
-/// Whether others than those who wait for its file may have been held back by what a change of this owner's can free: by
+/// Whether others than those who wait for its bytes may have been held back by what a change of this owner's can free: by
 /// want of runs, or by a quota of its host.
 pub(crate) fn may_free<R: RangeTable, Q: Quotas>(
     locks: &Locks<R>,

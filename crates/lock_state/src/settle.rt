@@ -8,8 +8,8 @@ ghost use Rattle.lock_state.specs.Seen.{IsIdle};
 use crate::quotas::{Stored, is_limited};
 use crate::unsettled::Unsettled;
 use crate::world::World;
-use blocked_list::laws::setting_frees_own_file;
-use blocked_list::{Grantor, settle};
+use blocked_list::laws::setting_frees_own_bytes;
+use blocked_list::{Grantor, Touched, settle};
 use hosts_db::HostStore;
 use range_table::RangeTable;
 
@@ -34,9 +34,9 @@ impl<R: RangeTable, S: HostStore> World<R, S> {
         let quotas = Stored { store: &self.store };
         match &self.unsettled {
             Unsettled::Nowhere => None,
-            Unsettled::On(file) => {
+            Unsettled::On(touched) => {
                 self.slots
-                    .next_grantable_on(table, owners, &self.locks, &quotas, file)
+                    .next_grantable_on(table, owners, &self.locks, &quotas, touched)
             }
             Unsettled::Anywhere => self
                 .slots
@@ -61,13 +61,13 @@ impl<R: RangeTable, S: HostStore> Grantor for World<R, S> {
             self.unsettled = Unsettled::Nowhere;
             return false;
         };
-        setting_frees_own_file();
+        setting_frees_own_bytes();
         let _free = self.slots.free();
         let waiter = self.slots.grant(place);
         let wanted = waiter.wanted();
         let quotas = Stored { store: &self.store };
         let was_held = is_limited(&quotas, self.locks.owner(wanted.owner));
-        self.unsettled = self.unsettled.after_grant(was_held);
+        self.unsettled = self.unsettled.after_change(&Touched::of(wanted), was_held);
         let _ = self.locks.set_run(waiter.asked());
         self.calls.make_due(self.next, waiter.into_callback());
         self.next = self.next.wrapping_add(1);

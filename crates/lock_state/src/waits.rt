@@ -9,7 +9,7 @@ ghost use Rattle.lock_state.specs.Seen.{Knows};
 ghost use Rattle.lock_state.specs.Whole.{IsShown};
 
 use crate::world::World;
-use blocked_list::{NotWaiting, Waiter};
+use blocked_list::{NotWaiting, Touched, Waiter};
 use callbacks::Callback;
 use held_locks::Request;
 use hosts_db::HostStore;
@@ -53,10 +53,13 @@ impl<R: RangeTable, S: HostStore> World<R, S> {
     }
 
     /// Whether the owner, if it waited for this lock, would wait for itself, directly or through others (POSIX fcntl,
-    /// EDEADLK).
+    /// EDEADLK). Nobody waits for an owner that holds nothing, and then no waiter is looked at.
     pub fn closes_cycle(&self, wanted: &Request<'_>) -> bool
         ensures { result ≡ closes_cycle self.now.world.settings self.now.world.waiters (view_of_request wanted.now) }
     {
+        if self.locks.idle_number(wanted.owner).is_some() {
+            return false;
+        }
         let (table, owners) = self.locks.parts();
         match owners.number(wanted.owner) {
             Some(number) => self
@@ -78,8 +81,10 @@ impl<R: RangeTable, S: HostStore> World<R, S> {
         let Some(number) = owners.number(wanted.owner) else {
             unreachable!();
         };
-        self.unsettled = self.unsettled.with_file(&wanted.file);
         let waiter = Waiter::new(wanted.by_number(number), callback);
+        let touched = Touched::of(waiter.wanted());
+        let is_kept_out = self.locks.conflicts(wanted);
+        self.unsettled = self.unsettled.after_wait(&touched, is_kept_out);
         let _ = self.slots.block(waiter);
     }
 

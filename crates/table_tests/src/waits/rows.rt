@@ -5,7 +5,8 @@
 //! - `block b/7/ read 0 0 = 12`: the waiter 12 waits for that lock. `full ..`: it can't, since no place is free.
 //! - `may-block b/7/ read 0 0`: one may wait for it. `deadlock ..`, `no-slots ..`: one may not.
 //! - `cancel b/7/ read 0 0`: who waits for it waits no longer. `absent ..`: nobody does.
-//! - `grants 12`: the waiter 12 is granted next, or none if 0. `grants-on 2 12`: the same after a change of file 2.
+//! - `grants 12`: the waiter 12 is granted next, or none if 0. `grants-on 2 0 9 12`: the same after a change of the
+//!   bytes 0 to 9 of file 2.
 //! - `fill a/7/ 14`: so many wait, one for each byte, on the files 0 to 6 by turns.
 //! - `close a/7/ 3`: it closes file 3. `drop-host a`, `clear`: the host's waiters go, or all.
 //! - `take 5`: so many places go to calls. `too-many 5`: fewer are free. `lend 5`: they come back.
@@ -36,10 +37,45 @@ const CASES: &[Worked] = &[
             "block a/7/ read 0 20 = 13",
             "grants 0",
             "set d/7/ none 20 20",
-            "grants-on 2 0",
-            "grants-on 1 13",
+            "grants-on 2 20 20 0",
+            "grants-on 1 21 30 0",
+            "grants-on 1 20 20 13",
             "set a/7/ read 0 20",
             "grants 12",
+        ],
+    ),
+    // The bytes of those who wait begin or end just beside those that are looked at, or share one with them.
+    (
+        "touched_by_a_byte",
+        &[
+            "owner a/7/",
+            "owner b/7/",
+            "block a/7/ read 10 19 = 1",
+            "block b/7/ read 15 30 = 2",
+            "grants-on 1 0 9 0",
+            "grants-on 1 31 40 0",
+            "grants-on 1 20 40 2",
+            "grants-on 1 20 40 0",
+            "grants-on 1 0 10 1",
+            "grants-on 1 0 40 0",
+        ],
+    ),
+    // Many wait for a byte each, on some files; and one for all those bytes of one, alone at last on its file.
+    (
+        "one_of_many",
+        &[
+            "owner a/7/",
+            "owner b/7/",
+            "fill a/7/ 1400",
+            "block b/7/ read 0 2000 = 2000",
+            "grants-on 1 1394 1394 1394",
+            "grants-on 2 700 2000 702",
+            "grants-on 9 0 2000 0",
+            "close a/7/ 1",
+            "grants-on 1 2001 3000 0",
+            "grants-on 1 1394 1394 2000",
+            "grants-on 1 0 2000 0",
+            "waiters 1199",
         ],
     ),
     // a holds 1 and b holds 2, for which a waits; then b asks for 1.

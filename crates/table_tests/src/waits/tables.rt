@@ -3,7 +3,7 @@ ghost use Rattle.std.specs.Prelude.{None};
 
 use crate::owner::{intern, number};
 use crate::row::{Case, Row, Span};
-use blocked_list::{NoSlots, NotWaiting, Quotas, Slots, Waiter};
+use blocked_list::{NoSlots, NotWaiting, Quotas, Slots, Touched, Waiter};
 use callbacks::{Callback, Destination, Message, ShortBytes};
 use held_locks::RunsOfHosts;
 use owner_ids::{OwnerId, Owners};
@@ -138,11 +138,11 @@ impl Tables {
         grant(&mut self.slots, place)
     }
 
-    // The same after a change of this file.
-    fn grants_on(&mut self, file: &FileId) -> u64 {
+    // The same after a change of these bytes.
+    fn grants_on(&mut self, touched: &Touched) -> u64 {
         let place = self
             .slots
-            .next_grantable_on(&self.table, &self.owners, &Unlimited, &Unlimited, file);
+            .next_grantable_on(&self.table, &self.owners, &Unlimited, &Unlimited, touched);
         grant(&mut self.slots, place)
     }
 
@@ -229,14 +229,21 @@ impl Case for Tables {
     }
 
     fn goes(&mut self, row: &Row<'_>) -> Option<bool> {
-        let [first, second, ..] = row.numbers;
+        let [first, second, third, fourth] = row.numbers;
         if let Some(owner) = self.number(row.who) {
             return self.goes_by(owner, row);
         }
         match row.verb {
             "owner" => Some(intern(self.alloc, &mut self.owners, row.who).is_some()),
             "grants" => Some(self.grants() == first),
-            "grants-on" => Some(self.grants_on(&file(first)) == second),
+            "grants-on" => {
+                let touched = Touched {
+                    file: file(first),
+                    first: second,
+                    last: third,
+                };
+                Some(self.grants_on(&touched) == fourth)
+            }
             "drop-host" => {
                 self.slots.drop_host(&self.owners, row.who.as_bytes());
                 Some(true)

@@ -6,6 +6,7 @@ use Rattle.std.proofs.lemmas.List.{length_push}
 use Rattle.std.specs.Vec.{vec_capacity}
 use Rattle.range_table.specs.declared.run.Run.{Run}
 use Rattle.blocked_list.proofs.Tallies.{counted_few, counted_more}
+use Rattle.blocked_list.proofs.Bounded.{in_more}
 use Rattle.blocked_list.proofs.Waits.{named_push}
 use Rattle.blocked_list.proofs.slots.Slots.block.Goals as goal
 
@@ -20,6 +21,15 @@ add-requires-clause-before c =
     subst (λ (vs : List Waiting). IsIndex (file_at vs) c.len-place.result c.self.inside.by_file) (sym at)
     (subst (λ (n : ℕ). IsIndex (file_at (ws ++ c.args.waiter ∷ [])) n c.self.inside.by_file) (sym place)
     (index_pushed ws c.args.waiter c.self.inside.by_file c.self.invariant.2))
+
+pub widen-requires : goal.widen-requires
+widen-requires c =
+    let some = c.if-free-eq0.false in
+    let free = c.free.ensures.free in
+    let same = ap (λ (t : Taken). length t.waiters) c.self.view_is in
+    let l = c.len-place.ensures in
+    let ok = c.self.inside.waiters.ok.0 in
+    omega arith
 
 pub add-requires-2 : goal.add-requires-2
 add-requires-2 c =
@@ -49,4 +59,5 @@ invariant_of-self c =
       room,
       subst (λ n. IsIndex (file_at c.push_reserved.new.self.items) n c.add.new.self) place (subst (λ (vs : List Waiting). IsIndex (file_at vs) (c.len-place.result + 1) c.add.new.self) at c.add.ensures),
       rw (items, c.add-2.ensures) (counted_more c.self.inside.by_owner c.wanted.result.now.owner ws c.self.invariant.3 c.args.waiter is),
+      rw (items, c.widen.ensures, c.wanted-2.ensures.wanted) (in_more ws c.args.waiter c.self.inside.hulls c.len-place.result (let l = c.len-place.ensures in let ok = c.self.inside.waiters.ok.0 in omega arith) (let l = c.len-place.ensures in let ok = c.self.inside.waiters.ok.0 in omega arith) c.self.invariant.4),
     )

@@ -7,6 +7,7 @@ use Rattle.blocked_list.specs.Waiting.{Waiting, AreNamed, waiter_by, waiters_by}
 use Rattle.std.specs.List.{filter}
 use Rattle.blocked_list.specs.ByFile.{IsIndex, file_at}
 use Rattle.blocked_list.specs.ByOwner.{AreCounted}
+use Rattle.blocked_list.specs.Hulls.{AreIn}
 use Rattle.blocked_list.proofs.Parts.{kept_whole}
 use Rattle.blocked_list.proofs.Waits.{without_agrees, host_agrees, named_filter}
 use Rattle.blocked_list.proofs.slots.Slots.drop_host.Goals as goal
@@ -38,3 +39,10 @@ renew_after-requires-2-clause-same c = λ few.
     let kept : c.retain.new.self.items ≡ filter t c.self.inside.waiters.items = filter_same _ t _ (λ x b f' k. search rules) _ _ c.retain.ensures.filtered in
     let long : length c.self.inside.waiters.items ≤ length c.deref-2.result.now = (let e = c.len-before.ensures in let ok = c.self.inside.waiters.ok.0 in omega arith) in
     subst (λ (vs : List Waiting). AreCounted vs c.self.inside.by_owner) (sym (kept_whole t _ _ _ kept c.deref-2.ensures.value long)) c.self.invariant.3
+
+pub refresh_after-requires-clause-same : goal.refresh_after-requires-clause-same
+refresh_after-requires-clause-same c = λ few.
+    let t = λ (w : Waiting). not (is_owned_by (names_of_owners c.args.owners.now) c.args.name.now w.wanted.owner) in
+    let kept : c.retain.new.self.items ≡ filter t c.self.inside.waiters.items = filter_same _ t _ (λ x b f' k. search rules) _ _ c.retain.ensures.filtered in
+    let long : length c.self.inside.waiters.items ≤ length c.deref-3.result.now = (let e = c.len-before.ensures in let ok = c.self.inside.waiters.ok.0 in omega arith) in
+    subst (λ (vs : List Waiting). AreIn vs c.self.inside.hulls) (sym (kept_whole t _ _ _ kept c.deref-3.ensures.value long)) c.self.invariant.4

@@ -7,6 +7,7 @@ use Rattle.blocked_list.specs.Waiting.{Waiting, AreNamed, owner_at, waiter_by, w
 use Rattle.std.specs.List.{filter}
 use Rattle.blocked_list.specs.ByFile.{IsIndex, file_at}
 use Rattle.blocked_list.specs.ByOwner.{AreCounted}
+use Rattle.blocked_list.specs.Hulls.{AreIn}
 use Rattle.blocked_list.proofs.Parts.{kept_whole}
 use Rattle.blocked_list.proofs.Waits.{without_agrees, owner_on_agrees, named_filter}
 use Rattle.blocked_list.proofs.slots.Slots.drop_owner_on_file.Goals as goal
@@ -37,3 +38,10 @@ renew_after-requires-2-clause-same c = λ few.
     let kept : c.retain.new.self.items ≡ filter t c.self.inside.waiters.items = filter_same _ t _ (λ x b f' k. search rules) _ _ c.retain.ensures.filtered in
     let long : length c.self.inside.waiters.items ≤ length c.deref-2.result.now = (let e = c.len-before.ensures in let ok = c.self.inside.waiters.ok.0 in omega arith) in
     subst (λ (vs : List Waiting). AreCounted vs c.self.inside.by_owner) (sym (kept_whole t _ _ _ kept c.deref-2.ensures.value long)) c.self.invariant.3
+
+pub refresh_after-requires-clause-same : goal.refresh_after-requires-clause-same
+refresh_after-requires-clause-same c = λ few.
+    let t = λ (w : Waiting). not (same_bytes w.wanted.file c.args.file.now && (w.wanted.owner == c.args.owner)) in
+    let kept : c.retain.new.self.items ≡ filter t c.self.inside.waiters.items = filter_same _ t _ (λ x b f' k. search rules) _ _ c.retain.ensures.filtered in
+    let long : length c.self.inside.waiters.items ≤ length c.deref-3.result.now = (let e = c.len-before.ensures in let ok = c.self.inside.waiters.ok.0 in omega arith) in
+    subst (λ (vs : List Waiting). AreIn vs c.self.inside.hulls) (sym (kept_whole t _ _ _ kept c.deref-3.ensures.value long)) c.self.invariant.4

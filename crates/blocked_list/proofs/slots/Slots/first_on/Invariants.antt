@@ -11,4 +11,4 @@ use Rattle.blocked_list.proofs.Parts.{passes_at}
 use Rattle.blocked_list.proofs.slots.Slots.first_on.Given as goal
 
 abbrev pub invariant-loop-place : goal.invariant-loop-place
-invariant-loop-place g l = (settings : List Setting) → Stands (names_of_owners l.owners) (mode_at (g.T.RangeTable.settings l.table)) settings → AreKnown (names_of_owners l.owners) l.self.waiters → AreRunsOf (g.H.RunsOfHosts.runs l.hosts) settings → is_any (passes_at (is_ready_on l.file (g.Q.Quotas.by_host l.quotas) settings) (waiters_by (names_of_owners l.owners) l.self.waiters)) (take l.place-index l.place-items) ≡ false
+invariant-loop-place g l = (settings : List Setting) → Stands (names_of_owners l.owners) (mode_at (g.T.RangeTable.settings l.table)) settings → AreKnown (names_of_owners l.owners) l.self.waiters → AreRunsOf (g.H.RunsOfHosts.runs l.hosts) settings → is_any (passes_at (is_ready_on l.touched (g.Q.Quotas.by_host l.quotas) settings) (waiters_by (names_of_owners l.owners) l.self.waiters)) (take l.place-index l.part) ≡ false

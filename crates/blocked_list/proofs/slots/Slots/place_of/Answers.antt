@@ -1,8 +1,19 @@
-use Rattle.std.proofs.Common.{◌∙◌, ◌≡◌, List, sym, ap, length, arith}
+use Rattle.std.proofs.Common.{◌∙◌, ◌≡◌, ◌==◌, ◌%◌, List, sym, ap, length, arith}
 use Rattle.blocked_list.specs.ByFile.{below, file_at, places_of}
 use Rattle.blocked_list.specs.Waiting.{Waiting, same_wanted}
-use Rattle.blocked_list.proofs.Parts.{part_inside, part_found, part_next, part_none, wanted_off}
+use Rattle.std.proofs.lemmas.Bool.{eqb-true}
+use Rattle.definitions.proofs.Lists.{any_found}
+use Rattle.blocked_list.proofs.Tallies.{tally_none}
+use Rattle.blocked_list.proofs.Parts.{part_inside, part_found, part_next, part_none, wanted_off, nobody_of_owner}
 use Rattle.blocked_list.proofs.slots.Slots.place_of.Goals as goal
+
+pub returns-then-is_nobody : goal.returns-then-is_nobody
+returns-then-is_nobody c =
+    let ws = c.self.inside.waiters.items in
+    let owner = c.args.wanted.now.owner in
+    let zero = eqb-true _ 0 (sym c.is_nobody.ensures ∙ c.if-is_nobody.true) in
+    let none = tally_none owner ws (sym (c.self.invariant.3.each (owner % 8192)) ∙ zero) in
+    rw (← c.self.view_is) (nobody_of_owner c.args.wanted.now ws (sym (any_found (λ (w : Waiting). w.wanted.owner == owner) ws) ∙ none))
 
 pub index-requires : goal.index-requires
 index-requires c =

@@ -81,8 +81,8 @@ invariant_of-self-2 g c =
     let left = c.grant-waiter.ensures.named (names_of_owners names) c.self.invariant.in_use in
     let ordered = subst (λ r. r.first ≤ r.last) c.wanted-wanted.ensures.wanted c.wanted-wanted.ensures.ordered in
     let inside = subst (λ r. r.last < 2 ^ 63) c.wanted-wanted.ensures.wanted c.wanted-wanted.ensures.inside in
-    rw (settings_are g c, c.set_run.ensures.names, c.make_due.ensures, c.into_callback.ensures, c.after_grant-self-inside.ensures)
-    (whole_granted names settings c.self.inside.slots c.grant-waiter.new.self c.self.inside.calls c.grant-waiter.result (quotas_of (g.S.HostStore.rows c.self.inside.store)) c.self.inside.unsettled c.self.invariant there left.1 c.self.inside.next c.is_limited-was_held.result (held g c) gone left.0 c.grant-waiter.ensures.calls ordered inside c.setting_frees_own_file.ensures)
+    rw (settings_are g c, c.set_run.ensures.names, c.make_due.ensures, c.into_callback.ensures, c.after_change-self-inside.ensures, c.of.ensures, c.wanted-wanted.ensures.wanted)
+    (whole_granted names settings c.self.inside.slots c.grant-waiter.new.self c.self.inside.calls c.grant-waiter.result (quotas_of (g.S.HostStore.rows c.self.inside.store)) c.self.inside.unsettled c.self.invariant there left.1 c.self.inside.next c.is_limited-was_held.result (held g c) gone left.0 c.grant-waiter.ensures.calls ordered inside c.setting_frees_own_bytes.ensures)
 
 abbrev world : (g : Over) → goal.After-self-3-1 g → World
 world g c = record {

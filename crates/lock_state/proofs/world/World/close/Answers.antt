@@ -21,8 +21,8 @@ invariant_of-self g c =
     let left = c.drop_waiters.new.slots in
     let by = subst (λ ns. waiters_by (names_of_owners ns) left.waiters ≡ without_waiters_on file x (waiters_by (names_of_owners ns) slots.waiters)) c.parts.ensures.names c.drop_waiters.ensures.by in
     let in_use = subst (λ ns. AreNamed (names_of_owners ns) left.waiters) c.parts.ensures.names c.drop_waiters.ensures.named in
-    rw (c.drop_owner_on_file.ensures.settings, c.drop_owner_on_file.ensures.names, c.after_change-self-inside.ensures)
-    (whole_closed c.self.inside.locks.names file x c.self.inside.locks.settings slots left c.self.inside.calls (quotas_of (g.S.HostStore.rows c.self.inside.store)) c.self.inside.unsettled c.may_free-was_held.result c.self.invariant c.close_frees_own_file.ensures c.may_free-was_held.ensures by in_use c.drop_waiters.ensures.calls)
+    rw (c.drop_owner_on_file.ensures.settings, c.drop_owner_on_file.ensures.names, c.after_change-self-inside.ensures, c.whole.ensures)
+    (whole_closed c.self.inside.locks.names file x c.self.inside.locks.settings slots left c.self.inside.calls (quotas_of (g.S.HostStore.rows c.self.inside.store)) c.self.inside.unsettled c.may_free-was_held.result c.self.invariant c.close_frees_own_bytes.ensures c.may_free-was_held.ensures by in_use c.drop_waiters.ensures.calls)
 
 pub returns-clause-world : goal.returns-clause-world
 returns-clause-world g c =

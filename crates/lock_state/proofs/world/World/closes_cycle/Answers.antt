@@ -1,4 +1,5 @@
-use Rattle.std.proofs.Common.{◌≡◌, ◌≢◌, ◌∙◌, ℕ, false, Some, ap, sym, subst}
+use Rattle.std.proofs.Common.{◌≡◌, ◌≢◌, ◌∙◌, ℕ, true, false, Option, Some, None, is_some, IfSome, ap, sym, subst}
+use Rattle.std.proofs.lemmas.Bool.{false≢true}
 use Rattle.std.proofs.lemmas.Option.{none-some}
 use Rattle.definitions.specs.Settings.{Request}
 use Rattle.definitions.specs.Waits.{closes_cycle}
@@ -8,9 +9,22 @@ use Rattle.owner_ids.specs.Views.{view_of_owner}
 use Rattle.held_locks.specs.Asked.{view_of_request}
 use Rattle.blocked_list.specs.Waiting.{AreNamed, AreKnown, waiters_by}
 use Rattle.lock_state.specs.Seen.{Seen}
-use Rattle.lock_state.proofs.Strangers.{stranger_closes}
+use Rattle.lock_state.proofs.Strangers.{idle_closes, stranger_closes}
 use Rattle.lock_state.proofs.Waiting.{request_is, is_known}
 use Rattle.lock_state.proofs.world.World.closes_cycle.Goals as goal
+
+some_of : {X P : Type 0} (o : Option X) → is_some o ≡ true → IfSome o (λ x. P) → P
+some_of None e p = absurd (false≢true e)
+some_of (Some x) e p = p
+
+pub returns-then-is_some : goal.returns-then-is_some
+returns-then-is_some g c =
+    let settings = c.self.inside.locks.settings in
+    let ws = c.self.inside.slots.waiters in
+    let r = view_of_request c.args.wanted.now in
+    let nothing = some_of c.idle_number.result (sym c.is_some.ensures ∙ c.if-is_some.true) c.idle_number.ensures.idle in
+    subst (λ (s : Seen). false ≡ closes_cycle s.world.settings s.world.waiters r) c.self.view_is
+    (sym (idle_closes settings r nothing (waiters_by (names_of_owners c.self.inside.locks.names) ws)))
 
 pub returns-in-Some : goal.returns-in-Some
 returns-in-Some g c =

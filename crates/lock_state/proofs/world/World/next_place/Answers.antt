@@ -40,7 +40,7 @@ returns-in-On-clause-first g c =
     let quotas = quotas_of (g.S.HostStore.rows c.self.inside.store) in
     let ready = subst (λ u. IsReadyAt u quotas c.self.inside.locks.settings (waiters_by (names_of_owners c.self.inside.locks.names) c.self.inside.slots.waiters)) c.in-On.is c.self.invariant.ready in
     subst (λ (s : Seen). IsFirstPlace (is_ready_in the_limits s.world) s.world.waiters c.next_grantable_on.result) c.self.view_is
-    (said (g.R.RangeTable.settings c.parts.result.0.now) (λ settings waiters. IsFirstReadyOn c.in-On.file quotas settings waiters c.next_grantable_on.result) c.parts.ensures.stands c.parts.ensures.names c.self.invariant.in_use c.next_grantable_on.ensures.first ready)
+    (said (g.R.RangeTable.settings c.parts.result.0.now) (λ settings waiters. IsFirstReadyOn c.in-On.touched quotas settings waiters c.next_grantable_on.result) c.parts.ensures.stands c.parts.ensures.names c.self.invariant.in_use c.next_grantable_on.ensures.first ready)
 
 pub returns-in-Anywhere-clause-first : goal.returns-in-Anywhere-clause-first
 returns-in-Anywhere-clause-first g c =
