@@ -70,6 +70,7 @@ impl<'a, P: Place, L: Ledger, T: RangeTable + Drop, S: HostStore + Drop, G: Gate
             &self.connection_tables.callers,
             home,
             self.stop_signals,
+            self.status.traffic(),
         );
         let mut outbox = ReplyBuffer::new(self.alloc, sockets);
         let origin = Origin {
@@ -78,7 +79,11 @@ impl<'a, P: Place, L: Ledger, T: RangeTable + Drop, S: HostStore + Drop, G: Gate
             put: 0,
         };
         let mut source = Source {
-            stream: Incoming::new(accepted.connection.stream(), self.stop_signals),
+            stream: Incoming::new(
+                accepted.connection.stream(),
+                self.stop_signals,
+                self.status.traffic(),
+            ),
             bound: MOST_READS,
             origin,
         };
@@ -214,6 +219,7 @@ impl<
             &self.connection_tables.callers,
             None,
             self.stop_signals,
+            self.status.traffic(),
         );
         let mut outbox = ReplyBuffer::new(self.alloc, sockets);
         worker.work(rt, self.channel, self.shared, self.gate, &mut outbox);

@@ -1,5 +1,6 @@
 //! What comes in from a caller.
 use crate::signals::StopSignals;
+use crate::traffic::Traffic;
 use line_loop::Signals;
 use std::io::{self, Read};
 use std::net::TcpStream;
@@ -10,13 +11,20 @@ use std::net::TcpStream;
 pub(crate) struct Incoming<'a> {
     stream: &'a TcpStream,
     stop_signals: &'a StopSignals,
+    // Where it is counted.
+    traffic: Option<&'a Traffic>,
 }
 
 impl<'a> Incoming<'a> {
-    pub(crate) fn new(stream: &'a TcpStream, stop_signals: &'a StopSignals) -> Incoming<'a> {
+    pub(crate) fn new(
+        stream: &'a TcpStream,
+        stop_signals: &'a StopSignals,
+        traffic: Option<&'a Traffic>,
+    ) -> Incoming<'a> {
         Incoming {
             stream,
             stop_signals,
+            traffic,
         }
     }
 }
@@ -27,6 +35,14 @@ impl<'a> Read for Incoming<'a> {
             return Ok(0);
         }
         let mut from = self.stream;
-        from.read(buf)
+        match from.read(buf) {
+            Ok(read) => {
+                if let Some(traffic) = self.traffic {
+                    traffic.add_received(read);
+                }
+                Ok(read)
+            }
+            Err(error) => Err(error),
+        }
     }
 }

@@ -17,6 +17,7 @@ mod serving;
 mod settings;
 mod signals;
 mod sockets;
+mod traffic;
 mod unnamed;
 pub mod worker_pool;
 

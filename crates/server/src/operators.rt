@@ -2,12 +2,14 @@
 use crate::context::ConnectionTables;
 use crate::settings::ServerSettings;
 use crate::signals::StopSignals;
+use crate::traffic::Traffic;
+use event_counts::Counts;
 use hosts_db::HostStore;
 use job_queue::Place;
 use line_loop::Signals;
 use page_loop::Pages;
 use range_table::RangeTable;
-use status_lists::{Board, Moment, OpenConnections, look_at};
+use status_lists::{Board, Moment, OpenConnections, TrafficBytes, look_at};
 use status_pages::{Page, Starved};
 use std::alloc::Global;
 use std::io::{self, ErrorKind, Read, Write};
@@ -52,6 +54,9 @@ pub(crate) struct Status {
     board: Mutex<Board>,
     // None where the clock failed: time stands still then.
     started: Option<Instant>,
+    // None where there is no status port.
+    traffic: Option<Traffic>,
+    version: &'static str,
 }
 
 // The second since 1970, and 0 where the clock fails.
@@ -78,7 +83,14 @@ impl Status {
             alloc,
             board: Mutex::new(Board::new(alloc, own_state, grace, seconds_since_1970(rt))),
             started: Instant::now(rt).ok(),
+            traffic: settings.status_port.is_some().then(|| Traffic::new()),
+            version: settings.version,
         }
+    }
+
+    /// Where the bytes of connections for calls are counted, if anybody can ask for them.
+    pub(crate) fn traffic(&self) -> Option<&Traffic> {
+        self.traffic.as_ref()
     }
 
     // How long the server runs, in seconds.
@@ -97,7 +109,9 @@ impl Status {
         rt: &R,
         shared: &Mutex<Shared<T, S, L>>,
     ) {
-        let look = look_at(self.alloc, shared.lock(rt).book(), Page::Status);
+        // What is counted isn't kept.
+        let mut counts = Counts::new();
+        let look = look_at(self.alloc, &shared.lock(rt), Page::Status, &mut counts);
         if let Ok(look) = look {
             let now = self.now(rt);
             let _ = self.board.lock(rt).see(look, now);
@@ -142,15 +156,36 @@ where
 {
     fn page(&mut self, page: Page) -> Result<Vec<u8>, Starved> {
         // The book's lock is free again behind the look, and no two locks are held at once.
-        let look = look_at(self.status.alloc, self.shared.lock(self.rt).book(), page)?;
+        let mut counts = Counts::new();
+        let look = look_at(
+            self.status.alloc,
+            &self.shared.lock(self.rt),
+            page,
+            &mut counts,
+        )?;
         let open = OpenConnections {
             calls: self.connection_tables.callers.lock(self.rt).count() as u64,
             local: self.connection_tables.locals.lock(self.rt).count() as u64,
             status: self.connection_tables.operators.lock(self.rt).count() as u64,
         };
         let now = self.status.now(self.rt);
-        let moment = Moment { now, open };
-        self.status.board.lock(self.rt).page(page, look, moment)
+        let traffic = match self.status.traffic() {
+            Some(traffic) => traffic.bytes(),
+            None => TrafficBytes {
+                received: 0,
+                sent: 0,
+            },
+        };
+        let moment = Moment {
+            now,
+            open,
+            traffic,
+            version: self.status.version,
+        };
+        self.status
+            .board
+            .lock(self.rt)
+            .page(page, look, &counts, moment)
     }
 }
 

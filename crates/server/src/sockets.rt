@@ -1,6 +1,7 @@
 //! Replies are written to the connections that their calls came on.
 ghost use Rattle.std.specs.Prelude.{◌≡◌, []};
 
+use crate::traffic::Traffic;
 use connections::{Connection, ConnectionTable, Lost, Patience};
 use line_loop::Signals;
 use reply_outbox::{ReplySockets, SocketEffects};
@@ -27,6 +28,8 @@ pub(crate) struct CallerSockets<'a, 'h, K, Q, R> {
     // The connection of whoever answers, if it has one.
     home: Option<&'h Arc<Connection, Global>>,
     signals: &'a Q,
+    // Where what is written is counted.
+    traffic: Option<&'a Traffic>,
     effects: SocketEffects,
 }
 
@@ -38,6 +41,7 @@ impl<'a, 'h, K: Drop, Q: Signals, R: Wait> CallerSockets<'a, 'h, K, Q, R> {
         callers: &'a Mutex<ConnectionTable<K>>,
         home: Option<&'h Arc<Connection, Global>>,
         signals: &'a Q,
+        traffic: Option<&'a Traffic>,
     ) -> CallerSockets<'a, 'h, K, Q, R>
         ensures { result.effects ≡ [] }
     {
@@ -46,6 +50,7 @@ impl<'a, 'h, K: Drop, Q: Signals, R: Wait> CallerSockets<'a, 'h, K, Q, R> {
             callers,
             home,
             signals,
+            traffic,
             effects: SocketEffects::new(),
         }
     }
@@ -84,7 +89,12 @@ impl<'a, 'h, K: Drop, Q: Signals, R: Wait> ReplySockets for CallerSockets<'a, 'h
             return;
         };
         match self.send(&to, bytes) {
-            Ok(()) => self.effects.add_write(connection, bytes),
+            Ok(()) => {
+                if let Some(traffic) = self.traffic {
+                    traffic.add_sent(bytes.len());
+                }
+                self.effects.add_write(connection, bytes)
+            }
             Err(Lost) => self.effects.add_break(connection),
         }
         to.count_done(jobs);

@@ -1,13 +1,15 @@
 //! Pages are made of looks.
+ghost use Rattle.std.specs.Prelude.{◌≡◌, length, map, IfOk, OnOk};
+ghost use Rattle.status_lists.specs.Pages.{IsPageOf, IsPageWith};
+ghost use Rattle.status_pages.specs.Waits.{lock_of};
+
 use crate::looks::Look;
+use event_counts::Counts;
 use status_pages::{
     Lists, LockRow, Numbers, Page, Shown, Starved, StateNumbers, Waiting, hosts_page, index_page,
     known_since, locks_page, metrics_page, status_page, waiters_page,
 };
 use std::alloc::Global;
-
-/// The program's version.
-pub const VERSION: &str = "1.0.0";
 
 /// How many connections are open.
 #[derive(Clone, Copy)]
@@ -20,12 +22,23 @@ pub struct OpenConnections {
     pub status: u64,
 }
 
-/// What is known of the moment of a look beside the book.
+/// How many bytes connections for calls carried so far.
+#[derive(Clone, Copy)]
+pub struct TrafficBytes {
+    pub received: u64,
+    /// Of replies.
+    pub sent: u64,
+}
+
+/// What is known at a look beside the book.
 #[derive(Clone, Copy)]
 pub struct Moment {
     /// How long the server runs, in seconds.
     pub now: u64,
     pub open: OpenConnections,
+    pub traffic: TrafficBytes,
+    /// The program's.
+    pub version: &'static str,
 }
 
 /// Makes pages, and keeps between them what one look alone doesn't show: since when who waits is known to wait, and when the grace
@@ -70,7 +83,9 @@ impl Board {
         self.see_waiters(look.lists.waiters, now)
     }
 
-    fn see_waiters(&mut self, waiters: Vec<LockRow>, now: u64) -> Result<(), Starved> {
+    fn see_waiters(&mut self, waiters: Vec<LockRow>, now: u64) -> Result<(), Starved>
+        ensures { OnOk result (map lock_of self.new.waiting.items ≡ waiters.items) }
+    {
         self.waiting = known_since(self.alloc, &self.waiting, waiters, now)?;
         Ok(())
     }
@@ -85,19 +100,31 @@ impl Board {
             .saturating_sub(now)
     }
 
-    fn numbers(&self, state: StateNumbers, moment: Moment) -> Numbers {
+    fn numbers(&self, state: StateNumbers, moment: Moment) -> Numbers
+        ensures { result.state ≡ state }
+    {
         Numbers {
             state,
             grace_left: self.grace_left(&state, moment.now),
             call_connections: moment.open.calls,
             local_connections: moment.open.local,
             status_connections: moment.open.status,
+            received_bytes: moment.traffic.received,
+            sent_bytes: moment.traffic.sent,
             started: self.started,
         }
     }
 
-    /// The page, of a look at this moment. `Starved`: there is no memory for it.
-    pub fn page(&mut self, page: Page, look: Look, moment: Moment) -> Result<Vec<u8>, Starved> {
+    /// The page, of a look at this moment and of the counters that it found. `Starved`: there is no memory for it.
+    pub fn page(
+        &mut self,
+        page: Page,
+        look: Look,
+        counts: &Counts,
+        moment: Moment,
+    ) -> Result<Vec<u8>, Starved>
+        ensures { IfOk result (λ text. IsPageOf page look.numbers counts.now look.lists moment.version.now text.items) }
+    {
         let Look { numbers, lists } = look;
         let Lists {
             locks,
@@ -114,17 +141,26 @@ impl Board {
             hosts: &hosts,
             now: moment.now,
         };
-        page_of(self.alloc, page, &shown)
+        let text = page_of(self.alloc, page, &shown, counts, moment.version)?;
+        Ok(text)
     }
 }
 
-fn page_of(alloc: Global, page: Page, shown: &Shown<'_>) -> Result<Vec<u8>, Starved> {
+fn page_of(
+    alloc: Global,
+    page: Page,
+    shown: &Shown<'_>,
+    counts: &Counts,
+    version: &str,
+) -> Result<Vec<u8>, Starved>
+    ensures { IfOk result (λ text. IsPageWith page shown.entry.now.numbers.now (length shown.entry.now.locks.now) (length shown.entry.now.waiters.now) (length shown.entry.now.hosts.now) counts.now version.now text.items) }
+{
     match page {
         Page::Index => index_page(alloc, shown),
-        Page::Metrics => metrics_page(alloc, shown.numbers, VERSION),
+        Page::Metrics => metrics_page(alloc, shown.numbers, counts, version),
         Page::Locks => locks_page(alloc, shown.locks),
         Page::Waiters => waiters_page(alloc, shown.locks, shown.waiters, shown.now),
         Page::Hosts => hosts_page(alloc, shown.numbers.state.own_state, shown.hosts),
-        Page::Status => status_page(alloc, shown.numbers, VERSION),
+        Page::Status => status_page(alloc, shown.numbers, counts, version),
     }
 }

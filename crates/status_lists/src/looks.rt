@@ -1,14 +1,19 @@
 //! What one look at a book copies.
-ghost use Rattle.std.specs.Prelude.{◌≡◌, IfOk};
+ghost use Rattle.std.specs.Prelude.{◌≡◌, IfOk, IfErr};
+ghost use Rattle.entry_counts.specs.Counted.{AreCountsOf};
+ghost use Rattle.workers.specs.Holds.{history_of};
 ghost use Rattle.status_lists.specs.Views.{AreNumbersOf, AreWaitersOf, AreListedIf, shows_lists};
 
 use crate::lists::{lists_of, waiters_of};
 use crate::numbers::numbers_of;
 use book::Book;
+use event_counts::Counts;
 use hosts_db::HostStore;
 use range_table::RangeTable;
 use status_pages::{Lists, Page, Starved, StateNumbers};
 use std::alloc::Global;
+use std::sync::ledger::Ledger;
+use workers::Shared;
 
 /// What one look at a book copies, for a page.
 #[derive(Drop)]
@@ -57,16 +62,23 @@ fn lists_if<R: RangeTable, S: HostStore>(
     }
 }
 
-/// Copies what a page shows. It is called in one hold of the book's lock. `Starved`: there is no memory for a copy.
-pub fn look_at<R: RangeTable, S: HostStore>(
+/// Copies what a page shows, all of one moment: the numbers of the state, the lists, and how many entries of each kind there were,
+/// for which the caller has the room: that is large for a stack. It is called in one hold of the book's lock. `Starved`: there is no
+/// memory for a copy of the lists, and `counts` is as it was.
+pub fn look_at<R: RangeTable, S: HostStore, L: Ledger>(
     alloc: Global,
-    book: &Book<R, S>,
+    shared: &Shared<R, S, L>,
     page: Page,
+    counts: &mut Counts,
 ) -> Result<Look, Starved>
-    ensures numbers { IfOk result (λ look. AreNumbersOf book.now.journal look.numbers) }
-    ensures lists { IfOk result (λ look. AreListedIf (shows_lists page) book.now.journal.end.world look.lists) }
+    ensures numbers { IfOk result (λ look. AreNumbersOf shared.now.book.journal look.numbers) }
+    ensures counts { IfOk result (λ _. AreCountsOf (history_of shared.now).notes counts.new) }
+    ensures stays { IfErr result (λ _. counts.new ≡ counts.old) }
+    ensures lists { IfOk result (λ look. AreListedIf (shows_lists page) shared.now.book.journal.end.world look.lists) }
 {
+    let book = shared.book();
     let lists = lists_if(alloc, book, shows_lists(page))?;
     let numbers = numbers_of(book);
+    *counts = shared.counts().copied();
     Ok(Look { numbers, lists })
 }

@@ -5,3 +5,4 @@ pub mod Metrics
 pub mod Responses
 pub mod Json
 pub mod Waits
+pub mod Counters

@@ -3,7 +3,7 @@ use Rattle.std.specs.Prelude.{ℕ, List, [], ◌∷◌, ◌++◌, map, codes, de
 use Rattle.std.specs.List.{flat_map}
 use Rattle.status_pages.specs.declared.metrics.Numbers.{Numbers}
 use Rattle.status_pages.specs.declared.metrics.Number.{Number}
-use Rattle.status_pages.specs.declared.metrics.Number.TheVariants.{Runs, Waiters, CallsDue, CallsUnanswered, SlotsFree, Shares, Hosts, Watches, KeptReplies, Grace, GraceLeft, OwnState, Entries, CallConnections, LocalConnections, StatusConnections, Started, Limit}
+use Rattle.status_pages.specs.declared.metrics.Number.TheVariants.{Runs, Waiters, CallsDue, CallsUnanswered, SlotsFree, Shares, Hosts, Watches, KeptReplies, Grace, GraceLeft, OwnState, Entries, CallConnections, LocalConnections, StatusConnections, ReceivedBytes, SentBytes, Started, Limit}
 use Rattle.status_pages.specs.declared.metrics.Kind.{Kind}
 use Rattle.status_pages.specs.declared.metrics.Kind.TheVariants.{Counter, Gauge}
 use Rattle.status_pages.specs.declared.metrics.Sample.{Sample as CodedSample}
@@ -29,6 +29,8 @@ number_of n Entries = n.state.entries
 number_of n CallConnections = n.call_connections
 number_of n LocalConnections = n.local_connections
 number_of n StatusConnections = n.status_connections
+number_of n ReceivedBytes = n.received_bytes
+number_of n SentBytes = n.sent_bytes
 number_of n Started = n.started
 number_of n (Limit most) = most
 
@@ -93,6 +95,8 @@ all_metrics =
     ∷ metric (codes "lockd_own_state") (codes "The own state of the status monitor.") Gauge (sample (codes "") (codes "own_state") OwnState ∷ [])
     ∷ metric (codes "lockd_journal_entries_total") (codes "Entries of the journal.") Counter (sample (codes "") (codes "journal_entries") Entries ∷ [])
     ∷ metric (codes "lockd_connections") (codes "Open connections, by kind.") Gauge (sample (codes "{kind=\"calls\"}") (codes "connections_calls") CallConnections ∷ sample (codes "{kind=\"local\"}") (codes "connections_local") LocalConnections ∷ sample (codes "{kind=\"status\"}") (codes "connections_status") StatusConnections ∷ [])
+    ∷ metric (codes "lockd_received_bytes_total") (codes "Bytes read from connections for calls.") Counter (sample (codes "") (codes "received_bytes") ReceivedBytes ∷ [])
+    ∷ metric (codes "lockd_sent_bytes_total") (codes "Bytes of replies written to them.") Counter (sample (codes "") (codes "sent_bytes") SentBytes ∷ [])
     ∷ metric (codes "lockd_start_time_seconds") (codes "When the server started, in seconds since 1970.") Gauge (sample (codes "") (codes "start_time_seconds") Started ∷ []) ∷ []
 
 -- ---- the code's metrics

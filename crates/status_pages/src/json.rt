@@ -3,12 +3,15 @@ ghost use Rattle.std.specs.Prelude.{◌≡◌, length, IfOk, OnOk};
 ghost use Rattle.serde_json.specs.Written.{IsInOrder};
 ghost use Rattle.serde_json.specs.Data.{Data, string, put as with_member};
 ghost use Rattle.serde_json.specs.View.{view, members_view};
-ghost use Rattle.status_pages.specs.Json.{IsTextOf, HasBytes, hex_data, last_data, range_members, local_members, svid_members, HasNames, IsArrayText, IsArrayOf};
+ghost use Rattle.event_counts.specs.Numbers.{happened_number};
+ghost use Rattle.status_pages.specs.Json.{count_data, IsTextOf, HasBytes, hex_data, last_data, range_members, local_members, svid_members, HasNames, IsArrayText, IsArrayOf};
 
+use crate::counters::{HAPPENINGS, NamedHappening};
 use crate::metrics::{METRICS, Metric, Numbers};
 use crate::rows::{HostRow, LockRow, OwnerRow, Waiting};
 use crate::starved::Starved;
 use crate::waiting::first_in_way;
+use event_counts::Counts;
 use serde_json::{Map, Value, put};
 use std::alloc::Global;
 
@@ -259,8 +262,35 @@ fn put_samples(
     Ok(())
 }
 
-/// The page `/status.json`: an object with the numbers of `/metrics` and the program's version.
-pub fn status_page(alloc: Global, numbers: &Numbers, version: &str) -> Result<Vec<u8>, Starved>
+// How many events there were of a kind.
+fn put_happened(
+    map: &mut Members,
+    alloc: Global,
+    counts: &Counts,
+    happened: &NamedHappening<'_>,
+) -> Result<(), Starved>
+    ensures { OnOk result (members_view map.new.entries ≡ with_member happened.now.key.now (count_data (happened_number counts.now.events happened.now.what)) (members_view map.old.entries)) }
+{
+    let count = counts.happened(happened.what);
+    put(map, alloc, happened.key, Value::from(count))?;
+    Ok(())
+}
+
+fn put_all_happened(map: &mut Members, alloc: Global, counts: &Counts) -> Result<(), Starved> {
+    for happened in HAPPENINGS {
+        put_happened(map, alloc, counts, happened)?;
+    }
+    Ok(())
+}
+
+/// The page `/status.json`: an object with the program's version, the numbers of `/metrics`, and how many events there were of each
+/// kind.
+pub fn status_page(
+    alloc: Global,
+    numbers: &Numbers,
+    counts: &Counts,
+    version: &str,
+) -> Result<Vec<u8>, Starved>
     ensures { IfOk result (λ page. (d : Data) × IsInOrder page.items d) }
 {
     let mut map = Map::new(alloc);
@@ -268,5 +298,6 @@ pub fn status_page(alloc: Global, numbers: &Numbers, version: &str) -> Result<Ve
     for metric in METRICS {
         put_samples(&mut map, alloc, numbers, metric)?;
     }
+    put_all_happened(&mut map, alloc, counts)?;
     Ok(Value::Object(map).to_vec(alloc)?)
 }

@@ -2,6 +2,7 @@
 //! state, and the bytes of each answer. It does no input or output.
 #![tactic(auto)]
 
+mod counters;
 mod escape;
 mod html;
 mod json;

@@ -1,12 +1,15 @@
 //! Numbers, in the text format 0.0.4 of Prometheus.
 ghost use Rattle.std.specs.Prelude.{◌≡◌, ◌++◌, IfOk, OnOk, map};
 ghost use Rattle.std.specs.List.{flat_map};
+ghost use Rattle.status_pages.specs.Counters.{counters_text};
 ghost use Rattle.status_pages.specs.Metrics.{number_of, head_text, sample_text, metric_text, metrics_text, build_text, kind_text, view_of_sample, view_of_metric, all_metrics};
 
 mod table;
 
+use crate::counters::put_counters;
 use crate::starved::Starved;
 use crate::text::{put_number, put_parts};
+use event_counts::Counts;
 use std::alloc::Global;
 pub(crate) use table::METRICS;
 
@@ -49,6 +52,10 @@ pub struct Numbers {
     pub local_connections: u64,
     /// Connections to the status port that are open.
     pub status_connections: u64,
+    /// Bytes read from connections for calls since the start.
+    pub received_bytes: u64,
+    /// Bytes of replies written to connections for calls since the start.
+    pub sent_bytes: u64,
     /// When the server started, in seconds since 1970.
     pub started: u64,
 }
@@ -72,6 +79,8 @@ pub(crate) enum Number {
     CallConnections,
     LocalConnections,
     StatusConnections,
+    ReceivedBytes,
+    SentBytes,
     Started,
     /// A limit, which never changes.
     Limit(u64),
@@ -125,6 +134,8 @@ impl Numbers {
             Number::CallConnections => self.call_connections,
             Number::LocalConnections => self.local_connections,
             Number::StatusConnections => self.status_connections,
+            Number::ReceivedBytes => self.received_bytes,
+            Number::SentBytes => self.sent_bytes,
             Number::Started => self.started,
             Number::Limit(most) => most,
         }
@@ -140,7 +151,8 @@ fn kind_text(kind: Kind) -> &'static [u8]
     }
 }
 
-fn put_head(out: &mut Vec<u8>, name: &str, help: &str, kind: Kind) -> Result<(), Starved>
+/// The lines HELP and TYPE of a metric.
+pub(crate) fn put_head(out: &mut Vec<u8>, name: &str, help: &str, kind: Kind) -> Result<(), Starved>
     ensures { OnOk result (out.new.items ≡ out.old.items ++ head_text name.now help.now kind) }
 {
     put_parts(out, &[b"# HELP ", name.as_bytes(), b" "])?;
@@ -192,13 +204,19 @@ fn put_metrics(out: &mut Vec<u8>, numbers: &Numbers, metrics: &[Metric<'_>]) -> 
     Ok(())
 }
 
-/// The page `/metrics`: each metric with its help, its type and its samples, and the version of the program, which has no quote,
-/// backslash or line feed.
-pub fn metrics_page(alloc: Global, numbers: &Numbers, version: &str) -> Result<Vec<u8>, Starved>
-    ensures { IfOk result (λ page. page.items ≡ metrics_text numbers.now all_metrics ++ build_text version.now) }
+/// The page `/metrics`: each metric with its help, its type and its samples, the counters that have counted, and the version of the
+/// program, which has no quote, backslash or line feed.
+pub fn metrics_page(
+    alloc: Global,
+    numbers: &Numbers,
+    counts: &Counts,
+    version: &str,
+) -> Result<Vec<u8>, Starved>
+    ensures { IfOk result (λ page. page.items ≡ metrics_text numbers.now all_metrics ++ (counters_text counts.now ++ build_text version.now)) }
 {
     let mut out = Vec::new(alloc);
     put_metrics(&mut out, numbers, METRICS)?;
+    put_counters(&mut out, counts)?;
     put_build(&mut out, version)?;
     Ok(out)
 }

@@ -1,4 +1,5 @@
 pub mod Joins
+pub mod Counting
 pub mod Holding
 pub mod Answering
 pub mod ReadingLemmas

@@ -1,11 +1,12 @@
-//! What the lock keeps: the book, its closed segments, and the number of calls taken.
+//! What the lock keeps: the book, its closed segments, the number of calls taken, and how many entries there were of each kind.
 ghost use Rattle.std.specs.Prelude.{◌≡◌, ℕ, ◌+◌, ◌<◌, false, is_some, Some, IfOk, IfErr, IfSome};
 ghost use Rattle.definitions.specs.Outgoing.{next_due};
 ghost use Rattle.book.specs.Given.{StepResult as Became};
 ghost use Rattle.book.specs.Journal.{room_of};
 ghost use Rattle.book.specs.Notes.{is_take, view_of_event};
 ghost use Rattle.book.specs.Receipts.{newest_receipt};
-ghost use Rattle.workers.specs.Holds.{takes_of, entry_of, IsOneHistory, IsServed, IsNew, Begins, BeginsNot, Rests, Notes, Adds};
+ghost use Rattle.workers.specs.Holds.{takes_of, entry_of, IsOneHistory, IsServed, IsNew, Begins, BeginsNot, Rests, Notes, Adds, history_of};
+ghost use Rattle.entry_counts.specs.Counted.{AreCountsOf};
 ghost use Rattle.workers.specs.Sending.{IsNextOf};
 ghost use Rattle.workers.specs.Answers.{view_of_taken};
 
@@ -18,6 +19,7 @@ use book::{
 };
 use bytes::Bytes;
 use call_codec::Dest;
+use entry_counts::{Counts, count_call, count_event, count_sent, counts_of_restart, happening_of};
 use hosts_db::HostStore;
 use range_table::RangeTable;
 use std::alloc::Global;
@@ -27,25 +29,29 @@ use xdr_core::Frame;
 
 /// The book, its closed segments, and beside them how many calls were taken. Contracts see the journals, and whether closed ones
 /// are kept. The journals are one legal history from the opening state of the store's rows and the own name, and its first entry is
-/// the restart. The total is that of their entries that took a record.
+/// the restart. The total is that of their entries that took a record, and each counter has the number of the entries that it counts.
 pub struct Shared<R: RangeTable, S: HostStore, L: Ledger> {
     alloc: Global,
     book: Book<R, S>,
     archive: Archive<ClosedSegment<R, S>>,
     total: Total<L>,
+    counts: Counts,
     // A segment that is over and isn't kept, until whoever takes the next call takes it along.
     over: Option<ClosedSegment<R, S>>,
 }
 
 impl<R: RangeTable, S: HostStore, L: Ledger> Model for Shared<R, S, L> {
     ghost use Rattle.std.specs.Prelude.{is_some};
+    ghost use Rattle.std.specs.Prelude.{◌++◌};
+    ghost use Rattle.book.specs.Histories.{notes_of};
+    ghost use Rattle.entry_counts.specs.Counted.{AreCountsOf};
     ghost use Rattle.workers.specs.Holds.{Held, IsInStep};
 
     ghost Value = { Held };
 
     ghost view = { λ s. record { closed = s.archive.all.items; book = s.book; keeps = is_some s.archive.kept } };
 
-    ghost invariant = { λ s. IsInStep s.total.total s.archive.all.items s.book.journal };
+    ghost invariant = { λ s. IsInStep s.total.total s.archive.all.items s.book.journal × AreCountsOf (notes_of s.archive.all.items ++ s.book.journal.notes) s.counts };
 }
 
 // It is written out, so that no crate above proves again how each part is dropped.
@@ -56,6 +62,7 @@ impl<R: RangeTable + Drop, S: HostStore + Drop, L: Ledger> Drop for Shared<R, S,
             book: _,
             archive: _,
             total: _,
+            counts: _,
             over: _,
         } = self;
     }
@@ -140,6 +147,7 @@ impl<R: RangeTable, S: HostStore, L: Ledger> Shared<R, S, L> {
         let record = same;
         let step_result = self.book.apply(BookEvent::Take { peer, record });
         newest_entered();
+        count_call(&mut self.counts, &taken.record, &step_result);
         let receipt = self.book.receipt(taken, step_result.reply);
         self.total.add(share, 1);
         let is_due = self.book.has_due();
@@ -167,8 +175,10 @@ impl<R: RangeTable, S: HostStore, L: Ledger> Shared<R, S, L> {
         let Ok(()) = self.make_room() else {
             return Err(event);
         };
+        let what = happening_of(&event);
         let step_result = self.book.apply(event);
         newest_entered();
+        count_event(&mut self.counts, what, step_result.status);
         ghost_trace.add(&self.book);
         Ok(step_result)
     }
@@ -183,7 +193,9 @@ impl<R: RangeTable, S: HostStore, L: Ledger> Shared<R, S, L> {
         let Ok(()) = self.make_room() else {
             return Next::NoRoom;
         };
-        match self.book.next_call() {
+        let sent = self.book.next_call();
+        count_sent(&mut self.counts, sent.is_some());
+        match sent {
             Some((number, to, frame)) => {
                 newest_entered();
                 ghost_trace.add(&self.book);
@@ -205,6 +217,13 @@ impl<R: RangeTable, S: HostStore, L: Ledger> Shared<R, S, L> {
         ensures { result.now ≡ self.now.book }
     {
         &self.book
+    }
+
+    /// How many entries there were of each kind, from the first on: of all closed segments and of the open one.
+    pub fn counts(&self) -> &Counts
+        ensures { AreCountsOf (history_of self.now).notes result.now }
+    {
+        &self.counts
     }
 
     /// The store of hosts, to be read: its rows are the hosts of the state.
@@ -245,6 +264,7 @@ impl<R: RangeTable + Drop, S: HostStore + Drop, L: Ledger> Shared<R, S, L> {
                 book,
                 archive: Archive::new(alloc, is_kept),
                 total,
+                counts: counts_of_restart(step_result.status),
                 over: None,
             }),
             Some(why) => Err(why),
@@ -263,6 +283,7 @@ impl<R: RangeTable + Drop, S: HostStore + Drop, L: Ledger> Shared<R, S, L> {
             archive,
             mut total,
             alloc: _,
+            counts: _,
             over: _,
         } = self;
         total.audit(all);

@@ -1,4 +1,5 @@
 //! Requests for pages (RFC 9112), answers, numbers in the text format 0.0.4 of Prometheus, and rows as JSON (RFC 8259).
+use event_counts::{CallOutcome, Counts, Happening, StoreReply, procedure_place, record_place};
 use status_pages::{
     Asked, ContentType, Delivery, HostRow, LockRow, Numbers, OwnerRow, Page, Reading, Refusal,
     Shown, StateNumbers, Status, Waiting, hosts_page, index_page, locks_page, metrics_page,
@@ -280,6 +281,8 @@ const NUMBERS: Numbers = Numbers {
     call_connections: 13,
     local_connections: 14,
     status_connections: 15,
+    received_bytes: 16,
+    sent_bytes: 17,
     started: 1_700_000_000,
 };
 
@@ -289,16 +292,54 @@ const METRIC_LINES: &[&str] = &[
     "\nlockd_callbacks{state=\"due\"} 3\nlockd_callbacks{state=\"unanswered\"} 4\n",
     "\n# TYPE lockd_journal_entries_total counter\nlockd_journal_entries_total 18446744073709551615\n",
     "\nlockd_connections{kind=\"calls\"} 13\nlockd_connections{kind=\"local\"} 14\nlockd_connections{kind=\"status\"} 15\n",
+    "\n# TYPE lockd_received_bytes_total counter\nlockd_received_bytes_total 16\n",
+    "\nlockd_sent_bytes_total 17\n",
     "\nlockd_start_time_seconds 1700000000\n",
     "\nlockd_build_info{version=\"1.2\"} 1\n",
 ];
 
 #[test]
 fn numbers_as_metrics(rt: HostRuntime) {
-    let page = metrics_page(rt.alloc(), &NUMBERS, "1.2");
+    let page = metrics_page(rt.alloc(), &NUMBERS, &Counts::new(), "1.2");
     assert!(rt; METRIC_LINES.iter().all(|lines| has(&page, lines)));
-    let status = status_page(rt.alloc(), &NUMBERS, "1.2");
+    let status = status_page(rt.alloc(), &NUMBERS, &Counts::new(), "1.2");
     assert!(rt; has(&status, "\"callbacks_unanswered\":4,") && has(&status, "\"version\":\"1.2\""));
+}
+
+// The header of a LOCK in version 4 of the lock manager, and that of a reply (RFC 5531, section 9).
+const LOCK: &[u8] = b"\0\0\0\x07\0\0\0\0\0\0\0\x02\0\x01\x86\xb5\0\0\0\x04\0\0\0\x02";
+
+const REPLY: &[u8] = b"\0\0\0\x07\0\0\0\x01\0\0\0\x02\0\x01\x86\xb5\0\0\0\x04\0\0\0\x02";
+
+// One LOCK that was granted, and one line that met want of memory once the store had refused.
+fn counted() -> Counts {
+    let mut counts = Counts::new();
+    counts.add_call(record_place(LOCK), CallOutcome::Granted);
+    counts.add_event(Happening::Line, true, StoreReply::Refused);
+    counts
+}
+
+// The lines of what has counted, with those around them.
+const COUNTED_LINES: &[&str] = &[
+    "\n# TYPE lockd_calls_total counter\nlockd_calls_total{program=\"nlm\",version=\"4\",procedure=\"LOCK\",outcome=\"granted\"} 1\n# HELP ",
+    "\n# TYPE lockd_events_total counter\nlockd_events_total{event=\"line\",memory=\"wanting\",store=\"refused\"} 1\n# HELP ",
+];
+
+#[test]
+fn counts_as_metrics(rt: HostRuntime) {
+    let counts = counted();
+    let page = metrics_page(rt.alloc(), &NUMBERS, &counts, "1.2");
+    assert!(rt; COUNTED_LINES.iter().all(|lines| has(&page, lines)));
+    let status = status_page(rt.alloc(), &NUMBERS, &counts, "1.2");
+    assert!(rt; has(&status, "\"events_lines\":1,") && has(&status, "\"events_calls\":0,"));
+}
+
+#[test]
+fn procedures_of_records(rt: HostRuntime) {
+    assert!(rt; record_place(LOCK) == procedure_place(100_021, 4, 2));
+    assert!(rt; record_place(REPLY) == procedure_place(0, 0, 0));
+    assert!(rt; record_place(b"") == procedure_place(100_021, 2, 2));
+    assert!(rt; procedure_place(100_021, 4, 24) == procedure_place(100_024, 1, 7));
 }
 
 // Text of anybody's opens no tag (HTML Living Standard, "Character references").

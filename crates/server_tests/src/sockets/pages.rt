@@ -1,8 +1,9 @@
 //! Operators ask for pages (RFC 9112): each page, HEAD, requests one behind the other, and what is no request for a page.
-use super::client::{dial, is_closed, read, stop, write};
+use super::calls::NULL;
+use super::client::{ask as send_call, dial, is_closed, read, stop, write};
 use super::local::hold_and_wait;
 use super::servers::{Ports, served_to};
-use super::talks::{Response, Talk};
+use super::talks::{REPLY, Response, Talk};
 use std::alloc::Global;
 use std::io::{self, ErrorKind};
 use std::net::{Net, TcpStream};
@@ -28,7 +29,8 @@ pub(crate) enum PageTalk {
     Silent,
 }
 
-// A page, which type it is of, and what stands in it while process 1 holds byte 0 of the file 0102 and process 2 waits for it.
+// A page, which type it is of, and what stands in it while process 1 holds byte 0 of the file 0102 and process 2 waits for it, after
+// two calls of NULL.
 struct Case {
     target: &'static str,
     content_type: &'static str,
@@ -49,6 +51,11 @@ const CASES: &[Case] = &[
             "\nlockd_waiters 1\n",
             "\nlockd_connections{kind=\"local\"} 1\n",
             "\nlockd_connections{kind=\"status\"} 1\n",
+            "\nlockd_received_bytes_total 88\n",
+            "\nlockd_calls_total{program=\"nlm\",version=\"4\",procedure=\"NULL\",outcome=\"success\"} 2\n",
+            "\nlockd_events_total{event=\"call\",memory=\"enough\",store=\"not_asked\"} 2\n",
+            "\nlockd_events_total{event=\"line\",memory=\"enough\",store=\"not_asked\"} ",
+            "\nlockd_events_total{event=\"restart\",memory=\"enough\",store=\"agreed\"} 1\n",
             "\nlockd_build_info{version=\"1.0.0\"} 1\n",
         ],
     },
@@ -177,6 +184,11 @@ where
 {
     let local = dial(rt, ports.local)?;
     hold_and_wait(&local)?;
+    let caller = dial(rt, ports.rpc)?;
+    for xid in 1..3 {
+        send_call(&caller, alloc, xid, &NULL)?;
+        let _ = read::<REPLY>(&caller)?;
+    }
     let on = dial(rt, ports.status)?;
     let mut count = 0u32;
     for case in CASES {
@@ -307,7 +319,7 @@ where
 #[test]
 fn pages_are_shown(rt: HostRuntime) {
     let served = served_to(&rt, rt.alloc(), 2, 0, Talk::Pages(PageTalk::Each));
-    assert!(rt; served == Some((0, Response::of(7), true)));
+    assert!(rt; served == Some((2, Response::of(7), true)));
 }
 
 #[test]

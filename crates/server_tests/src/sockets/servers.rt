@@ -74,6 +74,7 @@ impl Ports {
             connections: 256,
             connections_per_peer: None,
             is_audited: true,
+            version: "1.0.0",
         }
     }
 }

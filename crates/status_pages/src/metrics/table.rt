@@ -203,6 +203,26 @@ pub(crate) const METRICS: &[Metric<'static>] = &[
         ],
     },
     Metric {
+        name: "lockd_received_bytes_total",
+        help: "Bytes read from connections for calls.",
+        kind: Kind::Counter,
+        samples: &[Sample {
+            labels: "",
+            key: "received_bytes",
+            number: Number::ReceivedBytes,
+        }],
+    },
+    Metric {
+        name: "lockd_sent_bytes_total",
+        help: "Bytes of replies written to them.",
+        kind: Kind::Counter,
+        samples: &[Sample {
+            labels: "",
+            key: "sent_bytes",
+            number: Number::SentBytes,
+        }],
+    },
+    Metric {
         name: "lockd_start_time_seconds",
         help: "When the server started, in seconds since 1970.",
         kind: Kind::Gauge,

@@ -6,4 +6,4 @@ use Rattle.workers.proofs.shared.Shared.history.Goals as goal
 pub returns : goal.returns
 returns g c =
     let i = c.self.inside in
-    subst IsServed c.self.view_is (served c.segments_are_one_history.ensures i.total.total (record { closed = i.archive.all.items; book = i.book; keeps = is_some i.archive.kept }) c.self.invariant)
+    subst IsServed c.self.view_is (served c.segments_are_one_history.ensures i.total.total (record { closed = i.archive.all.items; book = i.book; keeps = is_some i.archive.kept }) c.self.invariant.0)
