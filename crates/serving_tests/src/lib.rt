@@ -7,7 +7,7 @@ mod files;
 #[cfg(test)]
 mod notes;
 #[cfg(test)]
-mod peers;
+mod peer_files;
 #[cfg(test)]
 mod runs;
 #[cfg(test)]

@@ -1,6 +1,6 @@
 //! What is tried, each by a test of its own.
 use crate::files::begins_anew;
-use crate::peers::follows_its_file;
+use crate::peer_files::follows_its_file;
 use crate::servers::{Talk, is_unstarted, misnames_a_peer, serves, shares_a_port};
 use crate::streams::unserved;
 use log::Log;
