@@ -70,6 +70,7 @@ def locked_first(caller):
         status = caller.status(LOCK, asked_for(b"a"))
         if status == IS_GRANTED:
             break
+        time.sleep(0.01)
     equal(status, IS_GRANTED)
 
 
