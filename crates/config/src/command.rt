@@ -8,7 +8,7 @@ use clap::{Arg, ArgAction, Command};
 use std::alloc::{AllocError, Global};
 
 /// The program's version.
-pub const VERSION: &str = "1.0.0";
+const VERSION: &str = "1.0.0";
 
 /// What the program is.
 const LOCKD_ABOUT: &str = "The lock manager and status monitor of an NFS server";

@@ -9,7 +9,6 @@ mod texts;
 mod values;
 
 pub use asked::config;
-pub use command::VERSION;
 pub use fault::ConfigFault;
 pub use settings::{Config, Ports, ServeConfig, StreamConfig, Times};
 pub use texts::{FilePath, OwnName};

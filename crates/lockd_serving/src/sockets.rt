@@ -5,7 +5,7 @@ ghost use Rattle.lockd_serving.specs.Times.{Lasts, IsAt, IsRegistered};
 
 use crate::notes::{StartFailure, tell};
 use crate::streams::own_name;
-use config::{ServeConfig, VERSION};
+use config::ServeConfig;
 use hosts_db::HostStore;
 use job_queue::Job;
 use peers::{Peers, PeersFault};
@@ -171,7 +171,6 @@ fn settings_of(asked: &ServeConfig) -> ServerSettings
             None => None,
         },
         is_audited: asked.audit,
-        version: VERSION,
     }
 }
 

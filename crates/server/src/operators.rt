@@ -21,6 +21,9 @@ use std::thread;
 use std::time::{Clock, Duration, Instant, SystemTime};
 use workers::Shared;
 
+/// The program's version, as pages show it.
+const VERSION: &str = "1.0.0";
+
 /// How long a connection may be silent, and how long a request or an answer may take, in seconds.
 const SECONDS: u64 = 30;
 
@@ -56,7 +59,6 @@ pub(crate) struct Status {
     started: Option<Instant>,
     // None where there is no status port.
     traffic: Option<Traffic>,
-    version: &'static str,
 }
 
 // The second since 1970, and 0 where the clock fails.
@@ -84,7 +86,6 @@ impl Status {
             board: Mutex::new(Board::new(alloc, own_state, grace, seconds_since_1970(rt))),
             started: Instant::now(rt).ok(),
             traffic: settings.status_port.is_some().then(|| Traffic::new()),
-            version: settings.version,
         }
     }
 
@@ -180,7 +181,7 @@ where
             now,
             open,
             traffic,
-            version: self.status.version,
+            version: VERSION,
         };
         self.status
             .board

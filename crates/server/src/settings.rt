@@ -27,8 +27,6 @@ pub struct ServerSettings {
     pub connections_per_peer: Option<u16>,
     /// Whether the journal is kept and checked at the end.
     pub is_audited: bool,
-    /// The program's version, as the status port shows it.
-    pub version: &'static str,
 }
 
 /// What a server stands on.

@@ -74,7 +74,6 @@ impl Ports {
             connections: 256,
             connections_per_peer: None,
             is_audited: true,
-            version: "1.0.0",
         }
     }
 }
