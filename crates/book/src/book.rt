@@ -22,7 +22,7 @@ use call_codec::Dest;
 use callbacks::ShortBytes;
 use definitions::rules::Rules;
 use held_locks::Locks;
-use hosts_db::HostStore;
+use hosts_db::{HostStore, StoreError};
 use lock_service::{StoreAnswer, World};
 use owner_ids::Starved;
 use range_table::RangeTable;
@@ -176,6 +176,13 @@ impl<R: RangeTable, S: HostStore> Book<R, S> {
         ensures legal { IsLegal self.new.journal }
     {
         change_noted(&mut self.shared, &mut self.entries, event)
+    }
+
+    /// Has the store hear where a host is (`HostStore::locate`). Nothing of the state changes, so nothing is noted.
+    pub fn locate(&mut self, name: &[u8], address: &[u8]) -> Result<(), StoreError>
+        ensures { self.new ≡ self.old }
+    {
+        self.shared.locate(name, address)
     }
 
     /// Whether a call of the server's own is due.

@@ -67,6 +67,13 @@ impl<R: RangeTable + Drop, S: HostStore + Drop> BookState<R, S> {
 }
 
 impl<R: RangeTable, S: HostStore> BookState<R, S> {
+    /// Has the store hear where a host is. Nothing of the state changes.
+    pub(crate) fn locate(&mut self, name: &[u8], address: &[u8]) -> Result<(), StoreError>
+        ensures { self.new ≡ self.old }
+    {
+        self.world.locate(name, address)
+    }
+
     /// One event: what it comes to, and what the journal notes of it.
     pub(crate) fn apply(&mut self, event: BookEvent) -> (StepResult, NewEntry)
         ensures step { Steps self.old.state (view_of_event event) result.0 self.new.state }

@@ -42,3 +42,7 @@ abbrev pub IsPastLimit : {X : Type 0} → Result X StoreError → Bool → Type 
 IsPastLimit (Ok x) past = past ≡ false
 IsPastLimit (Err Starved) past = past ≡ false
 IsPastLimit (Err StoreRefused) past = Unit {0}
+
+-- what a crash may leave after a call that changes no row: what it could leave before, or the rows
+abbrev pub LeavesRows : (Hosts → Type 0) → (Hosts → Type 0) → Hosts → Type 0
+LeavesRows before now rows = (left : Hosts) → now left → before left ⊎ (left ≡ rows)

@@ -56,6 +56,10 @@ impl<S: HostStore> HostStore for Lasting<S> {
         self.store.write(asked)
     }
 
+    fn locate(&mut self, name: &[u8], address: &[u8]) -> Result<(), StoreError> {
+        self.store.locate(name, address)
+    }
+
     fn kept(&self) -> &HostRows {
         self.store.kept()
     }

@@ -2,7 +2,7 @@
 ghost use Rattle.std.specs.Prelude.{◌≡◌, ◌<◌, ◌≤◌, ℕ, Bool, true, false, length, IfOk};
 ghost use Rattle.std.specs.Option.{is_some, option_copied};
 ghost use Rattle.definitions.specs.Hosts.{Hosts, row_of, has_row, next_own, after_store, is_past_limit, Begin, Monitor, Seen, Acked, Watched, Unwatched, AreInOrder, Quota};
-ghost use Rattle.hosts_db.specs.Calls.{Counts, Leaves, Makes, IsNotStarved, IsPastLimit, OnRefused, OnStarved};
+ghost use Rattle.hosts_db.specs.Calls.{Counts, Leaves, LeavesRows, Makes, IsNotStarved, IsPastLimit, OnRefused, OnStarved};
 ghost use Rattle.hosts_db.specs.Writings.{view_of_writing, Adds, Fits, IsNew};
 
 use crate::error::StoreError;
@@ -50,6 +50,21 @@ pub trait HostStore {
         ensures limit { IsPastLimit result (is_past_limit 4096 1024 (rows self.old) (view_of_writing asked.entry)) }
         ensures starved { OnStarved result (Adds (view_of_writing asked.entry)) }
         ensures crash { Leaves result (may_leave self.old) (may_leave self.new) (after_store (rows self.old) (view_of_writing asked.entry)) };
+
+    /// Hears where a host is: `address` is the text of an IP address. A store that keeps addresses keeps it beside the host's row: at
+    /// once where there is one, else in the change that makes it. A store in memory keeps none, and does nothing.
+    ///
+    /// No row changes, and no refusal is counted. `StoreRefused` where a database refuses, `Starved` where there is no memory; the
+    /// address is not kept then.
+    fn locate(&mut self, name: &[u8], address: &[u8]) -> Result<(), StoreError>
+        ensures rows { rows self.new ≡ rows self.old }
+        ensures refusals { refusals self.new ≡ refusals self.old }
+        ensures crash { LeavesRows (may_leave self.old) (may_leave self.new) (rows self.old) }
+    {
+        let _ = name;
+        let _ = address;
+        Ok(())
+    }
 
     /// All that is kept as it is now, of which the readings below are parts.
     fn kept(&self) -> &HostRows

@@ -102,6 +102,13 @@ impl<R: RangeTable, S: HostStore> World<R, S> {
         self.store.seen(name, state)
     }
 
+    /// Has the store hear where a host is (`HostStore::locate`). Nothing of the state changes.
+    pub fn locate(&mut self, name: &[u8], address: &[u8]) -> Result<(), StoreError>
+        ensures { self.new ≡ self.old }
+    {
+        self.store.locate(name, address)
+    }
+
     /// Stores a watch, or gives a watch of this host and watcher these bytes (XNFS, SM_MON). A host without a row gets one,
     /// in which no state was seen. Where the store answers an error the world stays.
     pub fn watch(

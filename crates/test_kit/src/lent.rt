@@ -38,6 +38,11 @@ impl<'a, S: HostStore> HostStore for Lent<'a, S> {
         self.store.write(asked)
     }
 
+    fn locate(&mut self, name: &[u8], address: &[u8]) -> Result<(), StoreError> {
+        *self.writes = self.writes.saturating_add(1);
+        self.store.locate(name, address)
+    }
+
     fn kept(&self) -> &HostRows {
         self.store.kept()
     }

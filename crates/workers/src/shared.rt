@@ -20,7 +20,7 @@ use book::{
 use bytes::Bytes;
 use call_codec::Dest;
 use entry_counts::{Counts, count_call, count_event, count_sent, counts_of_restart, happening_of};
-use hosts_db::HostStore;
+use hosts_db::{HostStore, StoreError};
 use range_table::RangeTable;
 use std::alloc::Global;
 use std::marker::Model;
@@ -203,6 +203,13 @@ impl<R: RangeTable, S: HostStore, L: Ledger> Shared<R, S, L> {
             }
             None => Next::NothingDue,
         }
+    }
+
+    /// One hold in which the store hears where a host is (`HostStore::locate`). Nothing of the state changes, so there is no entry.
+    pub fn locate(&mut self, name: &[u8], address: &[u8]) -> Result<(), StoreError>
+        ensures { self.new ≡ self.old }
+    {
+        self.book.locate(name, address)
     }
 
     /// Whether a call of the server's own is due.

@@ -36,6 +36,13 @@ impl<M: HostStore, S: HostStore> HostStore for KeptHosts<M, S> {
         }
     }
 
+    fn locate(&mut self, name: &[u8], address: &[u8]) -> Result<(), StoreError> {
+        match self {
+            KeptHosts::InMemory(hosts) => hosts.locate(name, address),
+            KeptHosts::Stored(hosts) => hosts.locate(name, address),
+        }
+    }
+
     fn kept(&self) -> &HostRows {
         match self {
             KeptHosts::InMemory(hosts) => hosts.kept(),
