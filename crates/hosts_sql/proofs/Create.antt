@@ -25,6 +25,7 @@ use Rattle.sqlite.specs.Given.{IsPlain}
 use Rattle.sqlite.proofs.Callers.{statement_of, runs_as, one_step}
 use Rattle.hosts_sql.specs.Maps.{no_rows, with_own}
 use Rattle.hosts_sql.specs.Tables.{own_name, hosts_name, watches_name, own_text, hosts_text, watches_text, first_own_text, own_table, hosts_table, watches_table, own_checks, no_schema}
+use Rattle.hosts_sql.specs.Placing.{has_addresses}
 use Rattle.hosts_sql.specs.Schemas.{table_in, tree_in, IsHostSchema}
 use Rattle.hosts_sql.specs.Shown.{number_at, shown}
 use Rattle.sql_transactions.specs.Work.{command_in, Ran}
@@ -63,7 +64,7 @@ three_tables = created two_tables (watches_table 0)
 
 pub all_tables : IsHostSchema Second three_tables
 unfolding everything
-all_tables = ((((refl, (refl, refl)), (refl, (refl, refl))), refl), ((refl, (refl, refl)), refl))
+all_tables = ((((refl, (refl, refl)), (refl, (refl, refl))), (refl, tt)), ((refl, (refl, refl)), refl))
 
 same_text : (sql : List ℕ) (r : Result Compiled CompileError) → statement_of sql r ≡ text_in sql r
 same_text sql (Ok c) = refl
@@ -167,6 +168,18 @@ shown_first own a b made ran =
 -- three texts that make the tables, and one for the row of the own state
 abbrev pub MakesAll : ℕ → Database → Database → Type 0
 MakesAll own from to = (made : Database) × ((two : Database) × ((one : Database) × MakesTable own_text from one × MakesTable hosts_text one two) × MakesTable watches_text two made) × Ran first_own_text (Int (pos own) ∷ []) made to
+
+pub unlocated : has_addresses three_tables ≡ false
+unfolding everything
+unlocated = refl
+
+-- the last statement leaves the three tables
+pub started_tables : (own : ℕ) (a d : Database) → a.schema ≡ no_schema → MakesAll own a d → (d.schema ≡ three_tables) × IsDatabase d
+started_tables own a d fresh work =
+    let three = work.1 in
+    let two = three.1 in
+    let set = own_step own work.0 d (made_all a two.0 three.0 work.0 fresh two.1 two.2 three.2).is work.2 in
+    (set.0, set.2)
 
 pub started : (own : ℕ) (a d : Database) → a.schema ≡ no_schema → IsDatabase a → MakesAll own a d → Makes (with_own own) a d
 started own a d fresh sound work =

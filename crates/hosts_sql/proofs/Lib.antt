@@ -5,6 +5,7 @@ pub mod Means
 pub mod Texts
 pub mod Conditions
 pub mod Edits
+pub mod AddressTexts
 pub mod Listings
 pub mod PutLemmas
 pub mod Lists
@@ -18,6 +19,7 @@ pub mod OwnIds
 pub mod Delete
 pub mod Shrink
 pub mod Rows
+pub mod Placed
 pub mod Fewer
 pub mod Update
 pub mod Create
@@ -27,7 +29,9 @@ pub mod Listed
 pub mod Commits
 pub mod Changed
 pub mod Meant
+pub mod More
 pub mod Added
+pub mod AddressTable
 pub mod Moved
 pub mod Apart
 pub mod Typed

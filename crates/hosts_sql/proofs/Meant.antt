@@ -119,12 +119,24 @@ module _ (schema : Schema) (tree other : ℕ) (h : Has schema (hosts_table tree)
 -- ---- the new table
 
 -- the text makes this table, and asks for no more
-abbrev Makes : Parsed → Table → Statement → Type 0
-Makes p t (written.CreateTable def) =
-    (def.name ≡ hosts_name) × (define.table p.formats def ≡ Ok t) × (((length t.computed == length t.stamps.places) && not def.resolves) ≡ true)
-Makes p t _ = ⊥
+abbrev pub MakesNamed : List ℕ → Parsed → Table → Statement → Type 0
+MakesNamed name p t (written.CreateTable def) =
+    (def.name ≡ name) × (define.table p.formats def ≡ Ok t) × (((length t.computed == length t.stamps.places) && not def.resolves) ≡ true)
+MakesNamed name p t _ = ⊥
 
-hosts_made : Makes (parse_of (first hosts_text)) (hosts_table 0) (statement_of hosts_text)
+create_is : (schema : Schema) (sql : List ℕ) (p : Parsed) (def : CreateTable) (t : Table) → first sql ≡ Ok p → p.statement ≡ written.CreateTable def → schema.views ≡ [] → is_reserved def.name ≡ false → table_named schema def.name ≡ None → index_named schema def.name ≡ None
+    → define.table p.formats def ≡ Ok t → ((length t.computed == length t.stamps.places) && not def.resolves) ≡ true → compiled schema sql ≡ Ok (with_command p ([], (command.CreateTable, None)))
+unfolding compiled planned meaning timed returning compile.command create_table creates is_attached
+create_is schema sql p def t parsed is views free untaken unindexed made whole = rw (parsed, is, views, free, untaken, unindexed, made, whole)
+
+module _ (schema : Schema) (name : List ℕ) (views : schema.views ≡ []) (free : is_reserved name ≡ false) (untaken : table_named schema name ≡ None) (unindexed : index_named schema name ≡ None) where
+  pub creates_mean : (sql : List ℕ) (p : Parsed) (t : Table) (statement : Statement) → first sql ≡ Ok p → p.statement ≡ statement → MakesNamed name p t statement → compiled schema sql ≡ Ok (with_command p ([], (command.CreateTable, None)))
+  creates_mean sql p t (written.CreateTable def) parsed is h =
+      let back = sym h.0 in
+      create_is schema sql p def t parsed is views (subst (λ n. is_reserved n ≡ false) back free) (subst (λ n. table_named schema n ≡ None) back untaken) (subst (λ n. index_named schema n ≡ None) back unindexed) h.1 h.2
+  creates_mean sql p t _ parsed is h = absurd h
+
+hosts_made : MakesNamed hosts_name (parse_of (first hosts_text)) (hosts_table 0) (statement_of hosts_text)
 unfolding everything
 hosts_made = (refl, refl, refl)
 
@@ -140,21 +152,10 @@ unreserved : is_reserved hosts_name ≡ false
 unfolding everything
 unreserved = refl
 
-create_is : (schema : Schema) (sql : List ℕ) (p : Parsed) (def : CreateTable) (t : Table) → first sql ≡ Ok p → p.statement ≡ written.CreateTable def → schema.views ≡ [] → is_reserved def.name ≡ false → table_named schema def.name ≡ None → index_named schema def.name ≡ None
-    → define.table p.formats def ≡ Ok t → ((length t.computed == length t.stamps.places) && not def.resolves) ≡ true → compiled schema sql ≡ Ok (with_command p ([], (command.CreateTable, None)))
-unfolding compiled planned meaning timed returning compile.command create_table creates is_attached
-create_is schema sql p def t parsed is views free untaken unindexed made whole = rw (parsed, is, views, free, untaken, unindexed, made, whole)
-
 module _ (schema : Schema) (views : schema.views ≡ []) (untaken : table_named schema hosts_name ≡ None) (unindexed : index_named schema hosts_name ≡ None) where
-  creates_mean : (sql : List ℕ) (p : Parsed) (t : Table) (statement : Statement) → first sql ≡ Ok p → p.statement ≡ statement → Makes p t statement → compiled schema sql ≡ Ok (with_command p ([], (command.CreateTable, None)))
-  creates_mean sql p t (written.CreateTable def) parsed is h =
-      let back = sym h.0 in
-      create_is schema sql p def t parsed is views (subst (λ n. is_reserved n ≡ false) back unreserved) (subst (λ n. table_named schema n ≡ None) back untaken) (subst (λ n. index_named schema n ≡ None) back unindexed) h.1 h.2
-  creates_mean sql p t _ parsed is h = absurd h
-
   -- the text is one statement, which makes the table of the hosts
   pub hosts_defined : compiled schema hosts_text ≡ Ok (with_command (parse_of (first hosts_text)) ([], (command.CreateTable, None)))
-  hosts_defined = creates_mean hosts_text (parse_of (first hosts_text)) (hosts_table 0) (statement_of hosts_text) hosts_parsed refl hosts_made
+  hosts_defined = creates_mean schema hosts_name views unreserved untaken unindexed hosts_text (parse_of (first hosts_text)) (hosts_table 0) (statement_of hosts_text) hosts_parsed refl hosts_made
 
   pub hosts_command : Is schema hosts_text command.CreateTable
   hosts_command = compiled_is schema hosts_text (with_command (parse_of (first hosts_text)) ([], (command.CreateTable, None))) hosts_defined (refl, refl)

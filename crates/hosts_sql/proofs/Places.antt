@@ -164,8 +164,8 @@ pub record HasTables (schema : Schema) (version : TablesVersion) : Type 0 where
   pub no_other : has_no_other schema ≡ true
 
 pub tables_of : (version : TablesVersion) (schema : Schema) → IsHostSchema version schema → HasTables schema version
-tables_of First schema h = record { own = has schema (own_at schema) h.0.0.0; watches = has schema (watches_at schema) h.0.0.1; no_other = h.0.1 }
-tables_of Second schema h = record { own = has schema (own_at schema) h.0.0.0; watches = has schema (watches_at schema) h.0.0.1; no_other = h.0.1 }
+tables_of First schema h = record { own = has schema (own_at schema) h.0.0.0; watches = has schema (watches_at schema) h.0.0.1; no_other = h.0.1.0 }
+tables_of Second schema h = record { own = has schema (own_at schema) h.0.0.0; watches = has schema (watches_at schema) h.0.0.1; no_other = h.0.1.0 }
 
 pub has_hosts : (schema : Schema) → IsHostSchema Second schema → Has schema (hosts_at schema)
 has_hosts schema h = has schema (hosts_at schema) h.1.0

@@ -28,7 +28,8 @@ use Rattle.hosts_sql.proofs.Delete.{passes}
 use Rattle.hosts_sql.proofs.Fewer.{does_delete, host_whole}
 use Rattle.hosts_sql.proofs.OwnIds.{own_ids, own_of_map}
 use Rattle.hosts_sql.proofs.Places.{Has, own_at, hosts_at, watches_at, first_at, tables_of, has_hosts, has_first, own_not_hosts, own_not_watches, own_not_first, hosts_not_watches, first_not_watches, hosts_not_first, reads_tree}
-use Rattle.hosts_sql.proofs.Added.{added, added_is, hosts_tree_is, own_kept, watches_kept, first_kept, first_tree_kept, low_tree_of, none_at, no_views, uncounted}
+use Rattle.hosts_sql.proofs.Added.{added, added_is, hosts_tree_is, own_kept, watches_kept, first_kept, first_tree_kept}
+use Rattle.hosts_sql.proofs.More.{low_tree_of, none_at, no_views, uncounted}
 use Rattle.hosts_sql.proofs.Listings.{shown_in, shown_in_first, shows_version}
 use Rattle.hosts_sql.proofs.Reading.{shows_hosts}
 use Rattle.hosts_sql.proofs.Rows.{Makes, version_is, did_at}
@@ -42,10 +43,10 @@ use Rattle.hosts_sql.proofs.Meant.{copy_is, hosts_command, hosts_statement}
 
 hosts_defines : (schema : Schema) → IsHostSchema First schema → Defines schema hosts_text (hosts_table 0)
 hosts_defines schema h =
-    let views = no_views schema h.0.1 in
+    let views = no_views schema h.0.1.0 in
     let untaken = none_at (λ t. same_name t.name hosts_name) schema.tables 0 h.1.1.0 in
     let means = hosts_command schema views untaken h.1.1.1 in
-    record { command = means.command; statement = hosts_statement schema views untaken h.1.1.1; plain = means.plain; defined = hosts_is; uncounted = uncounted schema h.0.1 }
+    record { command = means.command; statement = hosts_statement schema views untaken h.1.1.1; plain = means.plain; defined = hosts_is; uncounted = uncounted schema (hosts_table 0) refl h.0.1.0 }
 
 -- it is there and holds no row, and the others are as they were
 record HasHosts (old new : Database) : Type 0 where
@@ -62,7 +63,7 @@ made_hosts a b h makes =
     let sound = subst (λ s. IsSound s b.trees) made.makes made.sound in
     record {
       tables = made.makes;
-      is = added_is schema h (low_tree_of schema b.trees sound);
+      is = added_is schema h (low_tree_of schema (hosts_table 0) b.trees sound);
       none = ap b.trees (hosts_tree_is schema h.1.1.0) ∙ made.empty;
       others = λ t there. all-slice_get (λ (u : Table). b.trees u.tree ≡ a.trees u.tree) schema.tables there.at t there.got made.others;
       sound = sound;
@@ -147,8 +148,11 @@ upgraded own old made new whole sound has ran =
     record { whole = after; rows = late ∙ same ∙ ap (with_own own) (sym early); emptied = ap (λ s. new.trees (tree_in s first_hosts_name)) same_schema ∙ ap new.trees (first_tree_kept early_schema whole.0.0) ∙ gone }
 
 -- a text that makes the table of the hosts with quotas, and three that move them
+abbrev pub MovesGiven : Row → Database → Database → Type 0
+MovesGiven given from to = (made : Database) × MakesTable hosts_text from made × RanThree copy_hosts_text [] empty_hosts_text [] second_own_text given made to
+
 abbrev pub Moves : ℕ → Database → Database → Type 0
-Moves own from to = (made : Database) × MakesTable hosts_text from made × RanThree copy_hosts_text [] empty_hosts_text [] second_own_text (Int (pos own) ∷ []) made to
+Moves own = MovesGiven (Int (pos own) ∷ [])
 
 pub moved : (own : ℕ) (old new : Database) → IsWhole First old → IsDatabase old → Moves own old new → IsUpgraded own old new
 moved own old new whole sound work = upgraded own old work.0 new whole sound (made_hosts old work.0 whole.0.0 work.1) work.2

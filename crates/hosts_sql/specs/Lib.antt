@@ -7,6 +7,7 @@ pub mod Own
 pub mod Reading
 pub mod Wrote
 pub mod Making
+pub mod Placing
 pub mod Holds
 pub mod Laws
 pub mod Refused

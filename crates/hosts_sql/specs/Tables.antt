@@ -5,7 +5,7 @@ use Rattle.sqlite_value.specs.declared.keys.Collation.TheVariants.{Binary}
 use Rattle.sqlite_value.specs.declared.keys.Order.{Order}
 use Rattle.sqlite_schema.specs.declared.schema.Column.{Column}
 use Rattle.sqlite_schema.specs.declared.schema.Kind.{Kind}
-use Rattle.sqlite_schema.specs.declared.schema.Kind.TheVariants.{Integer, Blob}
+use Rattle.sqlite_schema.specs.declared.schema.Kind.TheVariants.{Integer, Blob, Text}
 use Rattle.sqlite_schema.specs.declared.schema.Table.{Table}
 use Rattle.sqlite_schema.specs.declared.schema.Schema.{Schema}
 use Rattle.sqlite_sql.specs.Term.{Term, lit, col, op2}
@@ -110,6 +110,19 @@ first_hosts_columns = required_column (codes "name") Blob ∷ required_column (c
 abbrev pub first_hosts_table : ℕ → Table
 first_hosts_table tree = keyed_table first_hosts_name tree first_hosts_columns (1 ∷ []) one_key
 
+-- where hosts were, which a file may have beside its other tables
+abbrev pub addresses_name : List ℕ
+addresses_name = codes "addresses"
+
+abbrev pub addresses_text : List ℕ
+addresses_text = codes "CREATE TABLE addresses (name BLOB NOT NULL PRIMARY KEY, address TEXT NOT NULL) STRICT"
+
+abbrev pub addresses_columns : List Column
+addresses_columns = required_column (codes "name") Blob ∷ required_column (codes "address") Text ∷ []
+
+abbrev pub addresses_table : ℕ → Table
+addresses_table tree = keyed_table addresses_name tree addresses_columns (1 ∷ []) one_key
+
 abbrev pub no_schema : Schema
 no_schema = record { tables = []; indexes = []; views = [] }
 
@@ -154,3 +167,12 @@ empty_hosts_text = codes "DELETE FROM hosts"
 
 abbrev pub second_own_text : List ℕ
 second_own_text = codes "UPDATE own SET version = 2, state = ?1"
+
+abbrev pub insert_address_text : List ℕ
+insert_address_text = codes "INSERT INTO addresses (name, address) VALUES (?1, ?2)"
+
+abbrev pub delete_address_text : List ℕ
+delete_address_text = codes "DELETE FROM addresses WHERE name = ?1"
+
+abbrev pub read_addresses_text : List ℕ
+read_addresses_text = codes "SELECT rowid AS id, * FROM addresses ORDER BY 1"

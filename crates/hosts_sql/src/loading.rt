@@ -23,7 +23,7 @@ use sqlite::{Alter, Connection, Error, ErrorCode, Row};
 use std::alloc::Global;
 
 /// The rows that a query shows of the last commit.
-fn read<S: Alter>(conn: &mut Connection<S>, sql: &str) -> Result<Vec<Row>, Error>
+pub(crate) fn read<S: Alter>(conn: &mut Connection<S>, sql: &str) -> Result<Vec<Row>, Error>
     requires plain { HasCleanDisk (state S.Store conn.old) → IsTrue (state S.Store conn.old).is_open → IsPlain (understood (state S.Store conn.old).committed.schema sql.now) }
     ensures ok { HasCleanDisk (state S.Store conn.new) → IfOk result (λ rows. Tells sql.now (state S.Store conn.old).committed rows.items) }
     ensures same { HasCleanDisk (state S.Store conn.new) → OnOk result (IsUnchanged (state S.Store conn.old) (state S.Store conn.new)) }
@@ -37,8 +37,8 @@ fn read<S: Alter>(conn: &mut Connection<S>, sql: &str) -> Result<Vec<Row>, Error
     select.query_all(conn, &[])
 }
 
-// A value of this column is out of its range in this row, whose first column is the rowid.
-fn out_of_range(table: &'static str, column: &'static str, row: &Row) -> AdoptError {
+/// A value of this column is out of its range in this row, whose first column is the rowid.
+pub(crate) fn out_of_range(table: &'static str, column: &'static str, row: &Row) -> AdoptError {
     AdoptError::OutOfRange {
         table,
         column,
@@ -46,8 +46,8 @@ fn out_of_range(table: &'static str, column: &'static str, row: &Row) -> AdoptEr
     }
 }
 
-// What was read of this column of a row, or why it wasn't.
-fn told<T: Drop>(
+/// What was read of this column of a row, or why it wasn't.
+pub(crate) fn told<T: Drop>(
     read: Result<T, Error>,
     table: &'static str,
     column: &'static str,
@@ -119,7 +119,8 @@ fn host_in(table: &'static str, row: &Row) -> Result<HostRow, AdoptError>
     Ok(HostRow::new(name, epoch, seen, quota))
 }
 
-fn repeated(table: &'static str, row: &Row) -> AdoptError {
+/// The key of this row is there twice.
+pub(crate) fn repeated(table: &'static str, row: &Row) -> AdoptError {
     AdoptError::Repeated {
         table,
         rowid: row.get::<i64>(0).unwrap_or(0),

@@ -2,14 +2,16 @@
 ghost use Rattle.std.specs.Prelude.{◌≡◌, None, true, length, IsTrue, OnOk, IfOk, option_map, nat_lt, ◌==◌};
 ghost use Rattle.std.specs.Option.{option_copied};
 ghost use Rattle.std.specs.List.{list_all, position_from};
-ghost use Rattle.hosts_sql.specs.Schemas.{HasTable, IsHostSchema, checks_in, has_no_other, is_expected, is_of_hosts, table_in, tree_in};
+ghost use Rattle.hosts_sql.specs.Schemas.{HasTable, IsHostSchema, TakesAddresses, checks_in, has_no_other, is_expected, is_of_hosts, table_in, tree_in};
+ghost use Rattle.hosts_sql.specs.Placing.{has_addresses};
 ghost use Rattle.sqlite_schema.specs.Names.{table_named, index_named};
 ghost use Rattle.sqlite_catalog.specs.Change.{is_reserved};
-ghost use Rattle.hosts_sql.specs.Tables.{first_hosts_name, first_hosts_table, hosts_name, hosts_table, own_name, own_table, watches_name, watches_table};
+ghost use Rattle.hosts_sql.specs.Tables.{addresses_name, first_hosts_name, first_hosts_table, hosts_name, hosts_table, own_name, own_table, watches_name, watches_table};
 
 use crate::error::AdoptError;
 use crate::tables::{
-    TablesVersion, check_first_table, check_hosts_table, check_own_table, check_watches_table,
+    TablesVersion, check_addresses_table, check_first_table, check_hosts_table, check_own_table,
+    check_watches_table,
 };
 use sqlite_schema::names::same_name;
 use sqlite_schema::schema::{Index, Schema, Table};
@@ -29,6 +31,7 @@ fn is_of_hosts(name: &[u8]) -> bool
         || same_name(name, b"hosts2")
         || same_name(name, b"watches")
         || same_name(name, b"hosts")
+        || same_name(name, b"addresses")
 }
 
 // One of the hosts' tables or of SQLite's own.
@@ -211,14 +214,35 @@ fn check_old(schema: &Schema) -> Result<(), AdoptError>
     }
 }
 
+// The table of the addresses, if there is one, is what it should be.
+#[tactic(auto, using(crate::proofs::Schemas::addresses_there, crate::proofs::Schemas::no_addresses_there))]
+fn check_addresses(schema: &Schema) -> Result<(), AdoptError>
+    ensures { OnOk result (TakesAddresses schema.now) }
+{
+    let Some(table) = table_in(schema, b"addresses") else {
+        return Ok(());
+    };
+    check_addresses_table(table)?;
+    unless_it_is_shared(schema, "addresses", table.tree)?;
+    Ok(())
+}
+
+/// Whether there is a table of addresses.
+pub(crate) fn has_addresses(schema: &Schema) -> bool
+    ensures { result ≡ has_addresses schema.now }
+{
+    table_in(schema, b"addresses").is_some()
+}
+
 /// The version whose tables the schema has, in whatever order and trees, if it has no other object but SQLite's own. A file that
-/// was upgraded from schema 1 has the table of its hosts, too.
+/// was upgraded from schema 1 has the table of its hosts, too, and each may have one of addresses.
 pub(crate) fn version_of(alloc: Global, schema: &Schema) -> Result<TablesVersion, AdoptError>
     ensures { IfOk result (λ version. IsHostSchema version schema.now) }
 {
     check_others(alloc, schema)?;
     check_own(schema)?;
     check_watches(schema)?;
+    check_addresses(schema)?;
     if table_in(schema, b"hosts2").is_some() {
         check_hosts(schema)?;
         check_old(schema)?;

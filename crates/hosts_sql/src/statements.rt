@@ -1,5 +1,5 @@
 //! The statements that write, each with what it makes of the rows.
-ghost use Rattle.std.specs.Prelude.{◌≡◌, pos, false, IsTrue, OnOk, OnErr};
+ghost use Rattle.std.specs.Prelude.{◌≡◌, pos, false, true, is_some, IsTrue, OnOk, OnErr};
 ghost use Rattle.std.specs.Option.{option_copied};
 ghost use Rattle.sqlite.specs.Values.{bound};
 ghost use Rattle.sqlite.specs.State.{HasCleanDisk, KeepsCommit, Survives};
@@ -8,10 +8,12 @@ ghost use Rattle.definitions.specs.Bytes.{same_bytes, list_without};
 ghost use Rattle.definitions.specs.Hosts.{HostRow, has_row, after_store, Monitor, Watched, Unwatched, is_named};
 ghost use Rattle.hosts_sql.specs.Given.{my_given, watch_given, watch_params};
 ghost use Rattle.hosts_sql.specs.Maps.{with_listed_host, with_listed_watch};
+ghost use Rattle.hosts_sql.specs.Placing.{FindsAddresses};
 ghost use Rattle.hosts_sql.specs.Wrote.{HasTables, IsFresh, MayWriteHosts, WroteHosts, hosts_in};
 ghost use Rattle.hosts_sql.specs.declared.tables.TablesVersion.TheVariants.{Second};
 
-use crate::making::{HOSTS, Make};
+use crate::making::{HOSTS, Make, MakeAddresses};
+use crate::placing::{PutAddress, transact_behind};
 use hosts_db::{FULL_QUOTA, MyIdRef};
 use sql_transactions::{One, Then, run_one, run_two, transact};
 use sqlite::types::ValueRef;
@@ -23,21 +25,24 @@ const INSERT_HOST: &str = "INSERT INTO hosts2 (name, epoch, seen, quota) VALUES 
 // Takes out the row of a host.
 const DELETE_HOST: &str = "DELETE FROM hosts2 WHERE name = ?1";
 
-/// Adds the row of a new host.
+/// Adds the row of a new host, and puts its address, where one is given.
 pub(crate) fn insert_host<S: Alter>(
     conn: &mut Connection<S>,
     name: &[u8],
     epoch: u32,
     seen: i32,
+    address: Option<PutAddress<'_>>,
 ) -> Result<(), Error>
     requires tables { HasTables Second (state S.Store conn.old) }
     requires new { HasCleanDisk (state S.Store conn.old) → IsTrue (state S.Store conn.old).is_open → has_row (hosts_in (state S.Store conn.old)) name.now ≡ false }
     requires own { HasCleanDisk (state S.Store conn.old) → IsTrue (state S.Store conn.old).is_open → (hosts_in (state S.Store conn.old)).own ≡ epoch }
+    requires addressed { FindsAddresses (is_some address) true (state S.Store conn.old) }
     ensures ok { HasCleanDisk (state S.Store conn.new) → OnOk result (WroteHosts (λ h. after_store h (Monitor name.now seen)) (state S.Store conn.old) (state S.Store conn.new)) }
     ensures err { HasCleanDisk (state S.Store conn.new) → OnErr result (KeepsCommit (state S.Store conn.old) (state S.Store conn.new)) }
     ensures crash { Survives (state S.Store conn.old) (state S.Store conn.new) (MayWriteHosts (λ h. after_store h (Monitor name.now seen)) (state S.Store conn.old)) }
 {
-    run_one(conn, INSERT_HOST, params![name, epoch, seen, FULL_QUOTA])
+    let host = One(INSERT_HOST, params![name, epoch, seen, FULL_QUOTA]);
+    transact_behind(conn, address, host)
 }
 
 /// Puts a host's row in the place of the row of its name, or adds it.
@@ -132,17 +137,19 @@ pub(crate) fn put_watch<S: Alter>(
     run_two(conn, DELETE_WATCH, &key, INSERT_WATCH, &row)
 }
 
-/// Adds the row of a new host, and puts a watch of it.
-pub(crate) fn put_host_and_watch<S: Alter>(
+/// Adds the row of a new host, puts its address, where one is given, and a watch of it.
+pub(crate) fn put_host_and_watch<'a, S: Alter>(
     conn: &mut Connection<S>,
     epoch: u32,
-    mon: &[u8],
-    my_id: &MyIdRef<'_>,
-    private: &[u8; 16],
+    mon: &'a [u8],
+    my_id: &'a MyIdRef<'a>,
+    private: &'a [u8; 16],
+    address: Option<PutAddress<'a>>,
 ) -> Result<(), Error>
     requires tables { HasTables Second (state S.Store conn.old) }
     requires new { HasCleanDisk (state S.Store conn.old) → IsTrue (state S.Store conn.old).is_open → has_row (hosts_in (state S.Store conn.old)) mon.now ≡ false }
     requires own { HasCleanDisk (state S.Store conn.old) → IsTrue (state S.Store conn.old).is_open → (hosts_in (state S.Store conn.old)).own ≡ epoch }
+    requires addressed { FindsAddresses (is_some address) true (state S.Store conn.old) }
     ensures ok { HasCleanDisk (state S.Store conn.new) → OnOk result (WroteHosts (λ h. after_store h (Watched mon.now my_id.now private.now)) (state S.Store conn.old) (state S.Store conn.new)) }
     ensures err { HasCleanDisk (state S.Store conn.new) → OnErr result (KeepsCommit (state S.Store conn.old) (state S.Store conn.new)) }
     ensures crash { Survives (state S.Store conn.old) (state S.Store conn.new) (MayWriteHosts (λ h. after_store h (Watched mon.now my_id.now private.now)) (state S.Store conn.old)) }
@@ -152,7 +159,7 @@ pub(crate) fn put_host_and_watch<S: Alter>(
     let host = One(INSERT_HOST, params![mon, epoch, 0i32, FULL_QUOTA]);
     let none = One(DELETE_WATCH, &key);
     let watch = One(INSERT_WATCH, &row);
-    transact(conn, &Then(Then(host, none), watch))
+    transact_behind(conn, address, Then(Then(host, none), watch))
 }
 
 /// Takes out the watches of a watcher: of one host, or of all.
@@ -176,8 +183,12 @@ pub(crate) fn delete_watches<S: Alter>(
     }
 }
 
-/// Makes the tables and the row of the own state, in one transaction.
-pub(crate) fn make_and_start<S: Alter>(conn: &mut Connection<S>, own: u32) -> Result<(), Error>
+/// Makes the tables and the row of the own state, and the table of addresses, where it is asked for, in one transaction.
+pub(crate) fn make_and_start<S: Alter>(
+    conn: &mut Connection<S>,
+    own: u32,
+    addresses: Option<MakeAddresses>,
+) -> Result<(), Error>
     requires { IsFresh (state S.Store conn.old) }
     ensures ok { HasCleanDisk (state S.Store conn.new) → OnOk result (WroteHosts (λ h. record h { own = own }) (state S.Store conn.old) (state S.Store conn.new)) }
     ensures err { HasCleanDisk (state S.Store conn.new) → OnErr result (KeepsCommit (state S.Store conn.old) (state S.Store conn.new)) }
@@ -195,15 +206,25 @@ pub(crate) fn make_and_start<S: Alter>(conn: &mut Connection<S>, own: u32) -> Re
         params![own],
     );
     let tables = Then(Then(own_table, Make(HOSTS)), watches_table);
-    transact(conn, &Then(tables, row))
+    match addresses {
+        Some(more) => transact(conn, &Then(Then(tables, row), more)),
+        None => transact(conn, &Then(tables, row)),
+    }
 }
 
-/// Sets the own state, where the tables are there.
-pub(crate) fn set_own<S: Alter>(conn: &mut Connection<S>, own: u32) -> Result<(), Error>
-    requires { HasTables Second (state S.Store conn.old) }
+/// Sets the own state, where the tables are there, and makes that of addresses, where it is asked for, in one transaction.
+pub(crate) fn set_own<S: Alter>(
+    conn: &mut Connection<S>,
+    own: u32,
+    addresses: Option<MakeAddresses>,
+) -> Result<(), Error>
+    requires tables { HasTables Second (state S.Store conn.old) }
+    requires lacking { FindsAddresses (is_some addresses) false (state S.Store conn.old) }
     ensures ok { HasCleanDisk (state S.Store conn.new) → OnOk result (WroteHosts (λ h. record h { own = own }) (state S.Store conn.old) (state S.Store conn.new)) }
     ensures err { HasCleanDisk (state S.Store conn.new) → OnErr result (KeepsCommit (state S.Store conn.old) (state S.Store conn.new)) }
     ensures crash { Survives (state S.Store conn.old) (state S.Store conn.new) (MayWriteHosts (λ h. record h { own = own }) (state S.Store conn.old)) }
 {
-    run_one(conn, "UPDATE own SET state = ?1", params![own])
+    let _schema = conn.schema();
+    let row = One("UPDATE own SET state = ?1", params![own]);
+    transact_behind(conn, addresses, row)
 }

@@ -3,7 +3,7 @@ ghost use Rattle.std.specs.Prelude.{◌≡◌, [], ◌∷◌, IsTrue, OnOk};
 ghost use Rattle.hosts_sql.specs.Wrote.{number};
 ghost use Rattle.sqlite_value.specs.declared.value.Value.TheVariants.{Null};
 ghost use Rattle.sqlite_value.specs.declared.keys.Collation.TheVariants.{Binary};
-ghost use Rattle.hosts_sql.specs.Tables.{first_hosts_columns, first_hosts_table, hosts_columns, hosts_table, id_column, keyed_table, no_schema, one_key, own_columns, own_table, required_column, watches_columns, watches_table};
+ghost use Rattle.hosts_sql.specs.Tables.{addresses_columns, addresses_table, first_hosts_columns, first_hosts_table, hosts_columns, hosts_table, id_column, keyed_table, no_schema, one_key, own_columns, own_table, required_column, watches_columns, watches_table};
 
 use crate::error::AdoptError;
 use sqlite::types::Value;
@@ -141,6 +141,22 @@ fn check_watches_columns(columns: &[Column]) -> Result<(), AdoptError>
     }
 }
 
+fn check_addresses_columns(columns: &[Column]) -> Result<(), AdoptError>
+    ensures { OnOk result (columns.now ≡ addresses_columns) }
+{
+    match columns {
+        [a, b] => {
+            unless_it_differs(is_required(a, b"name", Kind::Blob), "addresses", "name")?;
+            unless_it_differs(
+                is_required(b, b"address", Kind::Text),
+                "addresses",
+                "address",
+            )
+        }
+        _ => Err(miscounted("addresses", columns, 2)),
+    }
+}
+
 // ---- tables
 
 fn are_none(stamps: &Stamps) -> bool
@@ -244,5 +260,17 @@ pub(crate) fn check_watches_table(table: &Table) -> Result<(), AdoptError>
         Ok(())
     } else {
         Err(AdoptError::DifferentTable("watches"))
+    }
+}
+
+/// The table of the addresses.
+pub(crate) fn check_addresses_table(table: &Table) -> Result<(), AdoptError>
+    ensures { OnOk result (table.now ≡ addresses_table table.now.tree) }
+{
+    check_addresses_columns(table.columns.as_slice())?;
+    if is_keyed(table, b"addresses", &[1]) {
+        Ok(())
+    } else {
+        Err(AdoptError::DifferentTable("addresses"))
     }
 }

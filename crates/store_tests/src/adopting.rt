@@ -55,21 +55,28 @@ fn starts(alloc: Global, files: Trials) -> bool {
 
 /// What both files hold.
 #[derive(Drop)]
-struct Bytes {
+pub(crate) struct Bytes {
     log: Vec<u8>,
     db: Vec<u8>,
 }
 
 impl Bytes {
-    // Whether there is memory for them.
-    fn note(&mut self, Trials { disks }: &Trials) -> bool {
+    pub(crate) fn new(alloc: Global) -> Bytes {
+        Bytes {
+            log: Vec::new(alloc),
+            db: Vec::new(alloc),
+        }
+    }
+
+    /// Whether there is memory for them.
+    pub(crate) fn note(&mut self, Trials { disks }: &Trials) -> bool {
         self.log
             .extend_from_slice(disks.log.inner().bytes())
             .is_ok()
             && self.db.extend_from_slice(disks.db.inner().bytes()).is_ok()
     }
 
-    fn are_of(&self, Trials { disks }: &Trials) -> bool {
+    pub(crate) fn are_of(&self, Trials { disks }: &Trials) -> bool {
         disks.log.inner().bytes() == self.log.as_slice()
             && disks.db.inner().bytes() == self.db.as_slice()
     }
@@ -80,10 +87,7 @@ fn adopts(alloc: Global, sql: [&str; 2], want: Option<Shown>) -> bool {
     let Some(files) = made(alloc, sql) else {
         return false;
     };
-    let mut before = Bytes {
-        log: Vec::new(alloc),
-        db: Vec::new(alloc),
-    };
+    let mut before = Bytes::new(alloc);
     let is_noted = before.note(&files);
     let (is_so, files) = shows(alloc, files, want);
     let is_left = is_noted && before.are_of(&files);
@@ -260,10 +264,68 @@ const FIRST_ROWS: &[Row] = &[
         None,
     ),
     ("INSERT INTO own VALUES (1, 1, 3); DROP TABLE hosts", None),
+    (
+        "INSERT INTO own VALUES (1, 1, 3); CREATE TABLE addresses (name BLOB NOT NULL PRIMARY KEY, address TEXT NOT NULL) STRICT; INSERT INTO addresses VALUES (<1>, '::1')",
+        Some((3, 0, 0)),
+    ),
+    (
+        "INSERT INTO own VALUES (1, 1, 3); CREATE TABLE addresses (name BLOB NOT NULL PRIMARY KEY, address TEXT NOT NULL) STRICT; INSERT INTO addresses VALUES (<1>, ':1')",
+        None,
+    ),
+];
+
+/// A table of addresses, and the nearest ones that aren't taken.
+const ADDRESSES: &[Row] = &[
+    (
+        "CREATE TABLE addresses (name BLOB NOT NULL PRIMARY KEY, address TEXT NOT NULL) STRICT",
+        Some((5, 0, 0)),
+    ),
+    (
+        "CREATE TABLE addresses (name BLOB NOT NULL PRIMARY KEY, address TEXT NOT NULL)",
+        None,
+    ),
+    (
+        "CREATE TABLE addresses (name BLOB NOT NULL PRIMARY KEY, address TEXT) STRICT",
+        None,
+    ),
+    (
+        "CREATE TABLE addresses (address TEXT NOT NULL, name BLOB NOT NULL PRIMARY KEY) STRICT",
+        None,
+    ),
+    (
+        "CREATE TABLE addresses (name BLOB NOT NULL, address TEXT NOT NULL UNIQUE) STRICT",
+        None,
+    ),
+    (
+        "CREATE TABLE addresses (name BLOB NOT NULL PRIMARY KEY, address TEXT NOT NULL, port INTEGER) STRICT",
+        None,
+    ),
+    (
+        "CREATE TABLE Addresses (name BLOB NOT NULL PRIMARY KEY, address TEXT NOT NULL) STRICT",
+        None,
+    ),
+    ("CREATE VIEW addresses AS SELECT name FROM hosts2", None),
+    ("CREATE INDEX addresses ON hosts2 (epoch)", None),
+    (
+        "CREATE TABLE addresses (name BLOB NOT NULL PRIMARY KEY, address TEXT NOT NULL) STRICT; INSERT INTO addresses VALUES (<0>, '::1'), (<1024>, '192.0.2.1')",
+        Some((5, 0, 0)),
+    ),
+    (
+        "CREATE TABLE addresses (name BLOB NOT NULL PRIMARY KEY, address TEXT NOT NULL) STRICT; INSERT INTO addresses VALUES (<1025>, '::1')",
+        None,
+    ),
+    (
+        "CREATE TABLE addresses (name BLOB NOT NULL PRIMARY KEY, address TEXT NOT NULL) STRICT; INSERT INTO addresses VALUES (<1>, '')",
+        None,
+    ),
+    (
+        "CREATE TABLE addresses (name BLOB NOT NULL PRIMARY KEY, address TEXT NOT NULL) STRICT; INSERT INTO addresses VALUES (<1>, '192.0.2.1 ')",
+        None,
+    ),
 ];
 
 /// Files of schema 2.
-const SECOND_ROWS: &[&[Row]] = &[TABLES, OWN, HOSTS, WATCHES, ROWS];
+const SECOND_ROWS: &[&[Row]] = &[TABLES, OWN, HOSTS, WATCHES, ROWS, ADDRESSES];
 
 #[test]
 fn adopts_just_what_fits(rt: HostRuntime) -> Result<(), &'static str> {

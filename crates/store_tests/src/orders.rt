@@ -29,6 +29,10 @@ const MAKING: &[(&str, &str)] = &[
         "CREATE TABLE watches (mon BLOB NOT NULL, my BLOB NOT NULL, prog INTEGER NOT NULL, vers INTEGER NOT NULL, proc INTEGER NOT NULL, priv BLOB NOT NULL, PRIMARY KEY (mon, my, prog, vers, proc)) STRICT",
     ),
     (
+        "addresses",
+        "CREATE TABLE addresses (name BLOB NOT NULL PRIMARY KEY, address TEXT NOT NULL) STRICT",
+    ),
+    (
         "counted",
         "CREATE TABLE counted (id INTEGER PRIMARY KEY AUTOINCREMENT)",
     ),
@@ -78,6 +82,8 @@ const FIRST_ORDERS: &[&str] = &[
     "watches own hosts",
     "watches hosts own",
     "counted watches uncounted hosts own",
+    "addresses watches hosts own",
+    "own hosts addresses watches",
 ];
 
 /// Schema 2 in each order, and with the table of schema 1 that an upgrade leaves.
@@ -93,6 +99,8 @@ const SECOND_ORDERS: &[&str] = &[
     "watches hosts2 own hosts",
     "counted own watches uncounted hosts2",
     "own hosts counted uncounted watches hosts2",
+    "addresses own hosts2 watches",
+    "own hosts hosts2 addresses watches",
 ];
 
 // Whether a file with its tables in this order is taken, works, and is taken again.
@@ -360,6 +368,26 @@ const REASONS: &[(&str, &str)] = &[
     (
         "INSERT INTO watches VALUES (x'61', x'62', 1, 2, 3, x'00')",
         "in table watches column priv is out of range in the row with rowid 1",
+    ),
+    (
+        "CREATE TABLE addresses (name BLOB NOT NULL PRIMARY KEY) STRICT",
+        "table addresses has 1 columns, and 2 are wanted",
+    ),
+    (
+        "CREATE TABLE addresses (name BLOB NOT NULL PRIMARY KEY, address BLOB NOT NULL) STRICT",
+        "table addresses differs from what it should be in column address",
+    ),
+    (
+        "CREATE TABLE addresses (host BLOB NOT NULL PRIMARY KEY, address TEXT NOT NULL) STRICT",
+        "table addresses differs from what it should be in column name",
+    ),
+    (
+        "CREATE TABLE addresses (name BLOB NOT NULL, address TEXT NOT NULL) STRICT",
+        "table addresses differs from what it should be in its keys or options",
+    ),
+    (
+        "CREATE TABLE addresses (name BLOB NOT NULL PRIMARY KEY, address TEXT NOT NULL) STRICT; INSERT INTO addresses VALUES (x'61', '192.0.2.1'), (x'62', '192.0.2.256')",
+        "in table addresses column address is out of range in the row with rowid 2",
     ),
     ("BEGIN", "a transaction is open"),
 ];

@@ -15,6 +15,9 @@ const OPTIONS: Options = Options {
 
 /// What is done with a store, or told where the database isn't taken.
 pub(crate) trait Work {
+    // What is done first with the store that was made.
+    fn prepare<S: Alter>(&mut self, _store: &mut SqlHosts<S>) {}
+
     fn work<S: HostStore>(&mut self, store: &mut S);
 
     fn untaken(&mut self, _why: &AdoptError) {}
@@ -65,6 +68,7 @@ pub(crate) fn visit<S: Alter + Drop, W: Work>(
     }
     match SqlHosts::adopt(alloc, conn) {
         Ok(mut store) => {
+            work.prepare(&mut store);
             work.work(&mut store);
             (Came::Worked, store.into_connection().into_store())
         }

@@ -4,11 +4,15 @@
 #![tactic(auto)]
 
 #[cfg(test)]
+mod boots;
+#[cfg(test)]
 mod calls;
 #[cfg(test)]
 mod counts;
 #[cfg(test)]
 mod hosts;
+#[cfg(test)]
+mod learned;
 #[cfg(test)]
 mod locks;
 #[cfg(test)]

@@ -17,5 +17,5 @@ invariant_of-result g c = record {
 
 pub invariant_of-result-2-clause-holds : goal.invariant_of-result-2-clause-holds
 invariant_of-result-2-clause-holds g c clean is_open =
-    let done = c.in_default-load.ensures in
-    subst (IsWhole c.in-Ok-version_of.version) (sym (done.same clean).0.committed_is) (done.whole clean)
+    let done = c.in-Ok-load_all.ensures in
+    subst (IsWhole c.in-Ok-version_of.version) (sym (done.same clean)) (done.whole clean)

@@ -1,0 +1,4 @@
+pub mod Tellings
+pub mod Hosts
+pub mod Views
+pub mod Laws
