@@ -43,7 +43,8 @@ serve_rules =
     ∷ default_rule (codes "connections") (codes "256") ∷ value_rule (codes "connections-per-peer")
     ∷ value_rule (codes "notify-port")
     ∷ flag_rule (codes "audit") ∷ flag_rule (codes "ask-port-mapper") ∷ flag_rule (codes "register")
-    ∷ flag_rule (codes "poll-ends-grant") ∷ value_rule (codes "status-port") ∷ []
+    ∷ flag_rule (codes "poll-ends-grant") ∷ flag_rule (codes "learn") ∷ flag_rule (codes "known-hosts-only")
+    ∷ flag_rule (codes "lock-state-tells-reboot") ∷ value_rule (codes "status-port") ∷ []
 
 -- `lockd pipe`, `lockd table` and `lockd serve`
 abbrev pub pipe_app : App

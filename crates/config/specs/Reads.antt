@@ -80,6 +80,9 @@ serve_in bind rows = do
     ask_port_mapper = flag_in (codes "ask-port-mapper") rows;
     register = flag_in (codes "register") rows;
     poll_ends_grant = flag_in (codes "poll-ends-grant") rows;
+    learn = flag_in (codes "learn") rows;
+    known_hosts_only = flag_in (codes "known-hosts-only") rows;
+    lock_state_tells_reboot = flag_in (codes "lock-state-tells-reboot") rows;
     status_port = status_port;
   })
 

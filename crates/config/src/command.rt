@@ -5,10 +5,8 @@ ghost use Rattle.clap.specs.Words.{app_of, rule_of};
 ghost use Rattle.config.specs.Lockd.{bare_app, pipe_app, serve_app, table_app, view_of_choice, with_rules};
 
 use clap::{Arg, ArgAction, Command};
+use program_version::VERSION;
 use std::alloc::{AllocError, Global};
-
-/// The program's version.
-const VERSION: &str = "1.0.0";
 
 /// What the program is.
 const LOCKD_ABOUT: &str = "The lock manager and status monitor of an NFS server";
@@ -177,6 +175,21 @@ const SERVE_CHOICES: &[Choice<'static>] = &[
         name: "poll-ends-grant",
         takes: OptionValue::Nothing,
         help: "A lock call that is answered GRANTED ends the GRANTED calls of its lock",
+    },
+    Choice {
+        name: "learn",
+        takes: OptionValue::Nothing,
+        help: "A host that no line of the file of peers names is where its lock calls come from",
+    },
+    Choice {
+        name: "known-hosts-only",
+        takes: OptionValue::Nothing,
+        help: "Close each connection for calls from an address that no line of the file of peers has",
+    },
+    Choice {
+        name: "lock-state-tells-reboot",
+        takes: OptionValue::Nothing,
+        help: "A new state in a host's lock calls tells of its reboot, as a notice does",
     },
     Choice {
         name: "status-port",

@@ -75,6 +75,12 @@ pub struct ServeConfig {
     pub register: bool,
     /// Whether a lock that is answered GRANTED ends the grants that were to tell of it.
     pub poll_ends_grant: bool,
+    /// Whether a host that the file of peers doesn't name is called where its lock calls come from.
+    pub learn: bool,
+    /// Whether connections for calls come in from addresses of the file of peers and from loopback alone.
+    pub known_hosts_only: bool,
+    /// Whether a new state in a host's lock calls tells of its reboot.
+    pub lock_state_tells_reboot: bool,
     /// For operators, on loopback alone; None: they have no port.
     pub status_port: Option<Port>,
 }
@@ -354,6 +360,9 @@ pub(crate) fn read_serve<'a>(
     let ask_port_mapper = is_given(matches, "ask-port-mapper");
     let register = is_given(matches, "register");
     let poll_ends_grant = is_given(matches, "poll-ends-grant");
+    let learn = is_given(matches, "learn");
+    let known_hosts_only = is_given(matches, "known-hosts-only");
+    let lock_state_tells_reboot = is_given(matches, "lock-state-tells-reboot");
     Ok(ServeConfig {
         ports,
         times,
@@ -369,6 +378,9 @@ pub(crate) fn read_serve<'a>(
         ask_port_mapper,
         register,
         poll_ends_grant,
+        learn,
+        known_hosts_only,
+        lock_state_tells_reboot,
         status_port,
     })
 }

@@ -19,10 +19,11 @@ reply_of (Sends number callback) = None
 reply_of IsStarved = None
 reply_of IsRefused = None
 
--- the job was answered, its receipt is the worker's newest, if it has one, and what goes back is what it was given
-pub record IsTaken (job : Task) (old new : Worker) (reply : Option Bytes) : Type 0 where
+-- the job was answered, by a record that may be answered for it, its receipt is the worker's newest, if it has one, and what goes back is what it was given
+pub record IsTaken (may_answer : Bytes → Bytes → Type 0) (job : Task) (old new : Worker) (reply : Option Bytes) : Type 0 where
   pub answer : Answer
   pub is_of : answer.job ≡ job
+  pub may : may_answer job.asked answer.answered
   pub met : IsMet answer answer.receipt
   pub given : reply ≡ reply_of answer.given
   pub receipts : new.receipts ≡ old.receipts ++ receipt_list answer.receipt
@@ -30,10 +31,10 @@ pub record IsTaken (job : Task) (old new : Worker) (reply : Option Bytes) : Type
   pub keeps : new.keeps ≡ old.keeps
 
 -- what is done for a datagram, and what goes back
-abbrev pub IsDone : Screened → Task → Worker → Worker → Option Bytes → Type 0
-IsDone NoCall job old new reply = (new ≡ old) × (reply ≡ None)
-IsDone (Elsewhere xid) job old new reply = (new ≡ old) × (reply ≡ Some (reply_bytes xid (Refuses ProgUnavail)))
-IsDone ForBook job old new reply = IsTaken job old new reply
+abbrev pub IsDone : (Bytes → Bytes → Type 0) → Screened → Task → Worker → Worker → Option Bytes → Type 0
+IsDone may_answer NoCall job old new reply = (new ≡ old) × (reply ≡ None)
+IsDone may_answer (Elsewhere xid) job old new reply = (new ≡ old) × (reply ≡ Some (reply_bytes xid (Refuses ProgUnavail)))
+IsDone may_answer ForBook job old new reply = IsTaken may_answer job old new reply
 
-abbrev pub IsAnswered : Task → Worker → Worker → Option Bytes → Type 0
-IsAnswered job old new reply = (screened : Screened) × IsScreened job.asked screened × IsDone screened job old new reply
+abbrev pub IsAnswered : (Bytes → Bytes → Type 0) → Task → Worker → Worker → Option Bytes → Type 0
+IsAnswered may_answer job old new reply = (screened : Screened) × IsScreened job.asked screened × IsDone may_answer screened job old new reply

@@ -30,7 +30,7 @@ fn unavailable(xid: u32) -> Frame
     frame
 }
 
-// The book takes the job.
+// The book takes the job, by the record that the gate gives in place of its own, if it gives one.
 fn ask_book<P: Place, L: Ledger, R: RangeTable, S: HostStore, G: Gate, W: Wait>(
     rt: &W,
     worker: &mut Worker<P, L>,
@@ -38,7 +38,7 @@ fn ask_book<P: Place, L: Ledger, R: RangeTable, S: HostStore, G: Gate, W: Wait>(
     gate: &G,
     job: Job,
 ) -> Option<Frame>
-    ensures { IsTaken job worker.old worker.new result }
+    ensures { IsTaken (G.MayAnswer gate.now) job worker.old worker.new result }
 {
     let mut slot = ReplySlot::new();
     worker.serve(rt, shared, gate, &mut slot, job);
@@ -54,7 +54,7 @@ pub fn answer_datagram<P: Place, L: Ledger, R: RangeTable, S: HostStore, G: Gate
     gate: &G,
     job: Job,
 ) -> Option<Frame>
-    ensures { IsAnswered job worker.old worker.new result }
+    ensures { IsAnswered (G.MayAnswer gate.now) job worker.old worker.new result }
 {
     match screen(job.record().as_slice()) {
         Screened::NoCall => {

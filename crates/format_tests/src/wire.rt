@@ -3,6 +3,7 @@
 mod nlm;
 mod nsm;
 mod port_mapping;
+mod reports;
 mod rpc;
 mod streams;
 mod xdr;

@@ -5,6 +5,7 @@ ghost use Rattle.lockd_serving.specs.Times.{Lasts, IsAt, IsRegistered};
 
 use crate::notes::{StartFailure, tell};
 use crate::streams::own_name;
+use bytes::Bytes;
 use config::ServeConfig;
 use hosts_db::HostStore;
 use job_queue::Job;
@@ -13,7 +14,8 @@ use peers_file::{PeersFile, WatchedPeers, seen_at};
 use port_mapper::PORT as PORT_MAPPER;
 use reply_outbox::Gate;
 use server::{
-    Addresses, Backing, CallSettings, Registration, Rules, Runtime, ServerSettings, serve,
+    Addresses, Backing, CallSettings, LearnedAddresses, Registration, Rules, Runtime,
+    ServerSettings, serve,
 };
 use std::alloc::Global;
 use std::fs;
@@ -42,15 +44,26 @@ pub(crate) enum ServeFault {
 struct Open;
 
 impl Gate for Open {
-    ghost use Rattle.std.specs.Prelude.{false};
+    ghost use Rattle.std.specs.Prelude.{◌≡◌, false};
 
     ghost holds = { λ _. false };
+
+    ghost MayAnswer = { λ _ asked answered. answered ≡ asked };
 
     fn may_hold(&self) -> bool {
         false
     }
 
-    fn before(&self, _job: &Job) {}
+    fn before(&self, _job: &Job) -> Option<Bytes> {
+        None
+    }
+}
+
+/// Where hosts are: as the file of peers has it, and as the store has it, if it is learned.
+#[derive(Drop)]
+pub(crate) struct Whereabouts<A> {
+    pub(crate) peers: A,
+    pub(crate) learned: Option<LearnedAddresses>,
 }
 
 /// The peers of a file, over the files of the program.
@@ -145,6 +158,7 @@ fn settings_of(asked: &ServeConfig) -> ServerSettings
     ensures times { Lasts asked.now.times.grace result.calls.grace × Lasts asked.now.times.silence result.calls.silence × Lasts asked.now.times.idle result.idle }
     ensures workers { (result.workers ≡ asked.now.workers) × (result.is_audited ≡ asked.now.audit) }
     ensures connections { (result.connections ≡ asked.now.connections) × (result.connections_per_peer ≡ asked.now.connections_per_peer) }
+    ensures hosts { (result.known_hosts_only ≡ asked.now.known_hosts_only) × (result.lock_state_tells_reboot ≡ asked.now.lock_state_tells_reboot) }
 {
     ServerSettings {
         rpc: SocketAddr::new(asked.bind, asked.ports.rpc.get()),
@@ -170,6 +184,8 @@ fn settings_of(asked: &ServeConfig) -> ServerSettings
             Some(connections) => Some(connections.get()),
             None => None,
         },
+        known_hosts_only: asked.known_hosts_only,
+        lock_state_tells_reboot: asked.lock_state_tells_reboot,
         is_audited: asked.audit,
     }
 }
@@ -177,16 +193,18 @@ fn settings_of(asked: &ServeConfig) -> ServerSettings
 fn backing_of<S: HostStore + Drop, A: Drop>(
     alloc: Global,
     asked: &ServeConfig,
-    peers: A,
+    whereabouts: Whereabouts<A>,
     store: S,
 ) -> Result<Backing<S, A>, ServeFault>
     ensures backing { IfOk result (λ backing. (backing.own_name ≡ asked.now.name) × (backing.store ≡ store)) }
     ensures rules { IfOk result (λ backing. backing.rules.polls_end_grants ≡ asked.now.poll_ends_grant) }
 {
+    let Whereabouts { peers, learned } = whereabouts;
     match own_name(alloc, &asked.name) {
         Ok(own_name) => Ok(Backing {
             store,
             peers,
+            learned,
             own_name,
             rules: Rules {
                 polls_end_grants: asked.poll_ends_grant,
@@ -201,7 +219,7 @@ pub(crate) fn serve_sockets<S, R, A>(
     rt: &R,
     alloc: Global,
     asked: &ServeConfig,
-    peers: A,
+    whereabouts: Whereabouts<A>,
     store: S,
 ) -> Result<u64, ServeFault>
 where
@@ -209,7 +227,7 @@ where
     R: Runtime,
     A: Addresses + Drop,
 {
-    match backing_of(alloc, asked, peers, store) {
+    match backing_of(alloc, asked, whereabouts, store) {
         Ok(backing) => {
             serve(rt, alloc, &settings_of(asked), backing, &Open).map_err(ServeFault::Server)
         }

@@ -3,8 +3,8 @@ ghost use Rattle.std.specs.Prelude.{◌≡◌, ◌≤◌, Err, IfErr, IfOk, IfSo
 ghost use Rattle.lockd_serving.specs.Ran.{Fails, Ran, RanOver, RanServer, Runs, AreStored, stand};
 
 use crate::ends::{end, end_server, end_stream};
-use crate::sockets::{FilePeers, ServeFault, serve_sockets, watch_peers};
-use crate::stores::{OpenedDatabase, hosts_of};
+use crate::sockets::{FilePeers, ServeFault, Whereabouts, serve_sockets, watch_peers};
+use crate::stores::{FoundHosts, OpenedDatabase, hosts_of};
 use crate::streams::{Console, Output, serve_stream};
 use config::{Config, FilePath, ServeConfig, StreamConfig};
 use hosts_db::{HostStore, KeptHosts, Lasting};
@@ -29,23 +29,26 @@ fn serve_over<S, R, I, O>(
     rt: &R,
     console: &mut Console<I, O>,
     work: Work<'_>,
-    store: S,
+    found: FoundHosts<S>,
 ) -> ExitCode
 where
     S: HostStore + Drop + Send,
     R: Runtime,
     I: Read,
     O: Write,
-    ensures runs { Runs work.entry (S.rows store) (S.refusals store) result.status (stand I.remaining O.contents console.old) (stand I.remaining O.contents console.new) }
+    ensures runs { Runs work.entry (S.rows found.hosts) (S.refusals found.hosts) result.status (stand I.remaining O.contents console.old) (stand I.remaining O.contents console.new) }
     ensures most { result.status ≤ 1 }
 {
+    let FoundHosts { hosts, learned } = found;
     match work {
         Work::Stream(output, asked) => {
-            let ended = serve_stream(host.alloc(), console, output, asked, store);
+            drop(learned);
+            let ended = serve_stream(host.alloc(), console, output, asked, hosts);
             end_stream(host, asked, ended)
         }
         Work::Sockets(asked, peers) => {
-            let ended = serve_sockets(rt, host.alloc(), asked, peers, store);
+            let whereabouts = Whereabouts { peers, learned };
+            let ended = serve_sockets(rt, host.alloc(), asked, whereabouts, hosts);
             end_server(host, asked, ended)
         }
     }
@@ -58,7 +61,7 @@ fn serve_kept<M, S, R, I, O>(
     rt: &R,
     console: &mut Console<I, O>,
     work: Work<'_>,
-    store: Result<KeptHosts<M, S>, StreamFault>,
+    found: Result<FoundHosts<KeptHosts<M, S>>, StreamFault>,
 ) -> ExitCode
 where
     M: HostStore + Drop + Send,
@@ -66,12 +69,18 @@ where
     R: Runtime,
     I: Read,
     O: Write,
-    ensures runs { IfOk store (λ store. Runs work.entry (⟦<KeptHosts<M, S> as HostStore>⟧.rows store) (⟦<KeptHosts<M, S> as HostStore>⟧.refusals store) result.status (stand I.remaining O.contents console.old) (stand I.remaining O.contents console.new)) }
-    ensures refused { IfErr store (λ _. Fails result.status (stand I.remaining O.contents console.old) (stand I.remaining O.contents console.new)) }
+    ensures runs { IfOk found (λ found. Runs work.entry (⟦<KeptHosts<M, S> as HostStore>⟧.rows found.hosts) (⟦<KeptHosts<M, S> as HostStore>⟧.refusals found.hosts) result.status (stand I.remaining O.contents console.old) (stand I.remaining O.contents console.new)) }
+    ensures refused { IfErr found (λ _. Fails result.status (stand I.remaining O.contents console.old) (stand I.remaining O.contents console.new)) }
     ensures most { result.status ≤ 1 }
 {
-    match store {
-        Ok(store) => serve_over(host, rt, console, work, Lasting::new(store)),
+    match found {
+        Ok(FoundHosts { hosts, learned }) => {
+            let found = FoundHosts {
+                hosts: Lasting::new(hosts),
+                learned,
+            };
+            serve_over(host, rt, console, work, found)
+        }
         Err(fault) => {
             drop(work);
             end(host, Err(fault))
@@ -107,6 +116,7 @@ fn serve_file<R: Runtime, I: Read, O: Write>(
     console: &mut Console<I, O>,
     work: Work<'_>,
     path: Option<&FilePath>,
+    is_learning: bool,
 ) -> ExitCode
     ensures runs { RanOver work.entry (AreStored (option_map (λ path. path.now) path.entry)) result.status (stand I.remaining O.contents console.old) (stand I.remaining O.contents console.new) }
     ensures most { result.status ≤ 1 }
@@ -115,6 +125,7 @@ fn serve_file<R: Runtime, I: Read, O: Write>(
         Some(path) => Some(OpenedDatabase {
             path,
             tried: Connection::open(host, path.as_str()),
+            is_learning,
         }),
         None => None,
     };
@@ -135,7 +146,7 @@ fn run_server<R: Runtime, I: Read, O: Write>(
     match peers {
         Ok(peers) => {
             let work = Work::Sockets(asked, peers);
-            serve_file(host, rt, console, work, Some(&asked.db))
+            serve_file(host, rt, console, work, Some(&asked.db), asked.learn)
         }
         Err(fault) => end(host, Err(fault)),
     }
@@ -158,11 +169,11 @@ pub fn serve_asked<R: Runtime, I: Read, O: Write>(
     match asked {
         Config::Pipe(asked) => {
             let work = Work::Stream(Output::Replies, asked);
-            serve_file(host, rt, console, work, asked.db.as_ref())
+            serve_file(host, rt, console, work, asked.db.as_ref(), false)
         }
         Config::Table(asked) => {
             let work = Work::Stream(Output::Table, asked);
-            serve_file(host, rt, console, work, asked.db.as_ref())
+            serve_file(host, rt, console, work, asked.db.as_ref(), false)
         }
         Config::Serve(asked) => {
             let peers = watch_peers(host, asked.peers.as_str());

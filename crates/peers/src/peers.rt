@@ -1,6 +1,6 @@
 //! Peers by name.
 
-ghost use Rattle.std.specs.Prelude.{◌≡◌, ◌≤◌, List, [], length};
+ghost use Rattle.std.specs.Prelude.{◌≡◌, ◌≤◌, List, [], length, map, IfOk};
 ghost use Rattle.peers.specs.File.{Peer as SaidPeer, address_of};
 ghost use Rattle.peers.specs.Readings.{Adds, Reads};
 
@@ -83,6 +83,13 @@ impl Peers {
             Ok(()) => Ok(()),
             Err(_) => Err(PeersFault::Starved),
         }
+    }
+
+    /// The addresses of all hosts, in the order of their lines; one that two hosts have stands twice.
+    pub fn addresses(&self, alloc: Global) -> Result<Vec<IpAddr>, AllocError>
+        ensures { IfOk result (λ addresses. addresses.items ≡ map (λ (p : SaidPeer). p.address) self.now) }
+    {
+        self.peers.iter().map(|peer| peer.address).collect(alloc)
     }
 
     /// Where the host is; None where no line names it.

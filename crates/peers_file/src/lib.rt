@@ -2,9 +2,11 @@
 #![tactic(auto)]
 
 mod addresses;
+mod known;
 mod peers_file;
 mod seen;
 
 pub use addresses::{Addresses, WatchedPeers};
+pub use known::KnownAddresses;
 pub use peers_file::PeersFile;
 pub use seen::{Seen, seen_at};

@@ -1,14 +1,14 @@
 //! Peers, and the file that names them.
 
-ghost use Rattle.std.specs.Prelude.{◌≡◌, Ok, Err, IfErr, OnOk};
-ghost use Rattle.peers.specs.File.{address_of};
+ghost use Rattle.std.specs.Prelude.{◌≡◌, Ok, Err, IfErr, IfOk, OnOk, map};
+ghost use Rattle.peers.specs.File.{Peer as SaidPeer, address_of};
 ghost use Rattle.peers.specs.Readings.{Reads};
 ghost use Rattle.peers_file.specs.Takings.{IsKeptOrRead};
 
 use crate::seen::{Seen, seen_at};
 use log::{Log, error, info, warn};
 use peers::{Peers, PeersFault};
-use std::alloc::Global;
+use std::alloc::{AllocError, Global};
 use std::fs;
 use std::fs::Files;
 use std::io::{self, Read};
@@ -31,6 +31,8 @@ pub struct PeersFile {
     seen: Option<Seen>,
     // When it was looked at.
     looked: Option<Instant>,
+    // How often a good file took the place of another.
+    version: u64,
 }
 
 impl Model for PeersFile {
@@ -60,7 +62,20 @@ impl PeersFile {
             path: Some(path),
             seen,
             looked: None,
+            version: 0,
         }
+    }
+
+    /// The addresses of all hosts, in the order of their lines.
+    pub fn addresses(&self, alloc: Global) -> Result<Vec<IpAddr>, AllocError>
+        ensures { IfOk result (λ addresses. addresses.items ≡ map (λ (p : SaidPeer). p.address) self.now) }
+    {
+        self.peers.addresses(alloc)
+    }
+
+    /// How often a good file took the place of another.
+    pub fn version(&self) -> u64 {
+        self.version
     }
 
     /// Where the host is; None where no line names it.
@@ -80,6 +95,7 @@ impl PeersFile {
         match Peers::read(self.alloc, bytes) {
             Ok(peers) => {
                 self.peers = peers;
+                self.version = self.version.wrapping_add(1);
                 Ok(())
             }
             Err(fault) => Err(fault),

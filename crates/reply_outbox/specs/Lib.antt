@@ -1,4 +1,5 @@
 pub mod Posted
+pub mod Gates
 pub mod SentReplies
 pub mod Effects
 pub mod Writes

@@ -4,6 +4,7 @@
 ghost use Rattle.std.specs.Prelude.{◌≡◌, ℕ, Bool, false, List, [], ◌∷◌, ◌++◌};
 ghost use Rattle.book.specs.Given.{view_of_record_reply, view_of_reply, record_of};
 ghost use Rattle.reply_outbox.specs.Effects.{Effect, writes};
+ghost use Rattle.reply_outbox.specs.Gates.{answered_record};
 ghost use Rattle.reply_outbox.specs.Posted.{Sent, sent_of_reply};
 
 mod buffer;
@@ -11,20 +12,46 @@ mod sockets;
 
 use book::{RecordReply, Reply};
 pub use buffer::ReplyBuffer;
+use bytes::Bytes;
 use job_queue::Job;
 pub use sockets::{ReplySockets, SocketEffects};
 use xdr_core::Frame;
+
+/// When a call's thread asked for the book's lock, had it, and gave it back, in nanoseconds by the gate's clock.
+#[derive(Clone, Copy, Debug, PartialEq, Eq)]
+pub struct TakenTimes {
+    pub asked: u64,
+    pub inside: u64,
+    pub left: u64,
+}
 
 /// Runs before a worker takes the book's lock.
 pub trait Gate {
     /// Whether it may hold a worker.
     ghost holds: { Self → Bool };
 
+    /// Which record may be answered for a job: the first is the job's own, the second the one that is answered.
+    ghost MayAnswer: { Self → List ℕ → List ℕ → Type 0 };
+
     /// Whether it may hold a worker. Then calls come by the channel, and another worker is woken first, where jobs may be left behind.
     fn may_hold(&self) -> bool
         ensures { result ≡ holds self.now };
 
-    fn before(&self, job: &Job);
+    /// Runs before the job is answered. The record that is to be answered in place of the job's own, on behalf of the same peer, and
+    /// whose reply goes to the job's connection. None: the job's own is answered.
+    fn before(&self, job: &Job) -> Option<Bytes>
+        ensures { MayAnswer self.now job.now.asked (answered_record result job.now.asked) };
+
+    /// What its clock says, in nanoseconds from any beginning; 0 where critical sections aren't timed.
+    fn time(&self) -> u64 {
+        0
+    }
+
+    /// A call of this connection had its critical section at these times.
+    fn timed(&self, connection: u64, times: TakenTimes) {
+        let _ = connection;
+        let _ = times;
+    }
 }
 
 /// Takes replies to their connections. Contracts see all that it was handed, and what it did to connections. `ReplyBuffer` says how

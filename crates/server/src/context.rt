@@ -1,4 +1,5 @@
 //! What every thread knows, and what it does.
+use crate::host_addresses::is_known;
 use crate::incoming::Incoming;
 use crate::notes;
 use crate::operators::{
@@ -14,6 +15,7 @@ use job_queue::{Channel, Place};
 use line_loop::{Signals, serve_lines};
 use log::Log;
 use page_loop::{PagesEnding, serve_pages};
+use peers_file::KnownAddresses;
 use range_table::RangeTable;
 use reply_outbox::{Gate, ReplyBuffer};
 use std::alloc::Global;
@@ -39,7 +41,8 @@ pub(crate) struct ShutdownHandles {
     pub(crate) operators: Option<ShutdownHandle>,
 }
 
-/// What every thread knows. No thread holds two of the locks at once.
+/// What every thread knows. No thread holds two of the locks at once, but for one: where a host tells of its reboot, that of the
+/// boots is held while the book takes the notice.
 #[derive(Drop)]
 pub(crate) struct Context<'a, P: Place, L: Ledger, T: RangeTable, S: HostStore, G> {
     pub(crate) alloc: Global,
@@ -51,6 +54,8 @@ pub(crate) struct Context<'a, P: Place, L: Ledger, T: RangeTable, S: HostStore, 
     pub(crate) gate: &'a G,
     pub(crate) idle: Duration,
     pub(crate) status: &'a Status,
+    /// From where connections for calls may come, where that is limited.
+    pub(crate) known: Option<&'a Mutex<KnownAddresses>>,
 }
 
 impl<'a, P: Place, L: Ledger, T: RangeTable + Drop, S: HostStore + Drop, G: Gate> Context<
@@ -83,6 +88,7 @@ impl<'a, P: Place, L: Ledger, T: RangeTable + Drop, S: HostStore + Drop, G: Gate
                 accepted.connection.stream(),
                 self.stop_signals,
                 self.status.traffic(),
+                number,
             ),
             bound: MOST_READS,
             origin,
@@ -171,6 +177,10 @@ impl<
     R: Wait + Log + Clock,
 > Service<R, Worker<P, L>> for Context<'a, P, L, T, S, G> {
     fn admit(&self, rt: &R, side: Side, stream: TcpStream, from: SocketAddr) -> Option<Accepted> {
+        if side == Side::Callers && !is_known(rt, self.known, from.ip()) {
+            drop(stream);
+            return None;
+        }
         let peer = PeerAddress::new(from.ip());
         let connection = match side {
             Side::Callers => self

@@ -1,4 +1,5 @@
 //! The port of calls by datagram.
+use crate::host_addresses::is_known;
 use crate::peer::peer_at;
 use byte_io::make_place;
 use bytes::Bytes;
@@ -8,6 +9,7 @@ use hosts_db::HostStore;
 use job_queue::{Job, Place};
 use mio::net::UdpSocket;
 use mio::{Interest, Registry, Token};
+use peers_file::KnownAddresses;
 use range_table::RangeTable;
 use record_mark::MOST_RECORD_BYTES;
 use reply_outbox::Gate;
@@ -41,6 +43,7 @@ pub(crate) struct DatagramContext<'a, R, T: RangeTable, S: HostStore, L: Ledger,
     pub(crate) rt: &'a R,
     pub(crate) shared: &'a Mutex<Shared<T, S, L>>,
     pub(crate) gate: &'a G,
+    pub(crate) known: Option<&'a Mutex<KnownAddresses>>,
 }
 
 /// Answers calls that come by datagram, each to where it came from.
@@ -50,6 +53,7 @@ pub(crate) struct DatagramPort<'a, R, P: Place, L: Ledger, T: RangeTable, S: Hos
     rt: &'a R,
     shared: &'a Mutex<Shared<T, S, L>>,
     gate: &'a G,
+    known: Option<&'a Mutex<KnownAddresses>>,
     seat: DatagramSeat<P, L>,
     // How many came.
     count: u64,
@@ -77,6 +81,7 @@ impl<'a, R, P: Place, L: Ledger, T: RangeTable, S: HostStore, G> DatagramPort<
             rt,
             shared,
             gate,
+            known,
         } = context;
         let mut seat = seat;
         registry.register(&mut seat.socket, TOKEN, Interest::READABLE)?;
@@ -85,6 +90,7 @@ impl<'a, R, P: Place, L: Ledger, T: RangeTable, S: HostStore, G> DatagramPort<
             rt,
             shared,
             gate,
+            known,
             seat,
             count: 0,
             place: make_place(alloc, MOST_RECORD_BYTES + 1)?,
@@ -120,8 +126,12 @@ impl<'a, R: Wait, P: Place, L: Ledger, T: RangeTable, S: HostStore, G: Gate> Dat
     S,
     G,
 > {
-    // What goes back for the datagram at the front of the place. Where there is no memory for it, it is as if it were lost.
+    // What goes back for the datagram at the front of the place. Where there is no memory for it, or none may come from there, it is
+    // as if it were lost.
     fn reply(&mut self, len: usize, from: SocketAddr) -> Option<Frame> {
+        if !is_known(self.rt, self.known, from.ip()) {
+            return None;
+        }
         let Ok(Some(job)) = self.job(len, from) else {
             return None;
         };

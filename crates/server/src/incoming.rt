@@ -11,8 +11,9 @@ use std::net::TcpStream;
 pub(crate) struct Incoming<'a> {
     stream: &'a TcpStream,
     stop_signals: &'a StopSignals,
-    // Where it is counted.
+    // Where it is counted, under the connection's number.
     traffic: Option<&'a Traffic>,
+    number: u64,
 }
 
 impl<'a> Incoming<'a> {
@@ -20,11 +21,13 @@ impl<'a> Incoming<'a> {
         stream: &'a TcpStream,
         stop_signals: &'a StopSignals,
         traffic: Option<&'a Traffic>,
+        number: u64,
     ) -> Incoming<'a> {
         Incoming {
             stream,
             stop_signals,
             traffic,
+            number,
         }
     }
 }
@@ -38,7 +41,7 @@ impl<'a> Read for Incoming<'a> {
         match from.read(buf) {
             Ok(read) => {
                 if let Some(traffic) = self.traffic {
-                    traffic.add_received(read);
+                    traffic.add_received(self.number, read);
                 }
                 Ok(read)
             }

@@ -1,9 +1,12 @@
 //! The server over sockets: what its threads do, the pool that answers jobs, and the sender, over one book.
 #![tactic(auto)]
 
+mod boots;
 mod context;
 mod datagrams;
 mod fault;
+mod host_addresses;
+mod host_gate;
 mod incoming;
 mod lines;
 mod listening;
@@ -24,6 +27,7 @@ pub mod worker_pool;
 pub use book::Rules;
 pub use callback_sender::{Addresses, CallSettings, Registration};
 pub use fault::{NoListener, ServerFault};
+pub use learned_addresses::LearnedAddresses;
 pub use runtime::Runtime;
 pub use serving::serve;
 pub use settings::{Backing, ServerSettings};

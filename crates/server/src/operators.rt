@@ -8,10 +8,11 @@ use hosts_db::HostStore;
 use job_queue::Place;
 use line_loop::Signals;
 use page_loop::Pages;
+use program_version::VERSION;
 use range_table::RangeTable;
-use status_lists::{Board, Moment, OpenConnections, TrafficBytes, look_at};
+use status_lists::{Board, Moment, OpenConnections, SectionTimes, TrafficBytes, look_at};
 use status_pages::{Page, Starved};
-use std::alloc::Global;
+use std::alloc::{AllocError, Global};
 use std::io::{self, ErrorKind, Read, Write};
 use std::net::{Shutdown, TcpStream};
 use std::sync::atomic::{AtomicBool, Ordering};
@@ -20,9 +21,6 @@ use std::sync::{Mutex, Wait};
 use std::thread;
 use std::time::{Clock, Duration, Instant, SystemTime};
 use workers::Shared;
-
-/// The program's version, as pages show it.
-const VERSION: &str = "1.0.0";
 
 /// How long a connection may be silent, and how long a request or an answer may take, in seconds.
 const SECONDS: u64 = 30;
@@ -73,23 +71,27 @@ fn seconds_since_1970<R: Clock>(rt: &R) -> u64 {
 }
 
 impl Status {
-    /// The server has begun now, under this own state.
+    /// The server has begun now, under this own state. Refused: there is no memory for what is counted.
     pub(crate) fn new<R: Clock>(
         rt: &R,
         alloc: Global,
         own_state: u32,
         settings: &ServerSettings,
-    ) -> Status {
+    ) -> Result<Status, AllocError> {
         let grace = settings.calls.grace.as_secs();
-        Status {
+        let traffic = match settings.status_port {
+            Some(_) => Some(Traffic::new(alloc)?),
+            None => None,
+        };
+        Ok(Status {
             alloc,
             board: Mutex::new(Board::new(alloc, own_state, grace, seconds_since_1970(rt))),
             started: Instant::now(rt).ok(),
-            traffic: settings.status_port.is_some().then(|| Traffic::new()),
-        }
+            traffic,
+        })
     }
 
-    /// Where the bytes of connections for calls are counted, if anybody can ask for them.
+    /// Where the bytes and the times of connections for calls are counted, if anybody can ask for them.
     pub(crate) fn traffic(&self) -> Option<&Traffic> {
         self.traffic.as_ref()
     }
@@ -138,6 +140,24 @@ impl Status {
     }
 }
 
+// The bytes and the times that were counted, if they are.
+fn counted(traffic: Option<&Traffic>) -> (TrafficBytes, SectionTimes) {
+    match traffic {
+        Some(traffic) => (traffic.bytes(), traffic.times()),
+        None => (
+            TrafficBytes {
+                received: 0,
+                sent: 0,
+            },
+            SectionTimes {
+                sections: 0,
+                inside_nanos: 0,
+                waited_nanos: 0,
+            },
+        ),
+    }
+}
+
 /// Makes pages of the book, each of one look at it.
 #[derive(Drop)]
 pub(crate) struct BookPages<'a, P: Place, L: Ledger, T: RangeTable, S: HostStore, R> {
@@ -170,17 +190,12 @@ where
             status: self.connection_tables.operators.lock(self.rt).count() as u64,
         };
         let now = self.status.now(self.rt);
-        let traffic = match self.status.traffic() {
-            Some(traffic) => traffic.bytes(),
-            None => TrafficBytes {
-                received: 0,
-                sent: 0,
-            },
-        };
+        let (traffic, times) = counted(self.status.traffic());
         let moment = Moment {
             now,
             open,
             traffic,
+            times,
             version: VERSION,
         };
         self.status

@@ -63,6 +63,8 @@ pub(crate) struct Crew<P: Place, L: Ledger> {
     pub(crate) workers: Vec<Worker<P, L>>,
     /// Of the port for datagrams, where there is one.
     pub(crate) datagrams: Option<Worker<P, L>>,
+    /// Of the server's own notices, where LOCKs tell of reboots.
+    pub(crate) notices: Option<Worker<P, L>>,
 }
 
 /// A channel, the connections with what their places lend, and who takes back what was given out. The ledger is cut into these parts.
@@ -110,18 +112,32 @@ fn take_back<P: Place, L: Ledger>(
     Ok(())
 }
 
-// Takes back what the workers had, and then what the port for datagrams had.
+// Takes back what one had that may be missing.
+fn take_one<P: Place, L: Ledger>(
+    pool_shutdown: &mut PoolShutdown<P, L>,
+    channel: &Channel<P>,
+    worker: Option<Worker<P, L>>,
+) -> Result<(), ServerFault> {
+    match worker {
+        Some(worker) => Ok(pool_shutdown.take(channel, worker)?),
+        None => Ok(()),
+    }
+}
+
+// Takes back what the workers had, then what the port for datagrams had, and then what the server's own notices had.
 fn take_crew<P: Place, L: Ledger>(
     pool_shutdown: &mut PoolShutdown<P, L>,
     channel: &Channel<P>,
     crew: Crew<P, L>,
 ) -> Result<(), ServerFault> {
-    let Crew { workers, datagrams } = crew;
+    let Crew {
+        workers,
+        datagrams,
+        notices,
+    } = crew;
     pool_shutdown.take_all(channel, workers)?;
-    if let Some(worker) = datagrams {
-        pool_shutdown.take(channel, worker)?;
-    }
-    Ok(())
+    take_one(pool_shutdown, channel, datagrams)?;
+    take_one(pool_shutdown, channel, notices)
 }
 
 // Takes back what the places lent, and then what all others had.
@@ -141,8 +157,8 @@ fn gather_all<P: Place, L: Ledger>(
 }
 
 impl<P: Place, L: Ledger> Unseated<P, L> {
-    /// Gives each place of a caller, then each worker, and then the port for datagrams, where there is one, what it takes to answer
-    /// jobs. What has no connection comes beside. `Starved`: there is no memory for it, and nothing is left.
+    /// Gives each place of a caller, then each worker, then the port for datagrams, where there is one, and then the server's own
+    /// notices, where LOCKs tell of reboots, what it takes to answer jobs. What has no connection comes beside. `Starved`: there is no memory for it, and nothing is left.
     pub(crate) fn seat_all(
         self,
         settings: &ServerSettings,
@@ -159,6 +175,11 @@ impl<P: Place, L: Ledger> Unseated<P, L> {
             Some(_) => Some(pool_builder.cut(&channel)?),
             None => None,
         };
+        let notices = if settings.lock_state_tells_reboot {
+            Some(pool_builder.cut(&channel)?)
+        } else {
+            None
+        };
         let locals = plain_places(alloc, LOCAL_PLACES)?;
         let operators = plain_places(alloc, OPERATOR_PLACES)?;
         let seats = Seats {
@@ -171,7 +192,12 @@ impl<P: Place, L: Ledger> Unseated<P, L> {
             pool_shutdown: pool_builder.into_pool_shutdown(),
             parts,
         };
-        Ok((seats, Crew { workers, datagrams }))
+        let crew = Crew {
+            workers,
+            datagrams,
+            notices,
+        };
+        Ok((seats, crew))
     }
 }
 

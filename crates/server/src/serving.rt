@@ -1,9 +1,12 @@
 //! A server, from its start to its end.
 ghost use Rattle.std.specs.Prelude.{◌≡◌, []};
 
+use crate::boots::Boots;
 use crate::context::{Context, ShutdownHandles};
 use crate::datagrams::{DatagramContext, DatagramPort, DatagramSeat};
 use crate::fault::ServerFault;
+use crate::host_addresses::HostAddresses;
+use crate::host_gate::{HostBooks, HostGate};
 use crate::lines::LocalLines;
 use crate::listening::{Listening, listen};
 use crate::main_loop::Sends;
@@ -15,14 +18,17 @@ use crate::signals::StopSignals;
 use crate::unnamed::Unnamed;
 use crate::worker_pool::PoolBuilder;
 use book::Book;
+use boot_states::BootStates;
 use callback_sender::{Addresses, Sender};
 use connections::{NoThread, WorkerPool, run};
 use hosts_db::HostStore;
 use job_queue::Place;
+use learned_addresses::LearnedAddresses;
 use mio::Registry;
+use peers_file::KnownAddresses;
 use range_table::RangeTable;
 use reply_outbox::Gate;
-use std::alloc::Global;
+use std::alloc::{AllocError, Global};
 use std::io;
 use std::marker::Brand;
 use std::net::{Net, TcpListener, TcpStream};
@@ -42,6 +48,12 @@ struct Server<P: Place, L: Ledger, T: RangeTable, S: HostStore> {
     shared: Mutex<Shared<T, S, L>>,
     seats: Seats<P, L>,
     status: Status,
+    // Where hosts are, if that is learned.
+    learned: Option<Mutex<LearnedAddresses>>,
+    // Which boots of hosts were told, if LOCKs tell of them.
+    boots: Option<Mutex<Boots<P, L>>>,
+    // From where connections for calls may come, if that is limited.
+    known: Option<Mutex<KnownAddresses>>,
 }
 
 // What the threads of a server take with them: its listeners with what each worker has, the status port, if there is one, what
@@ -61,7 +73,11 @@ impl<P: Place, L: Ledger, A> Start<P, L, A> {
             shutdown_handles,
             datagrams: socket,
         } = listening;
-        let Crew { workers, datagrams } = crew;
+        let Crew {
+            workers,
+            datagrams,
+            notices: _,
+        } = crew;
         Start {
             worker_pool: WorkerPool {
                 alloc,
@@ -79,39 +95,48 @@ impl<P: Place, L: Ledger, A> Start<P, L, A> {
     }
 }
 
-// What there is once a server has begun anew: a book that all threads share, what they are to be given, and the peers.
+// Where the hosts are: those of the file of peers, and, where it is learned, those that the store has.
+#[derive(Drop)]
+struct Whereabouts<A> {
+    peers: A,
+    learned: Option<LearnedAddresses>,
+}
+
+// What there is once a server has begun anew: a book that all threads share, what they are to be given, and where the hosts are.
 #[derive(Drop)]
 struct Begun<P: Place, L: Ledger, T: RangeTable, S: HostStore, A> {
     shared: Shared<T, S, L>,
     unseated: Unseated<P, L>,
-    peers: A,
+    whereabouts: Whereabouts<A>,
 }
 
-// A book over the store whose server has begun anew, so that the store has the new own state, and beside it the peers.
+// A book over the store whose server has begun anew, so that the store has the new own state, and beside it where the hosts are.
 fn shared_over<T: RangeTable + Drop, S: HostStore + Drop, L: Ledger, A: Drop>(
     alloc: Global,
     table: T,
     backing: Backing<S, A>,
     total: Total<L>,
     is_audited: bool,
-) -> Result<(Shared<T, S, L>, A), ServerFault>
+) -> Result<(Shared<T, S, L>, Whereabouts<A>), ServerFault>
     requires empty { T.settings table ≡ [] }
     requires total { total.total ≡ 0 }
 {
     let Backing {
         store,
         peers,
+        learned,
         own_name,
         rules,
     } = backing;
+    let whereabouts = Whereabouts { peers, learned };
     let Ok(book) = Book::new_with(alloc, table, store, own_name, rules) else {
-        drop(peers);
+        drop(whereabouts);
         return Err(ServerFault::Starved);
     };
     match Shared::new(alloc, book, total, is_audited) {
-        Ok(shared) => Ok((shared, peers)),
+        Ok(shared) => Ok((shared, whereabouts)),
         Err(why) => {
-            drop(peers);
+            drop(whereabouts);
             Err(ServerFault::from(why))
         }
     }
@@ -143,10 +168,10 @@ fn begin<P: Place, L: Ledger, T: RangeTable + Drop, S: HostStore + Drop, A: Drop
         parts: Parts::new(parts),
     };
     match shared_over(alloc, table, backing, total, is_audited) {
-        Ok((shared, peers)) => Ok(Begun {
+        Ok((shared, whereabouts)) => Ok(Begun {
             shared,
             unseated,
-            peers,
+            whereabouts,
         }),
         Err(fault) => {
             drop(unseated);
@@ -203,7 +228,11 @@ where
         None => None,
     };
     match if_told(ran, is_told) {
-        Ok(workers) => Ok(Crew { workers, datagrams }),
+        Ok(workers) => Ok(Crew {
+            workers,
+            datagrams,
+            notices: None,
+        }),
         Err(fault) => {
             drop(datagrams);
             Err(fault)
@@ -217,6 +246,40 @@ fn if_told<W: Drop>(ran: Result<Vec<W>, NoThread>, is_told: bool) -> Result<Vec<
         Ok(back) if is_told => Ok(back),
         Ok(_) => Err(ServerFault::WriteFault),
         Err(NoThread) => Err(ServerFault::NoThread),
+    }
+}
+
+// Which boots are told, with what the server's own notices have, where there are any. `Starved`: there is no memory for it.
+fn boots_of<P: Place, L: Ledger>(
+    alloc: Global,
+    notices: Option<Worker<P, L>>,
+) -> Result<Option<Mutex<Boots<P, L>>>, ServerFault> {
+    let Some(worker) = notices else {
+        return Ok(None);
+    };
+    match BootStates::new(alloc) {
+        Ok(states) => Ok(Some(Mutex::new(Boots::new(alloc, states, worker)))),
+        Err(_) => {
+            drop(worker);
+            Err(ServerFault::Starved)
+        }
+    }
+}
+
+// From where connections for calls may come, where that is limited: nowhere yet, but for loopback.
+fn known_of(alloc: Global, settings: &ServerSettings) -> Option<Mutex<KnownAddresses>> {
+    if settings.known_hosts_only {
+        Some(Mutex::new(KnownAddresses::new(Vec::new(alloc))))
+    } else {
+        None
+    }
+}
+
+// What a mutex keeps, where there is one.
+fn shared_in<T>(mutex: Option<T>) -> Option<Mutex<T>> {
+    match mutex {
+        Some(value) => Some(Mutex::new(value)),
+        None => None,
     }
 }
 
@@ -245,7 +308,7 @@ where
         let Begun {
             shared,
             unseated,
-            peers,
+            whereabouts: Whereabouts { peers, learned },
         } = match begin::<P, L, T, S, A>(settings, backing, unnamed) {
             Ok(begun) => begun,
             Err(fault) => return Err(fault),
@@ -255,15 +318,52 @@ where
             Err(fault) => {
                 drop(shared);
                 drop(peers);
+                drop(learned);
                 return Err(fault);
+            }
+        };
+        let Crew {
+            workers,
+            datagrams,
+            notices,
+        } = crew;
+        let crew = Crew {
+            workers,
+            datagrams,
+            notices: None,
+        };
+        let boots = match boots_of(alloc, notices) {
+            Ok(boots) => boots,
+            Err(fault) => {
+                drop(shared);
+                drop(peers);
+                drop(learned);
+                drop(seats);
+                drop(crew);
+                return Err(fault);
+            }
+        };
+        let status = match Status::new(rt, alloc, shared.own_state(), settings) {
+            Ok(status) => status,
+            Err(AllocError) => {
+                drop(shared);
+                drop(peers);
+                drop(learned);
+                drop(boots);
+                drop(seats);
+                drop(crew);
+                return Err(ServerFault::Starved);
             }
         };
         let server = Server {
             alloc,
             settings: *settings,
-            status: Status::new(rt, alloc, shared.own_state(), settings),
+            status,
             shared: Mutex::new(shared),
             seats,
+            learned: shared_in(learned),
+            boots,
+            known: known_of(alloc, settings),
         };
         match listen(rt, settings) {
             Ok(listening) => Ok((server, Start::new(alloc, listening, crew, peers))),
@@ -297,14 +397,33 @@ where
         } = start;
         // The sender borrows the connection table through these lines, so it is made here and not by `open`.
         let lines = LocalLines::new(rt, &self.seats.connection_tables.locals);
+        let books = HostBooks {
+            learned: self.learned.as_ref(),
+            boots: self.boots.as_ref(),
+        };
+        let gate = HostGate::new(
+            rt,
+            self.alloc,
+            &self.shared,
+            gate,
+            books,
+            self.status.traffic(),
+        );
+        let addresses = HostAddresses::new(
+            rt,
+            self.alloc,
+            peers,
+            self.learned.as_ref(),
+            self.known.as_ref(),
+        );
         let Calling {
             sender,
             stop_signals,
-        } = match call(rt, self.alloc, &self.settings, peers, &lines) {
+        } = match call(rt, self.alloc, &self.settings, addresses, &lines) {
             Ok(calling) => calling,
             Err(error) => return Err(ServerFault::NoSender(error)),
         };
-        let datagrams = match self.open_datagrams(rt, gate, sender.registry(), datagrams) {
+        let datagrams = match self.open_datagrams(rt, &gate, sender.registry(), datagrams) {
             Ok(datagrams) => datagrams,
             Err(error) => return Err(ServerFault::NoSender(error)),
         };
@@ -315,9 +434,10 @@ where
             connection_tables: &self.seats.connection_tables,
             shutdown_handles: &shutdown_handles,
             stop_signals: &stop_signals,
-            gate,
+            gate: &gate,
             idle: self.settings.idle,
             status: &self.status,
+            known: self.known.as_ref(),
         };
         run_threads(rt, &context, worker_pool, sender, datagrams)
     }
@@ -338,6 +458,7 @@ where
             rt,
             shared: &self.shared,
             gate,
+            known: self.known.as_ref(),
         };
         Ok(Some(DatagramPort::new(context, registry, seat)?))
     }
@@ -351,7 +472,24 @@ where
             shared,
             seats,
             status: _,
+            learned: _,
+            boots,
+            known: _,
         } = self;
+        let Crew {
+            workers,
+            datagrams,
+            notices: _,
+        } = crew;
+        let notices = match boots {
+            Some(boots) => Some(boots.into_inner().into_worker()),
+            None => None,
+        };
+        let crew = Crew {
+            workers,
+            datagrams,
+            notices,
+        };
         seats.settle(shared.into_inner(), crew)
     }
 }

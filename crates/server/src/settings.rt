@@ -1,6 +1,7 @@
 //! What a server is told.
 use book::Rules;
 use callbacks::ShortBytes;
+use learned_addresses::LearnedAddresses;
 use std::net::SocketAddr;
 use std::time::Duration;
 
@@ -25,6 +26,10 @@ pub struct ServerSettings {
     pub connections: u16,
     /// How many of them may come from one address; with `None` all. A further one from it is closed at once.
     pub connections_per_peer: Option<u16>,
+    /// Whether connections for calls and calls by datagram come in from the addresses of the file of peers and from loopback alone.
+    pub known_hosts_only: bool,
+    /// Whether a new state in a host's lock calls tells of its reboot, as a notice does.
+    pub lock_state_tells_reboot: bool,
     /// Whether the journal is kept and checked at the end.
     pub is_audited: bool,
 }
@@ -36,6 +41,8 @@ pub struct Backing<S, A> {
     pub store: S,
     /// The addresses of the hosts that it calls. One thread alone asks them.
     pub peers: A,
+    /// Where hosts are that these don't name, as the store has it. It is learned from their lock calls; with `None` it isn't.
+    pub learned: Option<LearnedAddresses>,
     /// The name under which it monitors and notifies.
     pub own_name: ShortBytes,
     /// What an option changes of the rules by which it answers.

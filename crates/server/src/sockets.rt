@@ -91,7 +91,7 @@ impl<'a, 'h, K: Drop, Q: Signals, R: Wait> ReplySockets for CallerSockets<'a, 'h
         match self.send(&to, bytes) {
             Ok(()) => {
                 if let Some(traffic) = self.traffic {
-                    traffic.add_sent(bytes.len());
+                    traffic.add_sent(connection, bytes.len());
                 }
                 self.effects.add_write(connection, bytes)
             }

@@ -23,14 +23,14 @@ pub(crate) struct Unnamed<T: RangeTable> {
 }
 
 impl Unnamed<ArenaTable> {
-    /// With a part of the ledger for whoever answers calls: for each place of a connection for calls, for each worker, and for the
-    /// port for datagrams where there is one.
+    /// With a part of the ledger for whoever answers calls: for each place of a connection for calls, for each worker, for the port
+    /// for datagrams where there is one, and for the server's own notices where LOCKs tell of reboots.
     /// `Starved`: there is no memory for it.
     pub(crate) fn new(
         alloc: Global,
         settings: &ServerSettings,
     ) -> Result<Unnamed<ArenaTable>, ServerFault>
-        ensures { IfOk result (λ unnamed. unnamed.parts ≡ settings.now.connections + settings.now.workers + cond (is_some settings.now.notify) 1 0) }
+        ensures { IfOk result (λ unnamed. unnamed.parts ≡ settings.now.connections + settings.now.workers + cond (is_some settings.now.notify) 1 0 + cond settings.now.lock_state_tells_reboot 1 0) }
     {
         let Ok(table) = ArenaTable::new(alloc) else {
             return Err(ServerFault::Starved);
@@ -40,7 +40,15 @@ impl Unnamed<ArenaTable> {
             return Err(ServerFault::Starved);
         };
         let datagrams = if settings.notify.is_some() { 1 } else { 0 };
-        let parts = u64::from(settings.connections) + u64::from(settings.workers) + datagrams;
+        let notices = if settings.lock_state_tells_reboot {
+            1
+        } else {
+            0
+        };
+        let parts = u64::from(settings.connections)
+            + u64::from(settings.workers)
+            + datagrams
+            + notices;
         Ok(Unnamed {
             alloc,
             table,

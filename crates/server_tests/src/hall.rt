@@ -1,4 +1,5 @@
 //! A gate that holds jobs until enough of them are inside.
+use bytes::Bytes;
 use job_queue::Job;
 use reply_outbox::Gate;
 use std::sync::atomic::{AtomicBool, AtomicU64, Ordering};
@@ -48,17 +49,21 @@ impl<'a, R: Clock> Hall<'a, R> {
 
 impl<'a, R: Clock> Gate for Hall<'a, R> {
     ghost use Rattle.std.specs.Prelude.{true};
+    ghost use Rattle.reply_outbox.specs.Gates.{IsOwn};
 
     ghost holds = { λ _. true };
+
+    ghost MayAnswer = { λ _. IsOwn };
 
     fn may_hold(&self) -> bool {
         true
     }
 
-    fn before(&self, _job: &Job) {
+    fn before(&self, _job: &Job) -> Option<Bytes> {
         self.inside.fetch_add(1, Ordering::SeqCst);
         if !self.waits(self.wanted) {
             self.is_missed.store(true, Ordering::SeqCst);
         }
+        None
     }
 }

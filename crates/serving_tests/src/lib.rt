@@ -5,6 +5,8 @@
 #[cfg(test)]
 mod files;
 #[cfg(test)]
+mod learning;
+#[cfg(test)]
 mod notes;
 #[cfg(test)]
 mod peer_files;

@@ -37,8 +37,8 @@ struct Changer<'a, R> {
     ground: Ground<'a>,
 }
 
-// The connection that comes to this listener.
-fn accepted<R: Clock>(rt: &R, listener: &TcpListener) -> io::Result<TcpStream> {
+/// The connection that comes to this listener.
+pub(crate) fn accepted<R: Clock>(rt: &R, listener: &TcpListener) -> io::Result<TcpStream> {
     listener.set_nonblocking(true)?;
     for _ in 0..TRIES {
         if let Ok((stream, _)) = listener.accept() {
@@ -51,8 +51,8 @@ fn accepted<R: Clock>(rt: &R, listener: &TcpListener) -> io::Result<TcpStream> {
     Err(io::Error::from(ErrorKind::TimedOut))
 }
 
-// The procedure of the next call that comes over this connection (RFC 5531, section 9).
-fn called(mut from: &TcpStream, alloc: Global) -> io::Result<u8> {
+/// The procedure of the next call that comes over this connection (RFC 5531, section 9).
+pub(crate) fn called(mut from: &TcpStream, alloc: Global) -> io::Result<u8> {
     let mut mark = [0u8; 4];
     from.read_exact(&mut mark)?;
     let len = (u32::from_be_bytes(mark) & 0xffff) as usize;
@@ -64,8 +64,8 @@ fn called(mut from: &TcpStream, alloc: Global) -> io::Result<u8> {
         .ok_or(io::Error::from(ErrorKind::InvalidData))
 }
 
-// Sends the line until this is its answer: in the grace period it is another.
-fn says<R: Clock>(rt: &R, mut local: &TcpStream, line: &str) -> io::Result<bool> {
+/// Sends the line until `ok` is its answer: in the grace period it is another.
+pub(crate) fn says<R: Clock>(rt: &R, mut local: &TcpStream, line: &str) -> io::Result<bool> {
     for _ in 0..TRIES {
         local.write_all(line.as_bytes())?;
         let mut room = [0u8; 3];
@@ -80,8 +80,8 @@ fn says<R: Clock>(rt: &R, mut local: &TcpStream, line: &str) -> io::Result<bool>
     Ok(false)
 }
 
-// Whether the lock of this byte waits.
-fn waits(mut caller: &TcpStream, alloc: Global, byte: u32) -> io::Result<bool> {
+/// Whether the lock of this byte waits.
+pub(crate) fn waits(mut caller: &TcpStream, alloc: Global, byte: u32) -> io::Result<bool> {
     let mut record = Vec::new(alloc);
     let is_put = put_plain(&mut record, LOCK)
         && record

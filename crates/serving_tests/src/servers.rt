@@ -161,7 +161,7 @@ pub(crate) struct Ground<'a> {
     pub(crate) peers: &'a str,
     pub(crate) rpc: u16,
     pub(crate) local: u16,
-    // The port of its peers' lock managers.
+    // The port of its peers' lock managers and status monitors.
     pub(crate) peer: u16,
 }
 
@@ -179,7 +179,7 @@ pub(crate) fn words_of(
         peer,
     } = ground;
     format!(in alloc;
-        "serve --db {hosts} --port {rpc} --local-port {local} --bind 127.0.0.1 --peers {peers} --peer-nlm-port {peer} --peer-nsm-port 1 --watch-port 1 {more}"
+        "serve --db {hosts} --port {rpc} --local-port {local} --bind 127.0.0.1 --peers {peers} --peer-nlm-port {peer} --peer-nsm-port {peer} --watch-port 1 {more}"
     )
 }
 

@@ -1,5 +1,6 @@
 //! What is tried, each by a test of its own.
 use crate::files::begins_anew;
+use crate::learning::{learns, tells_reboots};
 use crate::peer_files::follows_its_file;
 use crate::servers::{Talk, is_unstarted, misnames_a_peer, serves, shares_a_port};
 use crate::streams::unserved;
@@ -27,6 +28,10 @@ enum Trial {
     Peers(&'static str),
     // `lockd serve` whose file of peers changes.
     ChangedPeers,
+    // `lockd serve` twice over one file, with a host that no file names.
+    Learning,
+    // `lockd serve` with a host that boots again.
+    Reboots,
 }
 
 const BAD: Result<(), &str> = Err("it goes otherwise");
@@ -50,6 +55,8 @@ where
         Trial::NoFolder => is_unstarted(host, rt, "/dev/null/hosts.db"),
         Trial::Peers(text) => misnames_a_peer(host, rt, text),
         Trial::ChangedPeers => follows_its_file(host, rt),
+        Trial::Learning => learns(host, rt),
+        Trial::Reboots => tells_reboots(host, rt),
     };
     if goes == Some(true) { Ok(()) } else { BAD }
 }
@@ -93,6 +100,16 @@ fn bad_line_of_peers(rt: HostRuntime) -> Result<(), &'static str> {
 #[test]
 fn changed_file_of_peers(rt: HostRuntime) -> Result<(), &'static str> {
     tried(&rt, &rt, Trial::ChangedPeers)
+}
+
+#[test]
+fn unlisted_host_is_called(rt: HostRuntime) -> Result<(), &'static str> {
+    tried(&rt, &rt, Trial::Learning)
+}
+
+#[test]
+fn reboots_of_a_host(rt: HostRuntime) -> Result<(), &'static str> {
+    tried(&rt, &rt, Trial::Reboots)
 }
 
 #[test]

@@ -1,5 +1,5 @@
 //! Pages are made of looks.
-ghost use Rattle.std.specs.Prelude.{◌≡◌, length, map, IfOk, OnOk};
+ghost use Rattle.std.specs.Prelude.{◌≡◌, ◌==◌, [], length, map, cond, IfOk, OnOk};
 ghost use Rattle.status_lists.specs.Pages.{IsPageOf, IsPageWith};
 ghost use Rattle.status_pages.specs.Waits.{lock_of};
 
@@ -30,6 +30,17 @@ pub struct TrafficBytes {
     pub sent: u64,
 }
 
+/// How long threads were in the critical sections of calls so far, and waited for them.
+#[derive(Clone, Copy)]
+pub struct SectionTimes {
+    /// How many were timed.
+    pub sections: u64,
+    /// In nanoseconds.
+    pub inside_nanos: u64,
+    /// In nanoseconds.
+    pub waited_nanos: u64,
+}
+
 /// What is known at a look beside the book.
 #[derive(Clone, Copy)]
 pub struct Moment {
@@ -37,6 +48,7 @@ pub struct Moment {
     pub now: u64,
     pub open: OpenConnections,
     pub traffic: TrafficBytes,
+    pub times: SectionTimes,
     /// The program's.
     pub version: &'static str,
 }
@@ -57,7 +69,11 @@ pub struct Board {
 
 impl Board {
     /// The server has begun under this own state, at this second since 1970. Its grace periods have this many seconds.
-    pub fn new(alloc: Global, own_state: u32, grace: u64, started: u64) -> Board {
+    pub fn new(alloc: Global, own_state: u32, grace: u64, started: u64) -> Board
+        ensures waiting { result.waiting.items ≡ [] }
+        ensures grace { (result.grace ≡ grace) × (result.grace_since ≡ 0) }
+        ensures start { (result.own_state ≡ own_state) × (result.started ≡ started) }
+    {
         Board {
             alloc,
             waiting: Vec::new(alloc),
@@ -69,7 +85,12 @@ impl Board {
     }
 
     // A restart of the status monitor begins a grace period anew: its first look takes that to be now.
-    fn see_own_state(&mut self, own_state: u32, now: u64) {
+    fn see_own_state(&mut self, own_state: u32, now: u64)
+        ensures since { self.new.grace_since ≡ cond (self.old.own_state == own_state) self.old.grace_since now }
+        ensures own { self.new.own_state ≡ own_state }
+        ensures waiting { self.new.waiting ≡ self.old.waiting }
+        ensures others { (self.new.grace ≡ self.old.grace) × (self.new.started ≡ self.old.started) }
+    {
         if self.own_state != own_state {
             self.own_state = own_state;
             self.grace_since = now;
@@ -78,13 +99,20 @@ impl Board {
 
     /// Sees a look at this second: since when who waits is known to wait, and whether a grace period has begun anew. `Starved`:
     /// there is no memory to keep it.
-    pub fn see(&mut self, look: Look, now: u64) -> Result<(), Starved> {
+    pub fn see(&mut self, look: Look, now: u64) -> Result<(), Starved>
+        ensures waiting { OnOk result (map lock_of self.new.waiting.items ≡ look.lists.waiters.items) }
+        ensures since { self.new.grace_since ≡ cond (self.old.own_state == look.numbers.own_state) self.old.grace_since now }
+        ensures own { self.new.own_state ≡ look.numbers.own_state }
+        ensures others { (self.new.grace ≡ self.old.grace) × (self.new.started ≡ self.old.started) }
+    {
         self.see_own_state(look.numbers.own_state, now);
         self.see_waiters(look.lists.waiters, now)
     }
 
     fn see_waiters(&mut self, waiters: Vec<LockRow>, now: u64) -> Result<(), Starved>
-        ensures { OnOk result (map lock_of self.new.waiting.items ≡ waiters.items) }
+        ensures waiting { OnOk result (map lock_of self.new.waiting.items ≡ waiters.items) }
+        ensures grace { (self.new.grace ≡ self.old.grace) × (self.new.grace_since ≡ self.old.grace_since) }
+        ensures start { (self.new.own_state ≡ self.old.own_state) × (self.new.started ≡ self.old.started) }
     {
         self.waiting = known_since(self.alloc, &self.waiting, waiters, now)?;
         Ok(())
@@ -112,6 +140,9 @@ impl Board {
             received_bytes: moment.traffic.received,
             sent_bytes: moment.traffic.sent,
             started: self.started,
+            sections: moment.times.sections,
+            inside_nanos: moment.times.inside_nanos,
+            waited_nanos: moment.times.waited_nanos,
         }
     }
 

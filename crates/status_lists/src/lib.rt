@@ -7,7 +7,7 @@ mod looks;
 mod numbers;
 mod rows;
 
-pub use board::{Board, Moment, OpenConnections, TrafficBytes};
+pub use board::{Board, Moment, OpenConnections, SectionTimes, TrafficBytes};
 pub use lists::{lists_of, waiters_of};
 pub use looks::{Look, look_at};
 pub use numbers::numbers_of;

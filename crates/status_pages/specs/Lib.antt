@@ -6,3 +6,4 @@ pub mod Responses
 pub mod Json
 pub mod Waits
 pub mod Counters
+pub mod Seconds

@@ -3,9 +3,10 @@ use Rattle.std.specs.Prelude.{ℕ, List, [], ◌∷◌, ◌++◌, map, codes, de
 use Rattle.std.specs.List.{flat_map}
 use Rattle.status_pages.specs.declared.metrics.Numbers.{Numbers}
 use Rattle.status_pages.specs.declared.metrics.Number.{Number}
-use Rattle.status_pages.specs.declared.metrics.Number.TheVariants.{Runs, Waiters, CallsDue, CallsUnanswered, SlotsFree, Shares, Hosts, Watches, KeptReplies, Grace, GraceLeft, OwnState, Entries, CallConnections, LocalConnections, StatusConnections, ReceivedBytes, SentBytes, Started, Limit}
+use Rattle.status_pages.specs.declared.metrics.Number.TheVariants.{Runs, Waiters, CallsDue, CallsUnanswered, SlotsFree, Shares, Hosts, Watches, KeptReplies, Grace, GraceLeft, OwnState, Entries, CallConnections, LocalConnections, StatusConnections, ReceivedBytes, SentBytes, Started, Sections, InsideNanos, WaitedNanos, Limit}
 use Rattle.status_pages.specs.declared.metrics.Kind.{Kind}
-use Rattle.status_pages.specs.declared.metrics.Kind.TheVariants.{Counter, Gauge}
+use Rattle.status_pages.specs.declared.metrics.Kind.TheVariants.{Counter, Gauge, Summary}
+use Rattle.status_pages.specs.Seconds.{seconds_text}
 use Rattle.status_pages.specs.declared.metrics.Sample.{Sample as CodedSample}
 use Rattle.status_pages.specs.declared.metrics.Metric.{Metric as CodedMetric}
 
@@ -32,18 +33,22 @@ number_of n StatusConnections = n.status_connections
 number_of n ReceivedBytes = n.received_bytes
 number_of n SentBytes = n.sent_bytes
 number_of n Started = n.started
+number_of n Sections = n.sections
+number_of n InsideNanos = n.inside_nanos
+number_of n WaitedNanos = n.waited_nanos
 number_of n (Limit most) = most
 
 abbrev pub kind_text : Kind → Text
 kind_text Counter = codes "counter"
 kind_text Gauge = codes "gauge"
+kind_text Summary = codes "summary"
 
 -- the lines HELP and TYPE of a metric
 abbrev pub head_text : Text → Text → Kind → Text
 head_text name help kind =
     codes "# HELP " ++ (name ++ (codes " " ++ (help ++ (codes "\n# TYPE " ++ (name ++ (codes " " ++ (kind_text kind ++ codes "\n")))))))
 
--- a sample: its labels with their braces, its key in `/status.json`, and which number it is
+-- a sample: what stands behind the name (its labels with their braces, or the suffix of a summary), its key in `/status.json`, and which number it is
 pub record Sample : Type 0 where
   pub labels : Text
   pub key : Text
@@ -61,9 +66,15 @@ sample labels key number = record { labels = labels; key = key; number = number 
 abbrev pub metric : Text → Text → Kind → List Sample → Metric
 metric name help kind samples = record { name = name; help = help; kind = kind; samples = samples }
 
+-- a number as a metric shows it: what is kept in nanoseconds in seconds
+abbrev pub value_text : Numbers → Number → Text
+value_text numbers InsideNanos = seconds_text numbers.inside_nanos
+value_text numbers WaitedNanos = seconds_text numbers.waited_nanos
+value_text numbers number = decimal (number_of numbers number)
+
 -- a line of a metric of this name
 abbrev pub sample_text : Numbers → Text → Sample → Text
-sample_text numbers name s = name ++ (s.labels ++ (codes " " ++ (decimal (number_of numbers s.number) ++ codes "\n")))
+sample_text numbers name s = name ++ (s.labels ++ (codes " " ++ (value_text numbers s.number ++ codes "\n")))
 
 abbrev pub metric_text : Numbers → Metric → Text
 metric_text numbers m = head_text m.name m.help m.kind ++ flat_map (sample_text numbers m.name) m.samples
@@ -97,7 +108,9 @@ all_metrics =
     ∷ metric (codes "lockd_connections") (codes "Open connections, by kind.") Gauge (sample (codes "{kind=\"calls\"}") (codes "connections_calls") CallConnections ∷ sample (codes "{kind=\"local\"}") (codes "connections_local") LocalConnections ∷ sample (codes "{kind=\"status\"}") (codes "connections_status") StatusConnections ∷ [])
     ∷ metric (codes "lockd_received_bytes_total") (codes "Bytes read from connections for calls.") Counter (sample (codes "") (codes "received_bytes") ReceivedBytes ∷ [])
     ∷ metric (codes "lockd_sent_bytes_total") (codes "Bytes of replies written to them.") Counter (sample (codes "") (codes "sent_bytes") SentBytes ∷ [])
-    ∷ metric (codes "lockd_start_time_seconds") (codes "When the server started, in seconds since 1970.") Gauge (sample (codes "") (codes "start_time_seconds") Started ∷ []) ∷ []
+    ∷ metric (codes "lockd_start_time_seconds") (codes "When the server started, in seconds since 1970.") Gauge (sample (codes "") (codes "start_time_seconds") Started ∷ [])
+    ∷ metric (codes "lockd_book_held_seconds") (codes "How long calls were in the critical section of the book.") Summary (sample (codes "_sum") (codes "book_held_nanoseconds") InsideNanos ∷ sample (codes "_count") (codes "book_critical_sections") Sections ∷ [])
+    ∷ metric (codes "lockd_book_wait_seconds") (codes "How long calls waited for it.") Summary (sample (codes "_sum") (codes "book_wait_nanoseconds") WaitedNanos ∷ sample (codes "_count") (codes "book_waits") Sections ∷ []) ∷ []
 
 -- ---- the code's metrics
 

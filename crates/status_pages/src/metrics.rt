@@ -2,13 +2,13 @@
 ghost use Rattle.std.specs.Prelude.{◌≡◌, ◌++◌, IfOk, OnOk, map};
 ghost use Rattle.std.specs.List.{flat_map};
 ghost use Rattle.status_pages.specs.Counters.{counters_text};
-ghost use Rattle.status_pages.specs.Metrics.{number_of, head_text, sample_text, metric_text, metrics_text, build_text, kind_text, view_of_sample, view_of_metric, all_metrics};
+ghost use Rattle.status_pages.specs.Metrics.{number_of, head_text, value_text, sample_text, metric_text, metrics_text, build_text, kind_text, view_of_sample, view_of_metric, all_metrics};
 
 mod table;
 
 use crate::counters::put_counters;
 use crate::starved::Starved;
-use crate::text::{put_number, put_parts};
+use crate::text::{put_number, put_parts, put_seconds};
 use event_counts::Counts;
 use std::alloc::Global;
 pub(crate) use table::METRICS;
@@ -58,6 +58,12 @@ pub struct Numbers {
     pub sent_bytes: u64,
     /// When the server started, in seconds since 1970.
     pub started: u64,
+    /// How many critical sections of calls were timed.
+    pub sections: u64,
+    /// How long threads were in them, in nanoseconds.
+    pub inside_nanos: u64,
+    /// How long threads waited for them, in nanoseconds.
+    pub waited_nanos: u64,
 }
 
 /// A number that is shown.
@@ -82,21 +88,30 @@ pub(crate) enum Number {
     ReceivedBytes,
     SentBytes,
     Started,
+    Sections,
+    /// In nanoseconds. A metric shows seconds.
+    InsideNanos,
+    /// In nanoseconds. A metric shows seconds.
+    WaitedNanos,
     /// A limit, which never changes.
     Limit(u64),
 }
 
-/// Whether a number only rises while a server runs.
+/// What the numbers of a metric are.
 #[derive(Clone, Copy)]
 pub(crate) enum Kind {
+    /// A number that only rises while a server runs.
     Counter,
+    /// A number that may fall.
     Gauge,
+    /// A sum of what was observed, and how often that was.
+    Summary,
 }
 
 /// One number of a metric.
 #[derive(Clone, Copy)]
 pub(crate) struct Sample<'a> {
-    /// Its labels with their braces, or nothing.
+    /// What stands behind the name: its labels with their braces, the suffix of a summary, or nothing.
     pub(crate) labels: &'a str,
     /// Its key in `/status.json`.
     pub(crate) key: &'a str,
@@ -137,6 +152,9 @@ impl Numbers {
             Number::ReceivedBytes => self.received_bytes,
             Number::SentBytes => self.sent_bytes,
             Number::Started => self.started,
+            Number::Sections => self.sections,
+            Number::InsideNanos => self.inside_nanos,
+            Number::WaitedNanos => self.waited_nanos,
             Number::Limit(most) => most,
         }
     }
@@ -148,6 +166,7 @@ fn kind_text(kind: Kind) -> &'static [u8]
     match kind {
         Kind::Counter => b"counter",
         Kind::Gauge => b"gauge",
+        Kind::Summary => b"summary",
     }
 }
 
@@ -161,6 +180,16 @@ pub(crate) fn put_head(out: &mut Vec<u8>, name: &str, help: &str, kind: Kind) ->
     put_parts(out, &[kind_text(kind), b"\n"])
 }
 
+// A number as a metric shows it: what is kept in nanoseconds is shown in seconds.
+fn put_value(out: &mut Vec<u8>, numbers: &Numbers, number: Number) -> Result<(), Starved>
+    ensures { OnOk result (out.new.items ≡ out.old.items ++ value_text numbers.now number) }
+{
+    match number {
+        Number::InsideNanos | Number::WaitedNanos => put_seconds(out, numbers.get(number)),
+        _ => put_number(out, numbers.get(number)),
+    }
+}
+
 fn put_sample(
     out: &mut Vec<u8>,
     numbers: &Numbers,
@@ -170,7 +199,7 @@ fn put_sample(
     ensures { OnOk result (out.new.items ≡ out.old.items ++ sample_text numbers.now name.now (view_of_sample sample.now)) }
 {
     put_parts(out, &[name.as_bytes(), sample.labels.as_bytes(), b" "])?;
-    put_number(out, numbers.get(sample.number))?;
+    put_value(out, numbers, sample.number)?;
     put_parts(out, &[b"\n"])
 }
 

@@ -3,6 +3,7 @@ ghost use Rattle.std.specs.Prelude.{◌≡◌, ◌++◌, OnOk, decimal};
 ghost use Rattle.std.specs.Fmt.{signed_decimal};
 ghost use Rattle.std.specs.List.{flat_map};
 ghost use Rattle.hex.specs.Hex.{encode_lower};
+ghost use Rattle.status_pages.specs.Seconds.{seconds_text, fraction_text};
 
 use crate::starved::Starved;
 use itoa::Buffer;
@@ -24,6 +25,29 @@ pub(crate) fn put_number(out: &mut Vec<u8>, number: u64) -> Result<(), Starved>
     let mut digits = Buffer::new();
     out.extend_from_slice(digits.format(number).as_bytes())?;
     Ok(())
+}
+
+/// The nanoseconds of a second.
+const SECOND: u64 = 1_000_000_000;
+
+// The nine digits behind the point. The first digit of what is printed stands before them, and is left out.
+fn put_fraction(out: &mut Vec<u8>, nanos: u64) -> Result<(), Starved>
+    ensures { OnOk result (out.new.items ≡ out.old.items ++ fraction_text nanos) }
+{
+    let mut digits = Buffer::new();
+    let text = digits.format(SECOND + nanos % SECOND).as_bytes();
+    let behind = text.get(1..).unwrap_or(text);
+    out.extend_from_slice(behind)?;
+    Ok(())
+}
+
+/// Adds nanoseconds as seconds, with nine digits behind the point.
+pub(crate) fn put_seconds(out: &mut Vec<u8>, nanos: u64) -> Result<(), Starved>
+    ensures { OnOk result (out.new.items ≡ out.old.items ++ seconds_text nanos) }
+{
+    put_number(out, nanos / SECOND)?;
+    put_parts(out, &[b"."])?;
+    put_fraction(out, nanos)
 }
 
 /// Adds a number that may be negative, in decimal.

@@ -54,9 +54,9 @@ all_receipts-all : (xs ys : List Answer) → all_receipts (xs ++ ys) ≡ all_rec
 all_receipts-all [] ys = refl
 all_receipts-all (x ∷ xs) ys = ap (λ l. receipt_list x.receipt ++ l) (all_receipts-all xs ys) ∙ sym (append_assoc (receipt_list x.receipt) (all_receipts xs) (all_receipts ys))
 
-met-all : (xs ys : List Answer) → AreMet xs → AreMet ys → AreMet (xs ++ ys)
-met-all [] ys before after = after
-met-all (x ∷ xs) ys before after = (before.0, met-all xs ys before.1 after)
+met-all : (may_answer : Bytes → Bytes → Type 0) (xs ys : List Answer) → AreMet may_answer xs → AreMet may_answer ys → AreMet may_answer (xs ++ ys)
+met-all may_answer [] ys before after = after
+met-all may_answer (x ∷ xs) ys before after = (before.0, met-all may_answer xs ys before.1 after)
 
 abbrev with_both : View → List Task → List Task → View
 with_both v put taken = with_hand v (record { put = put; taken = taken })
@@ -64,8 +64,8 @@ with_both v put taken = with_hand v (record { put = put; taken = taken })
 abbrev job : Answer → Task
 job a = a.job
 
-channel-none : (w : Worker) (s : List Sent) → ServesByChannel [] w w s s
-channel-none w s = record {
+channel-none : (may_answer : Bytes → Bytes → Type 0) (w : Worker) (s : List Sent) → ServesByChannel may_answer [] w w s s
+channel-none may_answer w s = record {
   answers = [];
   met = tt;
   hand = λ i. with_both w.seat (sym (append-nil w.seat.hand.put) i) (sym (append-nil w.seat.hand.taken) i);
@@ -74,13 +74,13 @@ channel-none w s = record {
   keeps = refl;
 }
 
-channel-more : (jobs : List Task) (records : List Bytes) (o p : Origin) (v w x y : Worker) (s s' s'' : List Sent) → ServesByChannel jobs v w s s' → HavePut records o p w x → Worked x y s' s'' → ServesByChannel (jobs ++ jobs_of o records) v y s s''
-channel-more jobs records o p v w x y s s' s'' so_far put worked =
+channel-more : (may_answer : Bytes → Bytes → Type 0) (jobs : List Task) (records : List Bytes) (o p : Origin) (v w x y : Worker) (s s' s'' : List Sent) → ServesByChannel may_answer jobs v w s s' → HavePut records o p w x → Worked may_answer x y s' s'' → ServesByChannel may_answer (jobs ++ jobs_of o records) v y s s''
+channel-more may_answer jobs records o p v w x y s s' s'' so_far put worked =
     let first = so_far.answers in
     let bs = worked.0 in
     let more = worked.1 in record {
       answers = first ++ bs;
-      met = met-all first bs so_far.met more.met;
+      met = met-all may_answer first bs so_far.met more.met;
       hand = more.taken
           ∙ ap (λ (u : Worker). with_both u.seat u.seat.hand.put (u.seat.hand.taken ++ map job bs)) put.put
           ∙ ap (λ (u : View). with_both u (u.hand.put ++ jobs_of o records) (u.hand.taken ++ map job bs)) so_far.hand
@@ -93,8 +93,8 @@ channel-more jobs records o p v w x y s s' s'' so_far put worked =
 
 -- ---- or they are answered at once
 
-at_once-none : (w : Worker) (s : List Sent) → ServesAtOnce [] w w s s
-at_once-none w s = record {
+at_once-none : (may_answer : Bytes → Bytes → Type 0) (w : Worker) (s : List Sent) → ServesAtOnce may_answer [] w w s s
+at_once-none may_answer w s = record {
   answers = [];
   met = tt;
   each = refl;
@@ -104,12 +104,12 @@ at_once-none w s = record {
   keeps = refl;
 }
 
-at_once-more : (jobs more : List Task) (v w y : Worker) (s s' s'' : List Sent) → ServesAtOnce jobs v w s s' → ServesAtOnce more w y s' s'' → ServesAtOnce (jobs ++ more) v y s s''
-at_once-more jobs more v w y s s' s'' so_far next =
+at_once-more : (may_answer : Bytes → Bytes → Type 0) (jobs more : List Task) (v w y : Worker) (s s' s'' : List Sent) → ServesAtOnce may_answer jobs v w s s' → ServesAtOnce may_answer more w y s' s'' → ServesAtOnce may_answer (jobs ++ more) v y s s''
+at_once-more may_answer jobs more v w y s s' s'' so_far next =
     let first = so_far.answers in
     let bs = next.answers in record {
       answers = first ++ bs;
-      met = met-all first bs so_far.met next.met;
+      met = met-all may_answer first bs so_far.met next.met;
       each = map-append job first bs ∙ (λ i. so_far.each i ++ next.each i);
       seat = next.seat ∙ so_far.seat;
       handed = next.handed ∙ ap (λ l. l ++ all_sent bs) so_far.handed ∙ append_assoc s (all_sent first) (all_sent bs) ∙ ap (λ l. s ++ l) (sym (all_sent-all first bs));
@@ -118,11 +118,11 @@ at_once-more jobs more v w y s s' s'' so_far next =
       keeps = next.keeps ∙ so_far.keeps;
     }
 
-at_once-one : (a : Answer) (asked_job : Task) (w x : Worker) (s s' : List Sent) → a.job ≡ asked_job → IsMet a a.receipt → s' ≡ s ++ sent_of_reply asked_job.connection a.given
-    → x.receipts ≡ w.receipts ++ receipt_list a.receipt → x.seat ≡ w.seat → x.keeps ≡ w.keeps → ServesAtOnce (asked_job ∷ []) w x s s'
-at_once-one a asked_job w x s s' same met handed receipts seat keeps = record {
+at_once-one : (may_answer : Bytes → Bytes → Type 0) (a : Answer) (asked_job : Task) (w x : Worker) (s s' : List Sent) → a.job ≡ asked_job → may_answer asked_job.asked a.answered → IsMet a a.receipt → s' ≡ s ++ sent_of_reply asked_job.connection a.given
+    → x.receipts ≡ w.receipts ++ receipt_list a.receipt → x.seat ≡ w.seat → x.keeps ≡ w.keeps → ServesAtOnce may_answer (asked_job ∷ []) w x s s'
+at_once-one may_answer a asked_job w x s s' same may met handed receipts seat keeps = record {
   answers = a ∷ [];
-  met = (met, tt);
+  met = ((subst (λ (j : Task). may_answer j.asked a.answered) (sym same) may, met), tt);
   each = ap (λ j. j ∷ []) same;
   seat = seat;
   handed = handed ∙ ap (λ (j : Task). s ++ sent_of_reply j.connection a.given) (sym same) ∙ ap (λ l. s ++ l) (sym (append-nil (sent_for a)));
@@ -130,62 +130,62 @@ at_once-one a asked_job w x s s' same met handed receipts seat keeps = record {
   keeps = keeps;
 }
 
-pub handled-none : (o : Origin) (w : Worker) (s : List Sent) → Handled false [] o o w w s s
-handled-none o w s = (sym (counted-none o), at_once-none w s)
+pub handled-none : (may_answer : Bytes → Bytes → Type 0) (o : Origin) (w : Worker) (s : List Sent) → Handled may_answer false [] o o w w s s
+handled-none may_answer o w s = (sym (counted-none o), at_once-none may_answer w s)
 
 -- one record more was answered at once
-pub handled-next : (xs : List Bytes) (asked : Bytes) (o p q : Origin) (v w x : Worker) (s s' s'' : List Sent) → Handled false xs o p v w s s' → q ≡ origin_after p 1
-    → (a : Answer) → a.job ≡ job_of p asked → IsMet a a.receipt → s'' ≡ s' ++ sent_of_reply (job_of p asked).connection a.given
-    → x.receipts ≡ w.receipts ++ receipt_list a.receipt → x.seat ≡ w.seat → x.keeps ≡ w.keeps → Handled false (xs ++ asked ∷ []) o q v x s s''
-handled-next xs asked o p q v w x s s' s'' before number a same met handed receipts seat keeps = (
+pub handled-next : (may_answer : Bytes → Bytes → Type 0) (xs : List Bytes) (asked : Bytes) (o p q : Origin) (v w x : Worker) (s s' s'' : List Sent) → Handled may_answer false xs o p v w s s' → q ≡ origin_after p 1
+    → (a : Answer) → a.job ≡ job_of p asked → may_answer asked a.answered → IsMet a a.receipt → s'' ≡ s' ++ sent_of_reply (job_of p asked).connection a.given
+    → x.receipts ≡ w.receipts ++ receipt_list a.receipt → x.seat ≡ w.seat → x.keeps ≡ w.keeps → Handled may_answer false (xs ++ asked ∷ []) o q v x s s''
+handled-next may_answer xs asked o p q v w x s s' s'' before number a same may met handed receipts seat keeps = (
   number ∙ ap (λ (r : Origin). origin_after r 1) before.0 ∙ counted-twice o (length xs) 1 (length (xs ++ asked ∷ [])) (sym (length-append xs (asked ∷ []))),
-  subst (λ l. ServesAtOnce l v x s s'') (ap (λ (r : Origin). jobs_of o xs ++ job_of r asked ∷ []) before.0 ∙ sym (jobs_of-append o xs (asked ∷ [])))
-      (at_once-more (jobs_of o xs) (job_of p asked ∷ []) v w x s s' s'' before.1 (at_once-one a (job_of p asked) w x s' s'' same met handed receipts seat keeps)),
+  subst (λ l. ServesAtOnce may_answer l v x s s'') (ap (λ (r : Origin). jobs_of o xs ++ job_of r asked ∷ []) before.0 ∙ sym (jobs_of-append o xs (asked ∷ [])))
+      (at_once-more may_answer (jobs_of o xs) (job_of p asked ∷ []) v w x s s' s'' before.1 (at_once-one may_answer a (job_of p asked) w x s' s'' same may met handed receipts seat keeps)),
 )
 
 -- ---- either way
 
-pub Serves-none : (holds : Bool) (w : Worker) (s : List Sent) → Serves holds [] w w s s
-Serves-none true w s = channel-none w s
-Serves-none false w s = at_once-none w s
+pub Serves-none : (may_answer : Bytes → Bytes → Type 0) (holds : Bool) (w : Worker) (s : List Sent) → Serves may_answer holds [] w w s s
+Serves-none may_answer true w s = channel-none may_answer w s
+Serves-none may_answer false w s = at_once-none may_answer w s
 
-Serves-more : (holds : Bool) (jobs : List Task) (records : List Bytes) (o p : Origin) (v w y : Worker) (s s' s'' : List Sent) → Serves holds jobs v w s s' → Handled holds records o p w y s' s'' → Serves holds (jobs ++ jobs_of o records) v y s s''
-Serves-more true jobs records o p v w y s s' s'' so_far next = channel-more jobs records o p v w next.0 y s s' s'' so_far next.1 next.2
-Serves-more false jobs records o p v w y s s' s'' so_far next = at_once-more jobs (jobs_of o records) v w y s s' s'' so_far next.1
+Serves-more : (may_answer : Bytes → Bytes → Type 0) (holds : Bool) (jobs : List Task) (records : List Bytes) (o p : Origin) (v w y : Worker) (s s' s'' : List Sent) → Serves may_answer holds jobs v w s s' → Handled may_answer holds records o p w y s' s'' → Serves may_answer holds (jobs ++ jobs_of o records) v y s s''
+Serves-more may_answer true jobs records o p v w y s s' s'' so_far next = channel-more may_answer jobs records o p v w next.0 y s s' s'' so_far next.1 next.2
+Serves-more may_answer false jobs records o p v w y s s' s'' so_far next = at_once-more may_answer jobs (jobs_of o records) v w y s s' s'' so_far next.1
 
-handled-number : (holds : Bool) (records : List Bytes) (o p : Origin) (w y : Worker) (s s' : List Sent) → Handled holds records o p w y s s' → p ≡ origin_after o (length records)
-handled-number true records o p w y s s' next = next.1.numbered
-handled-number false records o p w y s s' next = next.0
+handled-number : (may_answer : Bytes → Bytes → Type 0) (holds : Bool) (records : List Bytes) (o p : Origin) (w y : Worker) (s s' : List Sent) → Handled may_answer holds records o p w y s s' → p ≡ origin_after o (length records)
+handled-number may_answer true records o p w y s s' next = next.1.numbered
+handled-number may_answer false records o p w y s s' next = next.0
 
 -- what was put, and what was answered then
-pub handled-by_channel : (put : Bool) (records : List Bytes) (o p : Origin) (v w x : Worker) (s s' : List Sent) → Puts put records o p v w → Worked w x s s' → Handles true put records o p v x s s'
-handled-by_channel true records o p v w x s s' put worked = (w, put, worked)
-handled-by_channel false records o p v w x s s' put worked = (put.0, put.1, (w, put.2, worked))
+pub handled-by_channel : (may_answer : Bytes → Bytes → Type 0) (put : Bool) (records : List Bytes) (o p : Origin) (v w x : Worker) (s s' : List Sent) → Puts put records o p v w → Worked may_answer w x s s' → Handles may_answer true put records o p v x s s'
+handled-by_channel may_answer true records o p v w x s s' put worked = (w, put, worked)
+handled-by_channel may_answer false records o p v w x s s' put worked = (put.0, put.1, (w, put.2, worked))
 
 -- ---- the loop
 
 -- so far the stream goes on, and the jobs of all its records were put
-pub record SoFar (holds : Bool) (o p : Origin) (before after : Option (List ℕ)) (a : Assembled) (old new : Worker) (sent sent' : List Sent) : Type 0 where
+pub record SoFar (may_answer : Bytes → Bytes → Type 0) (holds : Bool) (o p : Origin) (before after : Option (List ℕ)) (a : Assembled) (old new : Worker) (sent sent' : List Sent) : Type 0 where
   pub split : IsSplit a
   pub going : a.failed ≡ false
   pub consumed : Consumes before after a.received
   pub numbered : p ≡ origin_after o (length a.given)
-  pub serves : Serves holds (jobs_of o a.given) old new sent sent'
+  pub serves : Serves may_answer holds (jobs_of o a.given) old new sent sent'
 
-pub SoFar-none : (holds : Bool) (o : Origin) (before : Option (List ℕ)) (a : Assembled) (w : Worker) (s : List Sent) → a ≡ record { received = []; given = []; failed = false } → IsSplit a → SoFar holds o o before before a w w s s
-SoFar-none holds o before a w s new split = record {
+pub SoFar-none : (may_answer : Bytes → Bytes → Type 0) (holds : Bool) (o : Origin) (before : Option (List ℕ)) (a : Assembled) (w : Worker) (s : List Sent) → a ≡ record { received = []; given = []; failed = false } → IsSplit a → SoFar may_answer holds o o before before a w w s s
+SoFar-none may_answer holds o before a w s new split = record {
   split = split;
   going = ap (λ (b : Assembled). b.failed) new;
   consumed = subst (λ (b : Assembled). Consumes before before b.received) (sym new) (Consumes-nil before);
   numbered = sym (ap (λ (b : Assembled). origin_after o (length b.given)) new ∙ counted-none o);
-  serves = subst (λ (b : Assembled). Serves holds (jobs_of o b.given) w w s s) (sym new) (Serves-none holds w s);
+  serves = subst (λ (b : Assembled). Serves may_answer holds (jobs_of o b.given) w w s s) (sym new) (Serves-none may_answer holds w s);
 }
 
-module _ (holds : Bool) (o p : Origin) (before mid after : Option (List ℕ)) (a : Assembled) (v w : Worker) (s s' : List Sent) (so_far : SoFar holds o p before mid a v w s s') where
+module _ (may_answer : Bytes → Bytes → Type 0) (holds : Bool) (o p : Origin) (before mid after : Option (List ℕ)) (a : Assembled) (v w : Worker) (s s' : List Sent) (so_far : SoFar may_answer holds o p before mid a v w s s') where
   whole : Splits a.received a.given false
   whole = subst (λ fault. Splits a.received a.given fault) so_far.going so_far.split
 
-  all_of : (ending : Ending) → Consumes mid after [] → EndsBy ending a.received a.given false (length a.given) [] after → IsRead holds ending o p before after v w s s'
+  all_of : (ending : Ending) → Consumes mid after [] → EndsBy ending a.received a.given false (length a.given) [] after → IsRead may_answer holds ending o p before after v w s s'
   all_of ending none ends = record {
     bytes = a.received;
     lost = [];
@@ -196,11 +196,11 @@ module _ (holds : Bool) (o p : Origin) (before mid after : Option (List ℕ)) (a
     count = length a.given;
     ends = ends;
     numbered = so_far.numbered;
-    serves = subst (λ l. Serves holds (jobs_of o l) v w s s') (sym (take-length a.given)) so_far.serves;
+    serves = subst (λ l. Serves may_answer holds (jobs_of o l) v w s s') (sym (take-length a.given)) so_far.serves;
   }
 
   -- nothing more is read
-  pub stops : (ending : Ending) → Consumes mid after [] → EndsSo (Err ending) after → IsRead holds ending o p before after v w s s'
+  pub stops : (ending : Ending) → Consumes mid after [] → EndsSo (Err ending) after → IsRead may_answer holds ending o p before after v w s s'
   stops Over none ends = all_of Over none (refl, refl, refl, ends)
   stops Failed none ends = all_of Failed none (refl, refl, refl)
   stops TooLong none ends = absurd ends
@@ -212,11 +212,11 @@ module _ (holds : Bool) (o p : Origin) (before mid after : Option (List ℕ)) (a
     taken = Consumes-trans before mid after a.received piece so_far.consumed heard
 
     -- so many of the records were put
-    puts_on : (xs : List Bytes) → Handled holds xs p q w y s' s'' → (q ≡ origin_after o (length a.given + length xs)) × Serves holds (jobs_of o (a.given ++ xs)) v y s s''
+    puts_on : (xs : List Bytes) → Handled may_answer holds xs p q w y s' s'' → (q ≡ origin_after o (length a.given + length xs)) × Serves may_answer holds (jobs_of o (a.given ++ xs)) v y s s''
     puts_on xs put = (
-      handled-number holds xs p q w y s' s'' put ∙ ap (λ (r : Origin). origin_after r (length xs)) so_far.numbered ∙ counted-twice o (length a.given) (length xs) _ refl,
-      subst (λ l. Serves holds l v y s s'') (ap (λ (r : Origin). jobs_of o a.given ++ jobs_of r xs) so_far.numbered ∙ sym (jobs_of-append o a.given xs))
-          (Serves-more holds (jobs_of o a.given) xs p q v w y s s' s'' so_far.serves put),
+      handled-number may_answer holds xs p q w y s' s'' put ∙ ap (λ (r : Origin). origin_after r (length xs)) so_far.numbered ∙ counted-twice o (length a.given) (length xs) _ refl,
+      subst (λ l. Serves may_answer holds l v y s s'') (ap (λ (r : Origin). jobs_of o a.given ++ jobs_of r xs) so_far.numbered ∙ sym (jobs_of-append o a.given xs))
+          (Serves-more may_answer holds (jobs_of o a.given) xs p q v w y s s' s'' so_far.serves put),
     )
 
     module _ (fault : Bool) (fed : Fed a piece records fault a') where
@@ -227,7 +227,7 @@ module _ (holds : Bool) (o p : Origin) (before mid after : Option (List ℕ)) (a
       splits_now = subst (λ f. Splits a'.received a'.given f) fed.failed fed.split
 
       -- the channel took no more
-      cut_short : (count : ℕ) → count < length records → Handled holds (take count records) p q w y s' s'' → length (take count records) ≡ count → IsRead holds Closed o q before after v y s s''
+      cut_short : (count : ℕ) → count < length records → Handled may_answer holds (take count records) p q w y s' s'' → length (take count records) ≡ count → IsRead may_answer holds Closed o q before after v y s s''
       cut_short count few put many =
           let on = puts_on (take count records) put in
           let sum : length a.given + length (take count records) ≡ length a.given + count = ap (λ n. length a.given + n) many in
@@ -242,18 +242,18 @@ module _ (holds : Bool) (o p : Origin) (before mid after : Option (List ℕ)) (a
             count = length a.given + count;
             ends = (omega (arith, size, few), refl);
             numbered = on.0 ∙ ap (origin_after o) sum;
-            serves = subst (λ l. Serves holds (jobs_of o l) v y s s'') these on.1;
+            serves = subst (λ l. Serves may_answer holds (jobs_of o l) v y s s'') these on.1;
           }
 
-      all_put : Handled holds records p q w y s' s'' → (q ≡ origin_after o (length a'.given)) × Serves holds (jobs_of o a'.given) v y s s''
+      all_put : Handled may_answer holds records p q w y s' s'' → (q ≡ origin_after o (length a'.given)) × Serves may_answer holds (jobs_of o a'.given) v y s s''
       all_put put =
           let on = puts_on records put in (
             on.0 ∙ ap (origin_after o) (sym (ap length fed.given ∙ length-append a.given records)),
-            subst (λ l. Serves holds (jobs_of o l) v y s s'') (sym fed.given) on.1,
+            subst (λ l. Serves may_answer holds (jobs_of o l) v y s s'') (sym fed.given) on.1,
           )
 
       -- the stream has a record that is too long
-      too_long : fault ≡ true → Handled holds records p q w y s' s'' → IsRead holds TooLong o q before after v y s s''
+      too_long : fault ≡ true → Handled may_answer holds records p q w y s' s'' → IsRead may_answer holds TooLong o q before after v y s s''
       too_long is put =
           let on = all_put put in record {
             bytes = a'.received;
@@ -265,16 +265,16 @@ module _ (holds : Bool) (o p : Origin) (before mid after : Option (List ℕ)) (a
             count = length a'.given;
             ends = (is, refl, refl);
             numbered = on.0;
-            serves = subst (λ l. Serves holds (jobs_of o l) v y s s'') (sym (take-length a'.given)) on.1;
+            serves = subst (λ l. Serves may_answer holds (jobs_of o l) v y s s'') (sym (take-length a'.given)) on.1;
           }
 
-      more : fault ≡ false → Handled holds records p q w y s' s'' → SoFar holds o q before after a' v y s s''
+      more : fault ≡ false → Handled may_answer holds records p q w y s' s'' → SoFar may_answer holds o q before after a' v y s s''
       more is put =
           let on = all_put put in
           record { split = fed.split; going = fed.failed ∙ is; consumed = read_now; numbered = on.0; serves = on.1 }
 
     -- there was no memory for the piece
-    starved : records ≡ [] → piece ≢ [] → Handled holds records p q w y s' s'' → IsRead holds Starved o q before after v y s s''
+    starved : records ≡ [] → piece ≢ [] → Handled may_answer holds records p q w y s' s'' → IsRead may_answer holds Starved o q before after v y s s''
     starved none some put =
         let on = puts_on records put in
         let same : a.given ++ records ≡ a.given = ap (λ l. a.given ++ l) none ∙ append-nil a.given in record {
@@ -287,12 +287,12 @@ module _ (holds : Bool) (o p : Origin) (before mid after : Option (List ℕ)) (a
           count = length a.given;
           ends = (refl, refl, λ e. absurd (some e));
           numbered = on.0 ∙ ap (origin_after o) (sym (length-append a.given records) ∙ ap length same);
-          serves = subst (λ l. Serves holds (jobs_of o l) v y s s'') (same ∙ sym (take-length a.given)) on.1;
+          serves = subst (λ l. Serves may_answer holds (jobs_of o l) v y s s'') (same ∙ sym (take-length a.given)) on.1;
         }
 
     -- ---- by what became of the piece
 
-    closes : (fault : Option Ending) → Cuts a piece records fault a' → Handles holds false records p q w y s' s'' → IsRead holds Closed o q before after v y s s''
+    closes : (fault : Option Ending) → Cuts a piece records fault a' → Handles may_answer holds false records p q w y s' s'' → IsRead may_answer holds Closed o q before after v y s s''
     closes None cuts puts = cut_short false cuts puts.0 puts.1 puts.2 (length-take-le puts.0 records (omega (arith, puts.1)))
     closes (Some TooLong) cuts puts = cut_short true cuts puts.0 puts.1 puts.2 (length-take-le puts.0 records (omega (arith, puts.1)))
     closes (Some Starved) cuts puts = let e = ap length cuts.1 in absurd (omega (arith, puts.1, e))
@@ -300,25 +300,25 @@ module _ (holds : Bool) (o p : Origin) (before mid after : Option (List ℕ)) (a
     closes (Some Failed) cuts puts = absurd cuts
     closes (Some Closed) cuts puts = absurd cuts
 
-    ends : (ending : Ending) → Cuts a piece records (Some ending) a' → Handles holds true records p q w y s' s'' → IsRead holds ending o q before after v y s s''
+    ends : (ending : Ending) → Cuts a piece records (Some ending) a' → Handles may_answer holds true records p q w y s' s'' → IsRead may_answer holds ending o q before after v y s s''
     ends TooLong cuts puts = too_long true cuts refl puts
     ends Starved cuts puts = starved cuts.1 cuts.2 puts
     ends Over cuts puts = absurd cuts
     ends Failed cuts puts = absurd cuts
     ends Closed cuts puts = absurd cuts
 
-    goes_on : Cuts a piece records None a' → Handles holds true records p q w y s' s'' → SoFar holds o q before after a' v y s s''
+    goes_on : Cuts a piece records None a' → Handles may_answer holds true records p q w y s' s'' → SoFar may_answer holds o q before after a' v y s s''
     goes_on cuts puts = more false cuts refl puts
 
     -- and by whether all of its records were put
-    pub ended_so : (put : Bool) (fault ended : Option Ending) (ending : Ending) → ended ≡ cond put fault (Some Closed) → ended ≡ Some ending → Cuts a piece records fault a' → Handles holds put records p q w y s' s'' → IsRead holds ending o q before after v y s s''
+    pub ended_so : (put : Bool) (fault ended : Option Ending) (ending : Ending) → ended ≡ cond put fault (Some Closed) → ended ≡ Some ending → Cuts a piece records fault a' → Handles may_answer holds put records p q w y s' s'' → IsRead may_answer holds ending o q before after v y s s''
     ended_so true fault ended ending is some cuts puts = ends ending (subst (λ f. Cuts a piece records f a') (sym is ∙ some) cuts) puts
-    ended_so false fault ended ending is some cuts puts = subst (λ e. IsRead holds e o q before after v y s s'') (the_one (sym is ∙ some)) (closes fault cuts puts)
+    ended_so false fault ended ending is some cuts puts = subst (λ e. IsRead may_answer holds e o q before after v y s s'') (the_one (sym is ∙ some)) (closes fault cuts puts)
       where
         the_one : Some Closed ≡ Some ending → Closed ≡ ending
         the_one e = cc
 
-    pub not_ended : (put : Bool) (fault ended : Option Ending) → ended ≡ cond put fault (Some Closed) → ended ≡ None → Cuts a piece records fault a' → Handles holds put records p q w y s' s'' → SoFar holds o q before after a' v y s s''
+    pub not_ended : (put : Bool) (fault ended : Option Ending) → ended ≡ cond put fault (Some Closed) → ended ≡ None → Cuts a piece records fault a' → Handles may_answer holds put records p q w y s' s'' → SoFar may_answer holds o q before after a' v y s s''
     not_ended true fault ended is none cuts puts = goes_on (subst (λ f. Cuts a piece records f a') (sym is ∙ none) cuts) puts
     not_ended false fault ended is none cuts puts = absurd (apart (sym is ∙ none))
       where
@@ -332,8 +332,8 @@ unsplit : Splits [] [] false
 unsplit = record { begun = []; rest = []; reads = record { fragments = []; each = search rules; fit = tt; whole = refl; makes = refl; leaves = refl }; ending = search rules }
 
 -- nothing was read
-pub unread : (holds : Bool) (o : Origin) (before : Option (List ℕ)) (w : Worker) (s : List Sent) → IsRead holds Starved o o before before w w s s
-unread holds o before w s = record {
+pub unread : (may_answer : Bytes → Bytes → Type 0) (holds : Bool) (o : Origin) (before : Option (List ℕ)) (w : Worker) (s : List Sent) → IsRead may_answer holds Starved o o before before w w s s
+unread may_answer holds o before w s = record {
   bytes = [];
   lost = [];
   consumed = Consumes-nil before;
@@ -343,5 +343,5 @@ unread holds o before w s = record {
   count = 0;
   ends = (refl, refl, λ e. refl);
   numbered = sym (counted-none o);
-  serves = Serves-none holds w s;
+  serves = Serves-none may_answer holds w s;
 }

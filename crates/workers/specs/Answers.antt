@@ -1,5 +1,6 @@
 -- What a worker answered.
 use Rattle.std.specs.Prelude.{◌≡◌, ℕ, Bool, List, [], ◌∷◌, ◌++◌, map, Option, Some, None}
+use Rattle.definitions.specs.Bytes.{Bytes}
 use Rattle.definitions.specs.Hosts.{NotAsked}
 use Rattle.definitions.specs.Step.{State, Given, Starved}
 use Rattle.book.specs.Given.{comes_to, record_of}
@@ -11,9 +12,6 @@ use Rattle.job_queue.specs.Task.{Task}
 use Rattle.job_queue.specs.declared.passes.View.{View}
 use Rattle.job_queue.specs.Passes.{with_hand}
 use Rattle.reply_outbox.specs.Posted.{Sent, sent_of_reply}
-
-abbrev pub asks : Task → JournalEvent
-asks job = Takes job.peer job.asked
 
 abbrev pub view_of_taken : Taken → JournalEvent
 view_of_taken t = Takes (view_of_peer t.peer) t.«record»
@@ -40,20 +38,27 @@ StarvesAs event given = (s : State) → Steps s event (comes_to Starved NotAsked
 abbrev pub TurnsBack : Taken → ℕ → List Sent → List Sent → Type 0
 TurnsBack taken connection sent sent' = (given : Given) × StarvesAs (view_of_taken taken) given × (sent' ≡ sent ++ sent_of_reply connection given)
 
--- a job that was taken, the receipt of its entry, if there is one, and what it was given
+-- a job that was taken, the record that was answered for it, the receipt of its entry, if there is one, and what it was given
 pub record Answer : Type 0 where
   pub job : Task
+  pub answered : Bytes
   pub receipt : Option Receipt
   pub given : Given
 
--- the receipt is of this job's peer and record, and it was given the receipt's reply; without an entry, what a starved call gets
-abbrev pub IsMet : Answer → Option Receipt → Type 0
-IsMet a (Some r) = (r.event ≡ asks a.job) × (record_of a.given ≡ r.reply)
-IsMet a None = StarvesAs (asks a.job) a.given
+-- its peer asks the record that was answered for it
+abbrev pub asks : Answer → JournalEvent
+asks a = Takes a.job.peer a.answered
 
-abbrev pub AreMet : List Answer → Type 0
-AreMet [] = Unit {0}
-AreMet (a ∷ rest) = IsMet a a.receipt × AreMet rest
+-- the receipt is of this job's peer and of the record that was answered, and it was given the receipt's reply; without an entry, what a
+-- starved call gets
+abbrev pub IsMet : Answer → Option Receipt → Type 0
+IsMet a (Some r) = (r.event ≡ asks a) × (record_of a.given ≡ r.reply)
+IsMet a None = StarvesAs (asks a) a.given
+
+-- and for each job a record was answered that may be
+abbrev pub AreMet : (Bytes → Bytes → Type 0) → List Answer → Type 0
+AreMet may_answer [] = Unit {0}
+AreMet may_answer (a ∷ rest) = (may_answer a.job.asked a.answered × IsMet a a.receipt) × AreMet may_answer rest
 
 abbrev pub sent_for : Answer → List Sent
 sent_for a = sent_of_reply a.job.connection a.given
@@ -82,14 +87,15 @@ with_seat w seat = record { seat = seat; receipts = w.receipts; keeps = w.keeps 
 abbrev pub with_jobs : View → List Task → View
 with_jobs v jobs = with_hand v (record { put = v.hand.put; taken = v.hand.taken ++ jobs })
 
--- these jobs were taken and answered, in order: each receipt and each record is that of its job
-pub record Answered (answers : List Answer) (old new : Worker) (sent sent' : List Sent) : Type 0 where
-  pub met : AreMet answers
+-- these jobs were taken and answered, in order, each by a record that may be answered for it: each receipt is of that record, and each
+-- reply goes to the connection of its job
+pub record Answered (may_answer : Bytes → Bytes → Type 0) (answers : List Answer) (old new : Worker) (sent sent' : List Sent) : Type 0 where
+  pub met : AreMet may_answer answers
   pub taken : new.seat ≡ with_jobs old.seat (map (λ (a : Answer). a.job) answers)
   pub handed : sent' ≡ sent ++ all_sent answers
   pub receipts : new.receipts ≡ old.receipts ++ all_receipts answers
   pub keeps : new.keeps ≡ old.keeps
 
 -- all that the worker did was to take jobs and to answer them
-abbrev pub Worked : Worker → Worker → List Sent → List Sent → Type 0
-Worked old new sent sent' = (answers : List Answer) × Answered answers old new sent sent'
+abbrev pub Worked : (Bytes → Bytes → Type 0) → Worker → Worker → List Sent → List Sent → Type 0
+Worked may_answer old new sent sent' = (answers : List Answer) × Answered may_answer answers old new sent sent'

@@ -10,7 +10,7 @@ use book::{Receipt, Starved, Taken};
 use bytes::Bytes;
 use hosts_db::HostStore;
 use range_table::RangeTable;
-use reply_outbox::{Outbox, post, post_last};
+use reply_outbox::{Gate, Outbox, TakenTimes, post, post_last};
 use std::alloc::Global;
 use std::sync::ledger::{Ledger, Share};
 use std::sync::{Mutex, Wait};
@@ -64,15 +64,18 @@ impl<L: Ledger> CallHandler<L> {
     }
 }
 
-/// The book, where it is shared under a lock.
+/// The book, where it is shared under a lock, and the gate whose clock times its critical sections.
 #[derive(Drop)]
-pub(crate) struct AtBook<'a, R: RangeTable, S: HostStore, L: Ledger, W> {
+pub(crate) struct AtBook<'a, R: RangeTable, S: HostStore, L: Ledger, W, G> {
     pub(crate) rt: &'a W,
     pub(crate) shared: &'a Mutex<Shared<R, S, L>>,
+    pub(crate) gate: &'a G,
 }
 
-impl<'a, R: RangeTable, S: HostStore, L: Ledger, W: Wait, O: Outbox> Entering<CallHandler<L>, O>
-    for AtBook<'a, R, S, L, W> {
+impl<'a, R: RangeTable, S: HostStore, L: Ledger, W: Wait, G: Gate, O: Outbox> Entering<
+    CallHandler<L>,
+    O,
+> for AtBook<'a, R, S, L, W, G> {
     ghost use Rattle.std.specs.Prelude.{◌≡◌, is_some};
     ghost use Rattle.book.specs.Journal.{room_of};
     ghost use Rattle.workers.specs.Holds.{Held};
@@ -101,8 +104,18 @@ impl<'a, R: RangeTable, S: HostStore, L: Ledger, W: Wait, O: Outbox> Entering<Ca
         taken: Taken,
         same: Bytes,
     ) -> Result<bool, Taken> {
-        // The book's lock is free again behind this line.
-        let got = hold(self.rt, self.shared).take(taken, same, &mut call_handler.share);
+        let asked = self.gate.time();
+        let mut shared = hold(self.rt, self.shared);
+        let inside = self.gate.time();
+        let got = shared.take(taken, same, &mut call_handler.share);
+        drop(shared);
+        let left = self.gate.time();
+        let times = TakenTimes {
+            asked,
+            inside,
+            left,
+        };
+        self.gate.timed(connection, times);
         let Entered {
             receipt,
             is_due,

@@ -91,7 +91,7 @@ impl<P: Place, L: Ledger> Worker<P, L> {
         outbox: &mut O,
         source: &mut Source<T>,
     ) -> Ending
-        ensures read { IsRead (G.holds gate.now) result source.old.origin source.new.origin (T.remaining source.old.stream) (T.remaining source.new.stream)
+        ensures read { IsRead (G.MayAnswer gate.now) (G.holds gate.now) result source.old.origin source.new.origin (T.remaining source.old.stream) (T.remaining source.new.stream)
             self.old self.new (O.handed outbox.old) (O.handed outbox.new) }
         ensures few { TakesAtMost (MOST_READ_BYTES * source.old.bound) (T.remaining source.old.stream) (T.remaining source.new.stream) }
     {
@@ -128,7 +128,7 @@ impl<P: Place, L: Ledger> Worker<P, L> {
         origin: &mut Origin,
         records: Records,
     ) -> bool
-        ensures { Handles (G.holds desk.now.gate.now) result records.items origin.old origin.new self.old self.new (O.handed outbox.old) (O.handed outbox.new) }
+        ensures { Handles (G.MayAnswer desk.now.gate.now) (G.holds desk.now.gate.now) result records.items origin.old origin.new self.old self.new (O.handed outbox.old) (O.handed outbox.new) }
     {
         if desk.gate.may_hold() {
             let count = records.len();
@@ -149,7 +149,7 @@ impl<P: Place, L: Ledger> Worker<P, L> {
         origin: &mut Origin,
         records: Records,
     ) -> bool
-        ensures { Handles false result records.items origin.old origin.new self.old self.new (O.handed outbox.old) (O.handed outbox.new) }
+        ensures { Handles (G.MayAnswer desk.now.gate.now) false result records.items origin.old origin.new self.old self.new (O.handed outbox.old) (O.handed outbox.new) }
     {
         for asked in records {
             let Some(job) = origin.next_job(asked) else {

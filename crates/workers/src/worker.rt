@@ -1,6 +1,7 @@
 //! What a worker does.
 ghost use Rattle.std.specs.Prelude.{◌≡◌, ◌+◌, ◌<◌, [], ◌∷◌, ◌++◌, is_some, IfOk, IfSome, IfNone, Some, None, length, MatchResult};
 ghost use Rattle.job_queue.specs.Passes.{with_put, with_taken};
+ghost use Rattle.reply_outbox.specs.Gates.{answered_record};
 ghost use Rattle.reply_outbox.specs.Posted.{sent_of_reply};
 ghost use Rattle.workers.specs.Answers.{Answer, Worked, IsMet, receipt_list, with_seat};
 
@@ -8,6 +9,7 @@ use crate::call_handler::{AtBook, CallHandler};
 use crate::entering::answer_call;
 use crate::shared::Shared;
 use book::{Receipt, Taken};
+use bytes::Bytes;
 use hosts_db::HostStore;
 use job_queue::{Channel, Closed, Job, Place, Seat};
 use range_table::RangeTable;
@@ -53,6 +55,19 @@ fn wake_before<P: Place, G: Gate, O: Outbox>(
 ) {
     if left > 0 && (gate.may_hold() || outbox.will_write(job.connection())) {
         channel.nudge();
+    }
+}
+
+// The record that is answered: the one in place of the job's own, or its own where there is none.
+fn record_to_answer(job: Job, instead: Option<Bytes>) -> Bytes
+    ensures { result ≡ answered_record instead job.asked }
+{
+    match instead {
+        Some(record) => {
+            drop(job);
+            record
+        }
+        None => job.into_record(),
     }
 }
 
@@ -127,7 +142,7 @@ impl<P: Place, L: Ledger> Worker<P, L> {
         gate: &G,
         outbox: &mut O,
     )
-        ensures worked { Worked self.old self.new (O.handed outbox.old) (O.handed outbox.new) }
+        ensures worked { Worked (G.MayAnswer gate.now) self.old self.new (O.handed outbox.old) (O.handed outbox.new) }
     {
         for _ in rt.forever() {
             let Some(job) = self.next_job(rt, channel, outbox) else {
@@ -148,7 +163,7 @@ impl<P: Place, L: Ledger> Worker<P, L> {
         outbox: &mut O,
         count: usize,
     )
-        ensures worked { Worked self.old self.new (O.handed outbox.old) (O.handed outbox.new) }
+        ensures worked { Worked (G.MayAnswer gate.now) self.old self.new (O.handed outbox.old) (O.handed outbox.new) }
     {
         let mut left = count;
         for _ in 0..count {
@@ -180,7 +195,8 @@ impl<P: Place, L: Ledger> Worker<P, L> {
         self.seat.receive(rt, channel)
     }
 
-    /// Answers this job, which was taken from the channel or never came by it: the gate is told before, and the outbox then.
+    /// Answers this job, which was taken from the channel or never came by it: the gate is told before, and the outbox then. Where the
+    /// gate gives another record, that one is answered in place of the job's own.
     pub fn serve<R: RangeTable, S: HostStore, G: Gate, O: Outbox, W: Wait>(
         &mut self,
         rt: &W,
@@ -189,7 +205,7 @@ impl<P: Place, L: Ledger> Worker<P, L> {
         outbox: &mut O,
         job: Job,
     )
-        ensures answered { (a : Answer) × (a.job ≡ job) × IsMet a a.receipt
+        ensures answered { (a : Answer) × (a.job ≡ job) × G.MayAnswer gate.now job.asked a.answered × IsMet a a.receipt
             × (O.handed outbox.new ≡ O.handed outbox.old ++ sent_of_reply job.connection a.given)
             × (self.new.receipts ≡ self.old.receipts ++ receipt_list a.receipt) }
         ensures seat { self.new.seat ≡ self.old.seat }
@@ -197,20 +213,22 @@ impl<P: Place, L: Ledger> Worker<P, L> {
     {
         let connection = job.connection();
         outbox.turn_to(connection);
-        gate.before(&job);
-        let is_due = self.answer(rt, shared, outbox, job);
+        let instead = gate.before(&job);
+        let is_due = self.answer(rt, shared, gate, outbox, job, instead);
         outbox.done(connection, is_due);
     }
 
-    // Answers one job, in one hold: whether a call of the server's own is due then.
-    fn answer<R: RangeTable, S: HostStore, O: Outbox, W: Wait>(
+    // Answers one job, by this record in place of its own, if there is one, in one hold: whether a call of the server's own is due then.
+    fn answer<R: RangeTable, S: HostStore, G: Gate, O: Outbox, W: Wait>(
         &mut self,
         rt: &W,
         shared: &Mutex<Shared<R, S, L>>,
+        gate: &G,
         outbox: &mut O,
         job: Job,
+        instead: Option<Bytes>,
     ) -> bool
-        ensures answered { (a : Answer) × (a.job ≡ job) × IsMet a a.receipt
+        ensures answered { (a : Answer) × (a.job ≡ job) × (a.answered ≡ answered_record instead job.asked) × IsMet a a.receipt
             × (O.handed outbox.new ≡ O.handed outbox.old ++ sent_of_reply job.connection a.given)
             × (self.new.receipts ≡ self.old.receipts ++ receipt_list a.receipt) }
         ensures seat { self.new.seat ≡ self.old.seat }
@@ -218,8 +236,8 @@ impl<P: Place, L: Ledger> Worker<P, L> {
     {
         let connection = job.connection();
         let peer = job.peer();
-        let record = job.into_record();
-        let book = AtBook { rt, shared };
+        let record = record_to_answer(job, instead);
+        let book = AtBook { rt, shared, gate };
         answer_call(
             &book,
             &mut self.call_handler,

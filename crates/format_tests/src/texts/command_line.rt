@@ -84,7 +84,7 @@ const DEFAULTS: &str =
 peer_nlm: Port { number: 3 }, peer_nsm: Port { number: 4 }, watch: Port { number: 65535 } }, \
 times: Times { grace: Seconds { number: 45 }, silence: Seconds { number: 5 }, idle: Seconds { number: 600 } }, \
 workers: Workers { number: 4 }, connections: Connections { number: 256 }, connections_per_peer: None, notify_port: None, name: OwnName { text: \"server\" }, db: FilePath { text: \"hosts.db\" }, \
-peers: FilePath { text: \"peers\" }, bind: 0.0.0.0, audit: false, ask_port_mapper: false, register: false, poll_ends_grant: false, status_port: None })";
+peers: FilePath { text: \"peers\" }, bind: 0.0.0.0, audit: false, ask_port_mapper: false, register: false, poll_ends_grant: false, learn: false, known_hosts_only: false, lock_state_tells_reboot: false, status_port: None })";
 
 #[test]
 fn defaults(rt: HostRuntime) -> Result<(), &'static str> {
@@ -147,6 +147,12 @@ const BOUNDS: &str = "--workers 1 = 0
 --register yes = 2
 --poll-ends-grant = 0
 --poll-ends-grant yes = 2
+--learn = 0
+--learn yes = 2
+--known-hosts-only = 0
+--known-hosts-only yes = 2
+--lock-state-tells-reboot = 0
+--lock-state-tells-reboot yes = 2
 --status-port 1 = 0
 --status-port 65535 = 0
 --status-port 0 = 2

@@ -284,6 +284,9 @@ const NUMBERS: Numbers = Numbers {
     received_bytes: 16,
     sent_bytes: 17,
     started: 1_700_000_000,
+    sections: 3,
+    inside_nanos: 12_000_000_345,
+    waited_nanos: 999_999_999,
 };
 
 // Lines of the page, each of which comes once.
@@ -295,6 +298,8 @@ const METRIC_LINES: &[&str] = &[
     "\n# TYPE lockd_received_bytes_total counter\nlockd_received_bytes_total 16\n",
     "\nlockd_sent_bytes_total 17\n",
     "\nlockd_start_time_seconds 1700000000\n",
+    "\n# TYPE lockd_book_held_seconds summary\nlockd_book_held_seconds_sum 12.000000345\nlockd_book_held_seconds_count 3\n",
+    "\nlockd_book_wait_seconds_sum 0.999999999\nlockd_book_wait_seconds_count 3\n",
     "\nlockd_build_info{version=\"1.2\"} 1\n",
 ];
 
@@ -304,6 +309,7 @@ fn numbers_as_metrics(rt: HostRuntime) {
     assert!(rt; METRIC_LINES.iter().all(|lines| has(&page, lines)));
     let status = status_page(rt.alloc(), &NUMBERS, &Counts::new(), "1.2");
     assert!(rt; has(&status, "\"callbacks_unanswered\":4,") && has(&status, "\"version\":\"1.2\""));
+    assert!(rt; has(&status, "\"book_held_nanoseconds\":12000000345,"));
 }
 
 // The header of a LOCK in version 4 of the lock manager, and that of a reply (RFC 5531, section 9).

@@ -73,6 +73,8 @@ impl Ports {
             workers,
             connections: 256,
             connections_per_peer: None,
+            known_hosts_only: false,
+            lock_state_tells_reboot: false,
             is_audited: true,
         }
     }
@@ -85,6 +87,7 @@ fn backing(alloc: Global) -> Option<Backing<MemHosts, Peers>> {
     Some(Backing {
         store,
         peers,
+        learned: None,
         own_name,
         rules: Rules::standard(),
     })

@@ -23,14 +23,19 @@ pub(crate) struct Open;
 
 impl Gate for Open {
     ghost use Rattle.std.specs.Prelude.{false};
+    ghost use Rattle.reply_outbox.specs.Gates.{IsOwn};
 
     ghost holds = { λ _. false };
+
+    ghost MayAnswer = { λ _. IsOwn };
 
     fn may_hold(&self) -> bool {
         false
     }
 
-    fn before(&self, _job: &Job) {}
+    fn before(&self, _job: &Job) -> Option<Bytes> {
+        None
+    }
 }
 
 /// Holds nobody, and says whether it may.
@@ -40,13 +45,19 @@ pub(crate) struct Passing {
 }
 
 impl Gate for Passing {
+    ghost use Rattle.reply_outbox.specs.Gates.{IsOwn};
+
     ghost holds = { λ passing. passing.may_hold };
+
+    ghost MayAnswer = { λ _. IsOwn };
 
     fn may_hold(&self) -> bool {
         self.may_hold
     }
 
-    fn before(&self, _job: &Job) {}
+    fn before(&self, _job: &Job) -> Option<Bytes> {
+        None
+    }
 }
 
 /// What the book's lock keeps.

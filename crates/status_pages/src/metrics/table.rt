@@ -232,4 +232,38 @@ pub(crate) const METRICS: &[Metric<'static>] = &[
             number: Number::Started,
         }],
     },
+    Metric {
+        name: "lockd_book_held_seconds",
+        help: "How long calls were in the critical section of the book.",
+        kind: Kind::Summary,
+        samples: &[
+            Sample {
+                labels: "_sum",
+                key: "book_held_nanoseconds",
+                number: Number::InsideNanos,
+            },
+            Sample {
+                labels: "_count",
+                key: "book_critical_sections",
+                number: Number::Sections,
+            },
+        ],
+    },
+    Metric {
+        name: "lockd_book_wait_seconds",
+        help: "How long calls waited for it.",
+        kind: Kind::Summary,
+        samples: &[
+            Sample {
+                labels: "_sum",
+                key: "book_wait_nanoseconds",
+                number: Number::WaitedNanos,
+            },
+            Sample {
+                labels: "_count",
+                key: "book_waits",
+                number: Number::Sections,
+            },
+        ],
+    },
 ];

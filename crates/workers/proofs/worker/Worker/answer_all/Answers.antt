@@ -1,4 +1,4 @@
-use Rattle.std.proofs.Common.{◌++◌, ◌∷◌, [], sym, ap, ◌∙◌, append_assoc}
+use Rattle.std.proofs.Common.{◌++◌, ◌∷◌, [], sym, ap, subst, ◌∙◌, append_assoc}
 use Rattle.job_queue.specs.Task.{Task}
 use Rattle.reply_outbox.specs.Posted.{sent_of_reply}
 use Rattle.workers.proofs.ReadingLemmas.{handled-next}
@@ -12,9 +12,9 @@ loop-asked-preserved g c =
     let a = c.serve.ensures.answered in (
       tt,
       tt,
-      handled-next c.loop-asked.yielded c.in-Some.asked c.args.origin.now c.loop-asked.origin c.next_job.new.self c.args.self.now c.loop-asked.self c.serve.new.self _ _ _ before.2
-          numbered.1 a.0 (a.1 ∙ numbered.0) a.2
-          (a.3 ∙ ap (λ (j : Task). g.O.Outbox.handed c.loop-asked.outbox ++ sent_of_reply j.connection a.0.given) numbered.0)
-          a.4 c.serve.ensures.seat c.serve.ensures.keeps,
+      handled-next (g.G.Gate.MayAnswer c.args.desk.now.gate.now) c.loop-asked.yielded c.in-Some.asked c.args.origin.now c.loop-asked.origin c.next_job.new.self c.args.self.now c.loop-asked.self c.serve.new.self _ _ _ before.2
+          numbered.1 a.0 (a.1 ∙ numbered.0) (subst (λ (j : Task). g.G.Gate.MayAnswer c.args.desk.now.gate.now j.asked a.0.answered) numbered.0 a.2) a.3
+          (a.4 ∙ ap (λ (j : Task). g.O.Outbox.handed c.loop-asked.outbox ++ sent_of_reply j.connection a.0.given) numbered.0)
+          a.5 c.serve.ensures.seat c.serve.ensures.keeps,
       append_assoc c.loop-asked.yielded (c.in-Some.asked ∷ []) _ ∙ (ap (λ xs. c.loop-asked.yielded ++ xs) (sym next.0) ∙ before.3),
     )

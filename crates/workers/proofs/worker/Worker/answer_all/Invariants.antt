@@ -7,5 +7,5 @@ abbrev pub invariant-loop-asked : goal.invariant-loop-asked
 invariant-loop-asked g l =
     (goal.iterator-loop-asked g).can_next l.asked-iterator
     × (goal.iterator-loop-asked g).is_finite l.asked-iterator
-    × Handled false l.yielded l.fn.origin l.origin l.fn.self l.self (g.O.Outbox.handed l.fn.outbox) (g.O.Outbox.handed l.outbox)
+    × Handled (g.G.Gate.MayAnswer l.fn.desk.gate.now) false l.yielded l.fn.origin l.origin l.fn.self l.self (g.O.Outbox.handed l.fn.outbox) (g.O.Outbox.handed l.outbox)
     × (l.yielded ++ into_iter_items l.asked-iterator ≡ l.fn.records.items)

@@ -7,17 +7,17 @@ use Rattle.workers.proofs.ReadingLemmas.{unread, SoFar-none, stops, ended_so, no
 use Rattle.workers.proofs.worker.Worker.read.Goals as goal
 
 pub returns-in_default : goal.returns-in_default
-returns-in_default g c = record { read = unread _ _ _ _ _; few = taken-kept _ _ _ (Keeps-refl _) }
+returns-in_default g c = record { read = unread _ _ _ _ _ _; few = taken-kept _ _ _ (Keeps-refl _) }
 
 pub loop-read-init : goal.loop-read-init
-loop-read-init g c = (SoFar-none _ _ _ c.new-intake.result _ _ c.new-intake.ensures.new c.new-intake.ensures.split, c.in-Ok.ensures, taken-kept _ _ _ (Keeps-refl _))
+loop-read-init g c = (SoFar-none _ _ _ _ c.new-intake.result _ _ c.new-intake.ensures.new c.new-intake.ensures.split, c.in-Ok.ensures, taken-kept _ _ _ (Keeps-refl _))
 
 pub returns-in-Err : goal.returns-in-Err
 returns-in-Err g c =
     let i = c.loop-read.invariant in
     let once_more : 8192 * c.loop-read._read + 8192 ≤ 8192 * c.args.source.now.bound = omega arith in
     record {
-      read = stops _ _ _ _ _ _ _ _ _ _ _ i.0 c.in-Err.ending c.in-Err.ensures.err.0 c.in-Err.ensures.err.1;
+      read = stops _ _ _ _ _ _ _ _ _ _ _ _ i.0 c.in-Err.ending c.in-Err.ensures.err.0 c.in-Err.ensures.err.1;
       few = taken-within _ _ _ _ (taken-more _ _ _ _ _ i.2 (taken-within _ _ _ 8192 c.in-Err.ensures.few (grind (arith, common_steps)))) once_more;
     }
 
@@ -26,7 +26,7 @@ returns-in-Some g c =
     let i = c.loop-read.invariant in
     let once_more : 8192 * c.loop-read._read + 8192 ≤ 8192 * c.args.source.now.bound = omega arith in
     record {
-      read = ended_so _ _ _ _ _ _ _ _ _ _ _ i.0 _ c.in-Ok-read.ensures.ok.1 c.read.new.self _ _ _ _ _ _ _ c.in-Some.ending c.ended.ensures c.in-Some.is c.in-Ok-read.ensures.ok.2 c.handle-are_all.ensures;
+      read = ended_so _ _ _ _ _ _ _ _ _ _ _ _ i.0 _ c.in-Ok-read.ensures.ok.1 c.read.new.self _ _ _ _ _ _ _ c.in-Some.ending c.ended.ensures c.in-Some.is c.in-Ok-read.ensures.ok.2 c.handle-are_all.ensures;
       few = taken-within _ _ _ _ (taken-more _ _ _ _ _ i.2 (taken-within _ _ _ 8192 c.in-Ok-read.ensures.few (grind (arith, common_steps)))) once_more;
     }
 
@@ -34,7 +34,7 @@ pub loop-read-preserved : goal.loop-read-preserved
 loop-read-preserved g c =
     let i = c.loop-read.invariant in
     let once_more : 8192 * c.loop-read._read + 8192 ≤ 8192 * (c.loop-read._read + 1) = omega arith in (
-      not_ended _ _ _ _ _ _ _ _ _ _ _ i.0 _ c.in-Ok-read.ensures.ok.1 c.read.new.self _ _ _ _ _ _ _ c.ended.ensures c.in-None.is c.in-Ok-read.ensures.ok.2 c.handle-are_all.ensures,
+      not_ended _ _ _ _ _ _ _ _ _ _ _ _ i.0 _ c.in-Ok-read.ensures.ok.1 c.read.new.self _ _ _ _ _ _ _ c.ended.ensures c.in-None.is c.in-Ok-read.ensures.ok.2 c.handle-are_all.ensures,
       i.1,
       taken-within _ _ _ _ (taken-more _ _ _ _ _ i.2 (taken-within _ _ _ 8192 c.in-Ok-read.ensures.few (grind (arith, common_steps)))) once_more,
     )
@@ -43,4 +43,4 @@ pub returns : goal.returns
 returns g c =
     let i = c.loop-read.invariant in
     let all : 8192 * c.loop-read._read ≤ 8192 * c.args.source.now.bound = omega arith in
-    record { read = stops _ _ _ _ _ _ _ _ _ _ _ i.0 Failed (Consumes-nil _) tt; few = taken-within _ _ _ _ i.2 all }
+    record { read = stops _ _ _ _ _ _ _ _ _ _ _ _ i.0 Failed (Consumes-nil _) tt; few = taken-within _ _ _ _ i.2 all }
