@@ -203,6 +203,20 @@ def lockctl_status(grace, answer):
     equal((as_json[0], json.loads(as_json[1])), (0, {"answers": True, "grace": grace, "locks": 4, "files": 2, "hosts": 2}))
 
 
+@test
+def lockctl_status_with_pages():
+    said = page(json.dumps({"waiters": 3, "version": "1.2", "runs": 4}).encode())
+    with PageStandIn(lambda _: said) as status:
+        at = status.place.split(":")[1]
+        text = asked(Daemon(), f"status --status-port {at}")[1]
+        as_json = json.loads(asked(Daemon(), f"status --json --status-port {at}")[1])
+    equal(text.splitlines()[-2:], ["waiters: 3", "version: 1.2"])
+    equal((as_json["waiters"], as_json["version"]), (3, "1.2"))
+    told(asked(Daemon(), f"status --status-port {starts.free_port()}"), 1, "Connection refused")
+    with PageStandIn(lambda _: page(b"{}")) as status:
+        told(asked(Daemon(), f"status --status-port {status.place.split(':')[1]}"), 1, "none of lockd")
+
+
 @cases(mute=(b"",), closed=(Cut(b""),), garbage=(b"HTTP/1.1 400\n",), starved=(b"starved\n",))
 def lockctl_status_of_no_daemon(answer):
     told(answered(answer, "status"), 3, "127.0.0.1:")
