@@ -9,8 +9,8 @@ import threading
 import time
 from pathlib import Path
 
-from polls import Caller, COOKIE, IS_GRANTED, LOCK, lock_of
-from stand_ins import read_record, words
+from polls import COOKIE, IS_GRANTED, LOCK, LOCK_MANAGER, lock_of
+from stand_ins import call, marked, read_record, words
 from starts import PROGRAM, WAIT_SECONDS, free_port, said_by, serve_words
 from tried import cases, equal, test
 
@@ -24,7 +24,7 @@ def address_of(number):
     return f"127.0.3.{number + 1}"
 
 
-class HostCaller(Caller):
+class HostCaller:
     """A host's connection, from its own address."""
 
     def __init__(self, number, port):
@@ -33,10 +33,14 @@ class HostCaller(Caller):
         self.calls = 0
 
     def lock(self):
-        """It asks for a byte, and is told at once."""
+        """It asks for a byte, and is told at once: the status, or None where the server is gone."""
         name = f"host{self.number}".encode()
         args = COOKIE + words(0, 1) + lock_of(name)[:-16] + words(0, self.number) + words(0, 1) + words(0, 3)
-        return self.status(LOCK, args)
+        self.calls += 1
+        record = words(self.calls) + call(LOCK, args, program=LOCK_MANAGER, version=4)[4:]
+        self.connection.sendall(marked(record))
+        reply = read_record(self.connection)
+        return None if reply is None else int.from_bytes(reply[-4:], "big")
 
 
 @contextlib.contextmanager
@@ -64,12 +68,15 @@ def granted_hosts(server, port, seconds):
     granted.append(0)
     killer = threading.Timer(seconds, server.kill)
     killer.start()
-    with contextlib.suppress(OSError, EOFError, AssertionError, IndexError):
+    with contextlib.suppress(OSError):
         for number in range(1, HOSTS):
             caller = HostCaller(number, port)
-            equal(caller.lock(), IS_GRANTED)
-            granted.append(number)
+            status = caller.lock()
             caller.connection.close()
+            if status is None:
+                break
+            equal(status, IS_GRANTED)
+            granted.append(number)
     killer.join()
     first.connection.close()
     return granted
