@@ -19,6 +19,9 @@ use std::sync::{Mutex, Wait};
 use std::time::{Clock, Duration, Instant};
 use workers::Shared;
 
+/// Where the program of a call stands, behind xid, message type and RPC version. Version and procedure follow.
+const PROGRAM_AT: usize = 12;
+
 /// What a gate that looks at hosts knows.
 #[derive(Drop)]
 pub(crate) struct HostBooks<'a, P: Place, L: Ledger> {
@@ -127,6 +130,11 @@ impl<'a, R: Wait + Clock + Log, P: Place, L: Ledger, T: RangeTable, S: HostStore
         }
     }
 
+    // Whether anything is looked for.
+    fn looks(&self) -> bool {
+        self.books.learned.is_some() || self.books.boots.is_some()
+    }
+
     fn hear_lock(&self, job: &Job, host: &[u8], state: i32) {
         if let Some(learned) = self.books.learned {
             self.learn(learned, host, job.peer().address);
@@ -146,6 +154,19 @@ impl<'a, R: Wait + Clock + Log, P: Place, L: Ledger, T: RangeTable, S: HostStore
                 .hear_notice(self.rt, self.shared, host, state),
             None => false,
         }
+    }
+}
+
+// Whether a record may report anything, by the words of its program and its procedure (RFC 5531, section 9): all others, the most by
+// far, aren't read.
+fn may_report(record: &[u8]) -> bool {
+    let Some((_, behind)) = record.split_at_checked(PROGRAM_AT) else {
+        return false;
+    };
+    match behind.first_chunk::<12>() {
+        Some([0, 1, 0x86, 0xb5, .., procedure]) => matches!(procedure, 2 | 7 | 22),
+        Some([0, 1, 0x86, 0xb8, .., procedure]) => *procedure == 6,
+        _ => false,
     }
 }
 
@@ -190,7 +211,7 @@ impl<'a, R: Wait + Clock + Log, P: Place, L: Ledger, T: RangeTable, S: HostStore
         if let Some(record) = self.gate.before(job) {
             return Some(record);
         }
-        if self.books.learned.is_none() && self.books.boots.is_none() {
+        if !self.looks() || !may_report(job.record().as_slice()) {
             return None;
         }
         match report_in(job.record().as_slice()) {
