@@ -1,6 +1,8 @@
 """Tests of how the built program starts and ends: what it writes, its status, and which note stands in front of a fault."""
 
 import contextlib
+import itertools
+import random
 import socket
 import subprocess
 import tempfile
@@ -12,6 +14,7 @@ from tried import CONTRIB, cases, equal
 
 PROGRAM = CONTRIB.parent / "crates/lockd_main/out/lockd_main"
 WAIT_SECONDS = 30
+PORTS = itertools.count(random.randrange(10_000, 30_000))
 
 # RFC 1813, appendix II, and XNFS: a LOCK of the bytes 0 to 9 by a process of host `a`, that it is granted, and SM_NOTIFY of the
 # own state 3, each behind its mark (RFC 5531, section 11).
@@ -44,9 +47,20 @@ def ran(*words, stream=b""):
     return done.returncode, done.stdout, done.stderr.decode().splitlines()
 
 
+def is_free(port):
+    """Whether a server may have this port of TCP and of UDP."""
+    try:
+        with socket.create_server(("127.0.0.1", port)), socket.socket(socket.AF_INET, socket.SOCK_DGRAM) as datagrams:
+            datagrams.bind(("127.0.0.1", port))
+    except OSError:
+        return False
+    return True
+
+
 def free_port():
-    with socket.create_server(("127.0.0.1", 0)) as one:
-        return one.getsockname()[1]
+    """Another one at each call. It is below the ports that Linux gives to those who ask for none (ip(7), ip_local_port_range):
+    else a connection that is made before the server starts could take it."""
+    return next(port for port in PORTS if is_free(port))
 
 
 def serve_words(path, **other):
