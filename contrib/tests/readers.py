@@ -1,6 +1,7 @@
 """Tests of the built program with clients that call and are slow to read the replies, or read none."""
 
 import contextlib
+import functools
 import socket
 import threading
 import time
@@ -21,16 +22,23 @@ def null(xid):
     return marked(words(xid) + call(0, program=LOCK_MANAGER, version=4)[4:])
 
 
+@functools.cache
+def nulls():
+    """All of them, which takes seconds to build: the tests' clocks run from the first byte that is sent."""
+    return b"".join(null(xid) for xid in range(CALLS))
+
+
 @contextlib.contextmanager
 def flooded(port):
     """A connection with little room for replies, on which so many NULLs are sent while it stands."""
+    calls = nulls()
     connection = socket.socket()
     connection.setsockopt(socket.SOL_SOCKET, socket.SO_RCVBUF, 4096)
     connection.connect(("127.0.0.1", port))
 
     def send():
         with contextlib.suppress(OSError):
-            connection.sendall(b"".join(null(xid) for xid in range(CALLS)))
+            connection.sendall(calls)
 
     sender = threading.Thread(target=send)
     sender.start()
