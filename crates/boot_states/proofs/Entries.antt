@@ -1,4 +1,4 @@
--- What the cache finds and holds is what the definitions find and tell.
+-- What the cache finds and holds is what the definitions say.
 use Rattle.std.proofs.Common.{◌≡◌, ℕ, Bool, true, false, cond, refl, sym, ap, ◌∙◌, bytes_eq, List, [], ◌∷◌, take, Option, Some, None}
 use Rattle.std.specs.List.{take-map}
 use Rattle.std.specs.Map.{lookup, lookup_entry, remove_entry, set_value}
@@ -7,20 +7,20 @@ use Rattle.std.specs.declared.vec.Vec.{Vec}
 use Rattle.lru.proofs.CallerLemmas.{Contains-lookup_entry}
 use Rattle.lru.specs.LruCache.{LruCache, promoted, put_entries}
 use Rattle.definitions.specs.Bytes.{Bytes, without_first}
-use Rattle.boot_states.specs.declared.host.Telling.{Telling}
-use Rattle.boot_states.specs.Hosts.{Host, is_named, host_of, tellings_of, tellings_in, told_by, told}
+use Rattle.boot_states.specs.declared.reports.Report.{Report}
+use Rattle.boot_states.specs.Hosts.{Host, is_named, host_of, reports_of, reports_in, reported_by, with_report}
 use Rattle.boot_states.specs.Views.{view_of_entry, view_of_entries}
 
 abbrev Entry : Type 0 → Type 0
-Entry Z = Vec ℕ Z × List Telling
+Entry Z = Vec ℕ Z × List Report
 
 -- the host of an entry
 abbrev host_at : {Z : Type 0} → Option (Entry Z) → Option Host
 host_at None = None
 host_at (Some e) = Some (view_of_entry e)
 
--- an entry's value is what its host told
-abbrev value_at : {Z : Type 0} → Option (Entry Z) → Option (List Telling)
+-- an entry's value is its host's reports
+abbrev value_at : {Z : Type 0} → Option (Entry Z) → Option (List Report)
 value_at None = None
 value_at (Some e) = Some e.1
 
@@ -49,20 +49,20 @@ module _ {Z : Type 0} (name : Bytes) where
     | false ↦ value_shown es
   ]
 
-  -- a host that is found told what is found
-  pub known_tells : (es : List (Entry Z)) (v : List Telling) → lookup test es ≡ Some v → tellings_of name (view_of_entries es) ≡ v
-  known_tells es v found = rw (← entry_shown es) ((elim (lookup_entry test es) as (λ o. value_at o ≡ Some v → tellings_in (host_at o) ≡ v) [
+  -- the reports of a host that is found are what is found
+  pub known_reports : (es : List (Entry Z)) (v : List Report) → lookup test es ≡ Some v → reports_of name (view_of_entries es) ≡ v
+  known_reports es v found = rw (← entry_shown es) ((elim (lookup_entry test es) as (λ o. value_at o ≡ Some v → reports_in (host_at o) ≡ v) [
     | None ↦ λ h. cc
     | Some e ↦ λ h. cc
   ]) (value_shown es ∙ found))
 
-  -- its value, with a telling more, is told of it
-  pub known_told : (es : List (Entry Z)) (v w : List Telling) (t : Telling) → lookup test es ≡ Some v → w ≡ t ∷ v → view_of_entries (set_value test (promoted test es) w) ≡ told name t (view_of_entries es)
-  known_told es v w t found is_more = rw (← entry_shown es, is_more) ((elim (lookup_entry test es) as (λ o. lookup_entry test es ≡ o → value_at o ≡ Some v → view_of_entries (set_value test (option_map_or (λ e. e ∷ remove_entry test es) o es) (t ∷ v)) ≡ told_by (host_at o) name t (view_of_entries es)) [
+  -- with a report more in its value, that host has one report more
+  pub known_with : (es : List (Entry Z)) (v w : List Report) (t : Report) → lookup test es ≡ Some v → w ≡ t ∷ v → view_of_entries (set_value test (promoted test es) w) ≡ with_report name t (view_of_entries es)
+  known_with es v w t found is_more = rw (← entry_shown es, is_more) ((elim (lookup_entry test es) as (λ o. lookup_entry test es ≡ o → value_at o ≡ Some v → view_of_entries (set_value test (option_map_or (λ e. e ∷ remove_entry test es) o es) (t ∷ v)) ≡ reported_by (host_at o) name t (view_of_entries es)) [
     | None ↦ λ is h. cc
     | Some e ↦ λ is h.
         let value : e.1 ≡ v = cc in
-        rw ((Contains-lookup_entry test es e is).1, ← value) (ap (λ l. record { name = e.0.items; tellings = t ∷ e.1 } ∷ l) (rest_shown es))
+        rw ((Contains-lookup_entry test es e is).1, ← value) (ap (λ l. record { name = e.0.items; reports = t ∷ e.1 } ∷ l) (rest_shown es))
   ]) refl (value_shown es ∙ found))
 
   -- a host that is not found is not remembered
@@ -79,6 +79,6 @@ module _ {Z : Type 0} (name : Bytes) where
   ]) (entry_shown es ∙ none)
 
 -- a new host goes first, and of 4,096 the last goes
-pub added : {Z : Type 0} (c : LruCache (Vec ℕ Z) (List Telling)) (key : Vec ℕ Z) (v : List Telling) → c.cap ≡ 4096 → host_of key.items (view_of_entries c.entries) ≡ None
-    → view_of_entries (put_entries (λ (a b : Vec ℕ Z). bytes_eq a.items b.items) c key v) ≡ take 4096 (record { name = key.items; tellings = v } ∷ view_of_entries c.entries)
-added c key v full none = rw (no_entry key.items c.entries none, full) (ap (λ l. record { name = key.items; tellings = v } ∷ l) (sym (take-map view_of_entry 4095 c.entries)))
+pub added : {Z : Type 0} (c : LruCache (Vec ℕ Z) (List Report)) (key : Vec ℕ Z) (v : List Report) → c.cap ≡ 4096 → host_of key.items (view_of_entries c.entries) ≡ None
+    → view_of_entries (put_entries (λ (a b : Vec ℕ Z). bytes_eq a.items b.items) c key v) ≡ take 4096 (record { name = key.items; reports = v } ∷ view_of_entries c.entries)
+added c key v full none = rw (no_entry key.items c.entries none, full) (ap (λ l. record { name = key.items; reports = v } ∷ l) (sym (take-map view_of_entry 4095 c.entries)))

@@ -1,4 +1,4 @@
-pub mod Tellings
+pub mod Reports
 pub mod Hosts
 pub mod Views
 pub mod Laws

@@ -1,159 +1,107 @@
-//! What one host told.
+//! What is known of one host.
 ghost use Rattle.std.specs.Prelude.{◌≡◌, ◌∷◌, []};
-ghost use Rattle.boot_states.specs.declared.host.Telling.TheVariants.{Lock, Notice};
-ghost use Rattle.boot_states.specs.Tellings.{is_number as is_last, told_by_lock, told_by_notice, ahead_by_lock, ahead_by_notice, next_lock_tells, notice_tells};
+ghost use Rattle.boot_states.specs.Reports.{last_of, is_after, found_by, ahead_after, finding_of_state};
 
+use crate::reports::{Finding, Kind, Report};
 use ghost_list::History;
 use std::marker::Model;
 
-/// One telling of a host, with its number.
-#[derive(Clone, Copy, Debug, PartialEq, Eq)]
-pub enum Telling {
-    /// A LOCK.
-    Lock(i32),
-    /// A notice (SM_NOTIFY).
-    Notice(i32),
-}
-
-/// Which kind of telling told of a boot that the other has not told yet.
-#[derive(Clone, Copy, Debug, PartialEq, Eq)]
-pub enum Ahead {
-    /// Neither.
-    Nobody,
-    /// LOCKs: the next notice with a new number is of a boot that was told.
-    Locks,
-    /// Notices: the next LOCK with a new number is of a boot that was told.
-    Notices,
-}
-
-/// What a LOCK tells of its host's boots.
-#[derive(Clone, Copy, Debug, PartialEq, Eq)]
-pub enum LockTells {
-    /// Nothing: its boot is known, or nothing is known of an earlier one.
-    Nothing,
-    /// The host began anew, and no notice has told of it: what it held before is to go.
-    Reboot,
-}
-
-/// What a notice tells of its host's boots.
-#[derive(Clone, Copy, Debug, PartialEq, Eq)]
-pub enum NoticeTells {
-    /// The host began anew, and no LOCK has told of it: what it held before is to go.
-    Fresh,
-    /// The last notice was of the same boot.
-    Repeated,
-    /// A LOCK was the first to tell of this boot: nothing is to go.
-    ToldAlready,
-}
-
-/// What is known of a host. Contracts see all that it told, the newest first.
+/// The last number of each kind, and whose reports are ahead: the kind that reported a boot that the other has not reported yet,
+/// if there is one. Contracts see all reports of the host, the newest first.
 #[derive(Drop)]
 pub(crate) struct HostBoots {
     lock: Option<i32>,
     notice: Option<i32>,
-    ahead: Ahead,
-    all: History<Telling>,
+    ahead: Option<Kind>,
+    all: History<Report>,
 }
 
 impl Model for HostBoots {
     ghost use Rattle.std.specs.Prelude.{◌≡◌, List};
-    ghost use Rattle.boot_states.specs.declared.host.Telling.{Telling};
-    ghost use Rattle.boot_states.specs.Tellings.{last_lock, last_notice, who_is_ahead};
+    ghost use Rattle.boot_states.specs.declared.reports.Kind.TheVariants.{Lock, Notice};
+    ghost use Rattle.boot_states.specs.declared.reports.Report.{Report};
+    ghost use Rattle.boot_states.specs.Reports.{last_of, who_is_ahead};
 
-    ghost Value = { List Telling };
+    ghost Value = { List Report };
 
     ghost view = { λ h. h.all.items };
 
-    ghost invariant = { λ h. (h.lock ≡ last_lock h.all.items) × (h.notice ≡ last_notice h.all.items) × (h.ahead ≡ who_is_ahead h.all.items) };
+    ghost invariant = { λ h. (h.lock ≡ last_of Lock h.all.items) × (h.notice ≡ last_of Notice h.all.items) × (h.ahead ≡ who_is_ahead h.all.items) };
 }
 
-// With this telling before all others.
-fn with_first(all: &History<Telling>, telling: &Telling) -> History<Telling>
-    ensures { result.items ≡ telling.now ∷ all.now.items }
+// With this report before all others.
+fn with_first(all: &History<Report>, report: &Report) -> History<Report>
+    ensures { result.items ≡ report.now ∷ all.now.items }
 {
-    all.after(telling)
+    all.after(report)
 }
 
-// Whether the last number of a kind is this one.
-fn is_number(last: Option<i32>, state: i32) -> bool
-    ensures { result ≡ is_last last state }
+// Whether a report with this number is of another boot than the last one of its kind. Of a host's first LOCK that is not known;
+// its first notice is always of a new boot.
+fn is_next(kind: Kind, last: Option<i32>, state: i32) -> bool
+    ensures { result ≡ is_after kind last state }
 {
-    last.is_some_and(|last| last == state)
-}
-
-// What a LOCK of the next boot tells, and who is ahead then.
-fn by_lock(ahead: Ahead) -> (LockTells, Ahead)
-    ensures tells { result.0 ≡ told_by_lock ahead }
-    ensures ahead { result.1 ≡ ahead_by_lock ahead }
-{
-    match ahead {
-        Ahead::Nobody | Ahead::Locks => (LockTells::Reboot, Ahead::Locks),
-        Ahead::Notices => (LockTells::Nothing, Ahead::Nobody),
+    match last {
+        Some(last) => last != state,
+        None => kind == Kind::Notice,
     }
 }
 
-// What a notice of the next boot tells, and who is ahead then.
-fn by_notice(ahead: Ahead) -> (NoticeTells, Ahead)
-    ensures tells { result.0 ≡ told_by_notice ahead }
-    ensures ahead { result.1 ≡ ahead_by_notice ahead }
+// What a report of the next boot says, and whose reports are ahead then.
+fn of_next_boot(kind: Kind, ahead: Option<Kind>) -> (Finding, Option<Kind>)
+    ensures found { result.0 ≡ found_by kind ahead }
+    ensures ahead { result.1 ≡ ahead_after kind ahead }
 {
     match ahead {
-        Ahead::Nobody | Ahead::Notices => (NoticeTells::Fresh, Ahead::Notices),
-        Ahead::Locks => (NoticeTells::ToldAlready, Ahead::Nobody),
+        Some(other) if other != kind => (Finding::Reported, None),
+        _ => (Finding::Reboot, Some(kind)),
     }
 }
 
 impl HostBoots {
-    /// Of a host that told nothing yet.
+    /// Of a host that has reported nothing yet.
     pub(crate) fn new() -> HostBoots
         ensures { result ≡ [] }
     {
         HostBoots {
             lock: None,
             notice: None,
-            ahead: Ahead::Nobody,
+            ahead: None,
             all: History::new(),
         }
     }
 
-    /// A LOCK carries this number, which is not 0.
-    pub(crate) fn lock(&mut self, state: i32) -> LockTells
-        ensures tells { result ≡ next_lock_tells self.old state }
-        ensures told { self.new ≡ Lock state ∷ self.old }
+    // The number of the last report of this kind.
+    fn last(&self, kind: Kind) -> Option<i32>
+        ensures { result ≡ last_of kind self.now }
     {
-        let telling = Telling::Lock(state);
-        let is_next = self.lock.is_some() && !is_number(self.lock, state);
-        let (tells, ahead) = if is_next {
-            by_lock(self.ahead)
-        } else {
-            (LockTells::Nothing, self.ahead)
-        };
-        *self = HostBoots {
-            lock: Some(state),
-            notice: self.notice,
-            ahead,
-            all: with_first(&self.all, &telling),
-        };
-        tells
+        match kind {
+            Kind::Lock => self.lock,
+            Kind::Notice => self.notice,
+        }
     }
 
-    /// A notice carries this number.
-    pub(crate) fn notice(&mut self, state: i32) -> NoticeTells
-        ensures tells { result ≡ notice_tells self.old state }
-        ensures told { self.new ≡ Notice state ∷ self.old }
+    /// What this report, which has a number, says after the earlier ones. It is the newest now.
+    pub(crate) fn hear(&mut self, report: Report) -> Finding
+        ensures found { result ≡ finding_of_state self.old report }
+        ensures heard { self.new ≡ report ∷ self.old }
     {
-        let telling = Telling::Notice(state);
-        let (tells, ahead) = if is_number(self.notice, state) {
-            (NoticeTells::Repeated, self.ahead)
+        let Report { kind, state } = report;
+        let (finding, ahead) = if is_next(kind, self.last(kind), state) {
+            of_next_boot(kind, self.ahead)
         } else {
-            by_notice(self.ahead)
+            (Finding::SameBoot, self.ahead)
+        };
+        let (lock, notice) = match kind {
+            Kind::Lock => (Some(state), self.notice),
+            Kind::Notice => (self.lock, Some(state)),
         };
         *self = HostBoots {
-            lock: self.lock,
-            notice: Some(state),
+            lock,
+            notice,
             ahead,
-            all: with_first(&self.all, &telling),
+            all: with_first(&self.all, &report),
         };
-        tells
+        finding
     }
 }

@@ -1,10 +1,10 @@
-//! The hosts whose tellings are remembered.
-ghost use Rattle.std.specs.Prelude.{◌≡◌, ◌↔◌, IsTrue, [], length, take, ◌∷◌, None, IfOk, OnOk, OnErr, IfSome, IfNone};
-ghost use Rattle.boot_states.specs.declared.host.Telling.TheVariants.{Lock, Notice};
-ghost use Rattle.boot_states.specs.Tellings.{lock_tells, next_lock_tells, notice_tells};
-ghost use Rattle.boot_states.specs.Hosts.{host_of, tellings_of, told, told_lock, told_notice};
+//! The hosts whose reports are remembered.
+ghost use Rattle.std.specs.Prelude.{◌≡◌, ◌↔◌, IsTrue, [], length, take, ◌∷◌, None, false, IfOk, OnOk, OnErr, IfSome, IfNone};
+ghost use Rattle.boot_states.specs.Reports.{has_no_number, finding, finding_of_state};
+ghost use Rattle.boot_states.specs.Hosts.{host_of, reports_of, heard, with_report};
 
-use crate::host::{HostBoots, LockTells, NoticeTells};
+use crate::host::HostBoots;
+use crate::reports::{Finding, Kind, Report};
 use lru::LruCache;
 use owner_ids::Starved;
 use std::alloc::Global;
@@ -14,8 +14,8 @@ use std::num::NonZeroUsize;
 /// How many hosts are remembered at most.
 pub const MOST_HOSTS: usize = 4_096;
 
-/// The last numbers of each host, of `MOST_HOSTS` hosts at most: past that the host goes that told nothing for longest. Contracts
-/// see what each host told, the host that told last first, and the newest telling of each first.
+/// What hosts reported of their boots, of `MOST_HOSTS` hosts at most: past that the host is forgotten that reported nothing for
+/// longest. Contracts see the hosts, the one that reported last first, and the reports of each, the newest first.
 #[derive(Drop)]
 pub struct BootStates {
     alloc: Global,
@@ -34,8 +34,15 @@ impl Model for BootStates {
     ghost invariant = { λ b. b.cache.cap ≡ 4096 };
 }
 
+// Whether this is a LOCK with the number 0.
+fn is_without_number(report: Report) -> bool
+    ensures { result ≡ has_no_number report }
+{
+    report.kind == Kind::Lock && report.state == 0
+}
+
 impl BootStates {
-    /// No host has told anything. Starved: there is no memory for the table.
+    /// No host has reported anything. Starved: there is no memory for the table.
     pub fn new(alloc: Global) -> Result<BootStates, Starved>
         ensures { IfOk result (λ boots. boots ≡ []) }
     {
@@ -62,67 +69,41 @@ impl BootStates {
         self.cache.is_empty()
     }
 
-    /// A LOCK of this host carries this number. 0 says nothing, and is not remembered. Starved, only for a host that is not
-    /// remembered: nothing has changed. Such a host's LOCK tells of nothing.
-    pub fn lock(&mut self, name: &[u8], state: i32) -> Result<LockTells, Starved>
-        ensures tells { IfOk result (λ tells. tells ≡ lock_tells (tellings_of name.now self.old) state) }
-        ensures told { OnOk result (self.new ≡ told_lock name.now state self.old) }
-        ensures starved { OnErr result ((self.new ≡ self.old) × (host_of name.now self.old ≡ None)) }
+    /// What this report says of the boots of its host, after all earlier ones of that host. It is remembered, but for a LOCK with
+    /// the number 0. Starved: there is no memory for a host that is not remembered; nothing has changed. It never comes for a
+    /// LOCK with the number 0.
+    pub fn hear(&mut self, name: &[u8], report: Report) -> Result<Finding, Starved>
+        ensures found { IfOk result (λ found. found ≡ finding (reports_of name.now self.old) report) }
+        ensures heard { OnOk result (self.new ≡ heard name.now report self.old) }
+        ensures starved { OnErr result ((self.new ≡ self.old) × (host_of name.now self.old ≡ None) × (has_no_number report ≡ false)) }
     {
-        if state == 0 {
-            return Ok(LockTells::Nothing);
+        if is_without_number(report) {
+            return Ok(Finding::SameBoot);
         }
-        match self.lock_of_known(name, state) {
-            Some(tells) => Ok(tells),
+        match self.hear_known(name, report) {
+            Some(finding) => Ok(finding),
             None => {
                 let mut host = HostBoots::new();
-                let tells = host.lock(state);
+                let finding = host.hear(report);
                 self.add(name, host)?;
-                Ok(tells)
+                Ok(finding)
             }
         }
     }
 
-    /// A notice of this host carries this number. Starved, only for a host that is not remembered: nothing has changed. Such a
-    /// host's notice is fresh.
-    pub fn notice(&mut self, name: &[u8], state: i32) -> Result<NoticeTells, Starved>
-        ensures tells { IfOk result (λ tells. tells ≡ notice_tells (tellings_of name.now self.old) state) }
-        ensures told { OnOk result (self.new ≡ told_notice name.now state self.old) }
-        ensures starved { OnErr result ((self.new ≡ self.old) × (host_of name.now self.old ≡ None)) }
-    {
-        match self.notice_of_known(name, state) {
-            Some(tells) => Ok(tells),
-            None => {
-                let mut host = HostBoots::new();
-                let tells = host.notice(state);
-                self.add(name, host)?;
-                Ok(tells)
-            }
-        }
-    }
-
-    // A LOCK of a host that is remembered. None: it is not, and nothing has changed.
-    fn lock_of_known(&mut self, name: &[u8], state: i32) -> Option<LockTells>
-        ensures some { IfSome result (λ tells. (tells ≡ next_lock_tells (tellings_of name.now self.old) state) × (self.new ≡ told name.now (Lock state) self.old)) }
+    // A report with a number, of a host that is remembered. None: it is not, and nothing has changed.
+    fn hear_known(&mut self, name: &[u8], report: Report) -> Option<Finding>
+        ensures some { IfSome result (λ found. (found ≡ finding_of_state (reports_of name.now self.old) report) × (self.new ≡ with_report name.now report self.old)) }
         ensures none { IfNone result ((self.new ≡ self.old) × (host_of name.now self.old ≡ None)) }
     {
         let host = self.cache.get_mut(name)?;
-        Some(host.lock(state))
-    }
-
-    // A notice of a host that is remembered. None: it is not, and nothing has changed.
-    fn notice_of_known(&mut self, name: &[u8], state: i32) -> Option<NoticeTells>
-        ensures some { IfSome result (λ tells. (tells ≡ notice_tells (tellings_of name.now self.old) state) × (self.new ≡ told name.now (Notice state) self.old)) }
-        ensures none { IfNone result ((self.new ≡ self.old) × (host_of name.now self.old ≡ None)) }
-    {
-        let host = self.cache.get_mut(name)?;
-        Some(host.notice(state))
+        Some(host.hear(report))
     }
 
     // Remembers a host that is not remembered.
     fn add(&mut self, name: &[u8], host: HostBoots) -> Result<(), Starved>
         requires new { host_of name.now self.old ≡ None }
-        ensures ok { OnOk result (self.new ≡ take 4096 (record { name = name.now; tellings = host } ∷ self.old)) }
+        ensures ok { OnOk result (self.new ≡ take 4096 (record { name = name.now; reports = host } ∷ self.old)) }
         ensures err { OnErr result (self.new ≡ self.old) }
     {
         let name = Vec::from_slice(self.alloc, name)?;

@@ -1,13 +1,13 @@
 //! What the definitions say of boots.
-ghost use Rattle.boot_states.specs.Laws.{BootIsToldOnce, RepeatsTellNothing};
+ghost use Rattle.boot_states.specs.Laws.{BootIsFoundOnce, RepeatsFindNothing};
 
-/// A LOCK and a notice tell of the next boot, where neither kind is ahead. The first of the two tells of it, the other finds it told,
-/// and neither kind is ahead then.
-pub fn boot_is_told_once()
-    ensures { BootIsToldOnce }
+/// A LOCK and a notice, in either order, are the first reports of the next boot, and before them neither kind is ahead. The first
+/// of the two finds the boot, the other finds it reported, and neither kind is ahead then.
+pub fn boot_is_found_once()
+    ensures { BootIsFoundOnce }
 {}
 
-/// A LOCK or a notice that comes again tells of no boot.
-pub fn repeats_tell_nothing()
-    ensures { RepeatsTellNothing }
+/// A report that comes again, with nothing in between, finds no reboot.
+pub fn repeats_find_nothing()
+    ensures { RepeatsFindNothing }
 {}

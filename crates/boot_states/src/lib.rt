@@ -1,13 +1,14 @@
-//! Which boots of a host were told. A host's LOCKs carry a number, the same for all of one boot and another for the next, and so
-//! do its notices (SM_NOTIFY). The two kinds of number can't be compared with each other, each only with its own kind. Each new
-//! number tells of a reboot. One boot is told at most once by each kind: the first of the two drops what the host held before,
-//! the other finds that boot told already and drops nothing.
+//! Which boots hosts reported. A host reports its boot by LOCKs and by notices (SM_NOTIFY). Both carry a number: within one kind
+//! it is the same for all of one boot and another for the next, and the numbers of the two kinds can't be compared with each
+//! other. So each kind reports a reboot by a new number. The first report of a boot finds a reboot: what the host held before is
+//! to go. The first one of the other kind finds that boot reported, and nothing is to go.
 #![tactic(auto)]
 
 mod host;
 mod hosts;
 mod law;
+mod reports;
 
-pub use host::{Ahead, LockTells, NoticeTells, Telling};
 pub use hosts::{BootStates, MOST_HOSTS};
-pub use law::{boot_is_told_once, repeats_tell_nothing};
+pub use law::{boot_is_found_once, repeats_find_nothing};
+pub use reports::{Finding, Kind, Report};
