@@ -103,6 +103,7 @@ impl<R: RangeTable, S: HostStore> BookState<R, S> {
         (step_result, new_entry)
     }
 
+    #[inline(never)]
     fn local(&mut self, connection: u64, line: Vec<u8>) -> (StepResult, NewEntry)
         ensures step { Steps self.old.state (AsksLine connection line.items) result.0 self.new.state }
         ensures event { view_of_operation result.1.operation ≡ AsksLine connection line.items }
@@ -128,6 +129,7 @@ impl<R: RangeTable, S: HostStore> BookState<R, S> {
         (step_result, NewEntry { operation, status })
     }
 
+    #[inline(never)]
     fn answer(&mut self, bytes: &[u8]) -> Answered
         ensures step { Steps self.old.state (HearsAnswer bytes.now) result.step_result self.new.state }
         ensures counts { self.new.refusals ≡ refusal_count result.step_result.store self.old.refusals }
@@ -137,6 +139,7 @@ impl<R: RangeTable, S: HostStore> BookState<R, S> {
         Answered::nothing(answered(&mut self.world, &reading))
     }
 
+    #[inline(never)]
     fn silent(&mut self, number: u64) -> Answered
         ensures step { IsStep self.old.state (Silent number) result.step_result self.new.state }
         ensures counts { self.new.refusals ≡ refusal_count result.step_result.store self.old.refusals }
@@ -155,6 +158,7 @@ impl<R: RangeTable, S: HostStore> BookState<R, S> {
         Answered::nothing(StoreAnswer::NotAsked)
     }
 
+    #[inline(never)]
     fn restart(&mut self) -> Answered
         ensures step { IsStep self.old.state Restart result.step_result self.new.state }
         ensures counts { self.new.refusals ≡ refusal_count result.step_result.store self.old.refusals }

@@ -11,6 +11,7 @@ use nlm4_types::Notify;
 use owner_ids::Starved;
 use std::alloc::Global;
 
+#[inline(never)]
 pub(crate) fn plan(alloc: Global, args: &Notify<'_>) -> Result<Plan, Starved>
     ensures plan { IfOk result (λ made. (w : SaidWorld) (version : nlm.Version) → IsPlan (nlm_answer the_limits w version (nlm.FreeAll args.now.name.bytes.now args.now.state)) w made) }
     ensures asks { IfOk result (AsksOnlyIf false) }

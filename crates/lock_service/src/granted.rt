@@ -13,6 +13,7 @@ use nlm4_types::Res;
 use owner_ids::Starved;
 use std::alloc::Global;
 
+#[inline(never)]
 pub(crate) fn plan(alloc: Global, args: &Res<'_>) -> Result<Plan, Starved>
     ensures plan { IfOk result (λ made. (w : SaidWorld) (version : nlm.Version) → IsPlan (nlm_answer the_limits w version (nlm.GrantedRes (view_of_res args.now))) w made) }
     ensures asks { IfOk result (AsksOnlyIf false) }

@@ -41,7 +41,9 @@ pub(crate) fn lock_rules<R: RangeTable, S: HostStore>(
     behind_row(world, ask.row, Stat::Granted, Change::Lock(ask.wanted))
 }
 
-// Another lock is in the way: its owner waits, where it asked to. A reclaim never waits.
+// Another lock is in the way: its owner waits, where it asked to. A reclaim never waits. Not inlined: what is granted needs no stack
+// for a callback.
+#[inline(never)]
 fn kept_out<R: RangeTable, S: HostStore>(
     world: &World<R, S>,
     ask: LockAsk<'_>,

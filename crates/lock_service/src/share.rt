@@ -23,6 +23,7 @@ use owner_ids::Starved;
 use range_table::RangeTable;
 use std::alloc::Global;
 
+#[inline(never)]
 pub(crate) fn plan<R: RangeTable, S: HostStore>(
     world: &World<R, S>,
     version: Version,

@@ -18,6 +18,7 @@ use range_table::RangeTable;
 
 /// What is to be done for a call of the status monitor, whether its peer is local or not (XNFS, NSM). Changes nothing.
 /// Starved: there is no memory for the plan.
+#[inline(never)]
 pub(crate) fn plan<R: RangeTable, S: HostStore>(
     world: &World<R, S>,
     local: bool,

@@ -47,6 +47,7 @@ pub(crate) fn plan<R: RangeTable, S: HostStore>(
 }
 
 /// TEST_MSG: told by TEST_RES to the caller's host.
+#[inline(never)]
 pub(crate) fn plan_message<R: RangeTable, S: HostStore>(
     world: &World<R, S>,
     version: Version,

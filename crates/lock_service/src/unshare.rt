@@ -17,6 +17,7 @@ use nlm4_types::{ShareArgs, Stat, Version};
 use owner_ids::Starved;
 use range_table::RangeTable;
 
+#[inline(never)]
 pub(crate) fn plan<R: RangeTable, S: HostStore>(
     world: &World<R, S>,
     version: Version,
