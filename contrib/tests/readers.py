@@ -50,12 +50,13 @@ def flooded(port):
         assert not sender.is_alive(), "the calls are still sent"
 
 
-def seconds_of_a_null(port):
-    """How long another client waits for its reply."""
+def seconds_of_nulls(port):
+    """How long another client waits for its replies, to one call, and then to several that a server reads at once."""
     with socket.create_connection(("127.0.0.1", port), timeout=WAIT_SECONDS) as other:
         before = time.monotonic()
-        other.sendall(null(7))
-        equal(xid_of(read_record(other)), 7)
+        for xids in [7], [8, 9, 10]:
+            other.sendall(b"".join(null(xid) for xid in xids))
+            equal([xid_of(read_record(other)) for _ in xids], xids)
         return time.monotonic() - before
 
 
@@ -65,7 +66,7 @@ if PROGRAM.exists():
     def slow_reader_gets_all():
         with served_to(free_port()) as (port, _), flooded(port) as connection:
             time.sleep(PATIENCE_SECONDS / 2)
-            assert seconds_of_a_null(port) < 1
+            assert seconds_of_nulls(port) < 1
             connection.settimeout(WAIT_SECONDS)
             for xid in range(CALLS):
                 equal(xid_of(read_record(connection)), xid)
@@ -74,7 +75,7 @@ if PROGRAM.exists():
     def mute_reader_is_disconnected():
         with served_to(free_port()) as (port, _), flooded(port) as connection:
             time.sleep(2 * PATIENCE_SECONDS)
-            assert seconds_of_a_null(port) < 1
+            assert seconds_of_nulls(port) < 1
             connection.settimeout(WAIT_SECONDS)
             replies = 0
             with contextlib.suppress(OSError, AssertionError):

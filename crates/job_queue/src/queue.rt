@@ -9,8 +9,8 @@ use crate::Job;
 use crate::passes::{Handing, Parts, Puts, Settles, Takes, View};
 use crossbeam_channel::{Pass, RuledReceiver, RuledSender, TrySendError, bounded_with};
 use std::alloc::{AllocError, Global};
-use std::sync::Wait;
 use std::sync::atomic::{AtomicBool, AtomicU64, Ordering};
+use std::sync::{Mutex, Wait};
 use thiserror::Error;
 
 /// The most jobs that wait.
@@ -39,6 +39,7 @@ pub struct Queue {
     bell: AtomicU64,
     asleep: AtomicU64,
     is_closed: AtomicBool,
+    batch_lock: Mutex<()>,
     ghost ends: { receives_on from ≡ sends_on to },
 }
 
@@ -54,6 +55,7 @@ impl Queue {
             bell: AtomicU64::new(0),
             asleep: AtomicU64::new(0),
             is_closed: AtomicBool::new(false),
+            batch_lock: Mutex::new(()),
         };
         Ok((queue, keeper))
     }
@@ -64,6 +66,11 @@ impl Queue {
             self.bell.fetch_add(1, Ordering::SeqCst);
             self.bell.wake_one();
         }
+    }
+
+    /// Held by the one that answers a batch of jobs which don't come by the channel.
+    pub fn batch_lock(&self) -> &Mutex<()> {
+        &self.batch_lock
     }
 
     /// Takes no more jobs. Workers take what is there, and end.

@@ -9,7 +9,7 @@ use crate::Job;
 use crate::queue::{Closed, Queue, Slip};
 use std::alloc::{AllocError, Global};
 use std::marker::{Brand, Model, PhantomData};
-use std::sync::Wait;
+use std::sync::{Mutex, Wait};
 
 /// Which channel it is. One call of a program picks it.
 pub trait Place {
@@ -136,6 +136,12 @@ impl<P: Place> Channel<P> {
     /// Wakes a worker that sleeps.
     pub fn nudge(&self) {
         self.queue.nudge();
+    }
+
+    /// Held by the one that answers a batch of jobs which don't come by the channel. It is taken before the lock of what jobs are
+    /// answered from, so that few threads wait for that one.
+    pub fn batch_lock(&self) -> &Mutex<()> {
+        self.queue.batch_lock()
     }
 }
 

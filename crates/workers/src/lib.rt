@@ -3,6 +3,7 @@
 #![tactic(auto)]
 
 mod archive;
+mod batch;
 mod beginning;
 mod call_handler;
 mod entering;

@@ -1,11 +1,12 @@
 //! A connection's own thread: it reads records and answers each at once. Where the gate may hold whoever answers, it puts each as a
 //! job instead, and answers as many jobs as it put.
-ghost use Rattle.std.specs.Prelude.{◌≡◌, ◌*◌, true, false, cond, Some, IfSome, IfNone};
+ghost use Rattle.std.specs.Prelude.{◌≡◌, ◌<◌, ◌≤◌, ◌*◌, true, false, cond, vec_len, Some, IfSome, IfNone};
 ghost use Rattle.job_queue.specs.Passes.{with_put};
 ghost use Rattle.byte_io.specs.Reads.{TakesAtMost};
 ghost use Rattle.workers.specs.Answers.{with_seat};
 ghost use Rattle.workers.specs.Reading.{Puts, Handles, job_of, origin_after, IsRead};
 
+use crate::batch::Batch;
 use crate::shared::Shared;
 use crate::worker::Worker;
 use byte_io::make_place;
@@ -23,6 +24,9 @@ use std::sync::{Mutex, Wait};
 
 /// The most bytes that are read at once.
 pub const MOST_READ_BYTES: usize = 8_192;
+
+/// So many bytes are read at once until a read brings several records. A connection with one call at once needs no more.
+const FEW_READ_BYTES: usize = 1_024;
 
 /// Whose records they are, and how many of them were put or answered as jobs: that is the next one's number.
 #[derive(Clone, Copy)]
@@ -69,6 +73,19 @@ struct Desk<'a, P: Place, R: RangeTable, S: HostStore, L: Ledger, G, W> {
     gate: &'a G,
 }
 
+// Makes the place of reads a large one, where it is small and a read brought several records. It stays where there is no memory.
+fn grow_place(alloc: Global, place: &mut Vec<u8>, count: usize)
+    requires { (0 < vec_len place.old) × (vec_len place.old ≤ MOST_READ_BYTES) }
+    ensures { (0 < vec_len place.new) × (vec_len place.new ≤ MOST_READ_BYTES) }
+{
+    if count < 2 || place.len() == MOST_READ_BYTES {
+        return;
+    }
+    if let Ok(large) = make_place(alloc, MOST_READ_BYTES) {
+        *place = large;
+    }
+}
+
 // How the reading ends behind the records of one read, if it does.
 fn ended(are_all: bool, fault: Option<Ending>) -> Option<Ending>
     ensures { result ≡ cond are_all fault (Some Ending.Closed) }
@@ -96,7 +113,7 @@ impl<P: Place, L: Ledger> Worker<P, L> {
         ensures few { TakesAtMost (MOST_READ_BYTES * source.old.bound) (T.remaining source.old.stream) (T.remaining source.new.stream) }
     {
         let alloc = self.alloc();
-        let Ok(mut place) = make_place(alloc, MOST_READ_BYTES) else {
+        let Ok(mut place) = make_place(alloc, FEW_READ_BYTES) else {
             return Ending::Starved;
         };
         let mut intake = Intake::new(alloc);
@@ -111,7 +128,9 @@ impl<P: Place, L: Ledger> Worker<P, L> {
                 Ok(read) => read,
                 Err(ending) => return ending,
             };
+            let count = records.len();
             let are_all = self.handle(&desk, outbox, &mut source.origin, records);
+            grow_place(alloc, &mut place, count);
             match ended(are_all, fault) {
                 Some(ending) => return ending,
                 None => {}
@@ -151,10 +170,12 @@ impl<P: Place, L: Ledger> Worker<P, L> {
     ) -> bool
         ensures { Handles (G.MayAnswer desk.now.gate.now) false result records.items origin.old origin.new self.old self.new (O.handed outbox.old) (O.handed outbox.new) }
     {
+        let mut batch = Batch::new(desk.channel.batch_lock(), records.len());
         for asked in records {
             let Some(job) = origin.next_job(asked) else {
                 return false;
             };
+            batch.go_on(desk.rt, outbox, job.connection());
             self.serve(desk.rt, desk.shared, desk.gate, outbox, job);
         }
         true

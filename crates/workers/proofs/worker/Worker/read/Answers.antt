@@ -10,7 +10,7 @@ pub returns-in_default : goal.returns-in_default
 returns-in_default g c = record { read = unread _ _ _ _ _ _; few = taken-kept _ _ _ (Keeps-refl _) }
 
 pub loop-read-init : goal.loop-read-init
-loop-read-init g c = (SoFar-none _ _ _ _ c.new-intake.result _ _ c.new-intake.ensures.new c.new-intake.ensures.split, c.in-Ok.ensures, taken-kept _ _ _ (Keeps-refl _))
+loop-read-init g c = (SoFar-none _ _ _ _ c.new-intake.result _ _ c.new-intake.ensures.new c.new-intake.ensures.split, (omega (arith, c.in-Ok.ensures), omega (arith, c.in-Ok.ensures)), taken-kept _ _ _ (Keeps-refl _))
 
 pub returns-in-Err : goal.returns-in-Err
 returns-in-Err g c =
@@ -35,7 +35,7 @@ loop-read-preserved g c =
     let i = c.loop-read.invariant in
     let once_more : 8192 * c.loop-read._read + 8192 ≤ 8192 * (c.loop-read._read + 1) = omega arith in (
       not_ended _ _ _ _ _ _ _ _ _ _ _ _ i.0 _ c.in-Ok-read.ensures.ok.1 c.read.new.self _ _ _ _ _ _ _ c.ended.ensures c.in-None.is c.in-Ok-read.ensures.ok.2 c.handle-are_all.ensures,
-      i.1,
+      c.grow_place.ensures,
       taken-within _ _ _ _ (taken-more _ _ _ _ _ i.2 (taken-within _ _ _ 8192 c.in-Ok-read.ensures.few (grind (arith, common_steps)))) once_more,
     )
 
