@@ -47,7 +47,7 @@ pub trait Gate {
         0
     }
 
-    /// A call of this connection had its critical section at these times.
+    /// A call of this connection had its critical section at these times. Not each call is timed.
     fn timed(&self, connection: u64, times: TakenTimes) {
         let _ = connection;
         let _ = times;

@@ -109,8 +109,8 @@ all_metrics =
     ∷ metric (codes "lockd_received_bytes_total") (codes "Bytes read from connections for calls.") Counter (sample (codes "") (codes "received_bytes") ReceivedBytes ∷ [])
     ∷ metric (codes "lockd_sent_bytes_total") (codes "Bytes of replies written to them.") Counter (sample (codes "") (codes "sent_bytes") SentBytes ∷ [])
     ∷ metric (codes "lockd_start_time_seconds") (codes "When the server started, in seconds since 1970.") Gauge (sample (codes "") (codes "start_time_seconds") Started ∷ [])
-    ∷ metric (codes "lockd_book_held_seconds") (codes "How long calls were in the critical section of the book.") Summary (sample (codes "_sum") (codes "book_held_nanoseconds") InsideNanos ∷ sample (codes "_count") (codes "book_critical_sections") Sections ∷ [])
-    ∷ metric (codes "lockd_book_wait_seconds") (codes "How long calls waited for it.") Summary (sample (codes "_sum") (codes "book_wait_nanoseconds") WaitedNanos ∷ sample (codes "_count") (codes "book_waits") Sections ∷ []) ∷ []
+    ∷ metric (codes "lockd_book_held_seconds") (codes "How long calls were in the critical section of the book: a sample of them.") Summary (sample (codes "_sum") (codes "book_held_nanoseconds") InsideNanos ∷ sample (codes "_count") (codes "book_critical_sections") Sections ∷ [])
+    ∷ metric (codes "lockd_book_wait_seconds") (codes "How long the calls of that sample waited for it.") Summary (sample (codes "_sum") (codes "book_wait_nanoseconds") WaitedNanos ∷ sample (codes "_count") (codes "book_waits") Sections ∷ []) ∷ []
 
 -- ---- the code's metrics
 

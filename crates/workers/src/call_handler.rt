@@ -15,12 +15,25 @@ use std::alloc::Global;
 use std::sync::ledger::{Ledger, Share};
 use std::sync::{Mutex, Wait};
 
+/// Of so many calls of a handler the first is timed: to read the clock for each would cost some hundredths of a call's time. The
+/// number is odd, so that LOCKs and UNLOCKs are timed where a client sends them by turns.
+const TIMED: u8 = 17;
+
+// Whether a call is timed, and how many come before the next one that is.
+fn is_timed(untimed: &mut u8) -> bool {
+    let is_timed = *untimed == 0;
+    *untimed = if is_timed { TIMED - 1 } else { *untimed - 1 };
+    is_timed
+}
+
 /// One part of the ledger, and the receipts of the calls that were taken.
 #[derive(Drop)]
 pub(crate) struct CallHandler<L: Ledger> {
     pub(crate) alloc: Global,
     pub(crate) share: Share<L>,
     pub(crate) receipts: Archive<Receipt>,
+    // How many calls come before one is timed.
+    untimed: u8,
     ghost part: { share.parts ≡ 1 },
     ghost counted: { share.amount ≡ length receipts.all.items },
 }
@@ -35,6 +48,7 @@ impl<L: Ledger> CallHandler<L> {
             alloc,
             share,
             receipts: Archive::new(alloc, is_kept),
+            untimed: 0,
         }
     }
 
@@ -72,6 +86,13 @@ pub(crate) struct AtBook<'a, R: RangeTable, S: HostStore, L: Ledger, W, G> {
     pub(crate) gate: &'a G,
 }
 
+impl<'a, R: RangeTable, S: HostStore, L: Ledger, W, G: Gate> AtBook<'a, R, S, L, W, G> {
+    // What the gate's clock says, where this call is timed.
+    fn time(&self, is_timed: bool) -> u64 {
+        if is_timed { self.gate.time() } else { 0 }
+    }
+}
+
 impl<'a, R: RangeTable, S: HostStore, L: Ledger, W: Wait, G: Gate, O: Outbox> Entering<
     CallHandler<L>,
     O,
@@ -104,18 +125,21 @@ impl<'a, R: RangeTable, S: HostStore, L: Ledger, W: Wait, G: Gate, O: Outbox> En
         taken: Taken,
         same: Bytes,
     ) -> Result<bool, Taken> {
-        let asked = self.gate.time();
+        let is_timed = is_timed(&mut call_handler.untimed);
+        let asked = self.time(is_timed);
         let mut shared = hold(self.rt, self.shared);
-        let inside = self.gate.time();
+        let inside = self.time(is_timed);
         let got = shared.take(taken, same, &mut call_handler.share);
         drop(shared);
-        let left = self.gate.time();
-        let times = TakenTimes {
-            asked,
-            inside,
-            left,
-        };
-        self.gate.timed(connection, times);
+        let left = self.time(is_timed);
+        if is_timed {
+            let times = TakenTimes {
+                asked,
+                inside,
+                left,
+            };
+            self.gate.timed(connection, times);
+        }
         let Entered {
             receipt,
             is_due,

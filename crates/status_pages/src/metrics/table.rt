@@ -234,7 +234,7 @@ pub(crate) const METRICS: &[Metric<'static>] = &[
     },
     Metric {
         name: "lockd_book_held_seconds",
-        help: "How long calls were in the critical section of the book.",
+        help: "How long calls were in the critical section of the book: a sample of them.",
         kind: Kind::Summary,
         samples: &[
             Sample {
@@ -251,7 +251,7 @@ pub(crate) const METRICS: &[Metric<'static>] = &[
     },
     Metric {
         name: "lockd_book_wait_seconds",
-        help: "How long calls waited for it.",
+        help: "How long the calls of that sample waited for it.",
         kind: Kind::Summary,
         samples: &[
             Sample {
