@@ -5,16 +5,13 @@ ghost use Rattle.lockd_serving.specs.Times.{Lasts, IsAt, IsRegistered};
 
 use crate::notes::{StartFailure, tell};
 use crate::streams::own_name;
-use bytes::Bytes;
 use config::ServeConfig;
 use hosts_db::HostStore;
-use job_queue::Job;
 use peers::{Peers, PeersFault};
 use peers_file::{PeersFile, WatchedPeers, seen_at};
 use port_mapper::PORT as PORT_MAPPER;
-use reply_outbox::Gate;
 use server::{
-    Addresses, Backing, CallSettings, LearnedAddresses, Registration, Rules, Runtime,
+    Addresses, Backing, CallSettings, LearnedAddresses, OpenGate, Registration, Rules, Runtime,
     ServerSettings, serve,
 };
 use std::alloc::Global;
@@ -38,25 +35,6 @@ pub(crate) enum ServeFault {
     /// The server ended.
     #[error("{0}")]
     Server(server::ServerFault),
-}
-
-// Holds no job back.
-struct Open;
-
-impl Gate for Open {
-    ghost use Rattle.std.specs.Prelude.{◌≡◌, false};
-
-    ghost holds = { λ _. false };
-
-    ghost MayAnswer = { λ _ asked answered. answered ≡ asked };
-
-    fn may_hold(&self) -> bool {
-        false
-    }
-
-    fn before(&self, _job: &Job) -> Option<Bytes> {
-        None
-    }
 }
 
 /// Where hosts are: as the file of peers has it, and as the store has it, if it is learned.
@@ -229,7 +207,7 @@ where
 {
     match backing_of(alloc, asked, whereabouts, store) {
         Ok(backing) => {
-            serve(rt, alloc, &settings_of(asked), backing, &Open).map_err(ServeFault::Server)
+            serve(rt, alloc, &settings_of(asked), backing, &OpenGate).map_err(ServeFault::Server)
         }
         Err(fault) => Err(fault),
     }

@@ -1,5 +1,6 @@
-//! Which boots of hosts were told, and what tells the book of one.
-use boot_states::{BootStates, LockTells, NoticeTells};
+//! Which boots hosts reported, and how the book is given a notice of one.
+use crate::open_gate::OpenGate;
+use boot_states::{BootStates, Finding, Kind, Report};
 use bytes::Bytes;
 use call_codec::put_record;
 use callbacks::{Message, ShortBytes};
@@ -9,14 +10,13 @@ use job_queue::{Job, Place};
 use kept_replies::Peer;
 use log::{Log, error};
 use range_table::RangeTable;
-use reply_outbox::Gate;
 use std::alloc::{AllocError, Global};
 use std::sync::ledger::Ledger;
 use std::sync::{Mutex, Wait};
 use workers::{Shared, Worker};
 use xdr_core::Frame;
 
-/// The number of no connection: nobody is told what such a call comes to.
+/// The number of no connection: the reply to such a call goes to nobody.
 const NO_CONNECTION: u64 = u64::MAX;
 
 /// Who sends these notices: the server itself, under an address that no host has.
@@ -28,33 +28,18 @@ const ITSELF: Peer = Peer {
 /// The longest name of a host.
 const MOST_NAME_BYTES: usize = 1_024;
 
-// Holds nobody, and has each call answered as it is.
-struct Straight;
-
-impl Gate for Straight {
-    ghost use Rattle.std.specs.Prelude.{◌≡◌, false};
-
-    ghost holds = { λ _. false };
-
-    ghost MayAnswer = { λ _ asked answered. answered ≡ asked };
-
-    fn may_hold(&self) -> bool {
-        false
-    }
-
-    fn before(&self, _job: &Job) -> Option<Bytes> {
-        None
+// The number in the notice that the book is given where this report finds a reboot. Behind a notice it is the same one, so that
+// the notice itself finds the state seen. Behind a LOCK it is the state under which the host was down before this boot: the even
+// number of the two (XNFS: a state is odd while the host is up). No notice of the host carries that.
+fn number_for_book(report: Report) -> i32 {
+    match report.kind {
+        Kind::Lock => report.state & !1,
+        Kind::Notice => report.state,
     }
 }
 
-/// The state under which a host was down before the boot of this one: the even number of the two (XNFS: a state is odd while the
-/// host is up). No notice of the host carries it.
-fn down_before(state: i32) -> i32 {
-    state & !1
-}
-
-/// Which boots were told, and what it takes to have the book take a notice. It is held while the book takes one, so that no LOCK of
-/// the same boot comes between.
+/// Which boots were reported, and what it takes to have the book take a notice. It is held while the book takes one, so that no
+/// LOCK of the same boot comes between.
 #[derive(Drop)]
 pub(crate) struct Boots<P: Place, L: Ledger> {
     alloc: Global,
@@ -79,7 +64,7 @@ impl<P: Place, L: Ledger> Boots<P, L> {
         self.worker
     }
 
-    // The call by which a host tells of its reboot, as a job of the server's own.
+    // The call by which a host notifies of its reboot, as a job of the server's own.
     fn notice(&mut self, host: &[u8], state: i32) -> Result<Job, AllocError> {
         let name = ShortBytes::copy_of(self.alloc, host.get(..MOST_NAME_BYTES).unwrap_or(host))?;
         let number = self.count;
@@ -92,7 +77,7 @@ impl<P: Place, L: Ledger> Boots<P, L> {
     }
 
     // The book takes a notice: what the host held before is dropped, and its watchers are called.
-    fn tell<R: Wait + Log, T: RangeTable, S: HostStore>(
+    fn notify<R: Wait + Log, T: RangeTable, S: HostStore>(
         &mut self,
         rt: &R,
         shared: &Mutex<Shared<T, S, L>>,
@@ -101,13 +86,34 @@ impl<P: Place, L: Ledger> Boots<P, L> {
     ) {
         match self.notice(host, state) {
             Ok(job) => {
-                drop(answer_datagram(rt, &mut self.worker, shared, &Straight, job));
+                drop(answer_datagram(rt, &mut self.worker, shared, &OpenGate, job));
             }
             Err(AllocError) => error!(rt; "no memory to drop what a host held before its reboot"),
         }
     }
 
-    /// A host asks for a lock in this state of its boot. Where that tells of a reboot, what it held before is dropped.
+    // What a report says of its host's boots. Where it finds a reboot, what the host held before is dropped. None: there is no
+    // memory to remember the host.
+    fn hear<R: Wait + Log, T: RangeTable, S: HostStore>(
+        &mut self,
+        rt: &R,
+        shared: &Mutex<Shared<T, S, L>>,
+        host: &[u8],
+        report: Report,
+    ) -> Option<Finding> {
+        match self.states.hear(host, report) {
+            Ok(finding) => {
+                if finding == Finding::Reboot {
+                    self.notify(rt, shared, host, number_for_book(report));
+                }
+                Some(finding)
+            }
+            Err(_) => None,
+        }
+    }
+
+    /// A host asks for a lock in this state of its boot. Where that finds a reboot, what the host held before is dropped. Where
+    /// there is no memory to remember the host, nothing is.
     pub(crate) fn hear_lock<R: Wait + Log, T: RangeTable, S: HostStore>(
         &mut self,
         rt: &R,
@@ -115,15 +121,17 @@ impl<P: Place, L: Ledger> Boots<P, L> {
         host: &[u8],
         state: i32,
     ) {
-        match self.states.lock(host, state) {
-            Ok(LockTells::Reboot) => self.tell(rt, shared, host, down_before(state)),
-            Ok(LockTells::Nothing) | Err(_) => {}
-        }
+        let report = Report {
+            kind: Kind::Lock,
+            state,
+        };
+        let _ = self.hear(rt, shared, host, report);
     }
 
-    /// A host tells of a reboot by a notice of this state. Where it is the first to tell of that boot, what the host held before is
-    /// dropped at once, so that the notice itself finds the state seen. Whether a LOCK, or this notice before, told of that boot
-    /// already. A host of which there is no memory to remember anything is taken for one that tells first.
+    /// A host notifies of a reboot, with this state. Where it is the first to report that boot, what the host held before is
+    /// dropped at once, so that the notice itself finds the state seen. True: a LOCK, or this notice before, reported that boot
+    /// already, so that the notice is to change nothing. False, too, where there is no memory to remember the host: nothing is
+    /// dropped here then, and the notice does what it does without these reports.
     pub(crate) fn hear_notice<R: Wait + Log, T: RangeTable, S: HostStore>(
         &mut self,
         rt: &R,
@@ -131,13 +139,13 @@ impl<P: Place, L: Ledger> Boots<P, L> {
         host: &[u8],
         state: i32,
     ) -> bool {
-        match self.states.notice(host, state) {
-            Ok(NoticeTells::Fresh) => {
-                self.tell(rt, shared, host, state);
-                false
-            }
-            Ok(NoticeTells::Repeated | NoticeTells::ToldAlready) => true,
-            Err(_) => false,
+        let report = Report {
+            kind: Kind::Notice,
+            state,
+        };
+        match self.hear(rt, shared, host, report) {
+            Some(Finding::SameBoot | Finding::Reported) => true,
+            Some(Finding::Reboot) | None => false,
         }
     }
 }

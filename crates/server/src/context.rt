@@ -41,8 +41,8 @@ pub(crate) struct ShutdownHandles {
     pub(crate) operators: Option<ShutdownHandle>,
 }
 
-/// What every thread knows. No thread holds two of the locks at once, but for one: where a host tells of its reboot, that of the
-/// boots is held while the book takes the notice.
+/// What every thread knows. A thread holds one of the locks at a time, with two exceptions: the channel's batch lock is held over
+/// the book's, and where a host reports its reboot, that of the boots is held while the book takes the notice.
 #[derive(Drop)]
 pub(crate) struct Context<'a, P: Place, L: Ledger, T: RangeTable, S: HostStore, G> {
     pub(crate) alloc: Global,

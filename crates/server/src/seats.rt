@@ -63,7 +63,7 @@ pub(crate) struct Crew<P: Place, L: Ledger> {
     pub(crate) workers: Vec<Worker<P, L>>,
     /// Of the port for datagrams, where there is one.
     pub(crate) datagrams: Option<Worker<P, L>>,
-    /// Of the server's own notices, where LOCKs tell of reboots.
+    /// Of the server's own notices, where LOCKs report reboots.
     pub(crate) notices: Option<Worker<P, L>>,
 }
 
@@ -158,7 +158,8 @@ fn gather_all<P: Place, L: Ledger>(
 
 impl<P: Place, L: Ledger> Unseated<P, L> {
     /// Gives each place of a caller, then each worker, then the port for datagrams, where there is one, and then the server's own
-    /// notices, where LOCKs tell of reboots, what it takes to answer jobs. What has no connection comes beside. `Starved`: there is no memory for it, and nothing is left.
+    /// notices, where LOCKs report reboots, what it takes to answer jobs. What has no connection comes beside. `Starved`: there is
+    /// no memory for it, and nothing is left.
     pub(crate) fn seat_all(
         self,
         settings: &ServerSettings,

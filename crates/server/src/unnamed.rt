@@ -24,7 +24,7 @@ pub(crate) struct Unnamed<T: RangeTable> {
 
 impl Unnamed<ArenaTable> {
     /// With a part of the ledger for whoever answers calls: for each place of a connection for calls, for each worker, for the port
-    /// for datagrams where there is one, and for the server's own notices where LOCKs tell of reboots.
+    /// for datagrams where there is one, and for the server's own notices where LOCKs report reboots.
     /// `Starved`: there is no memory for it.
     pub(crate) fn new(
         alloc: Global,

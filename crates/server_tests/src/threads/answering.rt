@@ -1,11 +1,12 @@
 //! A worker that answers what waits in a closed channel, and the sender's turns behind it.
 use super::memory::MemoryOutbox;
-use super::parts::{Kept, Open, are_replies, null, sent};
+use super::parts::{Kept, are_replies, null, sent};
 use super::rounds::{Crew, Turn, audited};
 use super::sending::{NOTHING, Sent};
 use bytes::Bytes;
 use callback_sender::Due;
 use job_queue::{Channel, Place};
+use server::OpenGate;
 use std::alloc::Global;
 use std::sync::ledger::Ledger;
 use std::sync::{Mutex, Wait};
@@ -78,7 +79,7 @@ impl Waiting<'_> {
         channel.close();
         let back = sent(rt, channel, reader, LATE, 0, null(alloc, 4));
         let mut outbox = MemoryOutbox::new(alloc);
-        worker.work(rt, channel, shared, &Open, &mut outbox);
+        worker.work(rt, channel, shared, &OpenGate, &mut outbox);
         are_put
             && back == Some(LATE)
             && are_replies(alloc, outbox.kept(), self.replies)

@@ -17,27 +17,6 @@ use std::sync::ledger::Ledger;
 use test_kit::put_plain;
 use workers::{Shared, Worker};
 
-/// Holds nobody.
-#[derive(Drop)]
-pub(crate) struct Open;
-
-impl Gate for Open {
-    ghost use Rattle.std.specs.Prelude.{false};
-    ghost use Rattle.reply_outbox.specs.Gates.{IsOwn};
-
-    ghost holds = { λ _. false };
-
-    ghost MayAnswer = { λ _. IsOwn };
-
-    fn may_hold(&self) -> bool {
-        false
-    }
-
-    fn before(&self, _job: &Job) -> Option<Bytes> {
-        None
-    }
-}
-
 /// Holds nobody, and says whether it may.
 #[derive(Clone, Copy, Drop)]
 pub(crate) struct Passing {
