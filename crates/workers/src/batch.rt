@@ -1,22 +1,23 @@
 //! Batches of calls: a thread that answers several calls of its connection in a row.
 ghost use Rattle.std.specs.Prelude.{◌≡◌};
 
-use crate::patience::hold;
+use crate::patience::try_in_turns;
 use reply_outbox::Outbox;
-use std::sync::{Mutex, MutexGuard, Wait};
+use std::sync::{Mutex, MutexGuard};
 
 /// The most calls that are answered in a row.
 const CALLS: u32 = 16;
 
-/// The calls of one read. Where they are several, one thread at a time answers such calls, `CALLS` in a row: each thread that did
-/// without would wait for the book's lock before each of its calls. The batch's lock stands before the book's, and is held over no
-/// write to a connection.
+/// The calls of one read. Where they are several, the thread answers `CALLS` of them in a row under the batch's lock, which keeps others
+/// with several calls from the book's lock meanwhile: else each of them would wait for that before each call. A thread that doesn't get
+/// the batch's lock in time goes on without it, so that nobody waits long. It stands before the book's lock, and is held over no write
+/// to a connection.
 #[derive(Drop)]
 pub(crate) struct Batch<'a> {
     lock: &'a Mutex<()>,
     is_several: bool,
     guard: Option<MutexGuard<'a, ()>>,
-    // How many calls more may be answered under the guard.
+    // How many calls more are answered before the lock is tried again.
     left: u32,
 }
 
@@ -32,8 +33,8 @@ impl<'a> Batch<'a> {
     }
 
     /// What comes before each call of this connection. Replies that would be written with its own are written, with the lock free.
-    /// Of several calls the lock is taken then, where this thread doesn't have it. After `CALLS` calls it is free in between.
-    pub(crate) fn go_on<O: Outbox, W: Wait>(&mut self, rt: &W, outbox: &mut O, connection: u64)
+    /// Of several calls the lock is tried then, and again behind `CALLS` calls, before which it is free.
+    pub(crate) fn go_on<O: Outbox>(&mut self, outbox: &mut O, connection: u64)
         ensures { O.handed outbox.new ≡ O.handed outbox.old }
     {
         if outbox.will_write(connection) {
@@ -41,15 +42,15 @@ impl<'a> Batch<'a> {
             outbox.flush();
         }
         if self.is_several {
-            self.take(rt);
+            self.count_call();
         }
     }
 
-    // Takes the lock for a call, where this thread doesn't have it, or had it for `CALLS` calls.
-    fn take<W: Wait>(&mut self, rt: &W) {
+    // One call more is answered. The lock is tried before the first, and then before each that is behind `CALLS` others.
+    fn count_call(&mut self) {
         if self.left == 0 {
             self.end();
-            self.guard = Some(hold(rt, self.lock));
+            self.guard = try_in_turns(self.lock);
             self.left = CALLS;
         }
         self.left -= 1;

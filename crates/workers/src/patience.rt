@@ -35,7 +35,8 @@ fn try_with_pauses<T>(lock: &Mutex<T>) -> Option<MutexGuard<'_, T>> {
     None
 }
 
-fn try_in_turns<T>(lock: &Mutex<T>) -> Option<MutexGuard<'_, T>> {
+/// Takes the lock where it comes free while the thread hands its processor on some times. It doesn't sleep.
+pub(crate) fn try_in_turns<T>(lock: &Mutex<T>) -> Option<MutexGuard<'_, T>> {
     for _ in 0..TURNS {
         if let Some(guard) = lock.try_lock() {
             return Some(guard);

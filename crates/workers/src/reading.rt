@@ -175,7 +175,7 @@ impl<P: Place, L: Ledger> Worker<P, L> {
             let Some(job) = origin.next_job(asked) else {
                 return false;
             };
-            batch.go_on(desk.rt, outbox, job.connection());
+            batch.go_on(outbox, job.connection());
             self.serve(desk.rt, desk.shared, desk.gate, outbox, job);
         }
         true
