@@ -3,6 +3,7 @@
 import contextlib
 import itertools
 import random
+import signal
 import socket
 import subprocess
 import tempfile
@@ -194,7 +195,7 @@ def serves_until_it_is_told_to_stop(audit):
 
 @contextlib.contextmanager
 def served(*more):
-    """The port for calls of a server with these words more, which is told to stop in the end."""
+    """The port for calls of a server with these words more, and its process, which is told to stop in the end."""
     with room() as path:
         (path / "peers").write_text("")
         port, local_port = free_port(), free_port()
@@ -202,7 +203,7 @@ def served(*more):
         server = subprocess.Popen([PROGRAM, *words], stdout=subprocess.PIPE, stderr=subprocess.PIPE)
         try:
             equal(server.stdout.readline(), b"ready\n")
-            yield port
+            yield port, server
             equal(said_by(local_port, b"stop\n"), b"ok\n")
             server.communicate(timeout=WAIT_SECONDS)
         finally:
@@ -222,7 +223,7 @@ def called_from(address, port):
 
 
 def two_connections_of_a_peer():
-    with served("--connections-per-peer", "2") as port, contextlib.ExitStack() as ended:
+    with served("--connections-per-peer", "2") as (port, _), contextlib.ExitStack() as ended:
         first, *others = [called_from("127.0.0.1", port) for _ in range(3)]
         others += [called_from("127.0.0.2", port) for _ in range(3)]
         for one, _ in others:
@@ -236,6 +237,20 @@ def two_connections_of_a_peer():
             one, told = called_from("127.0.0.1", port)
             ended.enter_context(one)
         equal(told, NULL_REPLY)
+
+
+def hosts_that_connect_at_once():
+    """The server is stopped meanwhile, so that all of them wait to be accepted. The system drops those who find no room, which
+    try again after a second (RFC 6298, section 2)."""
+    count = min(300, int(Path("/proc/sys/net/core/somaxconn").read_text()))
+    with served("--connections", "512") as (port, server), contextlib.ExitStack() as ended:
+        server.send_signal(signal.SIGSTOP)
+        callers = [ended.enter_context(socket.create_connection(("127.0.0.1", port), timeout=0.5)) for _ in range(count)]
+        server.send_signal(signal.SIGCONT)
+        for caller in callers:
+            caller.settimeout(WAIT_SECONDS)
+            caller.sendall(NULL)
+            equal(caller.recv(len(NULL_REPLY)), NULL_REPLY)
 
 
 def peers_file_that_changes():
@@ -294,6 +309,7 @@ if PROGRAM.exists():
     cases(**STREAMS)(record_too_long)
     cases(plain=(False,), audited=(True,))(serves_until_it_is_told_to_stop)
     cases(none=())(two_connections_of_a_peer)
+    cases(none=())(hosts_that_connect_at_once)
     cases(none=())(peers_file_that_changes)
     cases(none=())(datagrams)
 else:

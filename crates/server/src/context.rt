@@ -105,7 +105,9 @@ impl<'a, P: Place, L: Ledger, T: RangeTable + Drop, S: HostStore + Drop, G: Gate
         accepted.connection.wait_for(rt, source.origin.put);
     }
 
-    // What answers jobs is lent here and not before the thread stands, so that it can't be lost with it.
+    // What answers jobs is lent here and not before the thread stands, so that it can't be lost with it. (Each kind of connection has
+    // a frame of its own on the thread's stack: in one function a thread would take the memory of all three.)
+    #[inline(never)]
     fn serve_caller<R: Wait + Log>(&self, rt: &R, accepted: &Accepted) {
         let number = accepted.connection.number();
         let lent = self.connection_tables.callers.lock(rt).lend(number);
@@ -120,6 +122,7 @@ impl<'a, P: Place, L: Ledger, T: RangeTable + Drop, S: HostStore + Drop, G: Gate
     }
 
     // Answers the lines of a local program.
+    #[inline(never)]
     fn serve_local<R: Wait + Log>(&self, rt: &R, accepted: &Accepted) {
         let number = accepted.connection.number();
         let mut input = accepted.connection.stream();
@@ -153,6 +156,7 @@ impl<'a, P: Place, L: Ledger, T: RangeTable + Drop, S: HostStore + Drop, G: Gate
         serve_pages(self.alloc, &mut pages, &mut input, &mut output, MOST_READS)
     }
 
+    #[inline(never)]
     fn serve_operator<R: Wait + Log + Clock>(&self, rt: &R, accepted: &Accepted) {
         let stream = accepted.connection.stream();
         if prepare(stream).is_ok() {

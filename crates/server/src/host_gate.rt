@@ -27,7 +27,7 @@ const PROGRAM_AT: usize = 12;
 pub(crate) struct HostBooks<'a, P: Place, L: Ledger> {
     /// Where hosts are, if that is learned.
     pub(crate) learned: Option<&'a Mutex<LearnedAddresses>>,
-    /// Which boots were told, if LOCKs tell of them.
+    /// Which boots of hosts were reported, if LOCKs report them.
     pub(crate) boots: Option<&'a Mutex<Boots<P, L>>>,
 }
 
@@ -111,7 +111,7 @@ impl<'a, R: Wait + Clock + Log, P: Place, L: Ledger, T: RangeTable, S: HostStore
         let kept = self.shared.lock(self.rt).locate(host, text.as_bytes());
         match kept {
             Ok(()) => {
-                // Without memory the store is told again.
+                // Without memory the address is stored again later.
                 let _ = learned.lock(self.rt).keep(host, address, now);
             }
             Err(_) => warn!(self.rt; "the store refused where a host is: {text}"),
@@ -146,8 +146,8 @@ impl<'a, R: Wait + Clock + Log, P: Place, L: Ledger, T: RangeTable, S: HostStore
         }
     }
 
-    // Whether it was told before of the boot that a notice tells of.
-    fn is_told(&self, host: &[u8], state: i32) -> bool {
+    // Whether the boot that a notice reports was reported before.
+    fn is_reported(&self, host: &[u8], state: i32) -> bool {
         match self.books.boots {
             Some(boots) => boots
                 .lock(self.rt)
@@ -220,7 +220,7 @@ impl<'a, R: Wait + Clock + Log, P: Place, L: Ledger, T: RangeTable, S: HostStore
                 None
             }
             CallerReport::Notice { host, state } => {
-                if self.is_told(host, state) {
+                if self.is_reported(host, state) {
                     null_of(self.alloc, job.record()).ok()
                 } else {
                     None

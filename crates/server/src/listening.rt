@@ -3,8 +3,9 @@ use crate::context::ShutdownHandles;
 use crate::fault::NoListener;
 use crate::settings::ServerSettings;
 use connections::{Listener, Listeners, ShutdownHandle};
-use mio::net::UdpSocket;
-use std::net::{Ipv4Addr, Net, SocketAddr, SocketAddrV4, TcpListener, TcpStream};
+use mio::net::{TcpListener as LongListener, UdpSocket};
+use std::io;
+use std::net::{Ipv4Addr, Net, SocketAddr, SocketAddrV4, TcpListener};
 
 /// All listeners, and what shuts them.
 #[derive(Drop)]
@@ -19,12 +20,20 @@ fn loopback(port: u16) -> SocketAddr {
     SocketAddr::V4(SocketAddrV4::new(Ipv4Addr::LOCALHOST, port))
 }
 
+// Listens at this address. As many connections as the system allows may wait until they are accepted: with the 128 of
+// `std::net::TcpListener::bind` the system drops some where hundreds of hosts connect at once, and these try again after a second.
+fn bind<R: Net>(rt: &R, at: SocketAddr) -> io::Result<TcpListener> {
+    let listener = TcpListener::from(LongListener::bind(rt, at)?);
+    listener.set_nonblocking(false)?;
+    Ok(listener)
+}
+
 // A listener at this address, and what shuts it.
-fn open_listener<R>(rt: &R, at: SocketAddr) -> Result<(Listener, ShutdownHandle), NoListener>
-where
-    R: Net<Listener = TcpListener, Stream = TcpStream>,
-{
-    let opened = match TcpListener::bind(rt, at) {
+fn open_listener<R: Net>(
+    rt: &R,
+    at: SocketAddr,
+) -> Result<(Listener, ShutdownHandle), NoListener> {
+    let opened = match bind(rt, at) {
         Ok(listener) => Listener::new(listener),
         Err(error) => Err(error),
     };
@@ -46,13 +55,10 @@ fn open_datagrams<R: Net>(rt: &R, at: Option<SocketAddr>) -> Result<Option<UdpSo
 }
 
 // A listener for operators, where they have a port.
-fn open_status<R>(
+fn open_status<R: Net>(
     rt: &R,
     port: Option<u16>,
-) -> Result<(Option<Listener>, Option<ShutdownHandle>), NoListener>
-where
-    R: Net<Listener = TcpListener, Stream = TcpStream>,
-{
+) -> Result<(Option<Listener>, Option<ShutdownHandle>), NoListener> {
     match port {
         Some(port) => {
             let (listener, shutdown_handle) = open_listener(rt, loopback(port))?;
@@ -63,12 +69,8 @@ where
 }
 
 /// Listens for calls by record, for calls by datagram where they are asked for, and on loopback for local programs and, where they
-/// have a port, for operators. The error says which of
-/// these can't be had; none is open then.
-pub(crate) fn listen<R>(rt: &R, settings: &ServerSettings) -> Result<Listening, NoListener>
-where
-    R: Net<Listener = TcpListener, Stream = TcpStream>,
-{
+/// have a port, for operators. The error says which of these can't be had; none is open then.
+pub(crate) fn listen<R: Net>(rt: &R, settings: &ServerSettings) -> Result<Listening, NoListener> {
     let (callers, callers_shutdown_handle) = open_listener(rt, settings.rpc)?;
     let (locals, locals_shutdown_handle) = open_listener(rt, loopback(settings.local_port))?;
     let datagrams = open_datagrams(rt, settings.notify)?;
