@@ -29,10 +29,7 @@ fn bind<R: Net>(rt: &R, at: SocketAddr) -> io::Result<TcpListener> {
 }
 
 // A listener at this address, and what shuts it.
-fn open_listener<R: Net>(
-    rt: &R,
-    at: SocketAddr,
-) -> Result<(Listener, ShutdownHandle), NoListener> {
+fn open_listener<R: Net>(rt: &R, at: SocketAddr) -> Result<(Listener, ShutdownHandle), NoListener> {
     let opened = match bind(rt, at) {
         Ok(listener) => Listener::new(listener),
         Err(error) => Err(error),
