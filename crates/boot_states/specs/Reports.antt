@@ -34,10 +34,17 @@ abbrev pub ahead_after : Kind → Option Kind → Option Kind
 ahead_after kind None = Some kind
 ahead_after kind (Some other) = cond (same_kind other kind) (Some kind) None
 
+-- which kind is ahead once a report of this kind is not of the next boot, by the last number of its kind. A host's first LOCK is of the
+-- boot that its last notice reported, or of a later one: notices are ahead no more
+abbrev pub ahead_with : Kind → Option ℤ → Option Kind → Option Kind
+ahead_with Lock None ahead = None
+ahead_with Lock (Some last) ahead = ahead
+ahead_with Notice last ahead = ahead
+
 -- the kind that reported a boot that the other kind has not reported yet, if there is one
 abbrev pub who_is_ahead : List Report → Option Kind
 who_is_ahead [] = None
-who_is_ahead (report ∷ earlier) = cond (is_next earlier report) (ahead_after report.kind (who_is_ahead earlier)) (who_is_ahead earlier)
+who_is_ahead (report ∷ earlier) = cond (is_next earlier report) (ahead_after report.kind (who_is_ahead earlier)) (ahead_with report.kind (last_of report.kind earlier) (who_is_ahead earlier))
 
 -- what a report of the next boot finds, by who was ahead
 abbrev pub found_by : Kind → Option Kind → Finding

@@ -1,6 +1,6 @@
 //! What is known of one host.
 ghost use Rattle.std.specs.Prelude.{◌≡◌, ◌∷◌, []};
-ghost use Rattle.boot_states.specs.Reports.{last_of, is_after, found_by, ahead_after, finding_of_state};
+ghost use Rattle.boot_states.specs.Reports.{last_of, is_after, found_by, ahead_after, ahead_with, finding_of_state};
 
 use crate::reports::{Finding, Kind, Report};
 use ghost_list::History;
@@ -58,6 +58,17 @@ fn of_next_boot(kind: Kind, ahead: Option<Kind>) -> (Finding, Option<Kind>)
     }
 }
 
+// Whose reports are ahead behind a report that is not of the next boot. A host's first LOCK is of the boot that its last notice
+// reported, or of a later one, so that notices are ahead no more.
+fn of_same_boot(kind: Kind, last: Option<i32>, ahead: Option<Kind>) -> Option<Kind>
+    ensures { result ≡ ahead_with kind last ahead }
+{
+    match (kind, last) {
+        (Kind::Lock, None) => None,
+        _ => ahead,
+    }
+}
+
 impl HostBoots {
     /// Of a host that has reported nothing yet.
     pub(crate) fn new() -> HostBoots
@@ -87,10 +98,11 @@ impl HostBoots {
         ensures heard { self.new ≡ report ∷ self.old }
     {
         let Report { kind, state } = report;
-        let (finding, ahead) = if is_next(kind, self.last(kind), state) {
+        let last = self.last(kind);
+        let (finding, ahead) = if is_next(kind, last, state) {
             of_next_boot(kind, self.ahead)
         } else {
-            (Finding::SameBoot, self.ahead)
+            (Finding::SameBoot, of_same_boot(kind, last, self.ahead))
         };
         let (lock, notice) = match kind {
             Kind::Lock => (Some(state), self.notice),

@@ -10,5 +10,5 @@ mod law;
 mod reports;
 
 pub use hosts::{BootStates, MOST_HOSTS};
-pub use law::{boot_is_found_once, repeats_find_nothing};
+pub use law::{boot_is_found_once, first_lock_is_level, repeats_find_nothing};
 pub use reports::{Finding, Kind, Report};

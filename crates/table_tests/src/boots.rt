@@ -119,8 +119,19 @@ const ROWS: &[Row] = &[
         turns: &[
             Notice(8, Reboot),
             Lock(3, SameBoot),
+            Lock(5, Reboot),
+            Notice(10, Reported),
+            Lock(5, SameBoot),
+        ],
+    },
+    Row {
+        what: "the first LOCK comes behind two notices, and the next boot by a notice first",
+        turns: &[
+            Notice(8, Reboot),
+            Notice(10, Reboot),
+            Lock(3, SameBoot),
+            Notice(12, Reboot),
             Lock(5, Reported),
-            Lock(7, Reboot),
         ],
     },
     Row {
