@@ -181,7 +181,9 @@ impl<P: Place, L: Ledger> Worker<P, L> {
         true
     }
 
-    // Puts the records of one read. Whether the channel took them all.
+    // Puts the records of one read. Whether the channel took them all. (It has a frame of its own on the stack, as `help` has: else each
+    // connection's thread takes the memory of what no thread does where the gate holds nobody.)
+    #[inline(never)]
     fn put_all<W: Wait>(
         &mut self,
         rt: &W,

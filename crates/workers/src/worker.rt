@@ -154,6 +154,7 @@ impl<P: Place, L: Ledger> Worker<P, L> {
 
     /// Takes as many jobs, if there are so many, whoever put them, and answers them. Then it flushes. Where it may be held up,
     /// and jobs may wait that it is to take, it wakes a worker for them first.
+    #[inline(never)]
     pub fn help<R: RangeTable, S: HostStore, G: Gate, O: Outbox, W: Wait>(
         &mut self,
         rt: &W,
