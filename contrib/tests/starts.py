@@ -5,6 +5,7 @@ import itertools
 import random
 import signal
 import socket
+import struct
 import subprocess
 import tempfile
 import time
@@ -195,7 +196,7 @@ def serves_until_it_is_told_to_stop(audit):
 
 @contextlib.contextmanager
 def served(*more):
-    """The port for calls of a server with these words more, and its process, which is told to stop in the end."""
+    """The ports for calls and for lines of a server with these words more, and its process, which is told to stop in the end."""
     with room() as path:
         (path / "peers").write_text("")
         port, local_port = free_port(), free_port()
@@ -203,7 +204,7 @@ def served(*more):
         server = subprocess.Popen([PROGRAM, *words], stdout=subprocess.PIPE, stderr=subprocess.PIPE)
         try:
             equal(server.stdout.readline(), b"ready\n")
-            yield port, server
+            yield port, local_port, server
             equal(said_by(local_port, b"stop\n"), b"ok\n")
             server.communicate(timeout=WAIT_SECONDS)
         finally:
@@ -223,7 +224,7 @@ def called_from(address, port):
 
 
 def two_connections_of_a_peer():
-    with served("--connections-per-peer", "2") as (port, _), contextlib.ExitStack() as ended:
+    with served("--connections-per-peer", "2") as (port, *_), contextlib.ExitStack() as ended:
         first, *others = [called_from("127.0.0.1", port) for _ in range(3)]
         others += [called_from("127.0.0.2", port) for _ in range(3)]
         for one, _ in others:
@@ -243,7 +244,7 @@ def hosts_that_connect_at_once():
     """The server is stopped meanwhile, so that all of them wait to be accepted. The system drops those who find no room, which
     try again after a second (RFC 6298, section 2)."""
     count = min(300, int(Path("/proc/sys/net/core/somaxconn").read_text()))
-    with served("--connections", "512") as (port, server), contextlib.ExitStack() as ended:
+    with served("--connections", "512") as (port, _, server), contextlib.ExitStack() as ended:
         server.send_signal(signal.SIGSTOP)
         callers = [ended.enter_context(socket.create_connection(("127.0.0.1", port), timeout=0.5)) for _ in range(count)]
         server.send_signal(signal.SIGCONT)
@@ -251,6 +252,22 @@ def hosts_that_connect_at_once():
             caller.settimeout(WAIT_SECONDS)
             caller.sendall(NULL)
             equal(caller.recv(len(NULL_REPLY)), NULL_REPLY)
+
+
+def calls_before_a_reset():
+    """A call that the server hasn't read when its connection is reset is dropped with it (RFC 9293, section 3.10.7.4)."""
+    with served("--grace-seconds", "1") as (port, local_port, server):
+        time.sleep(1.5)
+        server.send_signal(signal.SIGSTOP)
+        with socket.create_connection(("127.0.0.1", port), timeout=WAIT_SECONDS) as caller:
+            caller.sendall(LOCK)
+            # To close it then is to reset it (socket(7), SO_LINGER).
+            caller.setsockopt(socket.SOL_SOCKET, socket.SO_LINGER, struct.pack("ii", 1, 0))
+        server.send_signal(signal.SIGCONT)
+        equal(said_by(port, NULL), NULL_REPLY)
+        equal(said_by(local_port, b"table\n"), b"end\n")
+        equal(said_by(port, LOCK), GRANTED)
+        assert said_by(local_port, b"table\n") != b"end\n"
 
 
 def peers_file_that_changes():
@@ -310,6 +327,7 @@ if PROGRAM.exists():
     cases(plain=(False,), audited=(True,))(serves_until_it_is_told_to_stop)
     cases(none=())(two_connections_of_a_peer)
     cases(none=())(hosts_that_connect_at_once)
+    cases(none=())(calls_before_a_reset)
     cases(none=())(peers_file_that_changes)
     cases(none=())(datagrams)
 else:

@@ -1,6 +1,6 @@
 //! What every thread knows, and what it does.
 use crate::host_addresses::is_known;
-use crate::incoming::Incoming;
+use crate::incoming::{Incoming, is_reset};
 use crate::notes;
 use crate::operators::{
     AnswerBytes, BookPages, RequestBytes, Status, Turns, idle, linger, prepare,
@@ -181,7 +181,8 @@ impl<
     R: Wait + Log + Clock,
 > Service<R, Worker<P, L>> for Context<'a, P, L, T, S, G> {
     fn admit(&self, rt: &R, side: Side, stream: TcpStream, from: SocketAddr) -> Option<Accepted> {
-        if side == Side::Callers && !is_known(rt, self.known, from.ip()) {
+        let is_barred = side == Side::Callers && !is_known(rt, self.known, from.ip());
+        if is_barred || is_reset(&stream) {
             drop(stream);
             return None;
         }

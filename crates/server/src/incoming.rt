@@ -5,8 +5,14 @@ use line_loop::Signals;
 use std::io::{self, Read};
 use std::net::TcpStream;
 
-/// A caller's bytes, until the server stops: of a peer that goes on sending, a socket that is shut for reading still gives
-/// what comes.
+/// Whether there is no peer any more: it has reset the connection.
+pub(crate) fn is_reset(stream: &TcpStream) -> bool {
+    stream.peer_addr().is_err()
+}
+
+/// A caller's bytes, until the server stops or the caller resets the connection. The socket would still give bytes then: of a peer that
+/// goes on sending, though it is shut for reading; of a peer that has reset it, what came before, which a reset drops (RFC 9293,
+/// section 3.10.7.4).
 #[derive(Drop)]
 pub(crate) struct Incoming<'a> {
     stream: &'a TcpStream,
@@ -34,7 +40,7 @@ impl<'a> Incoming<'a> {
 
 impl<'a> Read for Incoming<'a> {
     fn read(&mut self, buf: &mut [u8]) -> io::Result<usize> {
-        if self.stop_signals.is_stopping() {
+        if self.stop_signals.is_stopping() || is_reset(self.stream) {
             return Ok(0);
         }
         let mut from = self.stream;
