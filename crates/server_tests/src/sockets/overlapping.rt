@@ -9,12 +9,12 @@ fn overlapping_connections(rt: HostRuntime) {
     assert!(rt; served == Some((16, Response::of(16), true)));
 }
 
-// One connection, whose own thread is inside beside the workers.
+// One connection, whose own thread is inside beside the workers. All calls come in one read: what it reads later waits until it is out.
 #[test]
 fn overlapping_workers(rt: HostRuntime) {
-    let few = served_to(&rt, rt.alloc(), 2, 3, Talk::One(3));
+    let few = served_to(&rt, rt.alloc(), 2, 3, Talk::AtOnce(3));
     assert!(rt; few == Some((3, Response::of(3), true)));
-    let many = served_to(&rt, rt.alloc(), 16, 17, Talk::One(17));
+    let many = served_to(&rt, rt.alloc(), 16, 17, Talk::AtOnce(17));
     assert!(rt; many == Some((17, Response::of(17), true)));
 }
 

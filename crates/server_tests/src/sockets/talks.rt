@@ -42,8 +42,6 @@ const TRIES: u32 = 900;
 pub(crate) enum Talk {
     // Fifteen connections ask, and once their calls are held the sixteenth.
     Sixteen,
-    // One connection asks as often as this.
-    One(u32),
     // One connection asks as often as this in one write.
     AtOnce(u32),
     // As many connections as there are places ask, and one more comes.
@@ -137,18 +135,6 @@ where
     let count = count_answers(&asked)?;
     let is_stopped = stop(rt, ports.local)?;
     Ok(Response::of(if is_stopped { count } else { 0 }))
-}
-
-// One connection asks as often as this. How many are answered.
-fn ask_all<R>(rt: &R, alloc: Global, ports: Ports, calls: u32) -> io::Result<Response>
-where
-    R: Net<Stream = TcpStream> + Clock,
-{
-    let connection = dial(rt, ports.rpc)?;
-    for xid in 0..calls {
-        ask(&connection, alloc, xid, &NULL)?;
-    }
-    count_replies(rt, ports, &connection, calls)
 }
 
 // As many connections as there are places ask. All that have asked are in the list.
@@ -314,7 +300,6 @@ impl Talk {
     {
         match self {
             Talk::Sixteen => ask_sixteen(rt, alloc, ports, hall),
-            Talk::One(calls) => ask_all(rt, alloc, ports, calls),
             Talk::AtOnce(calls) => ask_at_once(rt, alloc, ports, calls),
             Talk::Full => fill(rt, alloc, ports),
             Talk::Granting => grant(rt, alloc, ports, false),
